@@ -1,0 +1,92 @@
+//! Registers of the HP-41: fixed rows of hexadecimal digits.
+#![tactic(auto)]
+
+ghost use Rattle.std.specs.Prelude.{◌≡◌, ℕ, ◌+◌, ◌*◌, ◌^◌, ◌<◌, ◌≤◌, ◌↔◌, List, length, slice_index, slice_set, replicate, All, IsSome, IfSome};
+ghost use Rattle.h41_digits.specs.Register.{IsRegister, value};
+
+use std::marker::Model;
+
+/// How many digits a register of the processor or of the memory has.
+pub const PLACES: usize = 14;
+
+/// A register of the processor or of the memory: 14 digits.
+pub type Reg = Digits<14>;
+
+/// A row of `N` hexadecimal digits, 1 to 14 of them. Place 0 is the rightmost, least one.
+#[derive(Clone, Copy, Debug, PartialEq, Eq)]
+pub struct Digits<const N: usize> {
+    digits: [u8; N],
+}
+
+impl<const N: usize> Model for Digits<N> {
+    ghost Value = { List ℕ };
+
+    ghost view = { λ register. register.digits };
+
+    ghost invariant = { λ register. (N ≤ 14) × All (λ digit. digit < 16) register.digits };
+
+    ghost inverse = { λ digits. record { digits = digits } };
+}
+
+impl<const N: usize> Digits<N> {
+    /// All digits zero.
+    pub fn zero() -> Self
+        requires { N ≤ 14 }
+        ensures { result ≡ replicate N 0 }
+    {
+        Digits { digits: [0; N] }
+    }
+
+    /// The register that holds a number, or nothing where the number is 16 to the power of `N` or more.
+    pub fn from_u64(number: u64) -> Option<Self>
+        requires { N ≤ 14 }
+        ensures fits { IsSome result ↔ (number < 16 ^ N) }
+        ensures value { IfSome result (λ register. value register ≡ number) }
+        ensures register { IfSome result (IsRegister N) }
+    {
+        let mut digits = [0; N];
+        let mut rest = number;
+        for digit in &mut digits {
+            *digit = (rest % 16) as u8;
+            rest /= 16;
+        }
+        if rest == 0 {
+            Some(Digits { digits })
+        } else {
+            None
+        }
+    }
+
+    /// The number that the register holds.
+    pub fn to_u64(&self) -> u64
+        ensures value { result ≡ value self.now }
+        ensures register { IsRegister N self.now }
+    {
+        let mut number = 0;
+        for digit in self.digits.iter().rev() {
+            number = number * 16 + u64::from(*digit);
+        }
+        number
+    }
+
+    /// The digit at a place.
+    pub fn get(&self, place: usize) -> u8
+        requires { place < N }
+        ensures digit { result ≡ slice_index self.now place }
+        ensures register { IsRegister N self.now }
+    {
+        self.digits[place]
+    }
+
+    /// The same register with another digit, 0 to 15, at one place.
+    pub fn with(&self, place: usize, digit: u8) -> Self
+        requires in_register { place < N }
+        requires is_digit { digit < 16 }
+        ensures changed { result ≡ slice_set self.now place digit }
+        ensures register { IsRegister N self.now }
+    {
+        let mut digits = self.digits;
+        digits[place] = digit;
+        Digits { digits }
+    }
+}

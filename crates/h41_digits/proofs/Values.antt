@@ -1,11 +1,13 @@
 -- What the number of a register is, digit by digit.
-use Rattle.std.proofs.Common.{◌≡◌, ℕ, ◌+◌, ◌*◌, ◌/◌, ◌%◌, ◌^◌, ◌<◌, ◌≤◌, List, [], ◌∷◌, ◌++◌, length, take, drop, set, All, refl, sym, ap, arith, add-one, append_assoc, ◌∙◌}
+use Rattle.std.proofs.Common.{◌≡◌, ℕ, ◌+◌, ◌*◌, ◌/◌, ◌%◌, ◌^◌, ◌<◌, ◌≤◌, List, true, map, reverse, [], ◌∷◌, ◌++◌, length, take, drop, set, All, refl, sym, ap, subst, arith, add-one, append_assoc, ◌∙◌}
 use Rattle.std.proofs.Math.Nat.{pow-succ', pow-le-pow_right, le-mul_of_pos_right}
 use Rattle.std.proofs.Math.Seq.{take-append_seam, drop-append_seam}
-use Rattle.std.proofs.lemmas.List.{take_more_set, length-take-le, take_all, take-append-drop, length-drop}
+use Rattle.std.proofs.lemmas.List.{take_more_set, length-take-le, take_all, take-append-drop, length-drop, reverse-append, map-append}
+use Rattle.std.proofs.lemmas.Fmt.{hex_one_digit}
+use Rattle.std.specs.Fmt.{digits as glyphs_of, digit_glyph}
 use Rattle.std.specs.List.{AllByRecursion}
 use Rattle.std.proofs.lemmas.List.Elements.{recursion_from_All, All-drop}
-use Rattle.h41_digits.specs.Register.{value_from, value}
+use Rattle.h41_digits.specs.Register.{value_from, value, text}
 
 -- the weight of the next place
 pub pow-next : (place : ℕ) → 16 ^ (place + 1) ≡ 16 * 16 ^ place
@@ -73,3 +75,15 @@ pub number-next : (digits rest left : List ℕ) (digit number : ℕ) → rest �
 number-next digits rest left digit number front last so_far =
     let taken = read-step digits rest left digit front last in
     (rw (taken.1, value-cons digit (drop (length rest) digits)) (omega arith), taken.0)
+
+-- a digit below those that are written
+pub text-cons : (digit : ℕ) (above : List ℕ) → digit < 16 → text (digit ∷ above) ≡ text above ++ glyphs_of 16 true digit
+text-cons digit above small =
+    ap (map (digit_glyph true)) (reverse-append (digit ∷ []) above) ∙ map-append (digit_glyph true) (reverse above) (digit ∷ []) ∙ ap (λ glyphs. text above ++ glyphs) (sym (hex_one_digit true digit small))
+
+-- a digit of a register, as it stands in front of those above it
+pub digit-lt : (count digit : ℕ) (digits above : List ℕ) → All (λ digit. digit < 16) digits → drop count digits ≡ digit ∷ above → digit < 16
+digit-lt count digit digits above each there =
+    let rest = All-drop (λ digit. digit < 16) count digits each in
+    let first : All (λ digit. digit < 16) (digit ∷ above) = subst (All (λ digit. digit < 16)) there rest in
+    first 0 0 (omega arith)

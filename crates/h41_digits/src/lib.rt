@@ -1,9 +1,10 @@
 //! Registers of the HP-41: fixed rows of hexadecimal digits.
 #![tactic(auto)]
 
-ghost use Rattle.std.specs.Prelude.{◌≡◌, ℕ, ◌+◌, ◌*◌, ◌^◌, ◌<◌, ◌≤◌, ◌↔◌, List, length, slice_index, slice_set, replicate, All, IsSome, IfSome};
-ghost use Rattle.h41_digits.specs.Register.{IsRegister, value};
+ghost use Rattle.std.specs.Prelude.{◌≡◌, ℕ, ◌+◌, ◌*◌, ◌^◌, ◌<◌, ◌≤◌, ◌↔◌, List, length, slice_index, slice_set, replicate, All, IsSome, IfSome, Some};
+ghost use Rattle.h41_digits.specs.Register.{IsRegister, value, text};
 
+use std::fmt;
 use std::marker::Model;
 
 /// How many digits a register of the processor or of the memory has.
@@ -88,5 +89,17 @@ impl<const N: usize> Digits<N> {
         let mut digits = self.digits;
         digits[place] = digit;
         Digits { digits }
+    }
+}
+
+/// The digits in upper-case hexadecimal, the highest place first.
+impl<const N: usize> fmt::Display for Digits<N> {
+    ghost output = { λ digits. Some (text digits) };
+
+    fn fmt<W: fmt::Write>(&self, f: &mut fmt::Formatter<W>) -> fmt::Result {
+        for digit in self.digits.iter().rev() {
+            write!(f, "{digit:X}")?;
+        }
+        Ok(())
     }
 }

@@ -103,3 +103,20 @@ impl<const N: usize> fmt::Display for Digits<N> {
         Ok(())
     }
 }
+
+#[cfg(test)]
+mod tests {
+    use super::*;
+    use std::test::Fail;
+
+    #[test]
+    fn digits_of_a_number(rt: HostRuntime) -> Result<(), Fail> {
+        let register = Reg::from_u64(0x2C_0480_00).ok_or("2C048000 has eight digits")?;
+        assert_eq!(rt; register.to_string(rt.alloc())?.as_str(), "0000002C048000");
+        assert_eq!(rt; register.get(7), 2);
+        assert_eq!(rt; register.with(13, 9).to_u64(), 0x9000_002C_0480_00);
+        assert_eq!(rt; Reg::zero().to_u64(), 0);
+        assert_eq!(rt; Digits::<2>::from_u64(256), None);
+        Ok(())
+    }
+}

@@ -1,0 +1,109 @@
+-- Why the places of a field stand in a row.
+use Rattle.std.proofs.Common.{◌≡◌, ℕ, zero, suc, ◌+◌, ◌-◌, ◌<◌, ◌≤◌, Bool, true, false, ◌∷◌, length, slice_index, filter, refl, ap, arith, inl, inr, ◌∙◌, sym}
+use Rattle.std.proofs.lemmas.Bool.Decides.{nat_tests}
+use Rattle.h41_fields.specs.declared.field.Field.TheVariants.{AtPointer, SignAndExponent, ToPointer, All, PToQ, ExponentSign, Mantissa, MantissaSign}
+use Rattle.std.proofs.lemmas.Bool.{cases_lt}
+use Rattle.h41_fields.specs.declared.field.Field.{Field}
+use Rattle.h41_fields.specs.declared.field.Pointer.{Pointer}
+use Rattle.h41_fields.specs.Field.{active_place, is_place, register_places, places, first_place, last_place, counted_from, from_to}
+
+-- the test passes from lo to hi, and nowhere else
+pub record PassesFromTo (test : ℕ → Bool) (lo hi : ℕ) : Type 0 where
+  pub below : (place : ℕ) → place < lo → test place ≡ false
+  pub inside : (place : ℕ) → lo ≤ place → place ≤ hi → test place ≡ true
+  pub above : (place : ℕ) → hi < place → place < 14 → test place ≡ false
+
+-- from the first passing place on
+filter_from : (test : ℕ → Bool) (lo hi first count : ℕ) → PassesFromTo test lo hi → lo ≤ first → hi < first + count → first + count ≤ 14
+    → filter test (counted_from first count) ≡ counted_from first (hi + 1 - first)
+filter_from test lo hi first zero passes from past few =
+    let none : hi + 1 - first ≡ 0 = omega arith in rw none refl
+filter_from test lo hi first (suc count) passes from past few =
+    elim (cases_lt hi first) [
+      | inl gone ↦
+          let none : hi + 1 - first ≡ 0 = omega arith in
+          let next : hi + 1 - (first + 1) ≡ 0 = omega arith in
+          rw (passes.above first gone (omega arith), none) (filter_from test lo hi (first + 1) count passes (omega arith) (omega arith) (omega arith) ∙ ap (counted_from (first + 1)) next)
+      | inr here ↦
+          let some : hi + 1 - first ≡ suc (hi + 1 - (first + 1)) = omega arith in
+          rw (passes.inside first from here, some) (ap (λ rest. first ∷ rest) (filter_from test lo hi (first + 1) count passes (omega arith) (omega arith) (omega arith)))
+    ]
+
+-- from a place before it
+filter_to : (test : ℕ → Bool) (lo hi first count : ℕ) → PassesFromTo test lo hi → first ≤ lo → lo ≤ hi → hi < first + count → first + count ≤ 14
+    → filter test (counted_from first count) ≡ counted_from lo (hi + 1 - lo)
+filter_to test lo hi first zero passes before ordered past few = absurd (omega arith)
+filter_to test lo hi first (suc count) passes before ordered past few =
+    elim (cases_lt first lo) [
+      | inl less ↦ rw (passes.below first less) (filter_to test lo hi (first + 1) count passes (omega arith) ordered (omega arith) (omega arith))
+      | inr here ↦
+          let same : first ≡ lo = omega arith in
+          rw (sym same) (filter_from test lo hi first (suc count) passes (omega arith) past few)
+    ]
+
+-- A field whose test passes from lo to hi has just these places, and they are its first and last.
+pub record IsSpanOf (field : Field) (p q : ℕ) (active : Pointer) (lo hi : ℕ) : Type 0 where
+  pub first : lo ≡ first_place field p q active
+  pub last : hi ≡ last_place field p q active
+  pub each : places field p q active ≡ from_to lo hi
+
+length_counted : (first count : ℕ) → length (counted_from first count) ≡ count
+length_counted first zero = refl
+length_counted first (suc count) = ap suc (length_counted (first + 1) count)
+
+get_counted : (first count index : ℕ) → index < count → slice_index (counted_from first count) index ≡ first + index
+get_counted first zero index inside = absurd (omega arith)
+get_counted first (suc count) zero inside = omega arith
+get_counted first (suc count) (suc index) inside = omega (arith, get_counted (first + 1) count index (omega arith))
+
+pub IsSpanOf-from_test : (field : Field) (p q : ℕ) (active : Pointer) (lo hi : ℕ) → PassesFromTo (is_place field p q active) lo hi → lo ≤ hi → hi < 14 → IsSpanOf field p q active lo hi
+unfolding places register_places from_to first_place last_place
+IsSpanOf-from_test field p q active lo hi passes ordered inside =
+    let all : places field p q active ≡ counted_from lo (hi + 1 - lo) = filter_to (is_place field p q active) lo hi 0 14 passes (omega arith) ordered (omega arith) (omega arith) in
+    let size : length (places field p q active) ≡ hi + 1 - lo = ap length all ∙ length_counted lo (hi + 1 - lo) in record {
+      first = sym (ap (λ list. slice_index list 0) all ∙ get_counted lo (hi + 1 - lo) 0 (omega arith) ∙ omega arith);
+      last = sym (ap (λ list. slice_index list (length list - 1)) all ∙ ap (λ count. slice_index (counted_from lo (hi + 1 - lo)) (count - 1)) (length_counted lo (hi + 1 - lo))
+          ∙ get_counted lo (hi + 1 - lo) (hi + 1 - lo - 1) (omega arith) ∙ omega arith);
+      each = all;
+    }
+
+-- each field's first and last place
+pub span_at_pointer : (p q : ℕ) (active : Pointer) → active_place p q active < 14 → IsSpanOf AtPointer p q active (active_place p q active) (active_place p q active)
+span_at_pointer p q active inside =
+    IsSpanOf-from_test AtPointer p q active (active_place p q active) (active_place p q active)
+    (record { below = λ place h. grind (arith, nat_tests); inside = λ place h k. grind (arith, nat_tests); above = λ place h k. grind (arith, nat_tests) }) (omega arith) inside
+
+pub span_to_pointer : (p q : ℕ) (active : Pointer) → active_place p q active < 14 → IsSpanOf ToPointer p q active 0 (active_place p q active)
+span_to_pointer p q active inside =
+    IsSpanOf-from_test ToPointer p q active 0 (active_place p q active)
+    (record { below = λ place h. absurd (omega arith); inside = λ place h k. grind (arith, nat_tests); above = λ place h k. grind (arith, nat_tests) }) (omega arith) inside
+
+pub span_p_to_q : (p q : ℕ) (active : Pointer) → p ≤ q → q < 14 → IsSpanOf PToQ p q active p q
+span_p_to_q p q active ordered inside =
+    IsSpanOf-from_test PToQ p q active p q
+    (record { below = λ place h. grind (arith, nat_tests); inside = λ place h k. grind (arith, nat_tests); above = λ place h k. grind (arith, nat_tests) }) ordered inside
+
+pub span_p_to_last : (p q : ℕ) (active : Pointer) → q < p → p < 14 → IsSpanOf PToQ p q active p 13
+span_p_to_last p q active above inside =
+    IsSpanOf-from_test PToQ p q active p 13
+    (record { below = λ place h. grind (arith, nat_tests); inside = λ place h k. grind (arith, nat_tests); above = λ place h k. absurd (omega arith) }) (omega arith) (omega arith)
+
+pub span_of_all : (p q : ℕ) (active : Pointer) → IsSpanOf All p q active 0 13
+unfolding places register_places from_to first_place last_place
+span_of_all p q active = record { first = refl; last = refl; each = refl }
+
+pub span_sign_and_exponent : (p q : ℕ) (active : Pointer) → IsSpanOf SignAndExponent p q active 0 2
+unfolding places register_places from_to first_place last_place
+span_sign_and_exponent p q active = record { first = refl; last = refl; each = refl }
+
+pub span_exponent_sign : (p q : ℕ) (active : Pointer) → IsSpanOf ExponentSign p q active 2 2
+unfolding places register_places from_to first_place last_place
+span_exponent_sign p q active = record { first = refl; last = refl; each = refl }
+
+pub span_mantissa : (p q : ℕ) (active : Pointer) → IsSpanOf Mantissa p q active 3 12
+unfolding places register_places from_to first_place last_place
+span_mantissa p q active = record { first = refl; last = refl; each = refl }
+
+pub span_mantissa_sign : (p q : ℕ) (active : Pointer) → IsSpanOf MantissaSign p q active 13 13
+unfolding places register_places from_to first_place last_place
+span_mantissa_sign p q active = record { first = refl; last = refl; each = refl }

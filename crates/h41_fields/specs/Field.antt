@@ -1,0 +1,54 @@
+-- The fields of a register: the places that a word of the processor works on.
+use Rattle.std.specs.Prelude.{ℕ, zero, suc, ◌+◌, ◌-◌, Bool, true, ◌&&◌, ◌||◌, List, [], ◌∷◌, length, slice_index, filter, nat_lt, nat_le, ◌==◌}
+use Rattle.h41_fields.specs.declared.field.Field.{Field}
+use Rattle.h41_fields.specs.declared.field.Field.TheVariants.{AtPointer, SignAndExponent, ToPointer, All, PToQ, ExponentSign, Mantissa, MantissaSign}
+use Rattle.h41_fields.specs.declared.field.Pointer.{Pointer}
+use Rattle.h41_fields.specs.declared.field.Pointer.TheVariants.{P, Q}
+
+-- the place that the active pointer names, where P and Q name these
+abbrev pub active_place : ℕ → ℕ → Pointer → ℕ
+active_place p q P = p
+active_place p q Q = q
+
+-- whether a place belongs to a field, at pointers P and Q
+abbrev pub is_place : Field → ℕ → ℕ → Pointer → ℕ → Bool
+-- @R: the active pointer's place
+is_place AtPointer p q active place = place == active_place p q active
+-- S&X: the exponent and its sign, places 0 to 2
+is_place SignAndExponent p q active place = nat_le place 2
+-- R<: up to the active pointer's place, and with it
+is_place ToPointer p q active place = nat_le place (active_place p q active)
+-- ALL: each place
+is_place All p q active place = true
+-- P-Q: from P's place to Q's, and where P is above Q from P's place to the last
+is_place PToQ p q active place = nat_le p place && (nat_le place q || nat_lt q p)
+-- XS: the exponent's sign, place 2
+is_place ExponentSign p q active place = place == 2
+-- M: the mantissa, places 3 to 12
+is_place Mantissa p q active place = nat_le 3 place && nat_le place 12
+-- MS: the mantissa's sign, place 13
+is_place MantissaSign p q active place = place == 13
+
+-- the places of a register, from the rightmost
+unfoldable pub register_places : List ℕ
+register_places = 0 ∷ 1 ∷ 2 ∷ 3 ∷ 4 ∷ 5 ∷ 6 ∷ 7 ∷ 8 ∷ 9 ∷ 10 ∷ 11 ∷ 12 ∷ 13 ∷ []
+
+-- the places of a field, ascending
+unfoldable pub places : Field → ℕ → ℕ → Pointer → List ℕ
+places field p q active = filter (is_place field p q active) register_places
+
+-- the first and the last of them
+unfoldable pub first_place : Field → ℕ → ℕ → Pointer → ℕ
+first_place field p q active = slice_index (places field p q active) 0
+
+unfoldable pub last_place : Field → ℕ → ℕ → Pointer → ℕ
+last_place field p q active = slice_index (places field p q active) (length (places field p q active) - 1)
+
+-- so many numbers in a row, from a first one on
+abbrev pub counted_from : ℕ → ℕ → List ℕ
+counted_from first zero = []
+counted_from first (suc count) = first ∷ counted_from (first + 1) count
+
+-- all the numbers from lo to hi
+unfoldable pub from_to : ℕ → ℕ → List ℕ
+from_to lo hi = counted_from lo (hi + 1 - lo)

@@ -8,11 +8,12 @@ SumDigit base x y carry_in z carry_out =
     ((x + y + carry_in < base) × (z ≡ x + y + carry_in) × (carry_out ≡ 0))
     ⊎ ((base ≤ x + y + carry_in) × (z ≡ (x + y + carry_in - base) % 16) × (carry_out ≡ 1))
 
--- one place of a difference: z and the borrow out, from x, y and the borrow in
+-- one place of a difference: z and the borrow out, from x, y and the borrow in. Modulo 16 the digit is x - y - borrow + base
+-- where that is below 0 too, so 16 is added first.
 abbrev pub DifferenceDigit : ℕ → ℕ → ℕ → ℕ → ℕ → ℕ → Type 0
 DifferenceDigit base x y borrow_in z borrow_out =
     ((y + borrow_in ≤ x) × (z ≡ x - (y + borrow_in)) × (borrow_out ≡ 0))
-    ⊎ ((x < y + borrow_in) × (z ≡ (x + base - (y + borrow_in)) % 16) × (borrow_out ≡ 1))
+    ⊎ ((x < y + borrow_in) × (z ≡ (x + base + 16 - (y + borrow_in)) % 16) × (borrow_out ≡ 1))
 
 -- There is a list of carries, 0 or 1, the carry in at place lo and the carry out behind place hi, by which the rule of
 -- one place holds at each place from lo to hi.

@@ -84,7 +84,7 @@ impl<const N: usize> Digits<N> {
         requires in_register { place < N }
         requires is_digit { digit < 16 }
         ensures changed { result ≡ slice_set self.now place digit }
-        ensures register { IsRegister N self.now }
+        ensures register { IsRegister N self.now × IsRegister N result }
     {
         let mut digits = self.digits;
         digits[place] = digit;

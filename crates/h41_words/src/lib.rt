@@ -1,0 +1,10 @@
+//! The words of the HP-41's Nut processor, and the table of what they are.
+#![tactic(auto)]
+
+mod rows;
+mod table;
+mod word;
+
+pub use rows::{Operation, Row};
+pub use table::{length, row};
+pub use word::Word;

@@ -1,0 +1,41 @@
+ghost use Rattle.std.specs.Prelude.{◌≡◌, ℕ, ◌<◌, ◌↔◌, IsSome, IfSome};
+
+use std::marker::Model;
+
+/// A word of the processor's ROM: ten bits, 000 to 3FF.
+#[derive(Clone, Copy, Debug, PartialEq, Eq, PartialOrd, Ord, Hash)]
+pub struct Word {
+    number: u16,
+}
+
+impl Model for Word {
+    ghost Value = { ℕ };
+
+    ghost view = { λ word. word.number };
+
+    ghost invariant = { λ word. word.number < 1024 };
+
+    ghost inverse = { λ number. record { number = number } };
+}
+
+impl Word {
+    /// The word with this number, or nothing where it is above 3FF.
+    pub fn new(number: u16) -> Option<Self>
+        ensures fits { IsSome result ↔ (number < 1024) }
+        ensures value { IfSome result (λ word. word ≡ number) }
+    {
+        if number < 1024 {
+            Some(Word { number })
+        } else {
+            None
+        }
+    }
+
+    /// Its number, 0 to 3FF.
+    pub fn number(self) -> u16
+        ensures value { result ≡ self }
+        ensures bound { result < 1024 }
+    {
+        self.number
+    }
+}

@@ -1,6 +1,6 @@
 -- The table of the words: which row each of the 1,024 words has, and how many words an instruction takes. Numbers of
 -- words are those of the instruction set of HP's Nut processor.
-use Rattle.std.specs.Prelude.{ℕ, ◌%◌, ◌||◌, List, [], ◌∷◌, ◌==◌, if◌then◌else◌}
+use Rattle.std.specs.Prelude.{◌≡◌, ℕ, ◌%◌, ◌||◌, ◌⊎◌, List, [], ◌∷◌, ◌==◌, if◌then◌else◌}
 use Rattle.h41_fields.specs.declared.field.Field.TheVariants.{AtPointer, SignAndExponent, ToPointer, All, PToQ, ExponentSign, Mantissa, MantissaSign}
 use Rattle.h41_words.specs.declared.rows.Row.{Row}
 use Rattle.h41_words.specs.declared.rows.Row.TheVariants.{Nop, LoadImmediate, Return, Arithmetic, Other}
@@ -33,3 +33,9 @@ row_of word = row_in word_table word
 -- how many words an instruction takes: two where its first word is a long jump (its low two bits are 01) or LDI
 unfoldable pub length_of : ℕ → ℕ
 length_of word = if word % 4 == 1 || word == 0x130 then 2 else 1
+
+-- how many words a row takes: a row of its own always as many
+abbrev pub IsLengthOf : Row → ℕ → Type 0
+IsLengthOf LoadImmediate count = count ≡ 2
+IsLengthOf Other count = (count ≡ 1) ⊎ (count ≡ 2)
+IsLengthOf row count = count ≡ 1

@@ -6,9 +6,10 @@ use crate::word::Word;
 use h41_fields::Field;
 
 /// The row of a word.
-#[tactic(auto, unfolding(crate::specs::WordTable::row_of))]
+#[tactic(auto, unfolding(crate::specs::WordTable::row_of, crate::specs::WordTable::length_of))]
 pub fn row(word: Word) -> Row
-    ensures { result ≡ spec.row_of word }
+    ensures row { result ≡ spec.row_of word }
+    ensures length { spec.IsLengthOf result (spec.length_of word) }
 {
     match word.number() {
         0x000 => Row::Nop,
@@ -28,7 +29,7 @@ pub fn row(word: Word) -> Row
 
 /// How many words an instruction takes that begins with this word, 1 or 2. A long jump and `LDI` take two.
 #[tactic(auto, unfolding(crate::specs::WordTable::length_of))]
-pub fn length(word: Word) -> usize
+pub fn length(word: Word) -> u16
     ensures { result ≡ spec.length_of word }
 {
     match word.number() {

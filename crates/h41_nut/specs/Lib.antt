@@ -1,0 +1,3 @@
+pub mod PageList
+pub mod Processor
+pub mod WordStep

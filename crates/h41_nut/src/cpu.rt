@@ -1,0 +1,281 @@
+ghost use Rattle.std.specs.Prelude.{◌≡◌, ◌^◌, ◌<◌, slice_index};
+ghost use Rattle.h41_digits.specs.Register.{IsRegister};
+ghost use Rattle.h41_nut.specs.Processor.{initial, entered};
+ghost use Rattle.h41_nut.specs.WordStep.{gone_to, with_low_digits, returns_after, newest_return, IncrementsC};
+
+use crate::base::Base;
+use h41_arith::inc;
+use h41_digits::Reg;
+use h41_fields::{Field, Pointer, span};
+use h41_words::Word;
+use std::marker::Model;
+
+/// How many return addresses the processor keeps.
+const RETURNS: usize = 4;
+
+/// The address at which a function ends: it is where the first return of a function goes.
+const END_OF_FUNCTION: u16 = 0x00F0;
+
+/// The registers of the Nut processor.
+#[derive(Debug, Drop)]
+pub struct Cpu {
+    a: Reg,
+    b: Reg,
+    c: Reg,
+    m: Reg,
+    n: Reg,
+    g: u8,
+    t: u8,
+    status: u16,
+    p: usize,
+    q: usize,
+    active: Pointer,
+    pc: u16,
+    returns: [u16; RETURNS],
+    carry: bool,
+    base: Base,
+    selected: u16,
+    display: bool,
+}
+
+impl Model for Cpu {
+    ghost use Rattle.std.specs.Prelude.{◌^◌, ◌<◌};
+    ghost use Rattle.h41_nut.specs.Processor.{Processor};
+
+    ghost Value = { Processor };
+
+    ghost view = { λ cpu. record {
+      a = cpu.a;
+      b = cpu.b;
+      c = cpu.c;
+      m = cpu.m;
+      n = cpu.n;
+      g = cpu.g;
+      t = cpu.t;
+      status = cpu.status;
+      p = cpu.p;
+      q = cpu.q;
+      active = cpu.active;
+      pc = cpu.pc;
+      returns = cpu.returns;
+      carry = cpu.carry;
+      base = cpu.base;
+      selected = cpu.selected;
+      display = cpu.display;
+    } };
+
+    ghost invariant = { λ cpu. (cpu.p < 14) × (cpu.q < 14) × (cpu.status < 2 ^ 14) × (cpu.selected < 2 ^ 10) };
+}
+
+impl Cpu {
+    /// The state before the first call: all zero, but for the address 00F0 and the display, which is on.
+    pub fn new() -> Self
+        ensures { result ≡ initial }
+    {
+        Cpu {
+            a: Reg::zero(),
+            b: Reg::zero(),
+            c: Reg::zero(),
+            m: Reg::zero(),
+            n: Reg::zero(),
+            g: 0,
+            t: 0,
+            status: 0,
+            p: 0,
+            q: 0,
+            active: Pointer::P,
+            pc: END_OF_FUNCTION,
+            returns: [0; RETURNS],
+            carry: false,
+            base: Base::Hexadecimal,
+            selected: 0,
+            display: true,
+        }
+    }
+
+    /// The state in which a function begins at an address: all is zero as at first, the newest return address is 00F0,
+    /// and the display stays as it is (this project's choice).
+    pub fn enter(&mut self, address: u16)
+        ensures { self.new ≡ entered self.old address }
+    {
+        let display = self.display;
+        *self = Cpu {
+            pc: address,
+            returns: [END_OF_FUNCTION, 0, 0, 0],
+            display,
+            ..Cpu::new()
+        };
+    }
+
+    /// The register A.
+    pub fn a(&self) -> Reg
+        ensures { result ≡ self.now.a }
+    {
+        self.a
+    }
+
+    /// The register B.
+    pub fn b(&self) -> Reg
+        ensures { result ≡ self.now.b }
+    {
+        self.b
+    }
+
+    /// The register C.
+    pub fn c(&self) -> Reg
+        ensures { result ≡ self.now.c }
+    {
+        self.c
+    }
+
+    /// The register M.
+    pub fn m(&self) -> Reg
+        ensures { result ≡ self.now.m }
+    {
+        self.m
+    }
+
+    /// The register N.
+    pub fn n(&self) -> Reg
+        ensures { result ≡ self.now.n }
+    {
+        self.n
+    }
+
+    /// The register G, of 8 bits.
+    pub fn g(&self) -> u8
+        ensures { result ≡ self.now.g }
+    {
+        self.g
+    }
+
+    /// The register T, of 8 bits.
+    pub fn t(&self) -> u8
+        ensures { result ≡ self.now.t }
+    {
+        self.t
+    }
+
+    /// The status bits, S0 the lowest of 14.
+    pub fn status(&self) -> u16
+        ensures value { result ≡ self.now.status }
+        ensures bound { result < 2 ^ 14 }
+    {
+        self.status
+    }
+
+    /// The pointer P, a place from 0 to 13.
+    pub fn p(&self) -> usize
+        ensures value { result ≡ self.now.p }
+        ensures bound { result < 14 }
+    {
+        self.p
+    }
+
+    /// The pointer Q, a place from 0 to 13.
+    pub fn q(&self) -> usize
+        ensures value { result ≡ self.now.q }
+        ensures bound { result < 14 }
+    {
+        self.q
+    }
+
+    /// Which of the pointers is active.
+    pub fn active(&self) -> Pointer
+        ensures { result ≡ self.now.active }
+    {
+        self.active
+    }
+
+    /// The address of the next word.
+    pub fn pc(&self) -> u16
+        ensures { result ≡ self.now.pc }
+    {
+        self.pc
+    }
+
+    /// The four return addresses, the newest first; 0000 stands where there is none.
+    pub fn returns(&self) -> [u16; RETURNS]
+        ensures { result ≡ self.now.returns }
+    {
+        self.returns
+    }
+
+    /// The carry.
+    pub fn carry(&self) -> bool
+        ensures { result ≡ self.now.carry }
+    {
+        self.carry
+    }
+
+    /// The base that arithmetic words count in.
+    pub fn base(&self) -> Base
+        ensures { result ≡ self.now.base }
+    {
+        self.base
+    }
+
+    /// The address that is selected in RAM, of ten bits.
+    pub fn selected(&self) -> u16
+        ensures value { result ≡ self.now.selected }
+        ensures bound { result < 2 ^ 10 }
+    {
+        self.selected
+    }
+
+    /// The display bit: whether the display is on.
+    pub fn display(&self) -> bool
+        ensures { result ≡ self.now.display }
+    {
+        self.display
+    }
+
+    /// The newest return address, 0000 where there is none.
+    pub(crate) fn newest_return(&self) -> u16
+        ensures { result ≡ newest_return self.now }
+    {
+        self.returns[0]
+    }
+
+    /// Goes on at an address, with no carry.
+    pub(crate) fn go_to(&mut self, address: u16)
+        ensures { self.new ≡ gone_to address self.old }
+    {
+        self.pc = address;
+        self.carry = false;
+    }
+
+    /// Takes the newest return address off; the oldest is 0000 then.
+    pub(crate) fn drop_return(&mut self)
+        ensures { self.new ≡ record self.old { returns = returns_after self.old.returns } }
+    {
+        let [_newest, second, third, fourth] = self.returns;
+        self.returns = [second, third, fourth, 0];
+    }
+
+    /// A word's digits to places 2 to 0 of C.
+    pub(crate) fn load_immediate(&mut self, word: Word)
+        ensures { self.new ≡ record self.old { c = with_low_digits word self.old.c } }
+    {
+        let number = word.number();
+        self.c = self
+            .c
+            .with(0, (number % 16) as u8)
+            .with(1, (number / 16 % 16) as u8)
+            .with(2, (number / 256) as u8);
+    }
+
+    /// One more in a field of C, with the field's carry out.
+    pub(crate) fn increment_c(&mut self, field: Field)
+        ensures change { self.new ≡ record self.old { c = self.new.c; carry = self.new.carry } }
+        ensures increment { IncrementsC field self.old self.new }
+    {
+        let places = span(field, self.p, self.q, self.active);
+        let (sum, carry) = match self.base {
+            Base::Hexadecimal => inc::<false>(self.c, self.c, places),
+            Base::Decimal => inc::<true>(self.c, self.c, places),
+        };
+        self.c = sum;
+        self.carry = carry;
+    }
+}

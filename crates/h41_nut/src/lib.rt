@@ -1,0 +1,19 @@
+//! The HP-41's Nut processor: its registers, its pages of words, and one step.
+#![tactic(auto)]
+
+mod base;
+mod cpu;
+mod keys;
+mod machine;
+mod page;
+mod pages;
+mod ram;
+mod refusal;
+
+pub use base::Base;
+pub use cpu::Cpu;
+pub use keys::Keys;
+pub use machine::step;
+pub use pages::Pages;
+pub use ram::Ram;
+pub use refusal::{PlugRefusal, Refusal};

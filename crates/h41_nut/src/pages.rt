@@ -1,0 +1,124 @@
+ghost use Rattle.std.specs.Prelude.{◌≡◌, ◌⊎◌, ◌<◌, None, Some, IfOk, IfErr, IfNone, OnOk, OnErr, All, length, IsTrue, nat_le};
+ghost use Rattle.std.specs.List.{list_all};
+ghost use Rattle.h41_nut.specs.PageList.{no_pages, is_image, plug_refusal, plugged, fetched};
+ghost use Rattle.h41_nut.specs.declared.refusal.PlugRefusal.TheVariants.{OutOfMemory};
+
+use crate::page::{PAGE_WORDS, Page};
+use crate::refusal::{PlugRefusal, Refusal};
+use h41_words::Word;
+use std::alloc::{AllocError, Global};
+use std::marker::Model;
+
+/// How many pages the address space has.
+const PAGES: usize = 16;
+
+/// The pages that may be plugged; those below are the system's.
+const FIRST_PAGE: u8 = 4;
+
+const LAST_PAGE: u8 = 15;
+
+/// The first address behind the system's pages.
+const FIRST_ADDRESS: u16 = 0x4000;
+
+/// The pages of the address space: sixteen of 4,096 words, of which 4 to F may be plugged.
+#[derive(Drop)]
+pub struct Pages {
+    pages: Vec<Option<Page>>,
+}
+
+impl Model for Pages {
+    ghost use Rattle.std.specs.Prelude.{◌≡◌, vec_len};
+    ghost use Rattle.h41_nut.specs.PageList.{Pages};
+
+    ghost Value = { Pages };
+
+    ghost view = { λ all. all.pages.items };
+
+    ghost invariant = { λ all. vec_len all.pages ≡ 16 };
+}
+
+impl Pages {
+    /// Nothing plugged. 21 where memory is refused.
+    pub fn new(alloc: Global) -> Result<Self, AllocError>
+        ensures { IfOk result (λ pages. pages ≡ no_pages) }
+    {
+        let mut pages = Vec::with_capacity(alloc, PAGES)?;
+        for _page in 0..PAGES {
+            pages.push(None)?;
+        }
+        Ok(Pages { pages })
+    }
+
+    /// Plugs 4,096 words at a page and bank. Refused, in this order: 1 where the page is not 4 to F or the bank is not 1
+    /// (this project's choice), 2 where the page is plugged, 4 where there are not 4,096 words or one is above 3FF, 21
+    /// where memory is refused.
+    pub fn plug(
+        &mut self,
+        alloc: Global,
+        page: u8,
+        bank: u8,
+        writable: bool,
+        words: &[u16],
+    ) -> Result<(), PlugRefusal>
+        ensures ok { OnOk result ((plug_refusal self.old page bank words.now ≡ None) × (self.new ≡ plugged self.old page writable words.now)) }
+        ensures err { OnErr result (self.new ≡ self.old) }
+        ensures refusal { IfErr result (λ refusal. (plug_refusal self.old page bank words.now ≡ Some refusal)
+            ⊎ ((plug_refusal self.old page bank words.now ≡ None) × (refusal ≡ OutOfMemory))) }
+    {
+        if let Some(refusal) = self.plug_refusal(page, bank, words) {
+            return Err(refusal);
+        }
+        let image = Page::new(alloc, writable, words)?;
+        self.pages[usize::from(page)] = Some(image);
+        Ok(())
+    }
+
+    // Why words are not plugged, but for want of memory.
+    fn plug_refusal(&self, page: u8, bank: u8, words: &[u16]) -> Option<PlugRefusal>
+        ensures refusal { result ≡ plug_refusal self.now page bank words.now }
+        ensures page { IfNone result (page < 16) }
+        ensures size { IfNone result (length words.now ≡ 4096) }
+        ensures each { IfNone result (All (λ word. word < 1024) words.now) }
+    {
+        if page < FIRST_PAGE || page > LAST_PAGE || bank != 1 {
+            Some(PlugRefusal::NoSuchPage)
+        } else if self.pages[usize::from(page)].is_some() {
+            Some(PlugRefusal::Occupied)
+        } else if !is_image(words) {
+            Some(PlugRefusal::BadImage)
+        } else {
+            None
+        }
+    }
+
+    #[tactic(auto, unfolding(crate::specs::PageList::fetched))]
+    /// The word at an address. Refused as 8 in pages 0 to 3, as 9 where nothing is plugged.
+    pub fn fetch(&self, address: u16) -> Result<Word, Refusal>
+        ensures { result ≡ fetched self.now address }
+    {
+        if address < FIRST_ADDRESS {
+            return Err(Refusal::SystemRom(address));
+        }
+        let page = usize::from(address / 0x1000);
+        match &self.pages[page] {
+            None => Err(Refusal::EmptyPage(address)),
+            Some(image) => Ok(image.word(usize::from(address % 0x1000))),
+        }
+    }
+}
+
+// Whether these are the words of a page.
+fn is_image(words: &[u16]) -> bool
+    ensures test { result ≡ is_image words.now }
+    ensures image { IsTrue result → (length words.now ≡ 4096) × All (λ word. word < 1024) words.now }
+{
+    words.len() == PAGE_WORDS && all_fit(words)
+}
+
+// Whether none is above 3FF.
+fn all_fit(words: &[u16]) -> bool
+    ensures test { result ≡ list_all (λ word. nat_le word 0x3FF) words.now }
+    ensures each { IsTrue result → All (λ word. word < 1024) words.now }
+{
+    words.iter().all(|word| *word <= 0x3FF)
+}

@@ -98,8 +98,9 @@ carried_more rule x y carry_in lo next z carry digit out inside from so_far step
 }
 
 -- the last place is behind
-pub carried_all : (rule : ℕ → ℕ → ℕ → ℕ → ℕ → Type 0) (x y : List ℕ) (carry_in lo hi : ℕ) (z : List ℕ) (out : ℕ) → CarriedTo rule x y carry_in lo (hi + 1) z out → HasCarries rule x y carry_in lo hi z out
-carried_all rule x y carry_in lo hi z out done = record {
+pub carried_all : (rule : ℕ → ℕ → ℕ → ℕ → ℕ → Type 0) (x y : List ℕ) (carry_in lo hi : ℕ) (z : List ℕ) (out : ℕ) → carry_in ≤ 1 → CarriedTo rule x y carry_in lo (hi + 1) z out → HasCarries rule x y carry_in lo hi z out
+carried_all rule x y carry_in lo hi z out bit done = record {
+  bit = bit;
   carries = done.carries;
   first = done.first;
   last = done.last;

@@ -15,9 +15,10 @@ DifferenceDigit base x y borrow_in z borrow_out =
     ((y + borrow_in ≤ x) × (z ≡ x - (y + borrow_in)) × (borrow_out ≡ 0))
     ⊎ ((x < y + borrow_in) × (z ≡ (x + base + 16 - (y + borrow_in)) % 16) × (borrow_out ≡ 1))
 
--- There is a list of carries, 0 or 1, the carry in at place lo and the carry out behind place hi, by which the rule of
--- one place holds at each place from lo to hi.
+-- There is a list of carries, the carry in (0 or 1) at place lo and the carry out behind place hi, by which the rule of
+-- one place holds at each place from lo to hi. So each of these carries is 0 or 1.
 pub record HasCarries (rule : ℕ → ℕ → ℕ → ℕ → ℕ → Type 0) (x y : List ℕ) (carry_in lo hi : ℕ) (z : List ℕ) (carry_out : ℕ) : Type 0 where
+  pub bit : carry_in ≤ 1
   pub carries : List ℕ
   pub first : slice_index carries lo ≡ carry_in
   pub last : slice_index carries (hi + 1) ≡ carry_out
@@ -43,7 +44,7 @@ carry_digit carry = if carry then 1 else 0
 abbrev pub zeros : List ℕ
 zeros = replicate 14 0
 
--- z is a register that is the other one outside the places from lo to hi
+-- outside the places from lo to hi, z is as the other register
 pub record KeepsOutside (other : List ℕ) (lo hi : ℕ) (z : List ℕ) : Type 0 where
   pub below : (place : ℕ) → place < lo → slice_index z place ≡ slice_index other place
   pub above : (place : ℕ) → hi < place → slice_index z place ≡ slice_index other place

@@ -7,7 +7,7 @@ use Rattle.std.proofs.lemmas.Fmt.{hex_one_digit}
 use Rattle.std.specs.Fmt.{digits as glyphs_of, digit_glyph}
 use Rattle.std.specs.List.{AllByRecursion}
 use Rattle.std.proofs.lemmas.List.Elements.{recursion_from_All, All-drop}
-use Rattle.h41_digits.specs.Register.{value_from, value, text}
+use Rattle.h41_digits.specs.Register.{IsRegister, value_from, value, text}
 
 -- the weight of the next place
 pub pow-next : (place : ℕ) → 16 ^ (place + 1) ≡ 16 * 16 ^ place
@@ -87,3 +87,17 @@ digit-lt count digit digits above each there =
     let rest = All-drop (λ digit. digit < 16) count digits each in
     let first : All (λ digit. digit < 16) (digit ∷ above) = subst (All (λ digit. digit < 16)) there rest in
     first 0 0 (omega arith)
+
+same_digits : (x y : List ℕ) → length x ≡ length y → AllByRecursion (λ digit. digit < 16) x → AllByRecursion (λ digit. digit < 16) y → value x ≡ value y → x ≡ y
+same_digits [] [] size p q same = refl
+same_digits [] (b ∷ y) size p q same = absurd (omega (arith, size))
+same_digits (a ∷ x) [] size p q same = absurd (omega (arith, size))
+same_digits (a ∷ x) (b ∷ y) size p q same =
+    let both : a + 16 * value x ≡ b + 16 * value y = sym (value-cons a x) ∙ same ∙ value-cons b y in
+    let low : a ≡ b = omega (arith, p.0, q.0) in
+    let high : value x ≡ value y = omega (arith, p.0, q.0) in
+    let rest = same_digits x y (omega (arith, size)) p.1 q.1 high in
+    cc
+
+pub same_register : (places : ℕ) (x y : List ℕ) → IsRegister places x → IsRegister places y → value x ≡ value y → x ≡ y
+same_register places x y p q same = same_digits x y (p.size ∙ sym q.size) (recursion_from_All _ x p.each) (recursion_from_All _ y q.each) same

@@ -7,6 +7,8 @@ ghost use Rattle.h41_digits.specs.Register.{IsRegister, value, text};
 use std::fmt;
 use std::marker::Model;
 
+pub mod laws;
+
 /// How many digits a register of the processor or of the memory has.
 pub const PLACES: usize = 14;
 

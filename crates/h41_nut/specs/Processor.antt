@@ -1,5 +1,5 @@
 -- The registers of the processor, and the states that it starts in.
-use Rattle.std.specs.Prelude.{◌≡◌, ℕ, ◌^◌, ◌<◌, Bool, true, false, List, [], ◌∷◌, length, replicate}
+use Rattle.std.specs.Prelude.{ℕ, Bool, true, false, List, [], ◌∷◌, replicate}
 use Rattle.h41_fields.specs.declared.field.Pointer.{Pointer}
 use Rattle.h41_fields.specs.declared.field.Pointer.TheVariants.{P}
 use Rattle.h41_nut.specs.declared.base.Base.{Base}
@@ -31,13 +31,6 @@ pub record Processor : Type 0 where
   pub selected : ℕ
   -- whether the display is on
   pub display : Bool
-
--- what each processor is
-pub record IsProcessor (s : Processor) : Type 0 where
-  pub p_in_register : s.p < 14
-  pub q_in_register : s.q < 14
-  pub status_bits : s.status < 2 ^ 14
-  pub four_returns : length s.returns ≡ 4
 
 -- the state before the first call: all zero, but for the address 00F0 and the display, which is on
 abbrev pub initial : Processor

@@ -114,8 +114,9 @@ Effect (Arithmetic IncrementC field) s t =
     (t ≡ record (gone_to (goes_to (Arithmetic IncrementC field) s) s.processor) { c = t.c; carry = t.carry }) × IncrementsC field s.processor t
 Effect Other s t = ⊥
 
--- the change that a step makes where it is not refused: pages and keys stay
+-- the change that a step makes, which is there only where it is not refused: pages and keys stay
 pub record Micro (s t : Nut) : Type 0 where
+  pub accepted : refused s ≡ None
   pub effect : Effect (row_of (word_of s)) s t.processor
   pub pages : t.pages ≡ s.pages
   pub keys : t.keys ≡ s.keys

@@ -39,7 +39,7 @@ returns-clause-sum g c =
     let past : c.loop-place.place ≡ c.args.span.hi + 1 = omega (arith, c.args.span.ordered) in
     let done = subst (λ next. CarriedTo (SumDigit c.if-this-ne0.base) c.args.x zeros 1 c.args.span.lo next c.loop-place.sum (carry_digit c.loop-place.carry)) past c.loop-place.invariant.carried in
     subst (λ base. Sum base c.args.x zeros 1 c.args.span.lo c.args.span.hi c.loop-place.sum (carry_digit c.loop-place.carry)) same
-    (carried_all (SumDigit c.if-this-ne0.base) c.args.x zeros 1 c.args.span.lo c.args.span.hi c.loop-place.sum (carry_digit c.loop-place.carry) done)
+    (carried_all (SumDigit c.if-this-ne0.base) c.args.x zeros 1 c.args.span.lo c.args.span.hi c.loop-place.sum (carry_digit c.loop-place.carry) (omega arith) done)
 
 pub returns-clause-outside : goal.returns-clause-outside
 returns-clause-outside g c = record {

@@ -1,0 +1,4 @@
+pub mod Answers
+pub mod Calculator
+pub mod Deck
+pub mod Texts

@@ -1,0 +1,112 @@
+ghost use Rattle.std.specs.Prelude.{◌≡◌, IfOk, None, Some, MatchOption, string_bytes};
+ghost use Rattle.std.specs.Result.{result_err};
+ghost use Rattle.h41_bench.specs.Calculator.{start, Steps, of_plug};
+ghost use Rattle.h41_bench.specs.Texts.{processor_text};
+ghost use Rattle.h41_nut.specs.PageList.{plug_refusal, plugged};
+ghost use Rattle.h41_bench.specs.Answers.{shown};
+ghost use Rattle.h41_bench.specs.Deck.{Reply};
+
+use crate::calculator::Calculator;
+use crate::command::Command;
+use crate::dump::Dump;
+use crate::refusal::Refusal;
+use h41_nut::PlugRefusal;
+use std::alloc::{AllocError, Global};
+use std::marker::Model;
+
+/// What a command prints: a text, and then the line of its refusal, where it is refused.
+#[derive(Debug, Drop)]
+pub struct Answer {
+    pub text: String,
+    pub refusal: Option<Refusal>,
+}
+
+/// The bench: the calculator, and what its user may do with it.
+#[derive(Drop)]
+pub struct Bench {
+    calculator: Calculator,
+}
+
+impl Model for Bench {
+    ghost use Rattle.h41_bench.specs.Calculator.{State};
+
+    ghost Value = { State };
+
+    ghost view = { λ bench. bench.calculator };
+}
+
+impl Bench {
+    /// Nothing is plugged, and nothing runs. 21 where memory is refused.
+    pub fn new(alloc: Global) -> Result<Self, AllocError>
+        ensures { IfOk result (λ bench. bench ≡ start) }
+    {
+        Ok(Bench {
+            calculator: Calculator::new(alloc)?,
+        })
+    }
+
+    /// So many single steps, up to the first that is refused.
+    pub fn steps(&mut self, count: u32) -> Result<(), Refusal>
+        ensures { Steps count self.old self.new (result_err result) }
+    {
+        for _step in 0..count {
+            self.calculator.step()?;
+        }
+        Ok(())
+    }
+
+    /// Carries a command out, with the page's words of its block, and answers what it prints. 21 where memory is refused.
+    pub fn apply(
+        &mut self,
+        alloc: Global,
+        command: Command,
+        words: &[u16],
+    ) -> Result<Answer, AllocError>
+        ensures { IfOk result (λ answer. Reply command words.now self.old self.new (shown answer)) }
+    {
+        let refusal = match command {
+            Command::Words { page, writable } => self.plug(alloc, page, writable, words)?,
+            Command::Call(address) => self.calculator.call(address).err(),
+            Command::Step(count) => self.steps(count).err(),
+            Command::ShowCpu => return self.dump(alloc),
+        };
+        let text = String::new(alloc);
+        Ok(Answer { text, refusal })
+    }
+
+    // Plugs a page. Memory that was refused is the one refusal that a deck doesn't print.
+    fn plug(
+        &mut self,
+        alloc: Global,
+        page: u8,
+        writable: bool,
+        words: &[u16],
+    ) -> Result<Option<Refusal>, AllocError>
+        ensures { IfOk result (λ refusal. MatchOption (plug_refusal self.old.nut.pages page 1 words.now)
+            ((self.new ≡ record self.old { nut = record self.old.nut { pages = plugged self.old.nut.pages page writable words.now } }) × (refusal ≡ None))
+            (λ why. (self.new ≡ self.old) × (refusal ≡ Some (of_plug why)))) }
+    {
+        match self.calculator.plug(alloc, page, writable, words) {
+            Ok(()) => Ok(None),
+            Err(PlugRefusal::NoSuchPage) => Ok(Some(Refusal::NoSuchPage)),
+            Err(PlugRefusal::Occupied) => Ok(Some(Refusal::Occupied)),
+            Err(PlugRefusal::BadImage) => Ok(Some(Refusal::BadImage)),
+            Err(PlugRefusal::OutOfMemory) => Err(AllocError),
+        }
+    }
+
+    // What `show cpu` answers.
+    fn dump(&self, alloc: Global) -> Result<Answer, AllocError>
+        ensures text { IfOk result (λ answer. string_bytes answer.text ≡ processor_text self.now.nut.processor self.now.nut.keys) }
+        ensures refusal { IfOk result (λ answer. answer.refusal ≡ None) }
+    {
+        let dump = Dump {
+            cpu: self.calculator.cpu(),
+            keys: self.calculator.keys(),
+        };
+        Ok(Answer {
+            text: format!(in alloc; "{dump}")?,
+            refusal: None,
+        })
+    }
+}

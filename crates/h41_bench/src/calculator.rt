@@ -1,0 +1,137 @@
+ghost use Rattle.std.specs.Prelude.{◌≡◌, ◌⊎◌, None, Some, MatchOption, MatchResult, IfOk, IfErr, OnOk, OnErr};
+ghost use Rattle.h41_nut.specs.PageList.{plug_refusal, plugged};
+ghost use Rattle.h41_nut.specs.declared.refusal.PlugRefusal.TheVariants.{OutOfMemory};
+ghost use Rattle.h41_bench.specs.Calculator.{State, start, call_refusal, called, step_refusal, Step};
+
+use crate::refusal::Refusal;
+use h41_nut::{Cpu, Keys, Pages, PlugRefusal, Ram, step};
+use std::alloc::{AllocError, Global};
+use std::marker::Model;
+
+/// What the calculator does.
+#[derive(Clone, Copy, Debug, PartialEq, Eq)]
+pub enum Mode {
+    /// Nothing runs.
+    Idle,
+    /// A function in microcode runs.
+    Micro,
+}
+
+/// The address at which a function ends.
+const END_OF_FUNCTION: u16 = 0x00F0;
+
+/// The lowest address that may be called; below it are the system's pages.
+const FIRST_ADDRESS: u16 = 0x4000;
+
+/// The calculator: processor, memory, pages and keys, and what it does.
+#[derive(Drop)]
+pub struct Calculator {
+    cpu: Cpu,
+    ram: Ram,
+    pages: Pages,
+    keys: Keys,
+    mode: Mode,
+}
+
+impl Model for Calculator {
+    ghost use Rattle.h41_nut.specs.WordStep.{nut_of};
+    ghost use Rattle.h41_bench.specs.Calculator.{State};
+
+    ghost Value = { State };
+
+    ghost view = { λ all. record { nut = nut_of all.cpu all.pages all.keys; mode = all.mode } };
+}
+
+impl Calculator {
+    /// Nothing is plugged, and nothing runs. 21 where memory is refused.
+    pub fn new(alloc: Global) -> Result<Self, AllocError>
+        ensures { IfOk result (λ calculator. calculator ≡ start) }
+    {
+        Ok(Calculator {
+            cpu: Cpu::new(),
+            ram: Ram::new(),
+            pages: Pages::new(alloc)?,
+            keys: Keys::new(),
+            mode: Mode::Idle,
+        })
+    }
+
+    /// What the calculator does.
+    pub fn mode(&self) -> Mode
+        ensures { result ≡ self.now.mode }
+    {
+        self.mode
+    }
+
+    /// The processor.
+    pub fn cpu(&self) -> &Cpu
+        ensures { result.now ≡ self.now.nut.processor }
+    {
+        &self.cpu
+    }
+
+    /// The keyboard as the processor sees it.
+    pub fn keys(&self) -> Keys
+        ensures { result ≡ self.now.nut.keys }
+    {
+        self.keys
+    }
+
+    /// Begins the function at an address. Refused as 24 while a function runs, and as 8 below address 4000, 00F0 with
+    /// them: a call is no arrival. Nothing is changed then.
+    pub fn call(&mut self, address: u16) -> Result<(), Refusal>
+        ensures refusal { MatchResult result (λ _. call_refusal self.old address ≡ None) (λ refusal. call_refusal self.old address ≡ Some refusal) }
+        ensures change { OnOk result (self.new ≡ called address self.old) }
+        ensures err { OnErr result (self.new ≡ self.old) }
+    {
+        if self.mode != Mode::Idle {
+            return Err(Refusal::Busy);
+        }
+        if address < FIRST_ADDRESS {
+            return Err(Refusal::SystemRom(address));
+        }
+        self.cpu.enter(address);
+        self.mode = Mode::Micro;
+        Ok(())
+    }
+
+    /// One step: a word while a function runs, which ends where it arrives at 00F0, and else nothing. A word is refused
+    /// as 7, 8 or 9, and nothing is changed then.
+    pub fn step(&mut self) -> Result<(), Refusal>
+        ensures refusal { MatchResult result (λ _. step_refusal self.old ≡ None) (λ refusal. step_refusal self.old ≡ Some refusal) }
+        ensures change { OnOk result (Step self.old self.new) }
+        ensures err { OnErr result (self.new ≡ self.old) }
+    {
+        if self.mode == Mode::Idle {
+            return Ok(());
+        }
+        step(
+            &mut self.cpu,
+            &mut self.ram,
+            &mut self.pages,
+            &mut self.keys,
+        )?;
+        if self.cpu.pc() == END_OF_FUNCTION {
+            self.mode = Mode::Idle;
+        }
+        Ok(())
+    }
+
+    /// Plugs the words of a page at bank 1. Refused, in this order, as 1 where the page is not 4 to F, as 2 where it is
+    /// plugged, as 4 where these are not 4,096 words up to 3FF, as 21 where memory is refused. Nothing is changed then.
+    pub fn plug(
+        &mut self,
+        alloc: Global,
+        page: u8,
+        writable: bool,
+        words: &[u16],
+    ) -> Result<(), PlugRefusal>
+        ensures ok { OnOk result ((plug_refusal self.old.nut.pages page 1 words.now ≡ None)
+            × (self.new ≡ record self.old { nut = record self.old.nut { pages = plugged self.old.nut.pages page writable words.now } })) }
+        ensures err { OnErr result (self.new ≡ self.old) }
+        ensures refusal { IfErr result (λ refusal. (plug_refusal self.old.nut.pages page 1 words.now ≡ Some refusal)
+            ⊎ ((plug_refusal self.old.nut.pages page 1 words.now ≡ None) × (refusal ≡ OutOfMemory))) }
+    {
+        self.pages.plug(alloc, page, 1, writable, words)
+    }
+}

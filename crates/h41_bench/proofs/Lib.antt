@@ -1,1 +1,10 @@
+pub mod Blocks
+pub mod CommandLemmas
+pub mod DeckItems
+pub mod DeckLines
+pub mod DeckWords
+pub mod EndsLemmas
 pub mod HexadecimalTexts
+pub mod Numbers
+pub mod Pages
+pub mod Replies

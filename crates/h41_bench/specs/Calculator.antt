@@ -1,5 +1,5 @@
 -- The calculator: its mode, a call, and single steps.
-use Rattle.std.specs.Prelude.{◌≡◌, ℕ, zero, suc, Bool, true, false, not, nat_lt, ◌==◌, if◌then◌else◌, Option, Some, None, option_map, MatchOption}
+use Rattle.std.specs.Prelude.{◌≡◌, ℕ, zero, suc, Bool, true, false, not, nat_lt, ◌==◌, if◌then◌else◌, Option, Some, None, List, option_map, option_and_then, MatchOption}
 use Rattle.h41_nut.specs.declared.refusal.Refusal as nut
 use Rattle.h41_nut.specs.declared.refusal.Refusal.TheVariants as words
 use Rattle.h41_nut.specs.declared.refusal.PlugRefusal as plug
@@ -41,11 +41,19 @@ of_nut (words.SystemRom address) = SystemRom address
 of_nut (words.EmptyPage address) = EmptyPage address
 
 -- a page's refusal likewise; memory that was refused ends the deck and is no answer
-abbrev pub of_plug : plug.PlugRefusal → Refusal
-of_plug plugs.NoSuchPage = NoSuchPage
-of_plug plugs.Occupied = Occupied
-of_plug plugs.BadImage = BadImage
-of_plug plugs.OutOfMemory = BadImage
+abbrev pub of_plug : plug.PlugRefusal → Option Refusal
+of_plug plugs.NoSuchPage = Some NoSuchPage
+of_plug plugs.Occupied = Some Occupied
+of_plug plugs.BadImage = Some BadImage
+of_plug plugs.OutOfMemory = None
+
+-- why words are not plugged at a page's bank 1
+abbrev pub page_refusal : State → ℕ → List ℕ → Option Refusal
+page_refusal s page words = option_and_then of_plug (plug_refusal s.nut.pages page 1 words)
+
+-- the words plugged there
+abbrev pub with_page : ℕ → Bool → List ℕ → State → State
+with_page page writable words s = record s { nut = record s.nut { pages = plugged s.nut.pages page writable words } }
 
 -- why a step is refused: a word's refusal while a function runs, and nothing else
 abbrev pub step_refusal : State → Option Refusal

@@ -8,8 +8,9 @@ use Rattle.h41_bench.specs.declared.command.Command.{Command}
 use Rattle.h41_bench.specs.declared.command.Command.TheVariants.{Words, Call, Step, ShowCpu}
 use Rattle.h41_bench.specs.declared.refusal.Refusal.{Refusal}
 use Rattle.h41_bench.specs.declared.refusal.Refusal.TheVariants.{BadImage, BadCommand, BadNumber, NoEnd, LineTooLong}
-use Rattle.h41_nut.specs.PageList.{plug_refusal, plugged}
-use Rattle.h41_bench.specs.Calculator.{State, start, of_plug, call_refusal, called, Steps}
+use Rattle.h41_bench.specs.declared.deck.Outcome.{Outcome}
+use Rattle.h41_bench.specs.declared.deck.Outcome.TheVariants.{Accepted, Refused}
+use Rattle.h41_bench.specs.Calculator.{State, start, page_refusal, with_page, call_refusal, called, Steps}
 use Rattle.h41_bench.specs.Texts.{refusal_text, processor_text}
 
 -- the lines of a deck: each ends by LF, a CR before that is dropped, and the last LF may be missing
@@ -151,9 +152,7 @@ refuses refusal = record { text = []; refusal = Some refusal }
 abbrev pub Reply : Command → List ℕ → State → State → Answer → Type 0
 -- words P [rw] .. end: the page is plugged, or refused as 1 or 2
 Reply (Words page writable) words s t answer =
-    MatchOption (plug_refusal s.nut.pages page 1 words)
-    ((t ≡ record s { nut = record s.nut { pages = plugged s.nut.pages page writable words } }) × (answer ≡ silent))
-    (λ refusal. (t ≡ s) × (answer ≡ refuses (of_plug refusal)))
+    MatchOption (page_refusal s page words) ((t ≡ with_page page writable words s) × (answer ≡ silent)) (λ refusal. (t ≡ s) × (answer ≡ refuses refusal))
 -- call hhhh: the function runs, or 24 or 8
 Reply (Call address) words s t answer =
     MatchOption (call_refusal s address) ((t ≡ called address s) × (answer ≡ silent)) (λ refusal. (t ≡ s) × (answer ≡ refuses refusal))
@@ -162,13 +161,17 @@ Reply (Step count) words s t answer = Steps count s t answer.refusal × (answer.
 -- show cpu: the processor, and nothing changes
 Reply ShowCpu words s t answer = (t ≡ s) × (answer ≡ record { text = processor_text s.nut.processor s.nut.keys; refusal = None })
 
+-- what an item of a deck does: lines that are refused are answered by their refusal
+abbrev pub ItemReply : Item → State → State → Answer → Type 0
+ItemReply (Err refusal) s t answer = (t ≡ s) × (answer ≡ refuses refusal)
+ItemReply (Ok given) s t answer = Reply given.0 given.1 s t answer
+
 -- the answers to a deck's items in turn, from a state on
 abbrev pub Answers : List Item → State → List Answer → Type 0
 Answers [] s [] = Unit {0}
 Answers [] s (answer ∷ answers) = ⊥
 Answers (item ∷ items) s [] = ⊥
-Answers (Err refusal ∷ items) s (answer ∷ answers) = (answer ≡ refuses refusal) × Answers items s answers
-Answers (Ok given ∷ items) s (answer ∷ answers) = (t : State) × Reply given.0 given.1 s t answer × Answers items t answers
+Answers (item ∷ items) s (answer ∷ answers) = (t : State) × ItemReply item s t answer × Answers items t answers
 
 -- how an answer is printed
 abbrev pub refusal_line : Option Refusal → List ℕ
@@ -188,5 +191,9 @@ abbrev pub Deck : List ℕ → List ℕ → Type 0
 Deck deck text = (answers : List Answer) × AnswersDeck deck answers × (text ≡ flat_map printed answers)
 
 -- whether one of the answers is a refusal
-abbrev pub has_refusal : List Answer → Bool
-has_refusal answers = list_any (λ answer. is_some answer.refusal) answers
+abbrev pub outcome_of : List Answer → Outcome
+outcome_of answers = if list_any (λ answer. is_some answer.refusal) answers then Refused else Accepted
+
+-- how a deck ends: whether one of its answers is a refusal
+abbrev pub DeckEnds : List ℕ → Outcome → Type 0
+DeckEnds deck outcome = (answers : List Answer) × AnswersDeck deck answers × (outcome ≡ outcome_of answers)

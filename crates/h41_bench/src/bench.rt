@@ -1,8 +1,7 @@
 ghost use Rattle.std.specs.Prelude.{◌≡◌, IfOk, None, Some, MatchOption, string_bytes};
 ghost use Rattle.std.specs.Result.{result_err};
-ghost use Rattle.h41_bench.specs.Calculator.{start, Steps, of_plug};
+ghost use Rattle.h41_bench.specs.Calculator.{start, Steps, page_refusal, with_page};
 ghost use Rattle.h41_bench.specs.Texts.{processor_text};
-ghost use Rattle.h41_nut.specs.PageList.{plug_refusal, plugged};
 ghost use Rattle.h41_bench.specs.Answers.{shown};
 ghost use Rattle.h41_bench.specs.Deck.{Reply};
 
@@ -13,6 +12,9 @@ use crate::refusal::Refusal;
 use h41_nut::PlugRefusal;
 use std::alloc::{AllocError, Global};
 use std::marker::Model;
+
+/// The bank of a page that a deck's blocks fill.
+const BANK: u8 = 1;
 
 /// What a command prints: a text, and then the line of its refusal, where it is refused.
 #[derive(Debug, Drop)]
@@ -82,11 +84,10 @@ impl Bench {
         writable: bool,
         words: &[u16],
     ) -> Result<Option<Refusal>, AllocError>
-        ensures { IfOk result (λ refusal. MatchOption (plug_refusal self.old.nut.pages page 1 words.now)
-            ((self.new ≡ record self.old { nut = record self.old.nut { pages = plugged self.old.nut.pages page writable words.now } }) × (refusal ≡ None))
-            (λ why. (self.new ≡ self.old) × (refusal ≡ Some (of_plug why)))) }
+        ensures { IfOk result (λ refusal. MatchOption (page_refusal self.old page words.now)
+            ((self.new ≡ with_page page writable words.now self.old) × (refusal ≡ None)) (λ why. (self.new ≡ self.old) × (refusal ≡ Some why))) }
     {
-        match self.calculator.plug(alloc, page, writable, words) {
+        match self.calculator.plug(alloc, page, BANK, writable, words) {
             Ok(()) => Ok(None),
             Err(PlugRefusal::NoSuchPage) => Ok(Some(Refusal::NoSuchPage)),
             Err(PlugRefusal::Occupied) => Ok(Some(Refusal::Occupied)),

@@ -117,21 +117,22 @@ impl Calculator {
         Ok(())
     }
 
-    /// Plugs the words of a page at bank 1. Refused, in this order, as 1 where the page is not 4 to F, as 2 where it is
-    /// plugged, as 4 where these are not 4,096 words up to 3FF, as 21 where memory is refused. Nothing is changed then.
+    /// Plugs the words of a page at a bank. Refused, in this order, as 1 where the page is not 4 to F or the bank is not 1,
+    /// as 2 where it is plugged, as 4 where these are not 4,096 words up to 3FF, as 21 where memory is refused. Nothing is changed then.
     pub fn plug(
         &mut self,
         alloc: Global,
         page: u8,
+        bank: u8,
         writable: bool,
         words: &[u16],
     ) -> Result<(), PlugRefusal>
-        ensures ok { OnOk result ((plug_refusal self.old.nut.pages page 1 words.now ≡ None)
+        ensures ok { OnOk result ((plug_refusal self.old.nut.pages page bank words.now ≡ None)
             × (self.new ≡ record self.old { nut = record self.old.nut { pages = plugged self.old.nut.pages page writable words.now } })) }
         ensures err { OnErr result (self.new ≡ self.old) }
-        ensures refusal { IfErr result (λ refusal. (plug_refusal self.old.nut.pages page 1 words.now ≡ Some refusal)
-            ⊎ ((plug_refusal self.old.nut.pages page 1 words.now ≡ None) × (refusal ≡ OutOfMemory))) }
+        ensures refusal { IfErr result (λ refusal. (plug_refusal self.old.nut.pages page bank words.now ≡ Some refusal)
+            ⊎ ((plug_refusal self.old.nut.pages page bank words.now ≡ None) × (refusal ≡ OutOfMemory))) }
     {
-        self.pages.plug(alloc, page, 1, writable, words)
+        self.pages.plug(alloc, page, bank, writable, words)
     }
 }

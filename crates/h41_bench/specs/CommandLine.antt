@@ -1,0 +1,51 @@
+-- What the words of a command line ask for. The first word is the program's name.
+use Rattle.std.specs.Prelude.{◌==◌, ◌&&◌, ◌||◌, ℕ, Bool, true, false, not, List, [], ◌∷◌, Option, Some, None, is_some, if◌then◌else◌, codes, slice_get}
+use Rattle.std.specs.Str.{bytes_eq, chars}
+
+-- a hyphen (45), and at least one character after it
+abbrev pub is_flag : List ℕ → Bool
+is_flag [] = false
+is_flag (c ∷ rest) = c == 45 && is_some (slice_get (chars rest) 0)
+
+-- the mark after which no word is a flag
+abbrev pub is_last_flag : List ℕ → Bool
+is_last_flag word = bytes_eq word (codes "--")
+
+-- the one FILE of the words after `run`, before or after that mark
+abbrev pub only_file : List (List ℕ) → Option (List ℕ)
+only_file [] = None
+only_file (file ∷ []) = if is_flag file then None else Some file
+only_file (a ∷ b ∷ []) = if is_last_flag a then Some b
+    else (if is_last_flag b && not (is_flag a) then Some a else None)
+only_file (a ∷ b ∷ c ∷ rest) = None
+
+-- the FILE that the words ask to run, where they do
+abbrev pub file_to_run : List (List ℕ) → Option (List ℕ)
+file_to_run [] = None
+file_to_run (name ∷ []) = None
+file_to_run (name ∷ command ∷ rest) =
+    if bytes_eq (codes "run") command then only_file rest else None
+
+-- a flag for help stands alone, or alone after `run`
+abbrev pub is_help_flag : List ℕ → Bool
+is_help_flag word = bytes_eq word (codes "--help") || bytes_eq word (codes "-h")
+
+abbrev pub asks_help : List (List ℕ) → Bool
+asks_help [] = false
+asks_help (name ∷ []) = false
+asks_help (name ∷ a ∷ []) = is_help_flag a
+asks_help (name ∷ a ∷ b ∷ []) = bytes_eq (codes "run") a && is_help_flag b
+asks_help (name ∷ a ∷ b ∷ c ∷ rest) = false
+
+-- FILE is missing, or there are two
+abbrev pub is_wrong_run : List (List ℕ) → Bool
+is_wrong_run [] = true
+is_wrong_run (file ∷ []) = false
+is_wrong_run (a ∷ b ∷ rest) = not (is_flag a) && not (is_flag b)
+
+-- the command is missing or unknown, or FILE is missing, or there are two
+abbrev pub is_mistake : List (List ℕ) → Bool
+is_mistake [] = true
+is_mistake (name ∷ []) = true
+is_mistake (name ∷ command ∷ rest) = if bytes_eq (codes "run") command then is_wrong_run rest
+    else (not (bytes_eq (codes "help") command) && not (is_flag command))

@@ -1,0 +1,25 @@
+-- What the mark of a sink says of one write, and the inner ends of the two wrappers.
+use Rattle.std.specs.Prelude.{◌==◌, ◌&&◌, ℕ, Bool, true, not, List, length, Result, Ok, Err}
+use Rattle.h41_bench.specs.declared.source.FromRead.{FromRead}
+use Rattle.h41_bench.specs.declared.sink.ToWrite.{ToWrite}
+
+-- the write failed, or it took no byte of some
+abbrev pub is_failed_write : {E : Type 0} → Result ℕ E → List ℕ → Bool
+is_failed_write (Ok n) bytes = n == 0 && not (length bytes == 0)
+is_failed_write (Err e) bytes = true
+
+-- the reader of a `FromRead`
+abbrev pub reader_of : {R : Type 0} → FromRead R → R
+reader_of s = s.reader
+
+-- its mark
+abbrev pub read_failed : {R : Type 0} → FromRead R → Bool
+read_failed s = s.has_failed
+
+-- the writer of a `ToWrite`
+abbrev pub writer_of : {W : Type 0} → ToWrite W → W
+writer_of s = s.writer
+
+-- its mark
+abbrev pub write_failed : {W : Type 0} → ToWrite W → Bool
+write_failed s = s.has_failed

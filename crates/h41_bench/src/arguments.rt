@@ -1,0 +1,126 @@
+//! Reads the command line.
+
+ghost use Rattle.std.specs.Prelude.{◌≡◌, ◌≢◌, true, codes, map, Some, IfOk, IfSome, IfNone, IsErr, IsErrAnd, IsSome, IsSomeAnd, MatchResult};
+ghost use Rattle.clap.specs.Words.{FailsBy, HasMatchesOf, app_of, fault_of, kind_of, subcommand_rows_of};
+ghost use Rattle.clap.specs.declared.error.kind.ErrorKind.TheVariants as kind;
+ghost use Rattle.h41_bench.specs.BenchCommand.{bench_app, command_in, file_in};
+ghost use Rattle.h41_bench.specs.CommandLine.{asks_help, file_to_run, is_mistake};
+ghost use Rattle.h41_bench.specs.Ending.{EndsWith, status_of, text_of};
+
+use clap::error::ErrorKind;
+use clap::{Arg, ArgAction, ArgMatches, Command, Error};
+use std::alloc::{AllocError, Global};
+
+/// What the command line asks for: a run of the deck in `file`, where `-` is standard input.
+#[derive(Clone, Copy, Debug, PartialEq, Eq)]
+pub struct Job<'a> {
+    pub file: &'a str,
+}
+
+/// How the program ends at once.
+#[derive(Debug, Drop)]
+pub enum Ending {
+    /// Help was asked for. The text is for standard output.
+    Help(String),
+    /// The words are wrong. The text is for standard error.
+    Mistake(String),
+    /// No memory is left for the words or for a text.
+    OutOfMemory,
+}
+
+impl Ending {
+    /// The status that the program ends with: 0, 2 or 3.
+    pub fn status(&self) -> u8
+        ensures { result ≡ status_of self.now }
+    {
+        match self {
+            Ending::Help(_) => 0,
+            Ending::Mistake(_) => 2,
+            Ending::OutOfMemory => 3,
+        }
+    }
+
+    /// The text that the program prints.
+    pub fn text(&self) -> &str
+        ensures { result.now ≡ text_of self.now }
+    {
+        match self {
+            Ending::Help(text) => text.as_str(),
+            Ending::Mistake(text) => text.as_str(),
+            Ending::OutOfMemory => "! 21 OutOfMemory\n",
+        }
+    }
+}
+
+/// The command `bench run FILE`.
+fn bench<'a>(alloc: Global) -> Result<Command<'a>, AllocError>
+    ensures { IfOk result (λ command. app_of command ≡ bench_app) }
+{
+    let file = Arg::new(alloc, "FILE")
+        .help("The deck of commands, or - for standard input")
+        .required(true)
+        .action(ArgAction::Set);
+    let run = Command::new(alloc, "run")
+        .about("Runs a deck of commands")
+        .arg(file)?;
+    Command::new(alloc, "bench")
+        .about("Runs decks of commands of the bench")
+        .subcommand_required(true)
+        .subcommand(run)
+}
+
+/// The words of the command line, matched.
+fn matched<'a>(alloc: Global, words: &'a [&'a str]) -> Result<ArgMatches<'a>, Error>
+    ensures kinds { FailsBy (fault_of bench_app (map (λ w. w.now) words.now)) result }
+    ensures matches { IfOk result (HasMatchesOf bench_app (map (λ w. w.now) words.now)) }
+{
+    bench(alloc)?.try_get_matches_from(words)
+}
+
+/// The job that the matches have.
+fn job_of<'a>(matches: &ArgMatches<'a>) -> Job<'a>
+    requires named { command_in (subcommand_rows_of matches.now) ≡ Some (codes "run") }
+    requires found { IsSomeAnd (file_in (subcommand_rows_of matches.now)) IsSome }
+    ensures { file_in (subcommand_rows_of matches.now) ≡ Some (Some result.file.now) }
+{
+    let run = matches.subcommand_matches("run").unwrap();
+    let file = run.get_str("FILE").unwrap();
+    Job { file }
+}
+
+/// How the program ends where the words ask for no job.
+fn make_ending(alloc: Global, error: Error) -> Ending
+    ensures memory { kind_of error ≡ kind.OutOfMemory → result ≡ Ending.OutOfMemory }
+    ensures help { kind_of error ≡ kind.DisplayHelp → EndsWith 0 result }
+    ensures mistake { kind_of error ≢ kind.DisplayHelp → kind_of error ≢ kind.DisplayVersion
+        → EndsWith 2 result }
+{
+    if error.kind() == ErrorKind::OutOfMemory {
+        return Ending::OutOfMemory;
+    }
+    match format!(in alloc; "{error}") {
+        Ok(text) if error.use_stderr() => Ending::Mistake(text),
+        Ok(text) => Ending::Help(text),
+        Err(_) => Ending::OutOfMemory,
+    }
+}
+
+/// Reads the words of the command line, of which the first is the program's name. They ask for a
+/// run as `run FILE`, with FILE `-` or no flag, or with the mark `--` before or after it.
+///
+/// # Errors
+///
+/// `Help` (status 0), `Mistake` (status 2) and `OutOfMemory` (status 3).
+pub fn read_words<'a>(alloc: Global, words: &'a [&'a str]) -> Result<Job<'a>, Ending>
+    ensures run { IfSome (file_to_run (map (λ w. w.now) words.now)) (λ file.
+        MatchResult result (λ job. job.file.now ≡ file) (λ ending. ending ≡ Ending.OutOfMemory)) }
+    ensures no_run { IfNone (file_to_run (map (λ w. w.now) words.now)) (IsErr result) }
+    ensures help { asks_help (map (λ w. w.now) words.now) ≡ true → IsErrAnd result (EndsWith 0) }
+    ensures mistake { is_mistake (map (λ w. w.now) words.now) ≡ true
+        → IsErrAnd result (EndsWith 2) }
+{
+    match matched(alloc, words) {
+        Ok(matches) => Ok(job_of(&matches)),
+        Err(error) => Err(make_ending(alloc, error)),
+    }
+}

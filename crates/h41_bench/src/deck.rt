@@ -1,0 +1,118 @@
+ghost use Rattle.std.specs.Prelude.{ℕ, ◌≡◌, ◌≢◌, ◌⊎◌, ◌<◌, List, Err, IfOk, OnOk, IfSome, length, true, false};
+ghost use Rattle.std.specs.Io.KnownBytes.{Appends};
+ghost use Rattle.h41_bench.specs.declared.input.TheConstants.{MOST_BYTES};
+ghost use Rattle.h41_bench.specs.Answers.{Answered, outcome_after, shown};
+ghost use Rattle.h41_bench.specs.Deck.{ItemReply, Deck, DeckEnds, lines, printed};
+ghost use Rattle.h41_bench.specs.Items.{given};
+
+use crate::bench::{Answer, Bench};
+use crate::commands::{Item, next_item};
+use crate::fault::Fault;
+use crate::input::read_whole;
+use crate::lines::Lines;
+use crate::output::{flush, write_whole};
+use crate::sink::Sink;
+use crate::source::Source;
+use std::alloc::{AllocError, Global};
+
+/// What a deck printed that was carried out to its end.
+#[derive(Clone, Copy, Debug, PartialEq, Eq)]
+pub enum Outcome {
+    /// No refusal.
+    Accepted,
+    /// At least one refusal.
+    Refused,
+}
+
+impl Outcome {
+    // How a deck ends with one more answer.
+    fn after(self, answer: &Answer) -> Self
+        ensures { result ≡ outcome_after self (shown answer.now) }
+    {
+        match (self, answer.refusal) {
+            (Outcome::Accepted, None) => Outcome::Accepted,
+            _ => Outcome::Refused,
+        }
+    }
+}
+
+/// Reads a deck whole, carries its commands out, and writes what they print and nothing else. Both ends' marks are clear
+/// before.
+///
+/// # Errors
+///
+/// `ReadFault` (22) where a read fails, or the deck has more than 67,108,864 bytes; `WriteFault` (23) where a write fails;
+/// `OutOfMemory` (21). Each ends the deck, and what was written before stays.
+pub fn run_deck<R: Source, W: Sink>(
+    alloc: Global,
+    reader: &mut R,
+    writer: &mut W,
+) -> Result<Outcome, Fault>
+    requires reader_clear { R.failed reader.old ≡ false }
+    requires writer_clear { W.failed writer.old ≡ false }
+
+    // What is written is the text of the deck that was read, where both ends tell their bytes.
+    ensures deck { OnOk result (IfSome (R.remaining reader.old) (λ deck.
+        (text : List ℕ) × Deck deck text × Appends (W.contents writer.old) (W.contents writer.new) text)) }
+    ensures outcome { IfOk result (λ outcome. IfSome (R.remaining reader.old) (λ deck. DeckEnds deck outcome)) }
+
+    // The marks tell which end failed.
+    ensures read_fault { result ≡ Err Fault.ReadFault → (R.failed reader.new ≡ true)
+        ⊎ IfSome (R.remaining reader.old) (λ deck. MOST_BYTES < length deck) }
+    ensures write_fault { result ≡ Err Fault.WriteFault → W.failed writer.new ≡ true }
+    ensures reader { result ≢ Err Fault.ReadFault → R.failed reader.new ≡ false }
+    ensures writer { result ≢ Err Fault.WriteFault → W.failed writer.new ≡ false }
+{
+    let deck = read_whole(alloc, reader)?;
+    answer_deck(alloc, &deck, writer)
+}
+
+// Carries out the commands of a deck, and writes what they print.
+fn answer_deck<W: Sink>(alloc: Global, deck: &[u8], writer: &mut W) -> Result<Outcome, Fault>
+    requires { W.failed writer.old ≡ false }
+    ensures answers { IfOk result (λ outcome. (text : List ℕ) × Answered (lines deck.now) text outcome
+        × Appends (W.contents writer.old) (W.contents writer.new) text) }
+    ensures never_read { result ≢ Err Fault.ReadFault }
+    ensures write_fault { result ≡ Err Fault.WriteFault → W.failed writer.new ≡ true }
+    ensures writer { result ≢ Err Fault.WriteFault → W.failed writer.new ≡ false }
+{
+    let mut bench = Bench::new(alloc)?;
+    let mut outcome = Outcome::Accepted;
+    let mut rest = Lines::new(deck);
+    while let Some(item) = next_item(alloc, &mut rest)? {
+        let answer = answer_item(alloc, &mut bench, &item)?;
+        print(alloc, &answer, writer)?;
+        outcome = outcome.after(&answer);
+    }
+    flush(writer)?;
+    Ok(outcome)
+}
+
+// The answer to one item.
+fn answer_item(alloc: Global, bench: &mut Bench, item: &Item) -> Result<Answer, AllocError>
+    ensures { IfOk result (λ answer. ItemReply (given item.now) bench.old bench.new (shown answer)) }
+{
+    match item {
+        Item::Given(command, words) => bench.apply(alloc, *command, words),
+        Item::Refused(refusal) => Ok(Answer {
+            text: String::new(alloc),
+            refusal: Some(*refusal),
+        }),
+    }
+}
+
+// Writes what an answer prints.
+fn print<W: Sink>(alloc: Global, answer: &Answer, writer: &mut W) -> Result<(), Fault>
+    requires { W.failed writer.old ≡ false }
+    ensures ok { OnOk result (Appends (W.contents writer.old) (W.contents writer.new) (printed (shown answer.now))) }
+    ensures never_read { result ≢ Err Fault.ReadFault }
+    ensures write_fault { result ≡ Err Fault.WriteFault → W.failed writer.new ≡ true }
+    ensures writer { result ≢ Err Fault.WriteFault → W.failed writer.new ≡ false }
+{
+    write_whole(writer, answer.text.as_bytes())?;
+    if let Some(refusal) = answer.refusal {
+        let line = format!(in alloc; "{refusal}\n")?;
+        write_whole(writer, line.as_bytes())?;
+    }
+    Ok(())
+}

@@ -20,3 +20,8 @@ pub record Answered (lines : List (List ℕ)) (text : List ℕ) (outcome : Outco
 abbrev pub outcome_after : Outcome → Answer → Outcome
 outcome_after Refused answer = Refused
 outcome_after Accepted answer = if is_some answer.refusal then Refused else Accepted
+
+-- the status that tells it
+abbrev pub status_of_outcome : Outcome → ℕ
+status_of_outcome Accepted = 0
+status_of_outcome Refused = 1

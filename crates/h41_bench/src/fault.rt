@@ -19,15 +19,24 @@ pub enum Fault {
     WriteFault,
 }
 
+impl Fault {
+    /// `! `, the refusal's number, and its name.
+    pub fn text(self) -> &'static str
+        ensures { result.now ≡ fault_text self }
+    {
+        match self {
+            Fault::OutOfMemory => "! 21 OutOfMemory",
+            Fault::ReadFault => "! 22 ReadFault",
+            Fault::WriteFault => "! 23 WriteFault",
+        }
+    }
+}
+
 impl fmt::Display for Fault {
     ghost output = { λ fault. Some (fault_text fault) };
 
     fn fmt<W: fmt::Write>(&self, f: &mut fmt::Formatter<W>) -> fmt::Result {
-        f.write_str(match self {
-            Fault::OutOfMemory => "! 21 OutOfMemory",
-            Fault::ReadFault => "! 22 ReadFault",
-            Fault::WriteFault => "! 23 WriteFault",
-        })
+        f.write_str(self.text())
     }
 }
 

@@ -18,6 +18,7 @@ mod output;
 mod page;
 mod parse;
 mod refusal;
+mod serve;
 mod sink;
 mod source;
 mod text;

@@ -42,19 +42,20 @@ pub told_more : (old mid new : Option (List ℕ)) (all left rest : List Item) (s
 told_more old mid new all left rest s t outcome item answer told first reply written = record {
   answers = told.answers ++ answer ∷ [];
   written = subst (Appends old new) (sym (flat_map-append printed told.answers (answer ∷ []) ∙ ap (λ text. flat_map printed told.answers ++ text) (append-nil (printed answer))))
-    (Appends-trans old mid new (flat_map printed told.answers) (printed answer) told.written written);
+      (Appends-trans old mid new (flat_map printed told.answers) (printed answer) told.written written);
   outcome_is = rw told.outcome_is (sym (outcome_of-push told.answers answer));
   goes_on = λ more later. subst (Answers all start) (sym (append_assoc told.answers (answer ∷ []) more)) (told.goes_on (answer ∷ more) (rw first (t, reply, later)));
 }
 
 pub told_all : (old new : Option (List ℕ)) (deck : List (List ℕ)) (s : State) (outcome : Outcome) (left : List Item) → Told old new (commands deck) left s outcome → left ≡ []
     → (text : List ℕ) × Answered deck text outcome × Appends old new text
-told_all old new deck s outcome left told none =
-    (flat_map printed told.answers,
-    record {
-      answers = told.answers;
-      answered = subst (Answers (commands deck) start) (append-nil told.answers) (told.goes_on [] (rw none tt));
-      text_is = refl;
-      outcome_is = told.outcome_is;
-    },
-    told.written)
+told_all old new deck s outcome left told none = (
+  flat_map printed told.answers,
+  record {
+    answers = told.answers;
+    answered = subst (Answers (commands deck) start) (append-nil told.answers) (told.goes_on [] (rw none tt));
+    text_is = refl;
+    outcome_is = told.outcome_is;
+  },
+  told.written,
+)

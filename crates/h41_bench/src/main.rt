@@ -24,4 +24,101 @@ mod source;
 mod text;
 mod words;
 
-fn main() {}
+use crate::arguments::{Ending, Job, read_words};
+use crate::fault::Fault;
+use crate::serve::{FAILED, serve};
+use crate::sink::ToWrite;
+use crate::source::FromRead;
+use std::alloc::{AllocError, Global};
+use std::env;
+use std::fs::File;
+use std::io::{BufWriter, ErrorKind, Read};
+use std::process::ExitCode;
+
+/// The program's name, as help and faults of the command line tell it.
+const NAME: &str = "bench";
+
+/// The status of a wrong command line.
+const MISTAKEN: u8 = 2;
+
+fn main(rt: HostRuntime) -> ExitCode {
+    ExitCode::from(run(&rt, rt.alloc()))
+}
+
+// Does what the command line asks for, and answers the status.
+fn run(rt: &HostRuntime, alloc: Global) -> u8 {
+    let arguments = match env::args(rt) {
+        Ok(arguments) => arguments,
+        Err(error) if error.kind() == ErrorKind::OutOfMemory => return fail(rt, Fault::OutOfMemory),
+        Err(_) => {
+            let _ = eprintln!(rt; "error: a word of the command line is not UTF-8");
+            return MISTAKEN;
+        }
+    };
+    match arguments.collect::<Vec<String>>(alloc) {
+        Ok(words) => run_words(rt, alloc, words.as_slice()),
+        Err(_) => fail(rt, Fault::OutOfMemory),
+    }
+}
+
+// Does what these words ask for.
+fn run_words(rt: &HostRuntime, alloc: Global, words: &[String]) -> u8 {
+    match named(alloc, words) {
+        Ok(words) => match read_words(alloc, words.as_slice()) {
+            Ok(job) => run_job(rt, alloc, job),
+            Err(ending) => end(rt, &ending),
+        },
+        Err(_) => fail(rt, Fault::OutOfMemory),
+    }
+}
+
+// The words with the program's own name for the first, under whatever name it was started.
+fn named(alloc: Global, words: &[String]) -> Result<Vec<&str>, AllocError> {
+    let mut named = Vec::new(alloc);
+    named.push(NAME)?;
+    for word in words.iter().skip(1) {
+        named.push(word.as_str())?;
+    }
+    Ok(named)
+}
+
+// Prints what there is to say in place of a job.
+fn end(rt: &HostRuntime, ending: &Ending) -> u8 {
+    let text = ending.text();
+    let printed = match ending {
+        Ending::Help(_) => print!(rt; "{text}"),
+        Ending::Mistake(_) | Ending::OutOfMemory => eprint!(rt; "{text}"),
+    };
+    match printed {
+        Ok(()) => ending.status(),
+        Err(_) => fail(rt, Fault::WriteFault),
+    }
+}
+
+// Runs the deck of a file, or of standard input where its name is `-`.
+fn run_job(rt: &HostRuntime, alloc: Global, job: Job<'_>) -> u8 {
+    if job.file == "-" {
+        return run_from(rt, alloc, job, rt.stdin());
+    }
+    match File::open(rt, job.file) {
+        Ok(file) => run_from(rt, alloc, job, file),
+        Err(_) => fail(rt, Fault::ReadFault),
+    }
+}
+
+// Runs the deck that a reader gives, from there to standard output.
+fn run_from<R: Read + Drop>(rt: &HostRuntime, alloc: Global, job: Job<'_>, reader: R) -> u8 {
+    let Ok(output) = BufWriter::new(alloc, rt.stdout()) else {
+        return fail(rt, Fault::OutOfMemory);
+    };
+    let mut reader = FromRead::new(reader);
+    let mut writer = ToWrite::new(output);
+    let mut faults = ToWrite::new(rt.stderr());
+    serve(alloc, job, &mut reader, &mut writer, &mut faults)
+}
+
+// Tells a fault on standard error, as far as that takes it.
+fn fail(rt: &HostRuntime, fault: Fault) -> u8 {
+    let _ = eprintln!(rt; "{fault}");
+    FAILED
+}

@@ -3,6 +3,7 @@ pub mod CommandLemmas
 pub mod DeckItems
 pub mod DeckLines
 pub mod DeckWords
+pub mod Determined
 pub mod EndsLemmas
 pub mod HexadecimalTexts
 pub mod Numbers

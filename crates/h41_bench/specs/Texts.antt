@@ -1,5 +1,5 @@
 -- The texts that a deck's commands print.
-use Rattle.std.specs.Prelude.{◌≡◌, ℕ, zero, suc, ◌+◌, ◌/◌, ◌%◌, Bool, true, false, List, [], ◌∷◌, ◌++◌, slice_index, if◌then◌else◌, Option, Some, None, codes}
+use Rattle.std.specs.Prelude.{ℕ, zero, suc, ◌/◌, ◌%◌, Bool, true, List, [], ◌∷◌, ◌++◌, slice_index, if◌then◌else◌, Option, Some, None, codes}
 use Rattle.std.specs.Fmt.{digit_glyph}
 use Rattle.h41_digits.specs.Register.{text}
 use Rattle.h41_fields.specs.declared.field.Pointer.{Pointer}

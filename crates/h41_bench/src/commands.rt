@@ -102,7 +102,11 @@ mod tests {
     ) -> Result<(Vec<Result<Command, Refusal>>, usize), AllocError> {
         let mut heads = Vec::new(alloc);
         let mut count = 0;
-        for item in commands(alloc, deck)? {
+        let mut rest = Lines::new(deck);
+        for _ in 0..=deck.len() {
+            let Some(item) = next_item(alloc, &mut rest)? else {
+                break;
+            };
             match item {
                 Item::Given(command, words) => {
                     count = words.len();
@@ -177,13 +181,15 @@ mod tests {
 
     #[test]
     fn fills_up_with_zeros(rt: HostRuntime) -> Result<(), Fail> {
-        let items = commands(rt.alloc(), b"words 8\n3fF 007\n1\nend")?;
-        for item in items {
-            if let Item::Given(_, words) = item {
+        let mut rest = Lines::new(b"words 8\n3fF 007\n1\nend");
+        let item = next_item(rt.alloc(), &mut rest)?;
+        match item {
+            Some(Item::Given(_, words)) => {
                 assert_eq!(rt; words.len(), 4096);
-                assert_eq!(rt; &words[..4], [0x3FF, 7, 1, 0].as_slice());
-                assert_eq!(rt; words[4095], 0);
+                assert!(rt; words.starts_with(&[0x3FF, 7, 1, 0]));
+                assert_eq!(rt; words.last(), Some(&0));
             }
+            _ => assert!(rt; false, "no block: {item:?}"),
         }
         Ok(())
     }

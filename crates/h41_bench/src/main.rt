@@ -11,6 +11,7 @@ mod dump;
 mod fault;
 mod hexadecimal;
 mod input;
+mod laws;
 mod line;
 mod lines;
 mod number;
@@ -21,6 +22,8 @@ mod refusal;
 mod serve;
 mod sink;
 mod source;
+#[cfg(test)]
+mod tests;
 mod text;
 mod words;
 

@@ -1,5 +1,5 @@
 -- Why the places of a field stand in a row.
-use Rattle.std.proofs.Common.{◌≡◌, ℕ, zero, suc, ◌+◌, ◌-◌, ◌<◌, ◌≤◌, Bool, true, false, ◌∷◌, length, slice_index, filter, refl, ap, arith, inl, inr, ◌∙◌, sym}
+use Rattle.std.proofs.Common.{List, cond, ◌≡◌, ℕ, zero, suc, ◌+◌, ◌-◌, ◌<◌, ◌≤◌, Bool, true, false, ◌∷◌, length, slice_index, filter, refl, ap, arith, inl, inr, ◌∙◌, sym}
 use Rattle.std.proofs.lemmas.Bool.Decides.{nat_tests}
 use Rattle.h41_fields.specs.declared.field.Field.TheVariants.{AtPointer, SignAndExponent, ToPointer, All, PToQ, ExponentSign, Mantissa, MantissaSign}
 use Rattle.std.proofs.lemmas.Bool.{cases_lt}
@@ -107,3 +107,39 @@ span_mantissa p q active = record { first = refl; last = refl; each = refl }
 pub span_mantissa_sign : (p q : ℕ) (active : Pointer) → IsSpanOf MantissaSign p q active 13 13
 unfolding places register_places from_to first_place last_place
 span_mantissa_sign p q active = record { first = refl; last = refl; each = refl }
+
+-- each number of a list is at least this
+abbrev AllFrom : ℕ → List ℕ → Type 0
+AllFrom first list = (index : ℕ) → index < length list → first ≤ slice_index list index
+
+from_cons : (first : ℕ) (rest : List ℕ) → AllFrom first rest → AllFrom first (first ∷ rest)
+from_cons first rest behind zero inside = omega arith
+from_cons first rest behind (suc index) inside = behind index (omega arith)
+
+-- what a row keeps is at least its first number
+kept_from : (test : ℕ → Bool) (first count : ℕ) → AllFrom first (filter test (counted_from first count))
+kept_from test first zero = λ index inside. absurd (omega arith)
+kept_from test first (suc count) =
+    let rest = filter test (counted_from (first + 1) count) in
+    let behind = kept_from test (first + 1) count in
+    elim (test first) as (λ passes. AllFrom first (cond passes (first ∷ rest) rest)) [
+      | true ↦ from_cons first rest (λ index inside. omega (arith, behind index inside))
+      | false ↦ λ index inside. omega (arith, behind index inside)
+    ]
+
+-- the first number of a list is not above its last
+abbrev FirstIsLow : List ℕ → Type 0
+FirstIsLow list = slice_index list 0 ≤ slice_index list (length list - 1)
+
+kept_ordered : (test : ℕ → Bool) (first count : ℕ) → FirstIsLow (filter test (counted_from first count))
+kept_ordered test first zero = omega arith
+kept_ordered test first (suc count) =
+    let rest = filter test (counted_from (first + 1) count) in
+    elim (test first) as (λ passes. FirstIsLow (cond passes (first ∷ rest) rest)) [
+      | true ↦ from_cons first rest (λ index inside. omega (arith, kept_from test (first + 1) count index inside)) (length (first ∷ rest) - 1) (omega arith)
+      | false ↦ kept_ordered test (first + 1) count
+    ]
+
+pub places_ordered : (field : Field) (p q : ℕ) (active : Pointer) → first_place field p q active ≤ last_place field p q active
+unfolding places register_places first_place last_place
+places_ordered field p q active = kept_ordered (is_place field p q active) 0 14

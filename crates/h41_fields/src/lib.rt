@@ -2,6 +2,7 @@
 #![tactic(auto)]
 
 mod field;
+pub mod laws;
 mod places;
 
 pub use field::{Field, Pointer, Span};

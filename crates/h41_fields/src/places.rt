@@ -64,7 +64,11 @@ mod tests {
         for (field, p, q, active, (lo, hi)) in rows {
             assert!(rt; p < 14 && q < 14);
             let places = span(field, p, q, active);
-            assert_eq!(rt; (places.lo, places.hi), (lo, hi), "{field:?} at P={p}, Q={q}");
+            assert_eq!(rt;
+                (places.lo, places.hi),
+                (lo, hi),
+                "{field:?} at P={p}, Q={q}"
+            );
         }
     }
 }

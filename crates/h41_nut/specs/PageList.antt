@@ -1,5 +1,5 @@
 -- The sixteen pages of the address space: what is plugged at each, when plugging is refused, and what a fetch answers.
-use Rattle.std.specs.Prelude.{◌≡◌, ℕ, ◌+◌, ◌*◌, ◌/◌, ◌%◌, Bool, not, ◌&&◌, ◌||◌, List, length, slice_index, slice_index_or, slice_set, replicate, nat_lt, nat_le, ◌==◌, if◌then◌else◌, is_some, Option, Some, None, Result, Ok, Err}
+use Rattle.std.specs.Prelude.{ℕ, ◌/◌, ◌%◌, Bool, not, ◌&&◌, ◌||◌, List, length, slice_index, slice_index_or, slice_set, replicate, nat_lt, nat_le, ◌==◌, if◌then◌else◌, is_some, Option, Some, None, Result, Ok, Err}
 use Rattle.std.specs.List.{list_all}
 use Rattle.h41_nut.specs.declared.refusal.Refusal.{Refusal}
 use Rattle.h41_nut.specs.declared.refusal.Refusal.TheVariants.{SystemRom, EmptyPage}

@@ -1,5 +1,5 @@
 -- One step of the processor: the first refusal there is, or none, and where there is none the change that the word makes.
-use Rattle.std.specs.Prelude.{◌≡◌, ℕ, ◌+◌, ◌*◌, ◌/◌, ◌%◌, Bool, true, false, not, ◌&&◌, List, [], ◌∷◌, ◌++◌, slice_index, drop, nat_lt, ◌==◌, if◌then◌else◌, Option, Some, None, Result, Ok, Err}
+use Rattle.std.specs.Prelude.{◌≡◌, ℕ, ◌+◌, ◌/◌, ◌%◌, Bool, false, not, ◌&&◌, List, [], ◌∷◌, ◌++◌, slice_index, drop, nat_lt, ◌==◌, if◌then◌else◌, Option, Some, None, Result, Ok, Err}
 use Rattle.h41_digits.specs.Register.{IsRegister}
 use Rattle.h41_fields.specs.declared.field.Field.{Field}
 use Rattle.h41_fields.specs.Field.{first_place, last_place}

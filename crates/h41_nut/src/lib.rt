@@ -4,6 +4,7 @@
 mod base;
 mod cpu;
 mod keys;
+pub mod laws;
 mod machine;
 mod page;
 mod pages;

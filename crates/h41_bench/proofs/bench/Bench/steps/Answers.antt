@@ -1,6 +1,5 @@
-use Rattle.std.proofs.Common.{◌≡◌, ◌-◌, ◌+◌, suc, Some, arith, ap, rules}
+use Rattle.std.proofs.Common.{◌≡◌, ◌-◌, ◌+◌, suc, arith}
 use Rattle.std.proofs.lemmas.Result.{err_from_is_err_and}
-use Rattle.h41_bench.specs.Calculator.{Steps}
 use Rattle.h41_bench.proofs.Replies.{steps-more, steps-refused}
 use Rattle.h41_bench.proofs.bench.Bench.steps.Goals as goal
 

@@ -1,4 +1,4 @@
-use Rattle.std.proofs.Common.{ℕ, ◌-◌, Option}
+use Rattle.std.proofs.Common.{◌-◌, Option}
 use Rattle.h41_bench.specs.declared.refusal.Refusal.{Refusal}
 use Rattle.h41_bench.specs.Calculator.{State, Steps}
 use Rattle.h41_bench.proofs.bench.Bench.steps.Given as goal

@@ -1,0 +1,5 @@
+//! Tests of what no contract says.
+
+mod arguments;
+mod decks;
+mod ends;

@@ -1,4 +1,5 @@
-//! Arithmetic on a span of a register, digit by digit with a carry, in base 16 or 10.
+//! Arithmetic on a span of a register, digit by digit with a carry, in base 16 or 10, as the Nut processor's words do it.
+//! One rule holds for all digits, A to F in base 10 among them (this project's choice).
 #![tactic(auto)]
 
 ghost use Rattle.std.specs.Prelude.{◌≡◌, ◌+◌, ◌<◌, ◌≤◌, ◌⊎◌};
@@ -26,7 +27,8 @@ fn sum_digit(base: u8, x: u8, y: u8, carry_in: bool) -> (u8, bool)
     }
 }
 
-/// `into` with `x` + 1 in the span, and the carry out of the span's top digit. The base is 10 where `DEC`, else 16.
+/// `into` with `x` + 1 in the span, and the carry out of the span's top digit. The base is 10 where `DEC`, else 16. In base
+/// 10 a digit from A to F is added to like others: F + 1 is 6 with a carry (this project's choice).
 pub fn inc<const DEC: bool>(into: Reg, x: Reg, span: Span) -> (Reg, bool)
     ensures sum { Sum (base_of DEC) x zeros 1 span.lo span.hi result.0 (carry_digit result.1) }
     ensures outside { KeepsOutside into span.lo span.hi result.0 }

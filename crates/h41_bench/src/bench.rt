@@ -1,4 +1,4 @@
-ghost use Rattle.std.specs.Prelude.{◌≡◌, IfOk, None, Some, MatchOption, string_bytes};
+ghost use Rattle.std.specs.Prelude.{◌≡◌, IfOk, OnErr, None, Some, MatchOption, string_bytes};
 ghost use Rattle.std.specs.Result.{result_err};
 ghost use Rattle.h41_bench.specs.Calculator.{start, Steps, page_refusal, with_page};
 ghost use Rattle.h41_bench.specs.Texts.{processor_text};
@@ -57,14 +57,16 @@ impl Bench {
         Ok(())
     }
 
-    /// Carries a command out, with the page's words of its block, and answers what it prints. 21 where memory is refused.
+    /// Carries a command out, with the page's words of its block, and answers what it prints. 21 where memory is refused:
+    /// nothing is changed then.
     pub fn apply(
         &mut self,
         alloc: Global,
         command: Command,
         words: &[u16],
     ) -> Result<Answer, AllocError>
-        ensures { IfOk result (λ answer. Reply command words.now self.old self.new (shown answer)) }
+        ensures reply { IfOk result (λ answer. Reply command words.now self.old self.new (shown answer)) }
+        ensures err { OnErr result (self.new ≡ self.old) }
     {
         let refusal = match command {
             Command::Words { page, writable } => self.plug(alloc, page, writable, words)?,
@@ -84,8 +86,9 @@ impl Bench {
         writable: bool,
         words: &[u16],
     ) -> Result<Option<Refusal>, AllocError>
-        ensures { IfOk result (λ refusal. MatchOption (page_refusal self.old page words.now)
+        ensures plugged { IfOk result (λ refusal. MatchOption (page_refusal self.old page words.now)
             ((self.new ≡ with_page page writable words.now self.old) × (refusal ≡ None)) (λ why. (self.new ≡ self.old) × (refusal ≡ Some why))) }
+        ensures err { OnErr result (self.new ≡ self.old) }
     {
         match self.calculator.plug(alloc, page, BANK, writable, words) {
             Ok(()) => Ok(None),

@@ -4,7 +4,7 @@ ghost use Rattle.h41_nut.specs.declared.refusal.PlugRefusal.TheVariants.{OutOfMe
 ghost use Rattle.h41_bench.specs.Calculator.{State, start, call_refusal, called, step_refusal, Step};
 
 use crate::refusal::Refusal;
-use h41_nut::{Cpu, Keys, Pages, PlugRefusal, Ram, step};
+use h41_nut::{Cpu, END_OF_FUNCTION, FIRST_ADDRESS, Keys, Pages, PlugRefusal, Ram, step};
 use std::alloc::{AllocError, Global};
 use std::marker::Model;
 
@@ -16,12 +16,6 @@ pub enum Mode {
     /// A function in microcode runs.
     Micro,
 }
-
-/// The address at which a function ends.
-const END_OF_FUNCTION: u16 = 0x00F0;
-
-/// The lowest address that may be called; below it are the system's pages.
-const FIRST_ADDRESS: u16 = 0x4000;
 
 /// The calculator: processor, memory, pages and keys, and what it does.
 #[derive(Drop)]
@@ -54,13 +48,6 @@ impl Calculator {
             keys: Keys::new(),
             mode: Mode::Idle,
         })
-    }
-
-    /// What the calculator does.
-    pub fn mode(&self) -> Mode
-        ensures { result ≡ self.now.mode }
-    {
-        self.mode
     }
 
     /// The processor.

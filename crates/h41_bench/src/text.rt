@@ -5,8 +5,6 @@ ghost use Rattle.h41_bench.specs.Texts.{hexadecimal_text};
 use crate::hexadecimal::hexadecimal;
 use crate::refusal::Refusal;
 use h41_digits::Digits;
-use h41_fields::Pointer;
-use h41_nut::{Base, Cpu, Keys};
 use std::fmt;
 
 /// `! NN Name`, and a blank and the address of four hexadecimal digits, where the refusal tells one.

@@ -1,4 +1,4 @@
-//! The fields of a register that the words of the processor work on.
+//! The fields of a register that the words of the HP-41's Nut processor work on, by the names of HP's VASM listings.
 #![tactic(auto)]
 
 mod field;

@@ -3,6 +3,7 @@ ghost use Rattle.h41_digits.specs.Register.{IsRegister};
 ghost use Rattle.h41_nut.specs.Processor.{initial, entered};
 ghost use Rattle.h41_nut.specs.WordStep.{gone_to, with_low_digits, returns_after, newest_return, IncrementsC};
 
+use crate::addresses::END_OF_FUNCTION;
 use crate::base::Base;
 use h41_arith::inc;
 use h41_digits::Reg;
@@ -12,9 +13,6 @@ use std::marker::Model;
 
 /// How many return addresses the processor keeps.
 const RETURNS: usize = 4;
-
-/// The address at which a function ends: it is where the first return of a function goes.
-const END_OF_FUNCTION: u16 = 0x00F0;
 
 /// The registers of the Nut processor.
 #[derive(Debug, Drop)]

@@ -1,6 +1,7 @@
 //! The HP-41's Nut processor: its registers, its pages of words, and one step.
 #![tactic(auto)]
 
+mod addresses;
 mod base;
 mod cpu;
 mod keys;
@@ -11,6 +12,7 @@ mod pages;
 mod ram;
 mod refusal;
 
+pub use addresses::{END_OF_FUNCTION, FIRST_ADDRESS};
 pub use base::Base;
 pub use cpu::Cpu;
 pub use keys::Keys;

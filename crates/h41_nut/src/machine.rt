@@ -3,6 +3,7 @@ ghost use Rattle.h41_nut.specs.Processor.{Processor};
 ghost use Rattle.h41_nut.specs.PageList.{Pages as PageList};
 ghost use Rattle.h41_nut.specs.WordStep.{Nut, nut_of, refused, Micro, arrival_refusal};
 
+use crate::addresses::{END_OF_FUNCTION, FIRST_ADDRESS};
 use crate::cpu::Cpu;
 use crate::keys::Keys;
 use crate::pages::Pages;
@@ -10,14 +11,9 @@ use crate::ram::Ram;
 use crate::refusal::Refusal;
 use h41_words::{Operation, Row, length, row};
 
-/// The pages below this address are the system's, of which only the end of a function is an arrival.
-const FIRST_ADDRESS: u16 = 0x4000;
-
-const END_OF_FUNCTION: u16 = 0x00F0;
-
 /// Carries out the word at the processor's address. It is refused by the first of these, and changes nothing then: the
 /// fetch of the word (8, 9), a word that is not held (7), the fetch of a second word (8, 9), an arrival in pages 0 to 3
-/// other than at 00F0 (8).
+/// other than at 00F0 (8). The order is this project's choice; behind FFFF comes 0000.
 pub fn step(cpu: &mut Cpu, ram: &mut Ram, pages: &mut Pages, keys: &mut Keys) -> Result<(), Refusal>
     ensures refusal { MatchResult result (λ _. refused (nut_of cpu.old pages.old keys.old) ≡ None) (λ refusal. refused (nut_of cpu.old pages.old keys.old) ≡ Some refusal) }
     ensures change { OnOk result (Micro (nut_of cpu.old pages.old keys.old) (nut_of cpu.new pages.new keys.new)) }

@@ -3,6 +3,7 @@ ghost use Rattle.std.specs.List.{list_all};
 ghost use Rattle.h41_nut.specs.PageList.{no_pages, is_image, plug_refusal, plugged, fetched};
 ghost use Rattle.h41_nut.specs.declared.refusal.PlugRefusal.TheVariants.{OutOfMemory};
 
+use crate::addresses::FIRST_ADDRESS;
 use crate::page::{PAGE_WORDS, Page};
 use crate::refusal::{PlugRefusal, Refusal};
 use h41_words::Word;
@@ -16,9 +17,6 @@ const PAGES: usize = 16;
 const FIRST_PAGE: u8 = 4;
 
 const LAST_PAGE: u8 = 15;
-
-/// The first address behind the system's pages.
-const FIRST_ADDRESS: u16 = 0x4000;
 
 /// The pages of the address space: sixteen of 4,096 words, of which 4 to F may be plugged.
 #[derive(Drop)]
@@ -91,8 +89,8 @@ impl Pages {
         }
     }
 
-    #[tactic(auto, unfolding(crate::specs::PageList::fetched))]
     /// The word at an address. Refused as 8 in pages 0 to 3, as 9 where nothing is plugged.
+    #[tactic(auto, unfolding(crate::specs::PageList::fetched))]
     pub fn fetch(&self, address: u16) -> Result<Word, Refusal>
         ensures { result ≡ fetched self.now address }
     {

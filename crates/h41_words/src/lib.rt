@@ -1,4 +1,5 @@
-//! The words of the HP-41's Nut processor, and the table of what they are.
+//! The words of the HP-41's Nut processor, and the table of what they are. Numbers and names are those of HP's VASM
+//! listings.
 #![tactic(auto)]
 
 mod rows;

@@ -1,5 +1,6 @@
 -- The digit rule: how two registers are added and subtracted over a span of places, digit by digit with a carry, in
--- base 16 or 10. It is stated for all digits, A to F in base 10 among them.
+-- base 16 or 10, as the Nut processor's words do it. It is stated for all digits; what it says of A to F in base 10 is this
+-- project's choice.
 use Rattle.std.specs.Prelude.{◌≡◌, ℕ, ◌+◌, ◌-◌, ◌%◌, ◌<◌, ◌≤◌, ◌⊎◌, Bool, List, slice_index, replicate, if◌then◌else◌}
 
 -- one place of a sum: z and the carry out, from x, y and the carry in

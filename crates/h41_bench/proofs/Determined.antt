@@ -27,8 +27,7 @@ module _ (same_micro : SameMicro) where
   same_step modes.Idle s t u p q = p ∙ sym q
   same_step modes.Micro s t u p q =
       let nut : t.nut ≡ u.nut = same_micro s.nut t.nut u.nut p.0 q.0 in
-      let mode : t.mode ≡ u.mode = p.1 ∙ ap (λ (reached : Nut). mode_at reached.processor.pc) nut ∙ sym q.1 in
-      λ i. record { nut = nut i; mode = mode i }
+      p.1 ∙ ap (λ reached. record s { nut = reached; mode = mode_at reached.processor.pc }) nut ∙ sym q.1
 
   abbrev SameSteps : ℕ → Type 0
   SameSteps count = (s t u : State) (a b : Option Refusal) → Steps count s t a → Steps count s u b → (t ≡ u) × (a ≡ b)

@@ -1,4 +1,4 @@
--- The calculator: its mode, a call, and single steps.
+-- The calculator: its mode, a call, and single steps. All of it is this project's choice, but for what the words do.
 use Rattle.std.specs.Prelude.{◌≡◌, ℕ, zero, suc, Bool, true, false, not, nat_lt, ◌==◌, if◌then◌else◌, Option, Some, None, List, option_map, option_and_then, MatchOption}
 use Rattle.h41_nut.specs.declared.refusal.Refusal as nut
 use Rattle.h41_nut.specs.declared.refusal.Refusal.TheVariants as words
@@ -32,7 +32,7 @@ call_refusal s address = or_else (when (not (is_idle s.mode)) Busy) (when (nat_l
 
 -- the function at an address runs
 abbrev pub called : ℕ → State → State
-called address s = record { nut = record s.nut { processor = entered s.nut.processor address }; mode = modes.Micro }
+called address s = record s { nut = record s.nut { processor = entered s.nut.processor address }; mode = modes.Micro }
 
 -- a processor's refusal, as the calculator's
 abbrev pub of_nut : nut.Refusal → Refusal
@@ -66,7 +66,7 @@ mode_at address = if address == 0x00F0 then modes.Idle else modes.Micro
 -- one step: while a function runs the word's change, and its end where it arrives at 00F0; else nothing
 abbrev pub StepIn : Mode → State → State → Type 0
 StepIn modes.Idle s t = t ≡ s
-StepIn modes.Micro s t = Micro s.nut t.nut × (t.mode ≡ mode_at t.nut.processor.pc)
+StepIn modes.Micro s t = Micro s.nut t.nut × (t ≡ record s { nut = t.nut; mode = mode_at t.nut.processor.pc })
 
 abbrev pub Step : State → State → Type 0
 Step s t = StepIn s.mode s t

@@ -1,4 +1,5 @@
--- A deck: its lines, the words of a line, the commands that the lines spell, and what they print.
+-- A deck: its lines, the words of a line, the commands that the lines spell, and what they print. The language is this
+-- project's own.
 use Rattle.std.specs.Prelude.{◌≡◌, ℕ, ◌≤◌, is_some, Option, Some, None, MatchOption, zero, suc, ◌-◌, Bool, true, false, not, ◌&&◌, ◌||◌, List, [], ◌∷◌, ◌++◌, map, length, slice_index, replicate, filter, flat_map, nat_lt, nat_le, ◌==◌, if◌then◌else◌, Result, Ok, Err, codes, bytes_eq}
 use Rattle.std.specs.List.{slice_split, list_any, list_all, before_first, after_first}
 use Rattle.std.specs.Char.{is_digit}
@@ -161,6 +162,13 @@ Reply (Step count) words s t answer = Steps count s t answer.refusal × (answer.
 -- show cpu: the processor, and nothing changes
 Reply ShowCpu words s t answer = (t ≡ s) × (answer ≡ record { text = processor_text s.nut.processor s.nut.keys; refusal = None })
 
+-- the commands that take memory; the others never end a deck for want of it
+abbrev pub takes_memory : Command → Bool
+takes_memory (Words page writable) = true
+takes_memory (Call address) = false
+takes_memory (Step count) = false
+takes_memory ShowCpu = true
+
 -- what an item of a deck does: lines that are refused are answered by their refusal
 abbrev pub ItemReply : Item → State → State → Answer → Type 0
 ItemReply (Err refusal) s t answer = (t ≡ s) × (answer ≡ refuses refusal)
@@ -181,9 +189,13 @@ refusal_line (Some refusal) = refusal_text refusal ++ codes "\n"
 abbrev pub printed : Answer → List ℕ
 printed answer = answer.text ++ refusal_line answer.refusal
 
--- the answers to a deck of at most 67,108,864 bytes, from the start on; a longer one has none
+-- the most bytes that a deck may have: 64 MiB
+abbrev pub most_bytes : ℕ
+most_bytes = 67108864
+
+-- the answers to a deck, from the start on; one that is too long has none
 pub record AnswersDeck (deck : List ℕ) (answers : List Answer) : Type 0 where
-  pub bound : length deck ≤ 67108864
+  pub bound : length deck ≤ most_bytes
   pub answered : Answers (commands (lines deck)) start answers
 
 -- the text that a deck prints

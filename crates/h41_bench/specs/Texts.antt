@@ -1,4 +1,4 @@
--- The texts that a deck's commands print.
+-- The texts that a deck's commands print. Their form is this project's choice.
 use Rattle.std.specs.Prelude.{ℕ, zero, suc, ◌/◌, ◌%◌, Bool, true, List, [], ◌∷◌, ◌++◌, slice_index, if◌then◌else◌, Option, Some, None, codes}
 use Rattle.std.specs.Fmt.{digit_glyph}
 use Rattle.h41_digits.specs.Register.{text}

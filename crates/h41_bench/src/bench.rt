@@ -1,9 +1,9 @@
-ghost use Rattle.std.specs.Prelude.{◌≡◌, IfOk, OnErr, None, Some, MatchOption, string_bytes};
+ghost use Rattle.std.specs.Prelude.{◌≡◌, IfOk, OnErr, true, None, Some, MatchOption, string_bytes};
 ghost use Rattle.std.specs.Result.{result_err};
 ghost use Rattle.h41_bench.specs.Calculator.{start, Steps, page_refusal, with_page};
 ghost use Rattle.h41_bench.specs.Texts.{processor_text};
 ghost use Rattle.h41_bench.specs.Answers.{shown};
-ghost use Rattle.h41_bench.specs.Deck.{Reply};
+ghost use Rattle.h41_bench.specs.Deck.{Reply, takes_memory};
 
 use crate::calculator::Calculator;
 use crate::command::Command;
@@ -47,8 +47,8 @@ impl Bench {
         })
     }
 
-    /// So many single steps, up to the first that is refused.
-    pub fn steps(&mut self, count: u32) -> Result<(), Refusal>
+    // So many single steps, up to the first that is refused.
+    fn steps(&mut self, count: u32) -> Result<(), Refusal>
         ensures { Steps count self.old self.new (result_err result) }
     {
         for _step in 0..count {
@@ -57,9 +57,9 @@ impl Bench {
         Ok(())
     }
 
-    /// Carries a command out, with the page's words of its block, and answers what it prints. 21 where memory is refused:
-    /// nothing is changed then.
-    pub fn apply(
+    /// Carries a command out, with the page's words of its block, and answers what it prints. 21 where memory is refused,
+    /// which `call` and `step` never take: nothing is changed then.
+    pub fn answer(
         &mut self,
         alloc: Global,
         command: Command,
@@ -67,6 +67,7 @@ impl Bench {
     ) -> Result<Answer, AllocError>
         ensures reply { IfOk result (λ answer. Reply command words.now self.old self.new (shown answer)) }
         ensures err { OnErr result (self.new ≡ self.old) }
+        ensures memory { OnErr result (takes_memory command ≡ true) }
     {
         let refusal = match command {
             Command::Words { page, writable } => self.plug(alloc, page, writable, words)?,

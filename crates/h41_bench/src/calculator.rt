@@ -58,10 +58,10 @@ impl Calculator {
     }
 
     /// The keyboard as the processor sees it.
-    pub fn keys(&self) -> Keys
-        ensures { result ≡ self.now.nut.keys }
+    pub fn keys(&self) -> &Keys
+        ensures { result.now ≡ self.now.nut.keys }
     {
-        self.keys
+        &self.keys
     }
 
     /// Begins the function at an address. Refused as 24 while a function runs, and as 8 below address 4000, 00F0 with

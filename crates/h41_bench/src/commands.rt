@@ -21,7 +21,8 @@ pub enum Item {
     Refused(Refusal),
 }
 
-/// The next item of a deck, by the lines that are left of it; nothing where they have none. Its lines are taken.
+/// The next item of a deck, by the lines that are left of it; nothing where they have none. Its lines are taken. 21 where
+/// memory is refused.
 pub fn next_item(alloc: Global, rest: &mut Lines<'_>) -> Result<Option<Item>, AllocError>
     ensures item { IfOk result (λ next. MatchOption next (Deck.commands (lines rest.old.rest.now) ≡ [])
         (λ item. Deck.commands (lines rest.old.rest.now) ≡ given item ∷ Deck.commands (lines rest.new.rest.now))) }

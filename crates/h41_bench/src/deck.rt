@@ -1,8 +1,7 @@
-ghost use Rattle.std.specs.Prelude.{ℕ, ◌≡◌, ◌≢◌, ◌⊎◌, ◌<◌, List, Err, IfOk, OnOk, IfSome, length, true, false};
+ghost use Rattle.std.specs.Prelude.{ℕ, ◌≡◌, ◌≢◌, ◌⊎◌, ◌<◌, List, Err, IfOk, IfErr, OnOk, OnErr, IfSome, length, true, false};
 ghost use Rattle.std.specs.Io.KnownBytes.{Appends};
-ghost use Rattle.h41_bench.specs.declared.input.TheConstants.{MOST_BYTES};
 ghost use Rattle.h41_bench.specs.Answers.{Answered, outcome_after, shown};
-ghost use Rattle.h41_bench.specs.Deck.{ItemReply, Deck, DeckEnds, lines, printed};
+ghost use Rattle.h41_bench.specs.Deck.{ItemReply, Deck, DeckEnds, lines, most_bytes, printed};
 ghost use Rattle.h41_bench.specs.Items.{given};
 
 use crate::bench::{Answer, Bench};
@@ -58,7 +57,7 @@ pub fn run_deck<R: Source, W: Sink>(
 
     // The marks tell which end failed.
     ensures read_fault { result ≡ Err Fault.ReadFault → (R.failed reader.new ≡ true)
-        ⊎ IfSome (R.remaining reader.old) (λ deck. MOST_BYTES < length deck) }
+        ⊎ IfSome (R.remaining reader.old) (λ deck. most_bytes < length deck) }
     ensures write_fault { result ≡ Err Fault.WriteFault → W.failed writer.new ≡ true }
     ensures reader { result ≢ Err Fault.ReadFault → R.failed reader.new ≡ false }
     ensures writer { result ≢ Err Fault.WriteFault → W.failed writer.new ≡ false }
@@ -81,7 +80,7 @@ fn answer_deck<W: Sink>(alloc: Global, deck: &[u8], writer: &mut W) -> Result<Ou
     let mut rest = Lines::new(deck);
     while let Some(item) = next_item(alloc, &mut rest)? {
         let answer = answer_item(alloc, &mut bench, &item)?;
-        print(alloc, &answer, writer)?;
+        print(&answer, writer)?;
         outcome = outcome.after(&answer);
     }
     flush(writer)?;
@@ -93,7 +92,7 @@ fn answer_item(alloc: Global, bench: &mut Bench, item: &Item) -> Result<Answer, 
     ensures { IfOk result (λ answer. ItemReply (given item.now) bench.old bench.new (shown answer)) }
 {
     match item {
-        Item::Given(command, words) => bench.apply(alloc, *command, words),
+        Item::Given(command, words) => bench.answer(alloc, *command, words),
         Item::Refused(refusal) => Ok(Answer {
             text: String::new(alloc),
             refusal: Some(*refusal),
@@ -101,18 +100,18 @@ fn answer_item(alloc: Global, bench: &mut Bench, item: &Item) -> Result<Answer, 
     }
 }
 
-// Writes what an answer prints.
-fn print<W: Sink>(alloc: Global, answer: &Answer, writer: &mut W) -> Result<(), Fault>
+// Writes what an answer prints. It takes no memory.
+fn print<W: Sink>(answer: &Answer, writer: &mut W) -> Result<(), Fault>
     requires { W.failed writer.old ≡ false }
     ensures ok { OnOk result (Appends (W.contents writer.old) (W.contents writer.new) (printed (shown answer.now))) }
-    ensures never_read { result ≢ Err Fault.ReadFault }
-    ensures write_fault { result ≡ Err Fault.WriteFault → W.failed writer.new ≡ true }
-    ensures writer { result ≢ Err Fault.WriteFault → W.failed writer.new ≡ false }
+    ensures clear { OnOk result (W.failed writer.new ≡ false) }
+    ensures fault { IfErr result (λ fault. fault ≡ Fault.WriteFault) }
+    ensures mark { OnErr result (W.failed writer.new ≡ true) }
 {
     write_whole(writer, answer.text.as_bytes())?;
     if let Some(refusal) = answer.refusal {
-        let line = format!(in alloc; "{refusal}\n")?;
-        write_whole(writer, line.as_bytes())?;
+        let line = refusal.line();
+        write_whole(writer, line.as_str().as_bytes())?;
     }
     Ok(())
 }

@@ -12,14 +12,14 @@ use std::fmt;
 #[derive(Clone, Copy, Debug)]
 pub struct Dump<'a> {
     pub cpu: &'a Cpu,
-    pub keys: Keys,
+    pub keys: &'a Keys,
 }
 
 impl fmt::Display for Dump<'_> {
     ghost use Rattle.std.specs.Prelude.{Some};
     ghost use Rattle.h41_bench.specs.Texts.{processor_text};
 
-    ghost output = { λ dump. Some (processor_text dump.cpu.now dump.keys) };
+    ghost output = { λ dump. Some (processor_text dump.cpu.now dump.keys.now) };
 
     #[tactic(auto, unfolding(crate::specs::Texts::processor_text))]
     fn fmt<W: fmt::Write>(&self, f: &mut fmt::Formatter<W>) -> fmt::Result {
@@ -61,8 +61,8 @@ fn write_pointers<W: fmt::Write>(f: &mut fmt::Formatter<W>, cpu: &Cpu) -> fmt::R
 }
 
 #[tactic(auto, unfolding(crate::specs::Texts::modes_line))]
-fn write_modes<W: fmt::Write>(f: &mut fmt::Formatter<W>, cpu: &Cpu, keys: Keys) -> fmt::Result
-    ensures { DisplaysOnOk W.write_str_gives f.old result (Some (modes_line cpu.now keys)) f.new }
+fn write_modes<W: fmt::Write>(f: &mut fmt::Formatter<W>, cpu: &Cpu, keys: &Keys) -> fmt::Result
+    ensures { DisplaysOnOk W.write_str_gives f.old result (Some (modes_line cpu.now keys.now)) f.new }
 {
     let pc: Digits<4> = hexadecimal(cpu.pc());
     let carry = bit(cpu.carry());

@@ -1,6 +1,7 @@
 //! Reads an input whole.
 
 ghost use Rattle.std.specs.Prelude.{◌≡◌, ◌≢◌, ◌⊎◌, ◌<◌, ◌≤◌, true, false, length, IfOk, OnOk, IfSome, Err, vec_len};
+ghost use Rattle.h41_bench.specs.Deck.{most_bytes};
 
 use crate::fault::Fault;
 use crate::source::Source;
@@ -21,9 +22,9 @@ const BLOCK: usize = 4096;
 pub fn read_whole<R: Source>(alloc: Global, reader: &mut R) -> Result<Vec<u8>, Fault>
     requires { R.failed reader.old ≡ false }
     ensures whole { IfOk result (λ v. IfSome (R.remaining reader.old) (λ xs. v.items ≡ xs)) }
-    ensures bound { IfOk result (λ v. vec_len v ≤ MOST_BYTES) }
+    ensures bound { IfOk result (λ v. vec_len v ≤ most_bytes) }
     ensures read_fault { result ≡ Err Fault.ReadFault → (R.failed reader.new ≡ true)
-        ⊎ IfSome (R.remaining reader.old) (λ xs. MOST_BYTES < length xs) }
+        ⊎ IfSome (R.remaining reader.old) (λ xs. most_bytes < length xs) }
     ensures never_write { result ≢ Err Fault.WriteFault }
     ensures mark { result ≢ Err Fault.ReadFault → R.failed reader.new ≡ false }
 {

@@ -27,6 +27,9 @@ mod tests;
 mod text;
 mod words;
 
+ghost use Rattle.std.specs.Prelude.{◌≡◌, ◌⊎◌, ◌∷◌, ◌≤◌, IfOk, codes, drop, map, string_bytes};
+ghost use Rattle.h41_bench.specs.Ending.{status_of};
+
 use crate::arguments::{Ending, Job, read_words};
 use crate::fault::Fault;
 use crate::serve::{FAILED, serve};
@@ -49,7 +52,9 @@ fn main(rt: HostRuntime) -> ExitCode {
 }
 
 // Does what the command line asks for, and answers the status.
-fn run(rt: &HostRuntime, alloc: Global) -> u8 {
+fn run(rt: &HostRuntime, alloc: Global) -> u8
+    ensures { result ≤ 3 }
+{
     let arguments = match env::args(rt) {
         Ok(arguments) => arguments,
         Err(error) if error.kind() == ErrorKind::OutOfMemory => return fail(rt, Fault::OutOfMemory),
@@ -65,7 +70,9 @@ fn run(rt: &HostRuntime, alloc: Global) -> u8 {
 }
 
 // Does what these words ask for.
-fn run_words(rt: &HostRuntime, alloc: Global, words: &[String]) -> u8 {
+fn run_words(rt: &HostRuntime, alloc: Global, words: &[String]) -> u8
+    ensures { result ≤ 3 }
+{
     match named(alloc, words) {
         Ok(words) => match read_words(alloc, words.as_slice()) {
             Ok(job) => run_job(rt, alloc, job),
@@ -76,17 +83,23 @@ fn run_words(rt: &HostRuntime, alloc: Global, words: &[String]) -> u8 {
 }
 
 // The words with the program's own name for the first, under whatever name it was started.
-fn named(alloc: Global, words: &[String]) -> Result<Vec<&str>, AllocError> {
+fn named(alloc: Global, words: &[String]) -> Result<Vec<&str>, AllocError>
+    ensures { IfOk result (λ named. map (λ word. word.now) named.items ≡ codes "bench" ∷ drop 1 (map string_bytes words.now)) }
+{
     let mut named = Vec::new(alloc);
     named.push(NAME)?;
-    for word in words.iter().skip(1) {
-        named.push(word.as_str())?;
+    if let [_, others @ ..] = words {
+        for word in others {
+            named.push(word.as_str())?;
+        }
     }
     Ok(named)
 }
 
 // Prints what there is to say in place of a job.
-fn end(rt: &HostRuntime, ending: &Ending) -> u8 {
+fn end(rt: &HostRuntime, ending: &Ending) -> u8
+    ensures { (result ≡ status_of ending.now) ⊎ (result ≡ 3) }
+{
     let text = ending.text();
     let printed = match ending {
         Ending::Help(_) => print!(rt; "{text}"),
@@ -99,7 +112,9 @@ fn end(rt: &HostRuntime, ending: &Ending) -> u8 {
 }
 
 // Runs the deck of a file, or of standard input where its name is `-`.
-fn run_job(rt: &HostRuntime, alloc: Global, job: Job<'_>) -> u8 {
+fn run_job(rt: &HostRuntime, alloc: Global, job: Job<'_>) -> u8
+    ensures { (result ≡ 0) ⊎ ((result ≡ 1) ⊎ (result ≡ 3)) }
+{
     if job.file == "-" {
         return run_from(rt, alloc, job, rt.stdin());
     }
@@ -110,7 +125,9 @@ fn run_job(rt: &HostRuntime, alloc: Global, job: Job<'_>) -> u8 {
 }
 
 // Runs the deck that a reader gives, from there to standard output.
-fn run_from<R: Read + Drop>(rt: &HostRuntime, alloc: Global, job: Job<'_>, reader: R) -> u8 {
+fn run_from<R: Read + Drop>(rt: &HostRuntime, alloc: Global, job: Job<'_>, reader: R) -> u8
+    ensures { (result ≡ 0) ⊎ ((result ≡ 1) ⊎ (result ≡ 3)) }
+{
     let Ok(output) = BufWriter::new(alloc, rt.stdout()) else {
         return fail(rt, Fault::OutOfMemory);
     };
@@ -121,7 +138,9 @@ fn run_from<R: Read + Drop>(rt: &HostRuntime, alloc: Global, job: Job<'_>, reade
 }
 
 // Tells a fault on standard error, as far as that takes it.
-fn fail(rt: &HostRuntime, fault: Fault) -> u8 {
+fn fail(rt: &HostRuntime, fault: Fault) -> u8
+    ensures { result ≡ 3 }
+{
     let _ = eprintln!(rt; "{fault}");
     FAILED
 }

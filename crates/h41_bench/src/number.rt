@@ -3,7 +3,8 @@ ghost use Rattle.h41_bench.specs.Deck.{hexadecimal_within, number_up_to};
 
 use crate::refusal::Refusal;
 
-/// The number that a word's digits write in a radix, with any count of leading zeros.
+/// The number that a word's digits write in a radix, with any count of leading zeros: 51 BadNumber where it is none, or
+/// above `most`.
 pub fn number_up_to(most: u32, radix: u32, word: &[u8]) -> Result<u32, Refusal>
     requires most_in { most ≤ 9999999 }
     requires radix_from_two { 2 ≤ radix }
@@ -24,7 +25,8 @@ pub fn number_up_to(most: u32, radix: u32, word: &[u8]) -> Result<u32, Refusal>
     Ok(value)
 }
 
-/// The number of a word of so many hexadecimal digits, of either case.
+/// The number of a word of `least` to `most` hexadecimal digits, of either case: 51 BadNumber where it is none, or has
+/// another count.
 pub fn hexadecimal(least: usize, most: usize, word: &[u8]) -> Result<u16, Refusal>
     requires { most ≤ 4 }
     ensures small { IfOk result (λ number. number < 16 ^ most) }

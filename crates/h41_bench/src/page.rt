@@ -37,7 +37,7 @@ impl Page {
         }
     }
 
-    /// Takes the words of one more line of the block.
+    /// Takes the words of one more line of the block. 21 where memory is refused.
     pub fn add_line(&mut self, line: &[u8]) -> Result<(), AllocError>
         ensures { IfOk result (λ _. (inside : List (List ℕ)) → values_of self.old ≡ word_values (block_words inside) → values_of self.new ≡ word_values (block_words (inside ++ line.now ∷ []))) }
     {

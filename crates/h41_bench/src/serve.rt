@@ -1,9 +1,7 @@
-ghost use Rattle.std.specs.Prelude.{ℕ, ◌≡◌, ◌≢◌, ◌⊎◌, ◌<◌, ◌++◌, List, true, false, codes, length, OnOk, OnErr, IfSome};
+ghost use Rattle.std.specs.Prelude.{ℕ, ◌≡◌, ◌≢◌, ◌⊎◌, ◌<◌, ◌++◌, List, true, false, codes, length, OnOk, OnErr, IfErr, IfSome};
 ghost use Rattle.std.specs.Io.KnownBytes.{Appends, Keeps};
-ghost use Rattle.h41_bench.specs.declared.input.TheConstants.{MOST_BYTES};
-ghost use Rattle.h41_bench.specs.declared.serve.TheConstants.{ACCEPTED, REFUSED, FAILED};
 ghost use Rattle.h41_bench.specs.Answers.{status_of_outcome};
-ghost use Rattle.h41_bench.specs.Deck.{Deck, DeckEnds};
+ghost use Rattle.h41_bench.specs.Deck.{Deck, DeckEnds, most_bytes};
 ghost use Rattle.h41_bench.specs.FaultText.{fault_text};
 
 use crate::arguments::Job;
@@ -36,19 +34,19 @@ pub fn serve<R: Source, W: Sink, E: Sink>(
     requires reader_clear { R.failed reader.old ≡ false }
     requires writer_clear { W.failed writer.old ≡ false }
     requires faults_clear { E.failed faults.old ≡ false }
-    ensures status { (result ≡ ACCEPTED) ⊎ ((result ≡ REFUSED) ⊎ (result ≡ FAILED)) }
+    ensures status { (result ≡ 0) ⊎ ((result ≡ 1) ⊎ (result ≡ 3)) }
 
     // Where nothing failed, the deck's text was written, the status tells how the deck ended, and no fault is told.
-    ensures deck { result ≢ FAILED → IfSome (R.remaining reader.old) (λ deck.
+    ensures deck { result ≢ 3 → IfSome (R.remaining reader.old) (λ deck.
         (text : List ℕ) × Deck deck text × Appends (W.contents writer.old) (W.contents writer.new) text) }
-    ensures outcome { result ≢ FAILED → IfSome (R.remaining reader.old) (λ deck.
+    ensures outcome { result ≢ 3 → IfSome (R.remaining reader.old) (λ deck.
         (outcome : Outcome) × DeckEnds deck outcome × (result ≡ status_of_outcome outcome)) }
-    ensures silent { result ≢ FAILED → Keeps (E.contents faults.old) (E.contents faults.new) }
+    ensures silent { result ≢ 3 → Keeps (E.contents faults.old) (E.contents faults.new) }
 
     // Where something failed, the fault's line is told, if it can be.
-    ensures fault { result ≡ FAILED → E.failed faults.new ≡ false → (fault : Fault)
+    ensures fault { result ≡ 3 → E.failed faults.new ≡ false → (fault : Fault)
         × Appends (E.contents faults.old) (E.contents faults.new) (fault_text fault ++ codes "\n")
-        × (fault ≡ Fault.ReadFault → (R.failed reader.new ≡ true) ⊎ IfSome (R.remaining reader.old) (λ deck. MOST_BYTES < length deck))
+        × (fault ≡ Fault.ReadFault → (R.failed reader.new ≡ true) ⊎ IfSome (R.remaining reader.old) (λ deck. most_bytes < length deck))
         × (fault ≡ Fault.WriteFault → W.failed writer.new ≡ true)
         × (fault ≢ Fault.ReadFault → R.failed reader.new ≡ false)
         × (fault ≢ Fault.WriteFault → W.failed writer.new ≡ false) }
@@ -67,6 +65,7 @@ pub fn serve<R: Source, W: Sink, E: Sink>(
 fn report<E: Sink>(fault: Fault, faults: &mut E) -> Result<(), Fault>
     requires { E.failed faults.old ≡ false }
     ensures line { OnOk result (Appends (E.contents faults.old) (E.contents faults.new) (fault_text fault ++ codes "\n")) }
+    ensures fault { IfErr result (λ fault. fault ≡ Fault.WriteFault) }
     ensures mark { OnErr result (E.failed faults.new ≡ true) }
 {
     write_whole(faults, fault.text().as_bytes())?;

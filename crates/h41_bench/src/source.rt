@@ -16,9 +16,9 @@ pub trait Source {
     // The mark.
     ghost failed: { Self → Bool };
 
-    /// Reads some bytes into the front of `buffer` and says how many. None, where the buffer has
-    /// room, is the end of the input. A failing call reads nothing and sets the mark, which no
-    /// call clears.
+    /// Reads some bytes into the front of `buffer` and says how many; 0, where the buffer has room,
+    /// is the end of the input. A failing call reads nothing and sets the mark, which no call
+    /// clears.
     fn read(&mut self, buffer: &mut [u8]) -> io::Result<usize>
         ensures bound { ReadsAtMost result buffer.new }
         ensures bytes { ReadConsumes (remaining self.old) (remaining self.new) result buffer.new }

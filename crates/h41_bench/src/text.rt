@@ -1,48 +1,83 @@
-ghost use Rattle.std.specs.Prelude.{◌++◌, Some, codes};
-ghost use Rattle.std.specs.Fmt.{DisplaysOnOk};
-ghost use Rattle.h41_bench.specs.Texts.{hexadecimal_text};
+ghost use Rattle.std.specs.Prelude.{◌≡◌, ◌+◌, ◌≤◌, ◌<◌, ◌++◌, true, length, codes};
+ghost use Rattle.std.specs.Fmt.{digit_glyph};
+ghost use Rattle.arrayvec.specs.ArrayString.{array_string_len};
+ghost use Rattle.h41_bench.specs.Texts.{number_and_name, detail, refusal_text, hexadecimal_text};
 
-use crate::hexadecimal::hexadecimal;
 use crate::refusal::Refusal;
-use h41_digits::Digits;
-use std::fmt;
+use arrayvec::ArrayString;
 
-/// `! NN Name`, and a blank and the address of four hexadecimal digits, where the refusal tells one.
-impl fmt::Display for Refusal {
-    ghost use Rattle.std.specs.Prelude.{Some};
-    ghost use Rattle.h41_bench.specs.Texts.{refusal_text};
+/// The most bytes of a refusal's line.
+const LINE: usize = 27;
 
-    ghost output = { λ refusal. Some (refusal_text refusal) };
+impl Refusal {
+    /// The line that prints it, with its end: `! NN Name`, and a blank and the address in four hexadecimal digits, where it
+    /// tells one. It takes no memory, so that a refusal can be told whatever else fails.
+    pub fn line(self) -> ArrayString<LINE>
+        ensures { result.bytes ≡ refusal_text self ++ codes "\n" }
+    {
+        let mut line = ArrayString::new();
+        line.push_str(self.name());
+        if let Some(address) = self.address() {
+            line.push(' ');
+            push_address(&mut line, address);
+        }
+        line.push('\n');
+        line
+    }
 
-    fn fmt<W: fmt::Write>(&self, f: &mut fmt::Formatter<W>) -> fmt::Result {
+    // `! NN Name`.
+    fn name(self) -> &'static str
+        ensures text { result.now ≡ codes "! " ++ number_and_name self }
+        ensures short { length result.now ≤ 21 }
+    {
         match self {
-            Refusal::NoSuchPage => f.write_str("! 01 NoSuchPage"),
-            Refusal::Occupied => f.write_str("! 02 Occupied"),
-            Refusal::BadImage => f.write_str("! 04 BadImage"),
-            Refusal::WordNotInProfile(address) => write_with_address(
-                f,
-                "! 07 WordNotInProfile",
-                *address,
-            ),
-            Refusal::SystemRom(address) => write_with_address(f, "! 08 SystemRom", *address),
-            Refusal::EmptyPage(address) => write_with_address(f, "! 09 EmptyPage", *address),
-            Refusal::Busy => f.write_str("! 24 Busy"),
-            Refusal::BadCommand => f.write_str("! 50 BadCommand"),
-            Refusal::BadNumber => f.write_str("! 51 BadNumber"),
-            Refusal::NoEnd => f.write_str("! 52 NoEnd"),
-            Refusal::LineTooLong => f.write_str("! 53 LineTooLong"),
+            Refusal::NoSuchPage => "! 01 NoSuchPage",
+            Refusal::Occupied => "! 02 Occupied",
+            Refusal::BadImage => "! 04 BadImage",
+            Refusal::WordNotInProfile(_) => "! 07 WordNotInProfile",
+            Refusal::SystemRom(_) => "! 08 SystemRom",
+            Refusal::EmptyPage(_) => "! 09 EmptyPage",
+            Refusal::Busy => "! 24 Busy",
+            Refusal::BadCommand => "! 50 BadCommand",
+            Refusal::BadNumber => "! 51 BadNumber",
+            Refusal::NoEnd => "! 52 NoEnd",
+            Refusal::LineTooLong => "! 53 LineTooLong",
+        }
+    }
+
+    // The address that it tells.
+    fn address(self) -> Option<u16>
+        ensures { result ≡ detail self }
+    {
+        match self {
+            Refusal::WordNotInProfile(address)
+            | Refusal::SystemRom(address)
+            | Refusal::EmptyPage(address) => Some(address),
+            _ => None,
         }
     }
 }
 
-// A text, a blank and an address.
-fn write_with_address<W: fmt::Write>(
-    f: &mut fmt::Formatter<W>,
-    text: &str,
-    address: u16,
-) -> fmt::Result
-    ensures { DisplaysOnOk W.write_str_gives f.old result (Some (text.now ++ codes " " ++ hexadecimal_text 4 address)) f.new }
+// Appends the four digits of an address.
+fn push_address(line: &mut ArrayString<LINE>, address: u16)
+    requires { array_string_len line.old + 4 ≤ LINE }
+    ensures { line.new.bytes ≡ line.old.bytes ++ hexadecimal_text 4 address }
 {
-    let address: Digits<4> = hexadecimal(address);
-    write!(f, "{text} {address}")
+    let third = address / 16;
+    let second = third / 16;
+    let first = second / 16;
+    line.push(glyph(first % 16));
+    line.push(glyph(second % 16));
+    line.push(glyph(third % 16));
+    line.push(glyph(address % 16));
+}
+
+// A hexadecimal digit, in upper case.
+fn glyph(digit: u16) -> char
+    requires { digit < 16 }
+    ensures { result ≡ digit_glyph true digit }
+{
+    char::from_digit(u32::from(digit), 16)
+        .unwrap()
+        .to_ascii_uppercase()
 }

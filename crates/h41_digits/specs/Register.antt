@@ -1,4 +1,4 @@
--- A register: a list of hexadecimal digits, the digit of place 0 (the rightmost) first.
+-- A register: a list of hexadecimal digits, the digit of place 0 (the rightmost) first. The Nut processor's have 14.
 use Rattle.std.specs.Prelude.{◌≡◌, ℕ, ◌+◌, ◌*◌, ◌^◌, ◌<◌, List, [], ◌∷◌, map, reverse, length, All, true}
 use Rattle.std.specs.Fmt.{digit_glyph}
 

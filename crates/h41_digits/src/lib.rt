@@ -72,7 +72,7 @@ impl<const N: usize> Digits<N> {
         number
     }
 
-    /// The digit at a place.
+    /// The digit, 0 to 15, at a place, 0 to `N` - 1.
     pub fn get(&self, place: usize) -> u8
         requires { place < N }
         ensures digit { result ≡ slice_index self.now place }
@@ -81,7 +81,7 @@ impl<const N: usize> Digits<N> {
         self.digits[place]
     }
 
-    /// The same register with another digit, 0 to 15, at one place.
+    /// The same register with another digit, 0 to 15, at one place, 0 to `N` - 1.
     pub fn with(&self, place: usize, digit: u8) -> Self
         requires in_register { place < N }
         requires is_digit { digit < 16 }

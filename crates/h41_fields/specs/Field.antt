@@ -1,4 +1,4 @@
--- The fields of a register: the places that a word of the processor works on.
+-- The fields of a register: the places that a word of the Nut processor works on, by the names of HP's VASM listings.
 use Rattle.std.specs.Prelude.{ℕ, zero, suc, ◌+◌, ◌-◌, Bool, true, ◌&&◌, ◌||◌, List, [], ◌∷◌, length, slice_index, filter, nat_lt, nat_le, ◌==◌}
 use Rattle.h41_fields.specs.declared.field.Field.{Field}
 use Rattle.h41_fields.specs.declared.field.Field.TheVariants.{AtPointer, SignAndExponent, ToPointer, All, PToQ, ExponentSign, Mantissa, MantissaSign}
@@ -20,7 +20,7 @@ is_place SignAndExponent p q active place = nat_le place 2
 is_place ToPointer p q active place = nat_le place (active_place p q active)
 -- ALL: each place
 is_place All p q active place = true
--- P-Q: from P's place to Q's, and where P is above Q from P's place to the last
+-- P-Q: from P's place to Q's, and where P is above Q from P's place to the last (this project's choice)
 is_place PToQ p q active place = nat_le p place && (nat_le place q || nat_lt q p)
 -- XS: the exponent's sign, place 2
 is_place ExponentSign p q active place = place == 2

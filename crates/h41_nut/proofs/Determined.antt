@@ -65,6 +65,4 @@ module _ (ordered : Ordered) (same_digits : SameDigits) (same_carry : SameCarry)
   pub same_micro : (s t u : Nut) → Micro s t → Micro s u → t ≡ u
   same_micro s t u p q =
       let processor = same_effect (row_of (word_of s)) s t.processor u.processor p.effect q.effect in
-      let pages = p.pages ∙ sym q.pages in
-      let keys = p.keys ∙ sym q.keys in
-      λ i. record { processor = processor i; pages = pages i; keys = keys i }
+      p.rest ∙ (λ i. record s { processor = processor i }) ∙ sym q.rest

@@ -1,4 +1,5 @@
--- The sixteen pages of the address space: what is plugged at each, when plugging is refused, and what a fetch answers.
+-- The sixteen pages of the address space: what is plugged at each, when plugging is refused, and what a fetch answers. Which
+-- pages and banks may be plugged, and in which order refusals are asked, are this project's choices.
 use Rattle.std.specs.Prelude.{ℕ, ◌/◌, ◌%◌, Bool, not, ◌&&◌, ◌||◌, List, length, slice_index, slice_index_or, slice_set, replicate, nat_lt, nat_le, ◌==◌, if◌then◌else◌, is_some, Option, Some, None, Result, Ok, Err}
 use Rattle.std.specs.List.{list_all}
 use Rattle.h41_nut.specs.declared.refusal.Refusal.{Refusal}

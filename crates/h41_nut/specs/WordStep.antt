@@ -1,4 +1,5 @@
 -- One step of the processor: the first refusal there is, or none, and where there is none the change that the word makes.
+-- What the words do is HP's; what is refused, and in which order, is this project's choice.
 use Rattle.std.specs.Prelude.{◌≡◌, ℕ, ◌+◌, ◌/◌, ◌%◌, Bool, false, not, ◌&&◌, List, [], ◌∷◌, ◌++◌, slice_index, drop, nat_lt, ◌==◌, if◌then◌else◌, Option, Some, None, Result, Ok, Err}
 use Rattle.h41_digits.specs.Register.{IsRegister}
 use Rattle.h41_fields.specs.declared.field.Field.{Field}
@@ -95,7 +96,7 @@ with_low_digits word register = low_digits word ++ drop 3 register
 abbrev pub gone_to : ℕ → Processor → Processor
 gone_to address s = record s { pc = address; carry = false }
 
--- the return addresses when the newest is taken off: where there is none, 0000 stands
+-- the return addresses when the newest is taken off: where there is none, 0000 stands (this project's choice)
 abbrev pub returns_after : List ℕ → List ℕ
 returns_after returns = drop 1 returns ++ 0 ∷ []
 
@@ -114,9 +115,8 @@ Effect (Arithmetic IncrementC field) s t =
     (t ≡ record (gone_to (goes_to (Arithmetic IncrementC field) s) s.processor) { c = t.c; carry = t.carry }) × IncrementsC field s.processor t
 Effect Other s t = ⊥
 
--- the change that a step makes, which is there only where it is not refused: pages and keys stay
+-- the change that a step makes, which is there only where it is not refused: all but the processor stays
 pub record Micro (s t : Nut) : Type 0 where
   pub accepted : refused s ≡ None
   pub effect : Effect (row_of (word_of s)) s t.processor
-  pub pages : t.pages ≡ s.pages
-  pub keys : t.keys ≡ s.keys
+  pub rest : t ≡ record s { processor = t.processor }

@@ -34,7 +34,7 @@ row_of word = row_in word_table word
 unfoldable pub length_of : ℕ → ℕ
 length_of word = if word % 4 == 1 || word == 0x130 then 2 else 1
 
--- how many words a row takes: a row of its own always as many
+-- how many words a row takes: each row but Other always the same count
 abbrev pub IsLengthOf : Row → ℕ → Type 0
 IsLengthOf LoadImmediate count = count ≡ 2
 IsLengthOf Other count = (count ≡ 1) ⊎ (count ≡ 2)

@@ -9,7 +9,7 @@ use Rattle.h41_bench.specs.declared.command.Command.TheVariants as commands
 use Rattle.h41_bench.specs.declared.deck.Outcome.{Outcome}
 use Rattle.h41_bench.specs.declared.refusal.Refusal.{Refusal}
 use Rattle.h41_bench.specs.Calculator.{State, start, StepIn, Step, Steps, step_refusal, mode_at, page_refusal, call_refusal}
-use Rattle.h41_bench.specs.Deck.{Item, Answer, Reply, ItemReply, Answers, Deck, DeckEnds, printed, refuses, outcome_of}
+use Rattle.h41_bench.specs.Deck.{Item, Answer, Reply, ItemReply, Answers, Deck, DeckEnds, LongDeck, printed, refuses, outcome_of}
 use Rattle.h41_bench.specs.Deck as deck
 
 abbrev pub SameMicro : Type 0
@@ -71,6 +71,9 @@ module _ (same_micro : SameMicro) where
 
   pub same_text : (deck text other : List ℕ) → Deck deck text → Deck deck other → text ≡ other
   same_text bytes text other p q = p.2 ∙ ap (λ answers. flat_map printed answers) (same_answers (deck.commands (deck.lines bytes)) start p.0 q.0 p.1.answered q.1.answered) ∙ sym q.2
+
+  pub same_long : (deck text other : List ℕ) → LongDeck deck text → LongDeck deck other → text ≡ other
+  same_long bytes text other p q = p.2 ∙ ap (λ answers. flat_map printed answers) (same_answers _ start p.0 q.0 p.1.answered q.1.answered) ∙ sym q.2
 
   pub same_outcome : (deck : List ℕ) (outcome other : Outcome) → DeckEnds deck outcome → DeckEnds deck other → outcome ≡ other
   same_outcome bytes outcome other p q = p.2 ∙ ap outcome_of (same_answers (deck.commands (deck.lines bytes)) start p.0 q.0 p.1.answered q.1.answered) ∙ sym q.2

@@ -6,6 +6,8 @@ pub mod DeckWords
 pub mod Determined
 pub mod EndsLemmas
 pub mod HexadecimalTexts
+pub mod Inputs
 pub mod Numbers
 pub mod Pages
 pub mod Replies
+pub mod WholeDecks

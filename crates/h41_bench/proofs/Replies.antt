@@ -1,5 +1,5 @@
 -- How steps and replies follow one another.
-use Rattle.std.proofs.Common.{◌≡◌, ℕ, suc, true, false, ◌||◌, if◌then◌else◌, Option, Some, None, is_some, List, [], ◌∷◌, ◌++◌, flat_map, refl, sym, ap, subst, append_assoc, ◌∙◌}
+use Rattle.std.proofs.Common.{◌≡◌, ℕ, suc, Bool, true, false, not, ◌||◌, if◌then◌else◌, Option, Some, None, is_some, List, [], ◌∷◌, ◌++◌, flat_map, refl, sym, ap, subst, append_assoc, ◌∙◌}
 use Rattle.std.specs.List.{list_any}
 use Rattle.std.specs.Io.KnownBytes.{Appends}
 use Rattle.std.proofs.KnownBytes.{Appends-nil, Appends-trans}
@@ -9,8 +9,8 @@ use Rattle.h41_bench.specs.declared.refusal.Refusal.{Refusal}
 use Rattle.h41_bench.specs.declared.deck.Outcome.{Outcome}
 use Rattle.h41_bench.specs.declared.deck.Outcome.TheVariants.{Accepted, Refused}
 use Rattle.h41_bench.specs.Calculator.{State, start, step_refusal, Step, Steps}
-use Rattle.h41_bench.specs.Deck.{Item, Answer, Answers, ItemReply, commands, printed, outcome_of}
-use Rattle.h41_bench.specs.Answers.{Answered, outcome_after}
+use Rattle.h41_bench.specs.Deck.{Item, Answer, Answers, ItemReply, is_open, closed, printed, outcome_of}
+use Rattle.h41_bench.specs.Answers.{Answered, answered_items, outcome_after}
 
 -- one step, and those after it
 pub steps-more : (left more : ℕ) (s next t : State) (refusal : Option Refusal) → left ≡ suc more → step_refusal s ≡ None → Step s next → Steps more next t refusal → Steps left s t refusal
@@ -47,15 +47,37 @@ told_more old mid new all left rest s t outcome item answer told first reply wri
   goes_on = λ more later. subst (Answers all start) (sym (append_assoc told.answers (answer ∷ []) more)) (told.goes_on (answer ∷ more) (rw first (t, reply, later)));
 }
 
-pub told_all : (old new : Option (List ℕ)) (deck : List (List ℕ)) (s : State) (outcome : Outcome) (left : List Item) → Told old new (commands deck) left s outcome → left ≡ []
-    → (text : List ℕ) × Answered deck text outcome × Appends old new text
-told_all old new deck s outcome left told none = (
+pub told_all : (old new : Option (List ℕ)) (all : List Item) (s : State) (outcome : Outcome) (left : List Item) → Told old new all left s outcome → left ≡ []
+    → (text : List ℕ) × Answered all text outcome × Appends old new text
+told_all old new all s outcome left told none = (
   flat_map printed told.answers,
   record {
     answers = told.answers;
-    answered = subst (Answers (commands deck) start) (append-nil told.answers) (told.goes_on [] (rw none tt));
+    answered = subst (Answers all start) (append-nil told.answers) (told.goes_on [] (rw none tt));
     text_is = refl;
     outcome_is = told.outcome_is;
   },
   told.written,
 )
+
+-- an item that is answered, and one that is not
+pub answered-some : (whole : Bool) (item : Item) (all items : List Item) → all ≡ item ∷ items → (whole ≡ false → is_open item ≡ false)
+    → answered_items whole all ≡ item ∷ answered_items whole items
+answered-some true item all items first shut = first
+answered-some false item all items first shut = ap closed first ∙ ap (λ lasts. if not lasts then item ∷ closed items else closed items) (shut refl)
+
+pub answered-open : (whole : Bool) (item : Item) (all items : List Item) → all ≡ item ∷ items → whole ≡ false → is_open item ≡ true
+    → answered_items whole all ≡ answered_items whole items
+answered-open true item all items first cut lasts = cc
+answered-open false item all items first cut lasts = ap closed first ∙ ap (λ lasts. if not lasts then item ∷ closed items else closed items) lasts
+
+pub answered-none : (whole : Bool) (all : List Item) → all ≡ [] → answered_items whole all ≡ []
+answered-none true all none = none
+answered-none false all none = ap closed none
+
+-- an item that is answered goes on what was told
+pub told_next : (old mid new : Option (List ℕ)) (whole : Bool) (all left rest : List Item) (s t : State) (outcome : Outcome) (item : Item) (answer : Answer)
+    → Told old mid (answered_items whole all) (answered_items whole left) s outcome → left ≡ item ∷ rest → (whole ≡ false → is_open item ≡ false) → ItemReply item s t answer
+    → Appends mid new (printed answer) → Told old new (answered_items whole all) (answered_items whole rest) t (outcome_after outcome answer)
+told_next old mid new whole all left rest s t outcome item answer told first shut reply written =
+    told_more old mid new (answered_items whole all) (answered_items whole left) (answered_items whole rest) s t outcome item answer told (answered-some whole item left rest first shut) reply written

@@ -1,18 +1,23 @@
 -- An answer as the definitions see it, without where it lies in memory.
-use Rattle.std.specs.Prelude.{◌≡◌, ℕ, List, flat_map, is_some, if◌then◌else◌, string_bytes}
+use Rattle.std.specs.Prelude.{◌≡◌, ℕ, Bool, true, false, List, flat_map, is_some, if◌then◌else◌, string_bytes}
 use Rattle.h41_bench.specs.declared.bench.Answer as code
 use Rattle.h41_bench.specs.declared.deck.Outcome.{Outcome}
 use Rattle.h41_bench.specs.declared.deck.Outcome.TheVariants.{Accepted, Refused}
 use Rattle.h41_bench.specs.Calculator.{start}
-use Rattle.h41_bench.specs.Deck.{Answer, Answers, commands, printed, outcome_of}
+use Rattle.h41_bench.specs.Deck.{Item, Answer, Answers, closed, printed, outcome_of}
 
 abbrev pub shown : code.Answer → Answer
 shown answer = record { text = string_bytes answer.text; refusal = answer.refusal }
 
--- what the lines of a deck print, and how they end
-pub record Answered (lines : List (List ℕ)) (text : List ℕ) (outcome : Outcome) : Type 0 where
+-- the items of a deck that are answered: of one that is cut, all but a block that is open
+abbrev pub answered_items : Bool → List Item → List Item
+answered_items true items = items
+answered_items false items = closed items
+
+-- what the items of a deck print, and how they end
+pub record Answered (items : List Item) (text : List ℕ) (outcome : Outcome) : Type 0 where
   pub answers : List Answer
-  pub answered : Answers (commands lines) start answers
+  pub answered : Answers items start answers
   pub text_is : text ≡ flat_map printed answers
   pub outcome_is : outcome ≡ outcome_of answers
 

@@ -1,7 +1,7 @@
 -- A deck: its lines, the words of a line, the commands that the lines spell, and what they print. The language is this
 -- project's own.
-use Rattle.std.specs.Prelude.{◌≡◌, ℕ, ◌≤◌, is_some, Option, Some, None, MatchOption, zero, suc, ◌-◌, Bool, true, false, not, ◌&&◌, ◌||◌, List, [], ◌∷◌, ◌++◌, map, length, slice_index, replicate, filter, flat_map, nat_lt, nat_le, ◌==◌, if◌then◌else◌, Result, Ok, Err, codes, bytes_eq}
-use Rattle.std.specs.List.{slice_split, list_any, list_all, before_first, after_first}
+use Rattle.std.specs.Prelude.{◌≡◌, ℕ, ◌<◌, ◌≤◌, is_some, Option, Some, None, MatchOption, zero, suc, ◌-◌, Bool, true, false, not, ◌&&◌, ◌||◌, List, [], ◌∷◌, ◌++◌, map, length, slice_index, take, replicate, filter, flat_map, nat_lt, nat_le, ◌==◌, if◌then◌else◌, Result, Ok, Err, codes, bytes_eq}
+use Rattle.std.specs.List.{slice_split, list_any, list_all, before_first, after_first, after_last}
 use Rattle.std.specs.Char.{is_digit}
 use Rattle.std.specs.Str.Parse.{digits_value}
 use Rattle.std.specs.Str.Lines as text
@@ -201,6 +201,29 @@ pub record AnswersDeck (deck : List ℕ) (answers : List Answer) : Type 0 where
 -- the text that a deck prints
 abbrev pub Deck : List ℕ → List ℕ → Type 0
 Deck deck text = (answers : List Answer) × AnswersDeck deck answers × (text ≡ flat_map printed answers)
+
+-- the bytes up to the last line end (LF), with it
+abbrev pub ended_lines : List ℕ → List ℕ
+ended_lines bytes = take (length bytes - length (after_last (λ byte. byte == 10) bytes)) bytes
+
+-- a block whose end was not read
+abbrev pub is_open : Item → Bool
+is_open (Err NoEnd) = true
+is_open (Err refusal) = false
+is_open (Ok given) = false
+
+-- the items but such a block
+abbrev pub closed : List Item → List Item
+closed items = filter (λ item. not (is_open item)) items
+
+-- the answers to a deck that is too long: those to the commands whose last line end is within the bound
+pub record AnswersLongDeck (deck : List ℕ) (answers : List Answer) : Type 0 where
+  pub too_long : most_bytes < length deck
+  pub answered : Answers (closed (commands (lines (ended_lines (take most_bytes deck))))) start answers
+
+-- the text that such a deck prints, before its fault is told
+abbrev pub LongDeck : List ℕ → List ℕ → Type 0
+LongDeck deck text = (answers : List Answer) × AnswersLongDeck deck answers × (text ≡ flat_map printed answers)
 
 -- whether one of the answers is a refusal
 abbrev pub outcome_of : List Answer → Outcome

@@ -21,6 +21,19 @@ pub enum Item {
     Refused(Refusal),
 }
 
+impl Item {
+    ghost use Rattle.std.specs.Prelude.{◌≡◌};
+    ghost use Rattle.h41_bench.specs.Deck.{is_open};
+    ghost use Rattle.h41_bench.specs.Items.{given};
+
+    /// Whether this is a block whose end was not read.
+    pub fn is_open(&self) -> bool
+        ensures { result ≡ is_open (given self.now) }
+    {
+        matches!(self, Item::Refused(Refusal::NoEnd))
+    }
+}
+
 /// The next item of a deck, by the lines that are left of it; nothing where they have none. Its lines are taken. 21 where
 /// memory is refused.
 pub fn next_item(alloc: Global, rest: &mut Lines<'_>) -> Result<Option<Item>, AllocError>

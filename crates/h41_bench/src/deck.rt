@@ -1,14 +1,14 @@
 ghost use Rattle.std.specs.Prelude.{ℕ, ◌≡◌, ◌≢◌, ◌⊎◌, ◌<◌, List, Err, IfOk, IfErr, OnOk, OnErr, IfSome, length, true, false};
 ghost use Rattle.std.specs.Io.KnownBytes.{Appends};
-ghost use Rattle.h41_bench.specs.Answers.{Answered, outcome_after, shown};
-ghost use Rattle.h41_bench.specs.Deck.{ItemReply, Deck, DeckEnds, lines, most_bytes, printed};
+ghost use Rattle.h41_bench.specs.Answers.{Answered, answered_items, outcome_after, shown};
+ghost use Rattle.h41_bench.specs.Deck.{ItemReply, Deck, DeckEnds, LongDeck, commands, lines, most_bytes, printed};
 ghost use Rattle.h41_bench.specs.Items.{given};
 
 use crate::bench::{Answer, Bench};
 use crate::commands::{Item, next_item};
 use crate::fault::Fault;
 use crate::input::read_whole;
-use crate::lines::Lines;
+use crate::lines::{Lines, ended_lines};
 use crate::output::{flush, write_whole};
 use crate::sink::Sink;
 use crate::source::Source;
@@ -41,7 +41,8 @@ impl Outcome {
 /// # Errors
 ///
 /// `ReadFault` (22) where a read fails, or the deck has more than 67,108,864 bytes; `WriteFault` (23) where a write fails;
-/// `OutOfMemory` (21). Each ends the deck, and what was written before stays.
+/// `OutOfMemory` (21). Each ends the deck, and what was written before stays. Of a deck that is too long the commands are
+/// carried out first whose last line end is within the bound.
 pub fn run_deck<R: Source, W: Sink>(
     alloc: Global,
     reader: &mut R,
@@ -55,6 +56,10 @@ pub fn run_deck<R: Source, W: Sink>(
         (text : List ℕ) × Deck deck text × Appends (W.contents writer.old) (W.contents writer.new) text)) }
     ensures outcome { IfOk result (λ outcome. IfSome (R.remaining reader.old) (λ deck. DeckEnds deck outcome)) }
 
+    // Where the deck is too long, what is written is the text of the commands within the bound.
+    ensures long { result ≡ Err Fault.ReadFault → R.failed reader.new ≡ false → IfSome (R.remaining reader.old) (λ deck.
+        (text : List ℕ) × LongDeck deck text × Appends (W.contents writer.old) (W.contents writer.new) text) }
+
     // The marks tell which end failed.
     ensures read_fault { result ≡ Err Fault.ReadFault → (R.failed reader.new ≡ true)
         ⊎ IfSome (R.remaining reader.old) (λ deck. most_bytes < length deck) }
@@ -62,14 +67,24 @@ pub fn run_deck<R: Source, W: Sink>(
     ensures reader { result ≢ Err Fault.ReadFault → R.failed reader.new ≡ false }
     ensures writer { result ≢ Err Fault.WriteFault → W.failed writer.new ≡ false }
 {
-    let deck = read_whole(alloc, reader)?;
-    answer_deck(alloc, &deck, writer)
+    let input = read_whole(alloc, reader)?;
+    if input.is_whole {
+        return answer_deck(alloc, &input.bytes, true, writer);
+    }
+    answer_deck(alloc, ended_lines(&input.bytes), false, writer)?;
+    Err(Fault::ReadFault)
 }
 
-// Carries out the commands of a deck, and writes what they print.
-fn answer_deck<W: Sink>(alloc: Global, deck: &[u8], writer: &mut W) -> Result<Outcome, Fault>
+// Carries out the commands of a deck, and writes what they print. Where the deck isn't whole, a block that is open at its end
+// is none.
+fn answer_deck<W: Sink>(
+    alloc: Global,
+    deck: &[u8],
+    is_whole: bool,
+    writer: &mut W,
+) -> Result<Outcome, Fault>
     requires { W.failed writer.old ≡ false }
-    ensures answers { IfOk result (λ outcome. (text : List ℕ) × Answered (lines deck.now) text outcome
+    ensures answers { IfOk result (λ outcome. (text : List ℕ) × Answered (answered_items is_whole (commands (lines deck.now))) text outcome
         × Appends (W.contents writer.old) (W.contents writer.new) text) }
     ensures never_read { result ≢ Err Fault.ReadFault }
     ensures write_fault { result ≡ Err Fault.WriteFault → W.failed writer.new ≡ true }
@@ -79,7 +94,10 @@ fn answer_deck<W: Sink>(alloc: Global, deck: &[u8], writer: &mut W) -> Result<Ou
     let mut outcome = Outcome::Accepted;
     let mut rest = Lines::new(deck);
     while let Some(item) = next_item(alloc, &mut rest)? {
-        let answer = answer_item(alloc, &mut bench, &item)?;
+        if !is_whole && item.is_open() {
+            continue;
+        }
+        let answer = answer_item(alloc, &mut bench, item)?;
         print(&answer, writer)?;
         outcome = outcome.after(&answer);
     }
@@ -88,14 +106,14 @@ fn answer_deck<W: Sink>(alloc: Global, deck: &[u8], writer: &mut W) -> Result<Ou
 }
 
 // The answer to one item.
-fn answer_item(alloc: Global, bench: &mut Bench, item: &Item) -> Result<Answer, AllocError>
-    ensures { IfOk result (λ answer. ItemReply (given item.now) bench.old bench.new (shown answer)) }
+fn answer_item(alloc: Global, bench: &mut Bench, item: Item) -> Result<Answer, AllocError>
+    ensures { IfOk result (λ answer. ItemReply (given item) bench.old bench.new (shown answer)) }
 {
     match item {
-        Item::Given(command, words) => bench.answer(alloc, *command, words),
+        Item::Given(command, words) => bench.answer(alloc, command, &words),
         Item::Refused(refusal) => Ok(Answer {
             text: String::new(alloc),
-            refusal: Some(*refusal),
+            refusal: Some(refusal),
         }),
     }
 }

@@ -1,6 +1,6 @@
 //! Reads an input whole.
 
-ghost use Rattle.std.specs.Prelude.{◌≡◌, ◌≢◌, ◌⊎◌, ◌<◌, ◌≤◌, true, false, length, IfOk, OnOk, IfSome, Err, vec_len};
+ghost use Rattle.std.specs.Prelude.{◌≡◌, ◌≢◌, true, false, length, take, nat_le, IfOk, IfSome, Err};
 ghost use Rattle.h41_bench.specs.Deck.{most_bytes};
 
 use crate::fault::Fault;
@@ -13,18 +13,25 @@ pub const MOST_BYTES: usize = 67_108_864;
 /// How many bytes one read asks for.
 const BLOCK: usize = 4096;
 
-/// Reads to the end of the input.
+/// What was read of an input.
+#[derive(Debug, Drop)]
+pub struct Input {
+    /// Its bytes, up to `MOST_BYTES` of them.
+    pub bytes: Vec<u8>,
+    /// Whether these are all.
+    pub is_whole: bool,
+}
+
+/// Reads to the end of the input, or until it is too long.
 ///
 /// # Errors
 ///
-/// `ReadFault` (22) where a read fails, or the input has more than `MOST_BYTES` bytes, and
-/// `OutOfMemory` (21).
-pub fn read_whole<R: Source>(alloc: Global, reader: &mut R) -> Result<Vec<u8>, Fault>
+/// `ReadFault` (22) where a read fails, and `OutOfMemory` (21).
+pub fn read_whole<R: Source>(alloc: Global, reader: &mut R) -> Result<Input, Fault>
     requires { R.failed reader.old ≡ false }
-    ensures whole { IfOk result (λ v. IfSome (R.remaining reader.old) (λ xs. v.items ≡ xs)) }
-    ensures bound { IfOk result (λ v. vec_len v ≤ most_bytes) }
-    ensures read_fault { result ≡ Err Fault.ReadFault → (R.failed reader.new ≡ true)
-        ⊎ IfSome (R.remaining reader.old) (λ xs. most_bytes < length xs) }
+    ensures bytes { IfOk result (λ input. IfSome (R.remaining reader.old) (λ xs. input.bytes.items ≡ take most_bytes xs)) }
+    ensures whole { IfOk result (λ input. IfSome (R.remaining reader.old) (λ xs. input.is_whole ≡ nat_le (length xs) most_bytes)) }
+    ensures read_fault { result ≡ Err Fault.ReadFault → R.failed reader.new ≡ true }
     ensures never_write { result ≢ Err Fault.WriteFault }
     ensures mark { result ≢ Err Fault.ReadFault → R.failed reader.new ≡ false }
 {
@@ -35,12 +42,11 @@ pub fn read_whole<R: Source>(alloc: Global, reader: &mut R) -> Result<Vec<u8>, F
             Ok(count) => count,
             Err(_) => return Err(Fault::ReadFault),
         };
-        if count == 0 {
-            return Ok(bytes);
+        let room = MOST_BYTES - bytes.len();
+        bytes.extend_from_slice(&block[..count.min(room)])?;
+        if count == 0 || count > room {
+            let is_whole = count == 0;
+            return Ok(Input { bytes, is_whole });
         }
-        if count > MOST_BYTES - bytes.len() {
-            return Err(Fault::ReadFault);
-        }
-        bytes.extend_from_slice(&block[..count])?;
     }
 }

@@ -2,7 +2,7 @@ ghost use Rattle.std.specs.Iterator.{YieldsFirstRef, item_count};
 ghost use Rattle.std.specs.List.{position};
 ghost use Rattle.std.specs.Prelude.{◌≡◌, ◌==◌};
 ghost use Rattle.std.specs.Str.Lines.{strip_carriage_return};
-ghost use Rattle.h41_bench.specs.Deck.{lines};
+ghost use Rattle.h41_bench.specs.Deck.{ended_lines, lines};
 
 /// The lines that are left of a deck, each without its LF and without a CR right before that.
 #[derive(Debug, Drop)]
@@ -60,6 +60,17 @@ fn without_return(line: &[u8]) -> &[u8]
         [line @ .., b'\r'] => line,
         _ => line,
     }
+}
+
+/// The lines of a deck that have their end: all bytes up to the last LF, with it.
+pub fn ended_lines(deck: &[u8]) -> &[u8]
+    ensures { result.now ≡ ended_lines deck.now }
+{
+    let mut end = deck.len();
+    while end > 0 && deck[end - 1] != b'\n' {
+        end -= 1;
+    }
+    &deck[..end]
 }
 
 #[cfg(test)]

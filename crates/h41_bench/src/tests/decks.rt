@@ -6,7 +6,7 @@ use crate::fault::Fault;
 use crate::serve::serve;
 use crate::sink::{Sink, ToWrite};
 use crate::source::{FromRead, Source};
-use crate::tests::ends::{Pieces, Slow};
+use crate::tests::ends::{Long, Pieces, Slow};
 use std::alloc::{AllocError, Global};
 use std::io::Cursor;
 use std::process::Abort;
@@ -349,6 +349,53 @@ fn stops_where_a_write_takes_nothing(rt: HostRuntime) {
     assert!(rt; full.failed());
     assert_eq!(rt; full.into_inner().position(), 20);
     assert!(rt; TEXT.as_bytes().starts_with(&room), "{room:?}");
+}
+
+/// The deck of these bytes, of blanks up to so many bytes in all, and of more bytes ends and prints so.
+fn ends_at_the_bound(
+    rt: &impl Abort,
+    alloc: Global,
+    (before, count, after): (&[u8], usize, &[u8]),
+    expected: Result<Outcome, Fault>,
+    text: &str,
+) {
+    assert!(rt; before.len() <= count);
+    let mut reader = Long {
+        before,
+        blanks: count - before.len(),
+        after,
+    };
+    let mut writer = writer(alloc, 100, 1000);
+    let result = run_deck(alloc, &mut reader, &mut writer);
+    assert!(rt; result == expected, "{result:?}");
+    assert!(rt; writer.taken.as_slice() == text.as_bytes());
+    assert!(rt; !reader.failed() && !writer.failed());
+}
+
+#[test]
+fn the_longest_deck_is_whole(rt: HostRuntime) {
+    let text = "! 50 BadCommand\n! 53 LineTooLong\n";
+    let deck: (&[u8], usize, &[u8]) = (b"fly\n", 67_108_864, b"");
+    ends_at_the_bound(&rt, rt.alloc(), deck, Ok(Outcome::Refused), text);
+}
+
+#[test]
+fn a_longer_deck_ends_with_its_last_whole_line(rt: HostRuntime) {
+    let text = "! 51 BadNumber\n! 53 LineTooLong\n";
+    let deck: (&[u8], usize, &[u8]) = (b"step x\n", 67_108_863, b"\nfly\n");
+    ends_at_the_bound(&rt, rt.alloc(), deck, Err(Fault::ReadFault), text);
+}
+
+#[test]
+fn an_open_block_of_a_longer_deck_prints_nothing(rt: HostRuntime) {
+    let deck: (&[u8], usize, &[u8]) = (b"fly\nwords 8\n", 67_108_860, b"\n1\nend\n");
+    ends_at_the_bound(
+        &rt,
+        rt.alloc(),
+        deck,
+        Err(Fault::ReadFault),
+        "! 50 BadCommand\n",
+    );
 }
 
 #[test]

@@ -1,4 +1,4 @@
-ghost use Rattle.std.specs.Prelude.{◌≡◌, ◌+◌, ◌-◌, ◌≤◌, ◌<◌, ℕ, min, Some, take, drop, length};
+ghost use Rattle.std.specs.Prelude.{◌≡◌, ◌+◌, ◌-◌, ◌≤◌, ◌<◌, ℕ, false, min, None, Some, take, drop, length};
 
 use crate::fault::Fault;
 use crate::input::read_whole;
@@ -81,6 +81,42 @@ impl Sink for Slow {
     }
 }
 
+/// A source of some bytes, so many blanks, and other bytes. It does not tell its bytes, and no call fails.
+#[derive(Drop)]
+pub struct Long<'a> {
+    pub before: &'a [u8],
+    pub blanks: usize,
+    pub after: &'a [u8],
+}
+
+impl Source for Long<'_> {
+    ghost remaining = { λ _. None };
+
+    ghost failed = { λ _. false };
+
+    fn read(&mut self, buffer: &mut [u8]) -> io::Result<usize> {
+        if self.before.is_empty() && self.blanks > 0 {
+            let count = self.blanks.min(buffer.len());
+            buffer[..count].fill(b' ');
+            self.blanks -= count;
+            return Ok(count);
+        }
+        let rest = if self.before.is_empty() {
+            &mut self.after
+        } else {
+            &mut self.before
+        };
+        let count = rest.len().min(buffer.len());
+        buffer[..count].copy_from_slice(&rest[..count]);
+        *rest = &rest[count..];
+        Ok(count)
+    }
+
+    fn failed(&self) -> bool {
+        false
+    }
+}
+
 const TEXT: &[u8] = b"a deck of some thirty bytes.\n";
 
 #[test]
@@ -92,8 +128,11 @@ fn reads_pieces(rt: HostRuntime) -> Result<(), Fail> {
             calls: 100,
             has_failed: false,
         };
-        let bytes = read_whole(rt.alloc(), &mut reader)?;
-        assert!(rt; bytes.as_slice() == TEXT, "by {most}");
+        let input = read_whole(rt.alloc(), &mut reader)?;
+        assert!(rt;
+            input.is_whole && input.bytes.as_slice() == TEXT,
+            "by {most}"
+        );
         assert!(rt; !reader.failed(), "by {most}");
     }
     Ok(())
@@ -117,8 +156,8 @@ fn reports_a_failed_read(rt: HostRuntime) {
 #[test]
 fn reads_a_reader_of_std(rt: HostRuntime) -> Result<(), Fail> {
     let mut reader = FromRead::new(TEXT);
-    let bytes = read_whole(rt.alloc(), &mut reader)?;
-    assert!(rt; bytes.as_slice() == TEXT);
+    let input = read_whole(rt.alloc(), &mut reader)?;
+    assert!(rt; input.is_whole && input.bytes.as_slice() == TEXT);
     assert!(rt; reader.into_inner().is_empty());
     Ok(())
 }

@@ -1,4 +1,5 @@
 use Rattle.std.proofs.Common.{◌≡◌, false, length}
+use Rattle.h41_bench.specs.Answers.{answered_items}
 use Rattle.h41_bench.specs.Deck as deck
 use Rattle.h41_bench.specs.Deck.{lines}
 use Rattle.h41_bench.proofs.Replies.{Told}
@@ -7,7 +8,8 @@ use Rattle.h41_bench.proofs.deck.answer_deck.Given as goal
 -- what is written is what the items so far print, and the answers go on with those to the lines that are left
 abbrev pub invariant-loop-bench : goal.invariant-loop-bench
 invariant-loop-bench g l = record {
-  told : Told (g.W.Sink.contents l.fn.writer) (g.W.Sink.contents l.writer) (deck.commands (lines l.deck)) (deck.commands (lines l.rest.rest.now)) l.bench l.outcome;
+  told : Told (g.W.Sink.contents l.fn.writer) (g.W.Sink.contents l.writer) (answered_items l.is_whole (deck.commands (lines l.deck)))
+      (answered_items l.is_whole (deck.commands (lines l.rest.rest.now))) l.bench l.outcome;
   clear : g.W.Sink.failed l.writer ≡ false;
 }
 

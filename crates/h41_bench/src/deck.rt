@@ -1,7 +1,7 @@
 ghost use Rattle.std.specs.Prelude.{ℕ, ◌≡◌, ◌≢◌, ◌⊎◌, ◌<◌, List, Err, IfOk, IfErr, OnOk, OnErr, IfSome, length, true, false};
 ghost use Rattle.std.specs.Io.KnownBytes.{Appends};
 ghost use Rattle.h41_bench.specs.Answers.{Answered, answered_items, outcome_after, shown};
-ghost use Rattle.h41_bench.specs.Deck.{ItemReply, Deck, DeckEnds, LongDeck, commands, lines, most_bytes, printed};
+ghost use Rattle.h41_bench.specs.Deck.{ItemReply, Deck, DeckEnds, LongDeck, commands, lines, printed};
 ghost use Rattle.h41_bench.specs.Items.{given};
 
 use crate::bench::{Answer, Bench};
@@ -56,13 +56,11 @@ pub fn run_deck<R: Source, W: Sink>(
         (text : List ℕ) × Deck deck text × Appends (W.contents writer.old) (W.contents writer.new) text)) }
     ensures outcome { IfOk result (λ outcome. IfSome (R.remaining reader.old) (λ deck. DeckEnds deck outcome)) }
 
-    // Where the deck is too long, what is written is the text of the commands within the bound.
-    ensures long { result ≡ Err Fault.ReadFault → R.failed reader.new ≡ false → IfSome (R.remaining reader.old) (λ deck.
+    // A read failed, or the deck is too long, and the text of its commands within the bound is written.
+    ensures read_fault { result ≡ Err Fault.ReadFault → (R.failed reader.new ≡ true) ⊎ IfSome (R.remaining reader.old) (λ deck.
         (text : List ℕ) × LongDeck deck text × Appends (W.contents writer.old) (W.contents writer.new) text) }
 
     // The marks tell which end failed.
-    ensures read_fault { result ≡ Err Fault.ReadFault → (R.failed reader.new ≡ true)
-        ⊎ IfSome (R.remaining reader.old) (λ deck. most_bytes < length deck) }
     ensures write_fault { result ≡ Err Fault.WriteFault → W.failed writer.new ≡ true }
     ensures reader { result ≢ Err Fault.ReadFault → R.failed reader.new ≡ false }
     ensures writer { result ≢ Err Fault.WriteFault → W.failed writer.new ≡ false }

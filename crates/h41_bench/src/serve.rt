@@ -1,7 +1,7 @@
-ghost use Rattle.std.specs.Prelude.{ℕ, ◌≡◌, ◌≢◌, ◌⊎◌, ◌<◌, ◌++◌, List, true, false, codes, length, OnOk, OnErr, IfErr, IfSome};
+ghost use Rattle.std.specs.Prelude.{ℕ, ◌≡◌, ◌≢◌, ◌⊎◌, ◌++◌, List, true, false, codes, OnOk, OnErr, IfErr, IfSome};
 ghost use Rattle.std.specs.Io.KnownBytes.{Appends, Keeps};
 ghost use Rattle.h41_bench.specs.Answers.{status_of_outcome};
-ghost use Rattle.h41_bench.specs.Deck.{Deck, DeckEnds, LongDeck, most_bytes};
+ghost use Rattle.h41_bench.specs.Deck.{Deck, DeckEnds, LongDeck};
 ghost use Rattle.h41_bench.specs.FaultText.{fault_text};
 
 use crate::arguments::Job;
@@ -46,9 +46,8 @@ pub fn serve<R: Source, W: Sink, E: Sink>(
     // Where something failed, the fault's line is told, if it can be.
     ensures fault { result ≡ 3 → E.failed faults.new ≡ false → (fault : Fault)
         × Appends (E.contents faults.old) (E.contents faults.new) (fault_text fault ++ codes "\n")
-        × (fault ≡ Fault.ReadFault → (R.failed reader.new ≡ true) ⊎ IfSome (R.remaining reader.old) (λ deck. most_bytes < length deck))
-        × (fault ≡ Fault.ReadFault → R.failed reader.new ≡ false → IfSome (R.remaining reader.old) (λ deck.
-        (text : List ℕ) × LongDeck deck text × Appends (W.contents writer.old) (W.contents writer.new) text))
+        × (fault ≡ Fault.ReadFault → (R.failed reader.new ≡ true) ⊎ IfSome (R.remaining reader.old) (λ deck.
+            (text : List ℕ) × LongDeck deck text × Appends (W.contents writer.old) (W.contents writer.new) text))
         × (fault ≡ Fault.WriteFault → W.failed writer.new ≡ true)
         × (fault ≢ Fault.ReadFault → R.failed reader.new ≡ false)
         × (fault ≢ Fault.WriteFault → W.failed writer.new ≡ false) }

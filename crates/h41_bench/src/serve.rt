@@ -47,7 +47,7 @@ pub fn serve<R: Source, W: Sink, E: Sink>(
     ensures fault { result ≡ 3 → E.failed faults.new ≡ false → (fault : Fault)
         × Appends (E.contents faults.old) (E.contents faults.new) (fault_text fault ++ codes "\n")
         × (fault ≡ Fault.ReadFault → (R.failed reader.new ≡ true) ⊎ IfSome (R.remaining reader.old) (λ deck.
-            (text : List ℕ) × LongDeck deck text × Appends (W.contents writer.old) (W.contents writer.new) text))
+        (text : List ℕ) × LongDeck deck text × Appends (W.contents writer.old) (W.contents writer.new) text))
         × (fault ≡ Fault.WriteFault → W.failed writer.new ≡ true)
         × (fault ≢ Fault.ReadFault → R.failed reader.new ≡ false)
         × (fault ≢ Fault.WriteFault → W.failed writer.new ≡ false) }

@@ -27,8 +27,12 @@ mod tests;
 mod text;
 mod words;
 
-ghost use Rattle.std.specs.Prelude.{◌≡◌, ◌⊎◌, ◌∷◌, ◌≤◌, IfOk, codes, drop, map, string_bytes};
+ghost use Rattle.std.specs.Prelude.{◌≡◌, ◌≢◌, ◌⊎◌, ◌∷◌, ◌≤◌, true, IfOk, IfSome, IsSome, codes, drop, map, string_bytes};
+ghost use Rattle.h41_bench.specs.Answers.{status_of_outcome};
+ghost use Rattle.h41_bench.specs.CommandLine.{asks_help, file_to_run, is_mistake};
+ghost use Rattle.h41_bench.specs.Deck.{DeckEnds};
 ghost use Rattle.h41_bench.specs.Ending.{status_of};
+ghost use Rattle.h41_bench.specs.declared.deck.Outcome.{Outcome};
 
 use crate::arguments::{Ending, Job, read_words};
 use crate::fault::Fault;
@@ -71,7 +75,10 @@ fn run(rt: &HostRuntime, alloc: Global) -> u8
 
 // Does what these words ask for.
 fn run_words(rt: &HostRuntime, alloc: Global, words: &[String]) -> u8
-    ensures { result ≤ 3 }
+    ensures help { asks_help (codes "bench" ∷ drop 1 (map string_bytes words.now)) ≡ true → (result ≡ 0) ⊎ (result ≡ 3) }
+    ensures mistake { is_mistake (codes "bench" ∷ drop 1 (map string_bytes words.now)) ≡ true → (result ≡ 2) ⊎ (result ≡ 3) }
+    ensures run { IsSome (file_to_run (codes "bench" ∷ drop 1 (map string_bytes words.now))) → (result ≡ 0) ⊎ ((result ≡ 1) ⊎ (result ≡ 3)) }
+    ensures bound { result ≤ 3 }
 {
     match named(alloc, words) {
         Ok(words) => match read_words(alloc, words.as_slice()) {
@@ -126,7 +133,8 @@ fn run_job(rt: &HostRuntime, alloc: Global, job: Job<'_>) -> u8
 
 // Runs the deck that a reader gives, from there to standard output.
 fn run_from<R: Read + Drop>(rt: &HostRuntime, alloc: Global, job: Job<'_>, reader: R) -> u8
-    ensures { (result ≡ 0) ⊎ ((result ≡ 1) ⊎ (result ≡ 3)) }
+    ensures status { (result ≡ 0) ⊎ ((result ≡ 1) ⊎ (result ≡ 3)) }
+    ensures outcome { result ≢ 3 → IfSome (R.remaining reader) (λ deck. (outcome : Outcome) × DeckEnds deck outcome × (result ≡ status_of_outcome outcome)) }
 {
     let Ok(output) = BufWriter::new(alloc, rt.stdout()) else {
         return fail(rt, Fault::OutOfMemory);

@@ -225,6 +225,22 @@ fn fills_pages(rt: HostRuntime) -> Result<(), Fail> {
 }
 
 #[test]
+fn takes_every_page_and_word(rt: HostRuntime) -> Result<(), Fail> {
+    let mut deck = String::new(rt.alloc());
+    for page in 4..16 {
+        write!(deck, "words {page:X}\n")?;
+        for word in 0..4096 {
+            writeln!(deck, "{:03X}", word % 1024)?;
+        }
+        deck.push_str("end\n")?;
+    }
+    deck.push_str("call B000\nstep 2\nstep\n")?;
+    let text = "! 07 WordNotInProfile B001\n! 07 WordNotInProfile B001\n";
+    prints(&rt, rt.alloc(), &deck, text)?;
+    Ok(())
+}
+
+#[test]
 fn bounds_lines(rt: HostRuntime) -> Result<(), Fail> {
     let cases = [
         ("", "#", 200, "", ""),

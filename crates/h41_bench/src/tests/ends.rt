@@ -122,10 +122,11 @@ const TEXT: &[u8] = b"a deck of some thirty bytes.\n";
 #[test]
 fn reads_pieces(rt: HostRuntime) -> Result<(), Fail> {
     for most in [1, 2, 7, 100] {
+        // The last of these calls gives no byte, and there is none after it.
         let mut reader = Pieces {
             rest: TEXT,
             most,
-            calls: 100,
+            calls: TEXT.len().div_ceil(most) + 1,
             has_failed: false,
         };
         let input = read_whole(rt.alloc(), &mut reader)?;

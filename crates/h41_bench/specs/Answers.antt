@@ -1,4 +1,4 @@
--- An answer as the definitions see it, without where it lies in memory.
+-- The code's answers in the words of a deck, and what a run of its items answers in all.
 use Rattle.std.specs.Prelude.{◌≡◌, ℕ, Bool, true, false, List, flat_map, is_some, if◌then◌else◌, string_bytes}
 use Rattle.h41_bench.specs.declared.bench.Answer as code
 use Rattle.h41_bench.specs.declared.deck.Outcome.{Outcome}

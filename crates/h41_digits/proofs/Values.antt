@@ -1,5 +1,5 @@
 -- What the number of a register is, digit by digit.
-use Rattle.std.proofs.Common.{◌≡◌, ℕ, ◌+◌, ◌*◌, ◌/◌, ◌%◌, ◌^◌, ◌<◌, ◌≤◌, List, true, map, reverse, [], ◌∷◌, ◌++◌, length, take, drop, set, All, refl, sym, ap, subst, arith, add-one, append_assoc, ◌∙◌}
+use Rattle.std.proofs.Common.{◌≡◌, ℕ, ◌+◌, ◌*◌, ◌/◌, ◌%◌, ◌^◌, ◌<◌, ◌≤◌, ◌≢◌, List, true, map, reverse, [], ◌∷◌, ◌++◌, length, take, drop, set, All, length-set, get_or-set_other, get_or-set_same, refl, sym, ap, subst, arith, add-one, append_assoc, ◌∙◌}
 use Rattle.std.proofs.Math.Nat.{pow-succ', pow-le-pow_right, le-mul_of_pos_right}
 use Rattle.std.proofs.Math.Seq.{take-append_seam, drop-append_seam}
 use Rattle.std.proofs.lemmas.List.{take_more_set, length-take-le, take_all, take-append-drop, length-drop, reverse-append, map-append}
@@ -7,7 +7,7 @@ use Rattle.std.proofs.lemmas.Fmt.{hex_one_digit}
 use Rattle.std.specs.Fmt.{digits as glyphs_of, digit_glyph}
 use Rattle.std.specs.List.{AllByRecursion}
 use Rattle.std.proofs.lemmas.List.Elements.{recursion_from_All, All-drop}
-use Rattle.h41_digits.specs.Register.{IsRegister, value_from, value, text}
+use Rattle.h41_digits.specs.Register.{IsRegister, value_from, value, text, hexadecimal_text, byte_at, set_byte}
 
 -- the weight of the next place
 pub pow-next : (place : ℕ) → 16 ^ (place + 1) ≡ 16 * 16 ^ place
@@ -101,3 +101,24 @@ same_digits (a ∷ x) (b ∷ y) size p q same =
 
 pub same_register : (places : ℕ) (x y : List ℕ) → IsRegister places x → IsRegister places y → value x ≡ value y → x ≡ y
 same_register places x y p q same = same_digits x y (p.size ∙ sym q.size) (recursion_from_All _ x p.each) (recursion_from_All _ y q.each) same
+
+-- a register is printed as its number
+text-value : (digits : List ℕ) → AllByRecursion (λ digit. digit < 16) digits → text digits ≡ hexadecimal_text (length digits) (value digits)
+text-value [] each = refl
+text-value (digit ∷ digits) each =
+    let above : value (digit ∷ digits) / 16 ≡ value digits = omega (arith, value-cons digit digits, each.0) in
+    let own : value (digit ∷ digits) % 16 ≡ digit = omega (arith, value-cons digit digits, each.0) in
+    ap (map (digit_glyph true)) (reverse-append (digit ∷ []) digits) ∙ map-append (digit_glyph true) (reverse digits) (digit ∷ [])
+    ∙ ap (λ front. front ++ digit_glyph true digit ∷ []) (text-value digits each.1) ∙ sym (rw (above, own) refl)
+
+pub text-register : (places : ℕ) (digits : List ℕ) → IsRegister places digits → text digits ≡ hexadecimal_text places (value digits)
+text-register places digits register =
+    text-value digits (recursion_from_All _ digits register.each) ∙ ap (λ count. hexadecimal_text count (value digits)) register.size
+
+-- a byte that was set is read again
+pub byte_at-set_byte : (digits : List ℕ) (k byte : ℕ) → 2 * k + 1 < length digits → byte_at (set_byte digits k byte) k ≡ byte
+byte_at-set_byte digits k byte inside =
+    let low = set digits (2 * k) (byte % 16) in
+    let inside_low : 2 * k + 1 < length low = omega (arith, length-set digits (2 * k) (byte % 16)) in
+    let other : 2 * k ≢ 2 * k + 1 = omega arith in
+    omega (arith, get_or-set_same low (2 * k + 1) (byte / 16) 0 inside_low, get_or-set_other low (2 * k + 1) (2 * k) (byte / 16) 0 other, get_or-set_same digits (2 * k) (byte % 16) 0 (omega arith))

@@ -1,5 +1,5 @@
 -- A register: a list of hexadecimal digits, the digit of place 0 (the rightmost) first. The Nut processor's have 14.
-use Rattle.std.specs.Prelude.{◌≡◌, ℕ, ◌+◌, ◌*◌, ◌^◌, ◌<◌, List, [], ◌∷◌, map, reverse, length, All, true}
+use Rattle.std.specs.Prelude.{◌≡◌, ℕ, zero, suc, ◌+◌, ◌*◌, ◌/◌, ◌%◌, ◌^◌, ◌<◌, List, [], ◌∷◌, ◌++◌, map, reverse, length, slice_index, slice_set, All, true}
 use Rattle.std.specs.Fmt.{digit_glyph}
 
 -- what a register of so many places is: one digit for each place, each from 0 to 15
@@ -19,3 +19,16 @@ value digits = value_from 0 digits
 -- a register as text: a hexadecimal digit in upper case for each place, the highest place first
 abbrev pub text : List ℕ → List ℕ
 text digits = map (digit_glyph true) (reverse digits)
+
+-- so many hexadecimal digits of a number, in upper case, the lowest last
+abbrev pub hexadecimal_text : ℕ → ℕ → List ℕ
+hexadecimal_text zero number = []
+hexadecimal_text (suc count) number = hexadecimal_text count (number / 16) ++ digit_glyph true (number % 16) ∷ []
+
+-- the byte k of a register: the digit of place 2k + 1 is its higher half, that of place 2k its lower half
+abbrev pub byte_at : List ℕ → ℕ → ℕ
+byte_at digits k = slice_index digits (2 * k + 1) * 16 + slice_index digits (2 * k)
+
+-- a register with this byte k: only its places 2k and 2k + 1 change
+abbrev pub set_byte : List ℕ → ℕ → ℕ → List ℕ
+set_byte digits k byte = slice_set (slice_set digits (2 * k) (byte % 16)) (2 * k + 1) (byte / 16)

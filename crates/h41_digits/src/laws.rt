@@ -1,9 +1,18 @@
 //! Laws of registers: each is the contract of a function with nothing to do.
 
-ghost use Rattle.std.specs.Prelude.{◌≡◌, ℕ, List};
-ghost use Rattle.h41_digits.specs.Register.{IsRegister, value};
+ghost use Rattle.h41_digits.specs.RegisterLaws.{ValueIsInjective, TextTellsValue, SetByteIsRead};
 
 /// Two registers of as many places that hold the same number are the same.
 pub fn value_is_injective()
-    ensures { (places : ℕ) (x y : List ℕ) → IsRegister places x → IsRegister places y → value x ≡ value y → x ≡ y }
+    ensures { ValueIsInjective }
+{}
+
+/// The text of a register is that of its number, with a digit for each place.
+pub fn text_tells_value()
+    ensures { TextTellsValue }
+{}
+
+/// A byte that was set is read again.
+pub fn set_byte_is_read()
+    ensures { SetByteIsRead }
 {}

@@ -2,7 +2,7 @@
 #![tactic(auto)]
 
 ghost use Rattle.std.specs.Prelude.{◌≡◌, ℕ, ◌+◌, ◌*◌, ◌^◌, ◌<◌, ◌≤◌, ◌↔◌, List, length, slice_index, slice_set, replicate, All, IsSome, IfSome, Some};
-ghost use Rattle.h41_digits.specs.Register.{IsRegister, value, text};
+ghost use Rattle.h41_digits.specs.Register.{IsRegister, value, text, hexadecimal_text, byte_at, set_byte};
 
 use std::fmt;
 use std::marker::Model;
@@ -60,6 +60,17 @@ impl<const N: usize> Digits<N> {
         }
     }
 
+    /// The register that holds a number below 16 to the power of `N`. It prints as the number's `N` hexadecimal digits.
+    pub fn holding(number: u64) -> Self
+        requires places { N ≤ 14 }
+        requires fits { number < 16 ^ N }
+        ensures value { value result ≡ number }
+        ensures text { text result ≡ hexadecimal_text N number }
+        ensures register { IsRegister N result }
+    {
+        Digits::from_u64(number).unwrap()
+    }
+
     /// The number that the register holds.
     pub fn to_u64(&self) -> u64
         ensures value { result ≡ value self.now }
@@ -92,6 +103,24 @@ impl<const N: usize> Digits<N> {
         digits[place] = digit;
         Digits { digits }
     }
+
+    /// The byte of places 2`k` + 1 (its higher digit) and 2`k` (its lower digit).
+    pub fn byte(&self, k: usize) -> u8
+        requires { 2 * k + 1 < N }
+        ensures byte { result ≡ byte_at self.now k }
+        ensures register { IsRegister N self.now }
+    {
+        self.get(2 * k + 1) * 16 + self.get(2 * k)
+    }
+
+    /// The same register with another byte at places 2`k` + 1 (its higher digit) and 2`k` (its lower digit).
+    pub fn with_byte(&self, k: usize, byte: u8) -> Self
+        requires { 2 * k + 1 < N }
+        ensures changed { result ≡ set_byte self.now k byte }
+        ensures register { IsRegister N self.now × IsRegister N result }
+    {
+        self.with(2 * k, byte % 16).with(2 * k + 1, byte / 16)
+    }
 }
 
 /// The digits in upper-case hexadecimal, the highest place first.
@@ -122,6 +151,12 @@ mod tests {
         let last = Digits::<2>::from_u64(0xEF).ok_or("two digits")?;
         assert_eq!(rt; last.to_string(rt.alloc())?.as_str(), "EF");
         assert_eq!(rt; Reg::zero().to_u64(), 0);
+        assert_eq!(rt;
+            Digits::<4>::holding(0xBE).to_string(rt.alloc())?.as_str(),
+            "00BE"
+        );
+        assert_eq!(rt; (all.byte(0), all.byte(6)), (0xCD, 0x01));
+        assert_eq!(rt; all.with_byte(1, 0x5F).to_u64(), 0x01_2345_6789_5FCD);
         assert_eq!(rt; Digits::<2>::from_u64(256), None);
         Ok(())
     }

@@ -1,3 +1,4 @@
+pub mod Addresses
 pub mod PageList
 pub mod Processor
 pub mod WordStep

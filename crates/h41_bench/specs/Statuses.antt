@@ -1,0 +1,33 @@
+-- The statuses that the program ends with, and what they tell.
+use Rattle.std.specs.Prelude.{◌≡◌, ◌≢◌, ◌⊎◌, ℕ, Bool, true, false, List, Option}
+use Rattle.std.specs.Io.KnownBytes.{Appends}
+use Rattle.h41_deck.specs.declared.fault.Fault.{Fault}
+use Rattle.h41_deck.specs.declared.fault.Fault.TheVariants.{OutOfMemory, ReadFault, WriteFault}
+use Rattle.h41_deck.specs.declared.replies.Outcome.{Outcome}
+use Rattle.h41_deck.specs.declared.replies.Outcome.TheVariants.{Accepted, Refused}
+use Rattle.h41_deck.specs.Deck.{DeckEnds, FailedOrTooLong}
+use Rattle.h41_deck.specs.Refusals.{of_fault, refusal_line}
+
+-- the status of a job that was begun: 0, 1 or 3
+abbrev pub IsStatus : ℕ → Type 0
+IsStatus status = (status ≡ 0) ⊎ ((status ≡ 1) ⊎ (status ≡ 3))
+
+-- the status that tells how a deck ended
+abbrev pub status_of_outcome : Outcome → ℕ
+status_of_outcome Accepted = 0
+status_of_outcome Refused = 1
+
+-- the deck ends so that this is its status
+abbrev pub EndsDeck : ℕ → List ℕ → Type 0
+EndsDeck status deck = (outcome : Outcome) × DeckEnds deck outcome × (status ≡ status_of_outcome outcome)
+
+-- A fault's line is told. It is a read's where reading failed or the deck was too long, a write's where writing failed, and
+-- any other where neither did.
+pub record TellsFault (known : Option (List ℕ)) (read_failed : Bool) (old new : Option (List ℕ)) (write_failed : Bool)
+    (told_old told_new : Option (List ℕ)) : Type 0 where
+  pub fault : Fault
+  pub line : Appends told_old told_new (refusal_line (of_fault fault))
+  pub read : fault ≡ ReadFault → FailedOrTooLong read_failed known old new
+  pub write : fault ≡ WriteFault → write_failed ≡ true
+  pub not_read : fault ≢ ReadFault → read_failed ≡ false
+  pub not_write : fault ≢ WriteFault → write_failed ≡ false

@@ -1,5 +1,0 @@
-//! Tests of what no contract says.
-
-mod arguments;
-mod decks;
-mod ends;

@@ -1,0 +1,95 @@
+-- How a command that was carried out is answered.
+use Rattle.std.proofs.Common.{◌≡◌, ℕ, Bool, List, [], Option, Some, None, Result, Ok, Err, OnOk, OnErr, IfOk, refl, sym, ap, subst, append-nil, ◌∙◌}
+use Rattle.std.specs.Result.{result_err}
+use Rattle.std.specs.Io.KnownBytes.{Appends}
+use Rattle.h41_deck.specs.declared.commands.BlockKind.{BlockKind}
+use Rattle.h41_deck.specs.declared.commands.Command.{Command}
+use Rattle.h41_deck.specs.declared.commands.Command.TheVariants.{Plug, Call, Step, Show}
+use Rattle.h41_deck.specs.declared.commands.View.{View}
+use Rattle.h41_deck.specs.declared.fault.CommandFault.{CommandFault}
+use Rattle.h41_deck.specs.declared.refusal.Refusal.{Refusal}
+use Rattle.h41_deck.specs.declared.replies.Outcome.{Outcome}
+use Rattle.h41_deck.specs.declared.replies.Outcome.TheVariants.{Accepted}
+use Rattle.h41_deck.specs.Blocks.{filled}
+use Rattle.h41_deck.specs.Calculator.{State, Steps, call_refusal, called, page_refusal, with_page}
+use Rattle.h41_deck.specs.Ends.{AppendsPart}
+use Rattle.h41_deck.specs.Items.{Spelled, with_values}
+use Rattle.h41_deck.specs.Views.{view_text}
+use Rattle.h41_deck.specs.Replies.{Answer, ChangesUnless, ItemReply, Replies, RepliesInPart, Reply, ending_line, ends_by, outcome_in, printed, says, unless}
+
+-- a block that is refused is answered by its refusal
+pub refused_reply : (values : Result (List ℕ) Refusal) (command : Command) (refusal : Refusal) (s : State) → Some refusal ≡ result_err values
+    → ItemReply (with_values values command) s s (ends_by (Some refusal))
+refused_reply (Ok values) command refusal s e = cc
+refused_reply (Err why) command refusal s e = let same : why ≡ refusal = cc in rw same (refl, refl)
+
+-- and one that is not by its command
+pub given_reply : (values : Result (List ℕ) Refusal) (command : Command) (s t : State) (answer : Answer) → None ≡ result_err values
+    → ((given : List ℕ) → values ≡ Ok given → Reply command given s t answer) → ItemReply (with_values values command) s t answer
+given_reply (Ok given) command s t answer e reply = reply given refl
+given_reply (Err why) command s t answer e reply = cc
+
+-- a call that makes a change or is refused
+pub changes_unless : {A : Type 0} (result : Result A Refusal) (refusal : Option Refusal) (done s t : State) → result_err result ≡ refusal
+    → OnOk result (t ≡ done) → OnErr result (t ≡ s) → ChangesUnless refusal done s t (ends_by (result_err result))
+changes_unless (Ok value) refusal done s t e changed same = rw (sym e) (changed, refl)
+changes_unless (Err why) refusal done s t e changed same = rw (sym e) (same, refl)
+
+-- what is written where nothing but a refusal may be
+pub replies_by : (item : Spelled) (s t : State) (old new : Option (List ℕ)) (outcome : Outcome) (refusal : Option Refusal)
+    → ItemReply item s t (ends_by refusal) → outcome ≡ outcome_in refusal → Appends old new (ending_line refusal)
+    → Replies item s t old new outcome
+replies_by item s t old new outcome refusal reply outcome_is written = record {
+  answer = ends_by refusal;
+  reply = reply;
+  written = written;
+  outcome_is = outcome_is;
+}
+
+pub part_by : (item : Spelled) (s t : State) (old new : Option (List ℕ)) (refusal : Option Refusal)
+    → ItemReply item s t (ends_by refusal) → AppendsPart old new (ending_line refusal) → RepliesInPart item s t old new
+part_by item s t old new refusal reply written = record { answer = ends_by refusal; reply = reply; written = written }
+
+-- each command's reply
+pub plug_reply : (values : Result (List ℕ) Refusal) (command : Command) (kind : BlockKind) (page : ℕ) (writable : Bool) (words : List ℕ)
+    (ended : Result (Unit {0}) Refusal) (s t : State) → command ≡ Plug kind page writable → values ≡ Ok words
+    → result_err ended ≡ page_refusal s page (filled words) → t ≡ unless (result_err ended) (with_page page writable (filled words) s) s
+    → ItemReply (with_values values command) s t (ends_by (result_err ended))
+plug_reply values command kind page writable words ended s t spelt said refusal change =
+    rw (spelt, said) (change ∙ ap (λ why. unless why (with_page page writable (filled words) s) s) refusal, ap ends_by refusal)
+
+pub call_reply : (values : Result (List ℕ) Refusal) (command : Command) (address : ℕ) (ended : Result (Unit {0}) Refusal) (s t : State)
+    → command ≡ Call address → None ≡ result_err values → result_err ended ≡ call_refusal s address → OnOk ended (t ≡ called address s)
+    → OnErr ended (t ≡ s) → ItemReply (with_values values command) s t (ends_by (result_err ended))
+call_reply values command address ended s t spelt good refusal change err =
+    given_reply values command s t (ends_by (result_err ended)) good (λ given said. rw spelt (changes_unless ended (call_refusal s address) (called address s) s t refusal change err))
+
+pub step_reply : (values : Result (List ℕ) Refusal) (command : Command) (count : ℕ) (ended : Result (Unit {0}) Refusal) (s t : State)
+    → command ≡ Step count → None ≡ result_err values → Steps count s t (result_err ended)
+    → ItemReply (with_values values command) s t (ends_by (result_err ended))
+step_reply values command count ended s t spelt good steps =
+    given_reply values command s t (ends_by (result_err ended)) good (λ given said. rw spelt (steps, refl))
+
+pub show_reply : (values : Result (List ℕ) Refusal) (command : Command) (view : View) (s : State)
+    → command ≡ Show view → None ≡ result_err values → ItemReply (with_values values command) s s (says (view_text view s))
+show_reply values command view s spelt good =
+    given_reply values command s s (says (view_text view s)) good (λ given said. rw spelt (refl, refl))
+
+pub shows : (values : Result (List ℕ) Refusal) (command : Command) (view : View) (s : State) (old new : Option (List ℕ))
+    (result : Result Outcome CommandFault) → command ≡ Show view → None ≡ result_err values → IfOk result (λ outcome. outcome ≡ Accepted)
+    → OnOk result (Appends old new (view_text view s)) → IfOk result (Replies (with_values values command) s s old new)
+shows values command view s old new (Err fault) spelt good outcome written = tt
+shows values command view s old new (Ok done) spelt good outcome written = record {
+  answer = says (view_text view s);
+  reply = show_reply values command view s spelt good;
+  written = subst (Appends old new) (sym (append-nil (view_text view s))) written;
+  outcome_is = outcome;
+}
+
+pub shows_in_part : (values : Result (List ℕ) Refusal) (command : Command) (view : View) (s : State) (old new : Option (List ℕ))
+    → command ≡ Show view → None ≡ result_err values → AppendsPart old new (view_text view s) → RepliesInPart (with_values values command) s s old new
+shows_in_part values command view s old new spelt good written = record {
+  answer = says (view_text view s);
+  reply = show_reply values command view s spelt good;
+  written = subst (AppendsPart old new) (sym (append-nil (view_text view s))) written;
+}

@@ -1,0 +1,14 @@
+pub mod AnswersInTurn
+pub mod BlockLines
+pub mod Commanded
+pub mod DeckItems
+pub mod DeckLines
+pub mod DeckWords
+pub mod Determined
+pub mod EndsLemmas
+pub mod Inputs
+pub mod Numbers
+pub mod Plugging
+pub mod StepsInTurn
+pub mod WholeDecks
+pub mod WordValues

@@ -1,0 +1,18 @@
+use Rattle.std.proofs.Common.{◌≡◌, ◌-◌, ◌+◌, suc, arith}
+use Rattle.std.proofs.lemmas.Result.{err_from_is_err_and}
+use Rattle.h41_deck.proofs.StepsInTurn.{steps-more, steps-refused}
+use Rattle.h41_deck.proofs.bench.Bench.steps.Goals as goal
+
+pub returns-in_err-step : goal.returns-in_err-step
+returns-in_err-step c =
+    let left : c.args.count - c.loop-step._step ≡ suc (c.args.count - (c.loop-step._step + 1)) = omega arith in
+    let ended = steps-refused (c.args.count - c.loop-step._step) (c.args.count - (c.loop-step._step + 1)) c.loop-step.self-inside.calculator c.in_err-step.field-0.0 left (c.in_err-step.ensures).refusal in
+    let stays = (c.in_err-step.ensures).err in
+    let p = err_from_is_err_and c.from_residual.result c.from_residual.ensures.1 in
+    rw (p.1, p.2, stays) (c.loop-step.invariant _ _ ended)
+
+pub loop-step-preserved : goal.loop-step-preserved
+loop-step-preserved c t refusal rest =
+    let left : c.args.count - c.loop-step._step ≡ suc (c.args.count - (c.loop-step._step + 1)) = omega arith in
+    c.loop-step.invariant t refusal
+    (steps-more (c.args.count - c.loop-step._step) (c.args.count - (c.loop-step._step + 1)) c.loop-step.self-inside.calculator c.step.new.self t refusal left (c.in_ok-step.ensures).refusal (c.in_ok-step.ensures).change rest)

@@ -1,0 +1,22 @@
+use Rattle.std.proofs.Common.{◌≡◌, ap, ◌∙◌}
+use Rattle.h41_deck.specs.Blocks.{filled}
+use Rattle.h41_deck.specs.Calculator.{with_page}
+use Rattle.h41_deck.proofs.Plugging.{accepted_page, refused_page}
+use Rattle.h41_deck.proofs.WordValues.{resized}
+use Rattle.h41_deck.proofs.replies.plug.Goals as goal
+
+pub returns-in-Ok-clause-refusal : goal.returns-in-Ok-clause-refusal
+returns-in-Ok-clause-refusal c =
+    let words = c.deref.ensures.value ∙ resized c.args.words.items _ _ c.args.words.ok.0 c.requires c.in_ok-resize.ensures.items in
+    accepted_page c.args.bench.now c.args.page _ _ words (rw c.bench.view_is at c.in-Ok.ensures.accepted)
+
+pub returns-in-Ok-clause-change : goal.returns-in-Ok-clause-change
+returns-in-Ok-clause-change c =
+    let words : c.deref.result.now ≡ filled c.args.words.items = c.deref.ensures.value ∙ resized c.args.words.items _ _ c.args.words.ok.0 c.requires c.in_ok-resize.ensures.items in
+    c.in-Ok.ensures.change ∙ (λ i. with_page c.args.page c.args.writable (words i) (c.bench.view_is i))
+
+pub returns : goal.returns
+returns c =
+    let words = c.deref.ensures.value ∙ resized c.args.words.items _ _ c.args.words.ok.0 c.requires c.in_ok-resize.ensures.items in
+    let refused = refused_page c.args.bench.now c.args.page _ _ c.in-Err.refusal words (rw c.bench.view_is at c.in-Err.ensures.refusal) c.in_default.not-OutOfMemory in
+    record { refusal = rw c.from.ensures refused; change = c.in-Err.ensures.err ∙ c.bench.view_is; err = tt }

@@ -1,0 +1,64 @@
+-- What the lines of a block say, by the block's kind, or why they are refused. The language is this project's own.
+use Rattle.std.specs.Prelude.{◌≡◌, ℕ, ◌-◌, Bool, not, ◌||◌, List, [], ◌∷◌, ◌++◌, map, length, replicate, filter, flat_map, nat_lt, if◌then◌else◌, Option, Some, None, Result, Ok, Err}
+use Rattle.std.specs.List.{list_any, list_all}
+use Rattle.std.specs.Str.Parse.{digits_value}
+use Rattle.h41_nut.specs.Addresses.{page_size, greatest_word}
+use Rattle.h41_deck.specs.declared.commands.BlockKind.{BlockKind}
+use Rattle.h41_deck.specs.declared.commands.BlockKind.TheVariants.{Words}
+use Rattle.h41_deck.specs.declared.refusal.Refusal.{Refusal}
+use Rattle.h41_deck.specs.declared.refusal.Refusal.TheVariants.{BadImage, BadNumber, LineTooLong}
+use Rattle.h41_deck.specs.Lines.{is_long, is_skipped, words_of}
+use Rattle.h41_deck.specs.Numbers.{is_hexadecimal}
+
+-- the words of a block's lines
+abbrev pub block_words : List (List ℕ) → List (List ℕ)
+block_words lines = flat_map words_of (filter (λ line. not (is_skipped line)) lines)
+
+-- the values of a page's words: 51 where one isn't of 1 to 3 hexadecimal digits, and else 4 where there are more words than
+-- a page has, or one is too great
+abbrev pub word_values : List (List ℕ) → Result (List ℕ) Refusal
+word_values words =
+    if not (list_all (is_hexadecimal 1 3) words) then Err BadNumber
+    else (if nat_lt page_size (length words) || list_any (λ word. nat_lt greatest_word (digits_value 16 word)) words then Err BadImage
+    else Ok (map (digits_value 16) words))
+
+-- what the lines of a block say but for its own fault of a line that is too long; a command without a block has none
+abbrev pub content_of : Option BlockKind → List (List ℕ) → Result (List ℕ) Refusal
+content_of None lines = Ok []
+content_of (Some Words) lines = word_values (block_words lines)
+
+-- a line that is too long comes before what else is wrong
+abbrev pub judged : Bool → Result (List ℕ) Refusal → Result (List ℕ) Refusal
+judged has_long content = if has_long then Err LineTooLong else content
+
+abbrev pub block_values : Option BlockKind → List (List ℕ) → Result (List ℕ) Refusal
+block_values kind lines = judged (list_any is_long lines) (content_of kind lines)
+
+-- words of a page, filled with 000 to its end
+abbrev pub filled : List ℕ → List ℕ
+filled words = words ++ replicate (page_size - length words) 0
+
+-- what a block tells of the lines that it has taken
+pub record TakenBlock : Type 0 where
+  pub kind : Option BlockKind
+  pub has_long : Bool
+  pub content : Result (List ℕ) Refusal
+
+-- these are the lines that it has taken
+pub record HasTaken (block : TakenBlock) (lines : List (List ℕ)) : Type 0 where
+  pub long : block.has_long ≡ list_any is_long lines
+  pub content : block.content ≡ content_of block.kind lines
+
+-- a block of this kind that has taken no lines
+pub record IsNew (kind : Option BlockKind) (block : TakenBlock) : Type 0 where
+  pub kind_is : block.kind ≡ kind
+  pub none : HasTaken block []
+
+-- whatever lines it had taken, it has taken one more, and its kind stays
+pub record Takes (old : TakenBlock) (line : List ℕ) (new : TakenBlock) : Type 0 where
+  pub kind_is : new.kind ≡ old.kind
+  pub more : (lines : List (List ℕ)) → HasTaken old lines → HasTaken new (lines ++ line ∷ [])
+
+-- its judgement
+abbrev pub judgement : TakenBlock → Result (List ℕ) Refusal
+judgement block = judged block.has_long block.content

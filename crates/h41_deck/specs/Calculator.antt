@@ -1,0 +1,92 @@
+-- The calculator: its mode, a call, and single steps. All of it is this project's choice, but for what the words do.
+use Rattle.std.specs.Prelude.{◌≡◌, ◌⊎◌, ℕ, zero, suc, Bool, true, false, not, nat_lt, ◌==◌, if◌then◌else◌, Option, Some, None, List, option_map, MatchOption}
+use Rattle.std.specs.Bool.{then_some}
+use Rattle.std.specs.Option.{option_or}
+use Rattle.h41_nut.specs.declared.refusal.Refusal as nut
+use Rattle.h41_nut.specs.declared.refusal.Refusal.TheVariants as words
+use Rattle.h41_nut.specs.declared.refusal.PlugRefusal as plug
+use Rattle.h41_nut.specs.declared.refusal.PlugRefusal.TheVariants as plugs
+use Rattle.h41_nut.specs.Processor.{initial, entered}
+use Rattle.h41_nut.specs.Addresses.{first_address, end_of_function}
+use Rattle.h41_nut.specs.PageList.{no_pages, plug_refusal, plugged}
+use Rattle.h41_nut.specs.WordStep.{Nut, nut_of, refused, Micro}
+use Rattle.h41_deck.specs.declared.calculator.Mode.{Mode}
+use Rattle.h41_deck.specs.declared.calculator.Mode.TheVariants as modes
+use Rattle.h41_deck.specs.declared.refusal.Refusal.{Refusal}
+use Rattle.h41_deck.specs.declared.refusal.Refusal.TheVariants.{WordNotInProfile, SystemRom, EmptyPage, NoSuchPage, Occupied, BadImage, OutOfMemory, Busy}
+
+-- The state of the calculator.
+pub record State : Type 0 where
+  -- the processor, its pages and keys
+  pub nut : Nut
+  pub mode : Mode
+
+-- nothing is plugged, nothing runs
+abbrev pub start : State
+start = record { nut = nut_of initial no_pages (record { ky = 0; flag = false }); mode = modes.Idle }
+
+abbrev pub is_idle : Mode → Bool
+is_idle modes.Idle = true
+is_idle modes.Micro = false
+
+-- a call is refused as 24 while a function runs, and else as 8 below address 4000, at 00F0 too: a call is no arrival
+abbrev pub call_refusal : State → ℕ → Option Refusal
+call_refusal s address =
+    option_or (then_some (not (is_idle s.mode)) Busy) (then_some (nat_lt address first_address) (SystemRom address))
+
+-- the function at an address runs
+abbrev pub called : ℕ → State → State
+called address s = record s { nut = record s.nut { processor = entered s.nut.processor address }; mode = modes.Micro }
+
+-- a processor's refusal, as the calculator's
+abbrev pub of_nut : nut.Refusal → Refusal
+of_nut (words.WordNotInProfile address) = WordNotInProfile address
+of_nut (words.SystemRom address) = SystemRom address
+of_nut (words.EmptyPage address) = EmptyPage address
+
+-- a page's refusal likewise
+abbrev pub of_plug : plug.PlugRefusal → Refusal
+of_plug plugs.NoSuchPage = NoSuchPage
+of_plug plugs.Occupied = Occupied
+of_plug plugs.BadImage = BadImage
+of_plug plugs.OutOfMemory = OutOfMemory
+
+-- the bank that a deck's blocks fill
+abbrev pub bank : ℕ
+bank = 1
+
+-- why words are not plugged at a page's bank
+abbrev pub page_refusal : State → ℕ → List ℕ → Option Refusal
+page_refusal s page words = option_map of_plug (plug_refusal s.nut.pages page bank words)
+
+-- this is why words are not plugged; memory that was refused comes last
+abbrev pub RefusesPage : State → ℕ → ℕ → List ℕ → plug.PlugRefusal → Type 0
+RefusesPage s page bank words refusal =
+    (plug_refusal s.nut.pages page bank words ≡ Some refusal)
+    ⊎ ((plug_refusal s.nut.pages page bank words ≡ None) × (refusal ≡ plugs.OutOfMemory))
+
+-- the words plugged there
+abbrev pub with_page : ℕ → Bool → List ℕ → State → State
+with_page page writable words s = record s { nut = record s.nut { pages = plugged s.nut.pages page writable words } }
+
+-- why a step is refused: a word's refusal while a function runs, and nothing else
+abbrev pub step_refusal : State → Option Refusal
+step_refusal s = if is_idle s.mode then None else option_map of_nut (refused s.nut)
+
+-- a function ends where it arrives at 00F0
+abbrev pub mode_at : ℕ → Mode
+mode_at address = if address == end_of_function then modes.Idle else modes.Micro
+
+-- one step: while a function runs the word's change, and its end where it arrives at 00F0; else nothing
+abbrev pub StepIn : Mode → State → State → Type 0
+StepIn modes.Idle s t = t ≡ s
+StepIn modes.Micro s t = Micro s.nut t.nut × (t ≡ record s { nut = t.nut; mode = mode_at t.nut.processor.pc })
+
+abbrev pub Step : State → State → Type 0
+Step s t = StepIn s.mode s t
+
+-- so many single steps, up to the first that is refused, and its refusal
+abbrev pub Steps : ℕ → State → State → Option Refusal → Type 0
+Steps zero s t refusal = (t ≡ s) × (refusal ≡ None)
+Steps (suc count) s t refusal =
+    MatchOption (step_refusal s) ((next : State) × Step s next × Steps count next t refusal) (λ why. (t ≡ s) × (refusal ≡ Some why))

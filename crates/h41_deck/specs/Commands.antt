@@ -1,0 +1,67 @@
+-- The commands that the words of a line spell: 50 BadCommand where they spell none, and else 51 BadNumber where a number is
+-- wrong. The language is this project's own.
+use Rattle.std.specs.Prelude.{ℕ, Bool, true, false, List, [], ◌∷◌, if◌then◌else◌, Option, Some, None, Result, Ok, Err, codes, bytes_eq}
+use Rattle.h41_deck.specs.declared.commands.Command.{Command}
+use Rattle.h41_deck.specs.declared.commands.Command.TheVariants.{Plug, Call, Step, Show}
+use Rattle.h41_deck.specs.declared.commands.BlockKind.{BlockKind}
+use Rattle.h41_deck.specs.declared.commands.BlockKind.TheVariants.{Words}
+use Rattle.h41_deck.specs.declared.commands.View.{View}
+use Rattle.h41_deck.specs.declared.commands.View.TheVariants.{Cpu}
+use Rattle.h41_deck.specs.declared.refusal.Refusal.{Refusal}
+use Rattle.h41_deck.specs.declared.refusal.Refusal.TheVariants.{BadCommand}
+use Rattle.h41_deck.specs.Numbers.{hexadecimal, number_up_to}
+
+-- what goes on with a value, and keeps a refusal
+abbrev pub and_then : {A B : Type 0} → Result A Refusal → (A → Result B Refusal) → Result B Refusal
+and_then (Ok value) next = next value
+and_then (Err refusal) next = Err refusal
+
+-- the most steps of one command
+abbrev pub most_steps : ℕ
+most_steps = 9999999
+
+-- words P [rw]: a block that fills a page, which microcode may write with rw
+abbrev pub plug_command : BlockKind → List (List ℕ) → Result Command Refusal
+plug_command kind (page ∷ []) = and_then (hexadecimal 1 page) (λ page. Ok (Plug kind page false))
+plug_command kind (page ∷ option ∷ []) =
+    if bytes_eq option (codes "rw") then and_then (hexadecimal 1 page) (λ page. Ok (Plug kind page true)) else Err BadCommand
+plug_command kind operands = Err BadCommand
+
+-- call hhhh
+abbrev pub call_command : List (List ℕ) → Result Command Refusal
+call_command (address ∷ []) = and_then (hexadecimal 4 address) (λ address. Ok (Call address))
+call_command operands = Err BadCommand
+
+-- step [n]
+abbrev pub step_command : List (List ℕ) → Result Command Refusal
+step_command [] = Ok (Step 1)
+step_command (count ∷ []) = and_then (number_up_to most_steps 10 count) (λ count. Ok (Step count))
+step_command operands = Err BadCommand
+
+-- show WHAT
+abbrev pub view_of : List (List ℕ) → Result View Refusal
+view_of (what ∷ []) = if bytes_eq what (codes "cpu") then Ok Cpu else Err BadCommand
+view_of operands = Err BadCommand
+
+abbrev pub show_command : List (List ℕ) → Result Command Refusal
+show_command operands = and_then (view_of operands) (λ view. Ok (Show view))
+
+-- the command of a line, by its first word
+abbrev pub parsed : List (List ℕ) → Result Command Refusal
+parsed [] = Err BadCommand
+parsed (name ∷ operands) =
+    if bytes_eq name (codes "words") then plug_command Words operands
+    else (if bytes_eq name (codes "call") then call_command operands
+    else (if bytes_eq name (codes "step") then step_command operands
+    else (if bytes_eq name (codes "show") then show_command operands
+    else Err BadCommand)))
+
+-- a line whose first word is a block's opens a block, whatever follows
+abbrev pub is_opening : List (List ℕ) → Bool
+is_opening [] = false
+is_opening (name ∷ operands) = bytes_eq name (codes "words")
+
+-- the kind of a command's block, where it has one
+abbrev pub kind_of : Command → Option BlockKind
+kind_of (Plug kind page writable) = Some kind
+kind_of command = None

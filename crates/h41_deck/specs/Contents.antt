@@ -1,0 +1,36 @@
+-- What the code's blocks hold, in the words of a deck.
+use Rattle.std.specs.Prelude.{◌≡◌, ℕ, List, [], ◌∷◌, ◌++◌, Option, Some, None, Result, Ok, Err}
+use Rattle.h41_deck.specs.declared.blocks.Content.{Content}
+use Rattle.h41_deck.specs.declared.blocks.Content.TheVariants as contents
+use Rattle.h41_deck.specs.declared.blocks.page_words.PageWords.{PageWords}
+use Rattle.h41_deck.specs.declared.commands.BlockKind.{BlockKind}
+use Rattle.h41_deck.specs.declared.commands.BlockKind.TheVariants.{Words}
+use Rattle.h41_deck.specs.declared.refusal.Refusal.{Refusal}
+use Rattle.h41_deck.specs.Blocks.{block_words, word_values}
+
+abbrev pub unless_fault : Option Refusal → List ℕ → Result (List ℕ) Refusal
+unless_fault None values = Ok values
+unless_fault (Some fault) values = Err fault
+
+-- the values of a page's words, or their gravest fault
+abbrev pub words_in : PageWords → Result (List ℕ) Refusal
+words_in page = unless_fault page.fault page.words.items
+
+-- whatever lines the words were those of, they are now those of one line more
+abbrev pub TakesLine : PageWords → List ℕ → PageWords → Type 0
+TakesLine old line new =
+    (lines : List (List ℕ)) → words_in old ≡ word_values (block_words lines) → words_in new ≡ word_values (block_words (lines ++ line ∷ []))
+
+-- whatever words they were, there is now one word more
+abbrev pub TakesWord : PageWords → List ℕ → PageWords → Type 0
+TakesWord old word new =
+    (words : List (List ℕ)) → words_in old ≡ word_values words → words_in new ≡ word_values (words ++ word ∷ [])
+
+-- what the content of a block says, and its kind
+abbrev pub content_in : Content → Result (List ℕ) Refusal
+content_in contents.Nothing = Ok []
+content_in (contents.Words words) = words_in words
+
+abbrev pub kind_in : Content → Option BlockKind
+kind_in contents.Nothing = None
+kind_in (contents.Words words) = Some Words

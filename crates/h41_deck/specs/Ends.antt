@@ -1,0 +1,30 @@
+-- What the mark of a sink says of one write, the inner ends of the two wrappers, and a write that was cut.
+use Rattle.std.specs.Prelude.{◌==◌, ◌&&◌, ◌<◌, ℕ, Bool, true, not, List, length, take, Option, Result, Ok, Err}
+use Rattle.std.specs.Io.KnownBytes.{Appends}
+use Rattle.h41_deck.specs.declared.ends.source.FromRead.{FromRead}
+use Rattle.h41_deck.specs.declared.ends.sink.ToWrite.{ToWrite}
+
+-- the write failed, or it took no byte of some
+abbrev pub is_failed_write : {E : Type 0} → Result ℕ E → List ℕ → Bool
+is_failed_write (Ok n) bytes = n == 0 && not (length bytes == 0)
+is_failed_write (Err e) bytes = true
+
+-- the reader of a `FromRead`
+abbrev pub reader_of : {R : Type 0} → FromRead R → R
+reader_of s = s.reader
+
+-- its mark
+abbrev pub read_failed : {R : Type 0} → FromRead R → Bool
+read_failed s = s.has_failed
+
+-- the writer of a `ToWrite`
+abbrev pub writer_of : {W : Type 0} → ToWrite W → W
+writer_of s = s.writer
+
+-- its mark
+abbrev pub write_failed : {W : Type 0} → ToWrite W → Bool
+write_failed s = s.has_failed
+
+-- a front of the text is written, and not all of it
+abbrev pub AppendsPart : Option (List ℕ) → Option (List ℕ) → List ℕ → Type 0
+AppendsPart old new text = (count : ℕ) × (count < length text) × Appends old new (take count text)

@@ -1,0 +1,26 @@
+-- What the code's items say, in the words of a deck.
+use Rattle.std.specs.Prelude.{◌≡◌, ℕ, List, [], ◌∷◌, Option, Some, None, Err}
+use Rattle.h41_deck.specs.declared.deck.item.Item.{Item}
+use Rattle.h41_deck.specs.declared.deck.item.Item.TheVariants.{Given, Refused}
+use Rattle.h41_deck.specs.declared.commands.BlockKind.{BlockKind}
+use Rattle.h41_deck.specs.Blocks.{HasTaken, TakenBlock, judgement}
+use Rattle.h41_deck.specs.Items.{Spelled, commands, with_values}
+
+-- what an item's lines spell
+abbrev pub given : Item → Spelled
+given (Given read) = with_values (judgement read.block) read.command
+given (Refused refusal) = Err refusal
+
+-- this is the first item of some lines, and the others are those of the lines that are left
+abbrev pub NextOf : List (List ℕ) → List (List ℕ) → Option Item → Type 0
+NextOf lines left None = commands lines ≡ []
+NextOf lines left (Some item) = commands lines ≡ given item ∷ commands left
+
+-- where there is a block, it is of this kind, and these are the lines that it has taken
+pub record IsTaken (kind : Option BlockKind) (lines : List (List ℕ)) (block : TakenBlock) : Type 0 where
+  pub kind_is : block.kind ≡ kind
+  pub lines_are : HasTaken block lines
+
+abbrev pub IfTaken : Option BlockKind → List (List ℕ) → Option TakenBlock → Type 0
+IfTaken kind lines None = Unit {0}
+IfTaken kind lines (Some block) = IsTaken kind lines block

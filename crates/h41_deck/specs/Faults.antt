@@ -1,0 +1,15 @@
+-- The faults of a part, as those of the deck.
+use Rattle.h41_deck.specs.declared.fault.InputFault.{InputFault}
+use Rattle.h41_deck.specs.declared.fault.InputFault.TheVariants as input
+use Rattle.h41_deck.specs.declared.fault.CommandFault.{CommandFault}
+use Rattle.h41_deck.specs.declared.fault.CommandFault.TheVariants as command
+use Rattle.h41_deck.specs.declared.fault.Fault.{Fault}
+use Rattle.h41_deck.specs.declared.fault.Fault.TheVariants.{OutOfMemory, ReadFault, WriteFault}
+
+abbrev pub of_input : InputFault → Fault
+of_input input.OutOfMemory = OutOfMemory
+of_input input.ReadFault = ReadFault
+
+abbrev pub of_command : CommandFault → Fault
+of_command command.OutOfMemory = OutOfMemory
+of_command command.WriteFault = WriteFault

@@ -1,0 +1,14 @@
+pub mod Blocks
+pub mod Calculator
+pub mod Commands
+pub mod Contents
+pub mod Deck
+pub mod Ends
+pub mod Entries
+pub mod Faults
+pub mod Items
+pub mod Lines
+pub mod Numbers
+pub mod Refusals
+pub mod Replies
+pub mod Views

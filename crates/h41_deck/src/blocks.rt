@@ -1,0 +1,103 @@
+//! The block of a command: one mechanism for all kinds, which takes the lines one at a time and is judged in one place.
+
+ghost use Rattle.std.specs.Prelude.{◌≡◌, ◌≤◌, IfOk, None, Some, Ok, vec_len};
+ghost use Rattle.std.specs.Result.{result_err};
+ghost use Rattle.h41_nut.specs.Addresses.{page_size};
+ghost use Rattle.h41_deck.specs.Blocks.{IsNew, Takes, judgement};
+ghost use Rattle.h41_deck.specs.Commands.{kind_of};
+
+use crate::blocks::page_words::PageWords;
+use crate::commands::{BlockKind, Command};
+use crate::lines::line::is_long;
+use crate::refusal::Refusal;
+use std::alloc::{AllocError, Global};
+use std::marker::Model;
+
+pub mod page_words;
+
+/// The block of a command: what its lines have said so far. A command that has none has an empty one.
+#[derive(Debug, Drop)]
+pub struct Block {
+    content: Content,
+    has_long: bool,
+}
+
+/// What a block's lines have said, by its kind.
+#[derive(Debug, Drop)]
+enum Content {
+    /// There is no block.
+    Nothing,
+    /// The words of a page.
+    Words(PageWords),
+}
+
+impl Model for Block {
+    ghost use Rattle.h41_deck.specs.Blocks.{TakenBlock};
+    ghost use Rattle.h41_deck.specs.Contents.{content_in, kind_in};
+
+    ghost Value = { TakenBlock };
+
+    ghost view = { λ block. record {
+      kind = kind_in block.content;
+      has_long = block.has_long;
+      content = content_in block.content;
+    } };
+}
+
+impl Block {
+    /// A block for the lines behind a command, of which it has taken none.
+    pub fn new(alloc: Global, command: Command) -> Self
+        ensures { IsNew (kind_of command) result }
+    {
+        Block::of_kind(alloc, command.block_kind())
+    }
+
+    /// A block of a kind that has taken no lines.
+    pub(crate) fn of_kind(alloc: Global, kind: Option<BlockKind>) -> Self
+        ensures { IsNew kind result }
+    {
+        let content = match kind {
+            None => Content::Nothing,
+            Some(BlockKind::Words) => Content::Words(PageWords::new(alloc)),
+        };
+        Block {
+            content,
+            has_long: false,
+        }
+    }
+
+    /// Takes one more line. One of more than 200 bytes makes the judgement 53. 21 where memory is refused.
+    pub fn line(&mut self, text: &[u8]) -> Result<(), AllocError>
+        ensures { IfOk result (λ _. Takes self.old text.now self.new) }
+    {
+        self.has_long |= is_long(text);
+        match &mut self.content {
+            Content::Nothing => Ok(()),
+            Content::Words(words) => words.add_line(text),
+        }
+    }
+
+    /// Why its lines are refused, if they are. A line that is too long (53) comes before all else.
+    pub(crate) fn refusal(&self) -> Option<Refusal>
+        ensures { result ≡ result_err (judgement self.now) }
+    {
+        match &self.content {
+            _ if self.has_long => Some(Refusal::LineTooLong),
+            Content::Nothing => None,
+            Content::Words(words) => words.refusal(),
+        }
+    }
+
+    /// The words of a page that its lines say.
+    pub(crate) fn into_words(self) -> Vec<u16>
+        requires kind { self.kind ≡ Some BlockKind.Words }
+        requires accepted { result_err (judgement self) ≡ None }
+        ensures words { judgement self ≡ Ok result.items }
+        ensures bound { vec_len result ≤ page_size }
+    {
+        match self.content {
+            Content::Words(words) => words.into_words(),
+            Content::Nothing => unreachable!(),
+        }
+    }
+}

@@ -1,0 +1,52 @@
+//! The commands of a deck, as their first lines give them.
+
+ghost use Rattle.std.specs.Prelude.{◌≡◌};
+
+pub mod number;
+pub mod parse;
+
+/// What the lines of a command's block are.
+#[derive(Clone, Copy, Debug, PartialEq, Eq)]
+pub enum BlockKind {
+    /// Words of a page, of 1 to 3 hexadecimal digits each.
+    Words,
+}
+
+/// What `show` prints.
+#[derive(Clone, Copy, Debug, PartialEq, Eq)]
+pub enum View {
+    /// `cpu`: the processor.
+    Cpu,
+}
+
+/// One command of a deck.
+#[derive(Clone, Copy, Debug, PartialEq, Eq)]
+pub enum Command {
+    /// `words P [rw]`, with a block up to `end`: plugs what the block says at page P, 0 to 15, writable with `rw`. Pages 0
+    /// to 3 are refused when it is carried out.
+    Plug {
+        block: BlockKind,
+        page: u8,
+        writable: bool,
+    },
+    /// `call hhhh`: begins the function at an address.
+    Call(u16),
+    /// `step [n]`: n single steps, 0 to 9,999,999, one where no number is given.
+    Step(u32),
+    /// `show WHAT`: prints a view.
+    Show(View),
+}
+
+impl Command {
+    ghost use Rattle.h41_deck.specs.Commands.{kind_of};
+
+    /// The kind of its block, where it has one.
+    pub fn block_kind(self) -> Option<BlockKind>
+        ensures { result ≡ kind_of self }
+    {
+        match self {
+            Command::Plug { block, .. } => Some(block),
+            _ => None,
+        }
+    }
+}

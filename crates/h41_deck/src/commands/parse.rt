@@ -1,0 +1,97 @@
+//! The command that a line's words spell.
+
+ghost use Rattle.std.specs.Prelude.{◌≡◌, Ok};
+ghost use Rattle.h41_deck.specs.Commands.{and_then, call_command, is_opening, parsed, plug_command, show_command, step_command, view_of};
+ghost use Rattle.h41_deck.specs.Lines.{words_of};
+ghost use Rattle.h41_deck.specs.Numbers.{hexadecimal};
+
+use crate::commands::number::{hexadecimal, number_up_to};
+use crate::commands::{BlockKind, Command, View};
+use crate::lines::words::LineWords;
+use crate::refusal::Refusal;
+
+/// The most single steps of one command.
+const MOST_STEPS: u32 = 9_999_999;
+
+/// The command of a line: 50 BadCommand where its words are no command's, and else 51 BadNumber where a number is
+/// wrong.
+pub fn parse(line: &[u8]) -> Result<Command, Refusal>
+    ensures { result ≡ parsed (words_of line.now) }
+{
+    let mut words = LineWords::new(line);
+    match words.next() {
+        Some(b"words") => plug(BlockKind::Words, words),
+        Some(b"call") => call(words),
+        Some(b"step") => step(words),
+        Some(b"show") => show(words),
+        _ => Err(Refusal::BadCommand),
+    }
+}
+
+/// Whether a line opens a block: its first word is the name of one.
+pub fn is_opening(line: &[u8]) -> bool
+    ensures { result ≡ is_opening (words_of line.now) }
+{
+    matches!(LineWords::new(line).next(), Some(b"words"))
+}
+
+/// `words P [rw]`: a block that fills a page.
+fn plug(kind: BlockKind, mut operands: LineWords<'_>) -> Result<Command, Refusal>
+    ensures { result ≡ plug_command kind (words_of operands.entry.rest.now) }
+{
+    match (operands.next(), operands.next(), operands.next()) {
+        (Some(page), None, _) => plug_at(kind, page, false),
+        (Some(page), Some(b"rw"), None) => plug_at(kind, page, true),
+        _ => Err(Refusal::BadCommand),
+    }
+}
+
+/// The same, by the word that names the page.
+fn plug_at(block: BlockKind, page: &[u8], writable: bool) -> Result<Command, Refusal>
+    ensures { result ≡ and_then (hexadecimal 1 page.now) (λ page. Ok (Command.Plug block page writable)) }
+{
+    let page = hexadecimal(1, 1, page)? as u8;
+    Ok(Command::Plug {
+        block,
+        page,
+        writable,
+    })
+}
+
+/// `call hhhh`.
+fn call(mut operands: LineWords<'_>) -> Result<Command, Refusal>
+    ensures { result ≡ call_command (words_of operands.entry.rest.now) }
+{
+    match (operands.next(), operands.next()) {
+        (Some(address), None) => Ok(Command::Call(hexadecimal(4, 4, address)?)),
+        _ => Err(Refusal::BadCommand),
+    }
+}
+
+/// `step [n]`.
+fn step(mut operands: LineWords<'_>) -> Result<Command, Refusal>
+    ensures { result ≡ step_command (words_of operands.entry.rest.now) }
+{
+    match (operands.next(), operands.next()) {
+        (None, _) => Ok(Command::Step(1)),
+        (Some(count), None) => Ok(Command::Step(number_up_to(MOST_STEPS, 10, count)?)),
+        _ => Err(Refusal::BadCommand),
+    }
+}
+
+/// `show WHAT`.
+fn show(operands: LineWords<'_>) -> Result<Command, Refusal>
+    ensures { result ≡ show_command (words_of operands.entry.rest.now) }
+{
+    Ok(Command::Show(view(operands)?))
+}
+
+/// The view that the words behind `show` name.
+fn view(mut operands: LineWords<'_>) -> Result<View, Refusal>
+    ensures { result ≡ view_of (words_of operands.entry.rest.now) }
+{
+    match (operands.next(), operands.next()) {
+        (Some(b"cpu"), None) => Ok(View::Cpu),
+        _ => Err(Refusal::BadCommand),
+    }
+}

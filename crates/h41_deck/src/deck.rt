@@ -1,0 +1,107 @@
+//! A deck: its commands, answered in turn.
+
+ghost use Rattle.std.specs.Prelude.{◌≡◌, ◌≢◌, Err, IfOk, OnOk, IfSome, true, false};
+ghost use Rattle.h41_deck.specs.Deck.{AnswersItems, Deck, DeckEnds, FailedOrTooLong, Prints, answered_items};
+ghost use Rattle.h41_deck.specs.Entries.{given};
+ghost use Rattle.h41_deck.specs.Items.{commands};
+ghost use Rattle.h41_deck.specs.Lines.{lines};
+ghost use Rattle.h41_deck.specs.Replies.{Replies};
+
+use crate::bench::Bench;
+use crate::deck::item::{Entry, Item};
+use crate::deck::items::next_item;
+use crate::ends::input::read_whole;
+use crate::ends::output::flush;
+use crate::ends::sink::Sink;
+use crate::ends::source::Source;
+use crate::fault::{CommandFault, Fault};
+use crate::lines::{Lines, ended_lines};
+use crate::replies::{Outcome, apply, print_ending};
+use std::alloc::Global;
+
+mod item;
+mod items;
+
+/// Reads a deck whole, carries its commands out, and writes what they print and nothing else. Both ends' marks are clear
+/// before.
+///
+/// # Errors
+///
+/// `ReadFault` (22) where a read fails, or the deck has more than 67,108,864 bytes; `WriteFault` (23) where a write fails;
+/// `OutOfMemory` (21). Each ends the deck, and what was written before stays. Of a deck that is too long the commands are
+/// carried out first whose last line end is within the bound.
+pub fn run_deck<R: Source, W: Sink>(
+    alloc: Global,
+    reader: &mut R,
+    writer: &mut W,
+) -> Result<Outcome, Fault>
+    requires reader_clear { R.failed reader.old ≡ false }
+    requires writer_clear { W.failed writer.old ≡ false }
+
+    // What is written is the text of the deck that was read, where both ends tell their bytes.
+    ensures deck { OnOk result (IfSome (R.remaining reader.old)
+        (Prints Deck (W.contents writer.old) (W.contents writer.new))) }
+    ensures outcome { IfOk result (λ outcome. IfSome (R.remaining reader.old) (λ deck. DeckEnds deck outcome)) }
+
+    // A read failed, or the deck is too long, and the text of its commands within the bound is written.
+    ensures read_fault { result ≡ Err Fault.ReadFault → FailedOrTooLong (R.failed reader.new)
+        (R.remaining reader.old) (W.contents writer.old) (W.contents writer.new) }
+
+    // The marks tell which end failed.
+    ensures write_fault { result ≡ Err Fault.WriteFault → W.failed writer.new ≡ true }
+    ensures reader { result ≢ Err Fault.ReadFault → R.failed reader.new ≡ false }
+    ensures writer { result ≢ Err Fault.WriteFault → W.failed writer.new ≡ false }
+{
+    let input = read_whole(alloc, reader)?;
+    if input.is_whole {
+        return Ok(answer_deck(alloc, &input.bytes, true, writer)?);
+    }
+    answer_deck(alloc, ended_lines(&input.bytes), false, writer)?;
+    Err(Fault::ReadFault)
+}
+
+/// Carries out the commands of a deck, and writes what they print. Where the deck isn't whole, a block that is open at its
+/// end is none.
+fn answer_deck<W: Sink>(
+    alloc: Global,
+    deck: &[u8],
+    is_whole: bool,
+    writer: &mut W,
+) -> Result<Outcome, CommandFault>
+    requires { W.failed writer.old ≡ false }
+    ensures answers { IfOk result (AnswersItems (answered_items is_whole (commands (lines deck.now)))
+        (W.contents writer.old) (W.contents writer.new)) }
+    ensures mark { result ≡ Err CommandFault.WriteFault → W.failed writer.new ≡ true }
+    ensures clear { result ≢ Err CommandFault.WriteFault → W.failed writer.new ≡ false }
+{
+    let mut bench = Bench::new(alloc)?;
+    let mut outcome = Outcome::Accepted;
+    let mut rest = Lines::new(deck);
+    while let Some(item) = next_item(alloc, &mut rest)? {
+        if !is_whole && item.is_open() {
+            continue;
+        }
+        let next = answer(alloc, &mut bench, item, writer)?;
+        outcome = outcome.and(next);
+    }
+    flush(writer)?;
+    Ok(outcome)
+}
+
+/// Answers one item.
+fn answer<W: Sink>(
+    alloc: Global,
+    bench: &mut Bench,
+    item: Item,
+    writer: &mut W,
+) -> Result<Outcome, CommandFault>
+    requires { W.failed writer.old ≡ false }
+    ensures reply { IfOk result (Replies (given item) bench.old bench.new (W.contents writer.old) (W.contents writer.new)) }
+    ensures mark { result ≡ Err CommandFault.WriteFault → W.failed writer.new ≡ true }
+    ensures clear { result ≢ Err CommandFault.WriteFault → W.failed writer.new ≡ false }
+{
+    match item {
+        Item::Given(Entry { command, block }) => apply(alloc, bench, command, block, writer),
+        Item::Refused(refusal) => Ok(print_ending(Err(refusal), writer)?),
+    }
+}

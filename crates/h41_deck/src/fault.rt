@@ -1,0 +1,147 @@
+//! What ends a deck before its last command: the faults of memory, reading and writing, each type as narrow as what can fail.
+
+ghost use Rattle.std.specs.Prelude.{◌≡◌, ◌≤◌, length};
+ghost use Rattle.h41_deck.specs.Refusals.{of_fault, heading};
+ghost use Rattle.h41_deck.specs.declared.fault.InputFault.TheVariants as input;
+ghost use Rattle.h41_deck.specs.declared.fault.CommandFault.TheVariants as command;
+ghost use Rattle.h41_deck.specs.declared.fault.Fault.TheVariants as deck;
+
+use crate::refusal::Refusal;
+use std::alloc::{AllocError, AllocFailed};
+use std::error::Error;
+use std::fmt;
+
+/// 23: the output cannot be written.
+#[derive(Clone, Copy, Debug, PartialEq, Eq)]
+pub struct WriteFault;
+
+/// Why an input was not read to its end.
+#[derive(Clone, Copy, Debug, PartialEq, Eq)]
+pub enum InputFault {
+    /// 21: no memory is left.
+    OutOfMemory,
+    /// 22: the input cannot be read.
+    ReadFault,
+}
+
+/// Why a command was not answered to its end.
+#[derive(Clone, Copy, Debug, PartialEq, Eq)]
+pub enum CommandFault {
+    /// 21: no memory is left. Nothing was changed and nothing written.
+    OutOfMemory,
+    /// 23: the output cannot be written. The command was carried out.
+    WriteFault,
+}
+
+/// What ends a deck.
+#[derive(Clone, Copy, Debug, PartialEq, Eq)]
+pub enum Fault {
+    /// 21: no memory is left.
+    OutOfMemory,
+    /// 22: the input cannot be read, or is too long.
+    ReadFault,
+    /// 23: the output cannot be written.
+    WriteFault,
+}
+
+impl Fault {
+    /// The refusal that it is.
+    pub fn refusal(self) -> Refusal
+        ensures { result ≡ of_fault self }
+    {
+        match self {
+            Fault::OutOfMemory => Refusal::OutOfMemory,
+            Fault::ReadFault => Refusal::ReadFault,
+            Fault::WriteFault => Refusal::WriteFault,
+        }
+    }
+}
+
+impl fmt::Display for Fault {
+    ghost use Rattle.std.specs.Prelude.{Some};
+    ghost use Rattle.h41_deck.specs.Refusals.{of_fault, heading};
+
+    ghost output = { λ fault. Some (heading (of_fault fault)) };
+
+    fn fmt<W: fmt::Write>(&self, f: &mut fmt::Formatter<W>) -> fmt::Result {
+        f.write_str(self.refusal().heading())
+    }
+}
+
+impl Error for Fault {}
+
+impl From<AllocError> for InputFault {
+    ghost from_gives = { λ _ fault. fault ≡ input.OutOfMemory };
+
+    fn from(_error: AllocError) -> Self {
+        InputFault::OutOfMemory
+    }
+}
+
+impl<T: Drop> From<AllocFailed<T>> for InputFault {
+    ghost from_gives = { λ _ fault. fault ≡ input.OutOfMemory };
+
+    fn from(_error: AllocFailed<T>) -> Self {
+        InputFault::OutOfMemory
+    }
+}
+
+impl From<AllocError> for CommandFault {
+    ghost from_gives = { λ _ fault. fault ≡ command.OutOfMemory };
+
+    fn from(_error: AllocError) -> Self {
+        CommandFault::OutOfMemory
+    }
+}
+
+impl From<WriteFault> for CommandFault {
+    ghost from_gives = { λ _ fault. fault ≡ command.WriteFault };
+
+    fn from(_fault: WriteFault) -> Self {
+        CommandFault::WriteFault
+    }
+}
+
+impl From<AllocError> for Fault {
+    ghost from_gives = { λ _ fault. fault ≡ deck.OutOfMemory };
+
+    fn from(_error: AllocError) -> Self {
+        Fault::OutOfMemory
+    }
+}
+
+impl From<WriteFault> for Fault {
+    ghost from_gives = { λ _ fault. fault ≡ deck.WriteFault };
+
+    fn from(_fault: WriteFault) -> Self {
+        Fault::WriteFault
+    }
+}
+
+impl From<InputFault> for Fault {
+    ghost use Rattle.std.specs.Prelude.{◌≡◌};
+    ghost use Rattle.h41_deck.specs.Faults.{of_input};
+
+    ghost from_gives = { λ fault own. own ≡ of_input fault };
+
+    fn from(fault: InputFault) -> Self {
+        match fault {
+            InputFault::OutOfMemory => Fault::OutOfMemory,
+            InputFault::ReadFault => Fault::ReadFault,
+        }
+    }
+}
+
+impl From<CommandFault> for Fault {
+    ghost use Rattle.std.specs.Prelude.{◌≡◌};
+    ghost use Rattle.h41_deck.specs.Faults.{of_command};
+
+    ghost from_gives = { λ fault own. own ≡ of_command fault };
+
+    fn from(fault: CommandFault) -> Self {
+        match fault {
+            CommandFault::OutOfMemory => Fault::OutOfMemory,
+            CommandFault::WriteFault => Fault::WriteFault,
+        }
+    }
+}

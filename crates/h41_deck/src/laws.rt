@@ -1,0 +1,14 @@
+//! Laws of decks: each is the contract of a function with nothing to do but to call the laws it rests on.
+
+ghost use Rattle.h41_deck.specs.Deck.{DeckDeterminesOutcome, DeckDeterminesText, LongDeckDeterminesText};
+
+use h41_nut::laws::micro_is_determined;
+
+/// A deck determines its text, whether a refusal is printed, and where it is too long the text that is printed all the same.
+pub fn deck_is_determined()
+    ensures text { DeckDeterminesText }
+    ensures long { LongDeckDeterminesText }
+    ensures outcome { DeckDeterminesOutcome }
+{
+    micro_is_determined();
+}

@@ -1,0 +1,156 @@
+//! The refusals, each with its number, its name and the address that it tells, and the line that prints it. Numbers, names
+//! and form are this project's own.
+
+ghost use Rattle.std.specs.Prelude.{◌≡◌, ◌+◌, ◌≤◌, ◌<◌, ◌++◌, true, length};
+ghost use Rattle.std.specs.Fmt.{digit_glyph};
+ghost use Rattle.arrayvec.specs.ArrayString.{array_string_len};
+ghost use Rattle.h41_digits.specs.Register.{hexadecimal_text};
+
+use arrayvec::ArrayString;
+use h41_nut::{PlugRefusal, Refusal as NutRefusal};
+
+/// The most bytes of a refusal's line.
+const LINE: usize = 27;
+
+/// Why a command was refused, or what ends a deck (21 to 23). What is refused changes nothing.
+#[derive(Clone, Copy, Debug, PartialEq, Eq)]
+pub enum Refusal {
+    /// 1: the page is not 4 to F.
+    NoSuchPage,
+    /// 2: the page is plugged.
+    Occupied,
+    /// 4: more than 4,096 words, or a word above 3FF.
+    BadImage,
+    /// 7: the word at this address is not held.
+    WordNotInProfile(u16),
+    /// 8: this address lies in pages 0 to 3, where the system's ROM would be.
+    SystemRom(u16),
+    /// 9: nothing is plugged at this address.
+    EmptyPage(u16),
+    /// 21: no memory is left.
+    OutOfMemory,
+    /// 22: the input cannot be read, or is too long.
+    ReadFault,
+    /// 23: the output cannot be written.
+    WriteFault,
+    /// 24: a function is running.
+    Busy,
+    /// 50: no command, or a word of it is missing or too many.
+    BadCommand,
+    /// 51: a number that is none, or is out of its range.
+    BadNumber,
+    /// 52: the input ended in a block.
+    NoEnd,
+    /// 53: a line of more than 200 bytes.
+    LineTooLong,
+}
+
+impl Refusal {
+    ghost use Rattle.std.specs.Prelude.{◌≡◌, ◌≤◌, length};
+    ghost use Rattle.h41_deck.specs.Refusals.{detail, heading, refusal_line};
+
+    /// The line that prints it, with its end: `! NN Name`, and a blank and the address in four hexadecimal digits, where it
+    /// tells one. It takes no memory, so that a refusal can be told whatever else fails.
+    pub fn line(self) -> ArrayString<LINE>
+        ensures { result.bytes ≡ refusal_line self }
+    {
+        let mut line = ArrayString::new();
+        line.push_str(self.heading());
+        if let Some(address) = self.detail() {
+            line.push(' ');
+            push_address(&mut line, address);
+        }
+        line.push('\n');
+        line
+    }
+
+    /// `! NN Name`.
+    pub fn heading(self) -> &'static str
+        ensures text { result.now ≡ heading self }
+        ensures short { length result.now ≤ 21 }
+    {
+        match self {
+            Refusal::NoSuchPage => "! 01 NoSuchPage",
+            Refusal::Occupied => "! 02 Occupied",
+            Refusal::BadImage => "! 04 BadImage",
+            Refusal::WordNotInProfile(_) => "! 07 WordNotInProfile",
+            Refusal::SystemRom(_) => "! 08 SystemRom",
+            Refusal::EmptyPage(_) => "! 09 EmptyPage",
+            Refusal::OutOfMemory => "! 21 OutOfMemory",
+            Refusal::ReadFault => "! 22 ReadFault",
+            Refusal::WriteFault => "! 23 WriteFault",
+            Refusal::Busy => "! 24 Busy",
+            Refusal::BadCommand => "! 50 BadCommand",
+            Refusal::BadNumber => "! 51 BadNumber",
+            Refusal::NoEnd => "! 52 NoEnd",
+            Refusal::LineTooLong => "! 53 LineTooLong",
+        }
+    }
+
+    /// The address that it tells, where it tells one.
+    pub fn detail(self) -> Option<u16>
+        ensures { result ≡ detail self }
+    {
+        match self {
+            Refusal::WordNotInProfile(address)
+            | Refusal::SystemRom(address)
+            | Refusal::EmptyPage(address) => Some(address),
+            _ => None,
+        }
+    }
+}
+
+impl From<NutRefusal> for Refusal {
+    ghost use Rattle.std.specs.Prelude.{◌≡◌};
+    ghost use Rattle.h41_deck.specs.Calculator.{of_nut};
+
+    ghost from_gives = { λ refusal own. own ≡ of_nut refusal };
+
+    fn from(refusal: NutRefusal) -> Self {
+        match refusal {
+            NutRefusal::WordNotInProfile(address) => Refusal::WordNotInProfile(address),
+            NutRefusal::SystemRom(address) => Refusal::SystemRom(address),
+            NutRefusal::EmptyPage(address) => Refusal::EmptyPage(address),
+        }
+    }
+}
+
+impl From<PlugRefusal> for Refusal {
+    ghost use Rattle.std.specs.Prelude.{◌≡◌};
+    ghost use Rattle.h41_deck.specs.Calculator.{of_plug};
+
+    ghost from_gives = { λ refusal own. own ≡ of_plug refusal };
+
+    fn from(refusal: PlugRefusal) -> Self {
+        match refusal {
+            PlugRefusal::NoSuchPage => Refusal::NoSuchPage,
+            PlugRefusal::Occupied => Refusal::Occupied,
+            PlugRefusal::BadImage => Refusal::BadImage,
+            PlugRefusal::OutOfMemory => Refusal::OutOfMemory,
+        }
+    }
+}
+
+/// Appends the four digits of an address.
+fn push_address(line: &mut ArrayString<LINE>, address: u16)
+    requires { array_string_len line.old + 4 ≤ LINE }
+    ensures { line.new.bytes ≡ line.old.bytes ++ hexadecimal_text 4 address }
+{
+    let third = address / 16;
+    let second = third / 16;
+    let first = second / 16;
+    line.push(glyph(first % 16));
+    line.push(glyph(second % 16));
+    line.push(glyph(third % 16));
+    line.push(glyph(address % 16));
+}
+
+/// A hexadecimal digit, in upper case.
+fn glyph(digit: u16) -> char
+    requires { digit < 16 }
+    ensures { result ≡ digit_glyph true digit }
+{
+    char::from_digit(u32::from(digit), 16)
+        .unwrap()
+        .to_ascii_uppercase()
+}

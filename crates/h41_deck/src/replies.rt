@@ -1,0 +1,164 @@
+//! The replies to commands: what each does to the calculator, and what it prints.
+
+ghost use Rattle.std.specs.Prelude.{◌≡◌, ◌≢◌, true, false, Err, IfOk, OnOk, OnErr, Some, vec_len, ◌≤◌};
+ghost use Rattle.std.specs.Io.KnownBytes.{Appends, Keeps};
+ghost use Rattle.std.specs.Result.{result_err};
+ghost use Rattle.h41_nut.specs.Addresses.{page_size};
+ghost use Rattle.h41_deck.specs.Blocks.{filled, judgement};
+ghost use Rattle.h41_deck.specs.Calculator.{page_refusal, with_page};
+ghost use Rattle.h41_deck.specs.Commands.{kind_of};
+ghost use Rattle.h41_deck.specs.Ends.{AppendsPart};
+ghost use Rattle.h41_deck.specs.Items.{with_values};
+ghost use Rattle.h41_deck.specs.Replies.{Replies, RepliesInPart, ending_line, outcome_in, takes_memory, unless};
+ghost use Rattle.h41_deck.specs.Views.{view_text};
+
+use crate::bench::Bench;
+use crate::blocks::Block;
+use crate::blocks::page_words::PAGE_WORDS;
+use crate::commands::{Command, View};
+use crate::ends::output::write_whole;
+use crate::ends::sink::Sink;
+use crate::fault::{CommandFault, WriteFault};
+use crate::refusal::Refusal;
+use crate::replies::view::Shown;
+use h41_nut::PlugRefusal;
+use std::alloc::{AllocError, Global};
+
+mod processor;
+mod view;
+
+/// The bank of a page that a deck's blocks fill.
+const BANK: u8 = 1;
+
+/// Whether a refusal was printed.
+#[derive(Clone, Copy, Debug, PartialEq, Eq)]
+pub enum Outcome {
+    /// No refusal.
+    Accepted,
+    /// At least one refusal.
+    Refused,
+}
+
+impl Outcome {
+    ghost use Rattle.h41_deck.specs.Deck.{outcome_and};
+
+    /// How a deck ends that goes on so.
+    pub(crate) fn and(self, next: Self) -> Self
+        ensures { result ≡ outcome_and self next }
+    {
+        match self {
+            Outcome::Accepted => next,
+            Outcome::Refused => Outcome::Refused,
+        }
+    }
+}
+
+/// Carries a command out, with its block, and writes its reply. The mark of the writer is clear before, and the block is the
+/// command's own.
+///
+/// # Errors
+///
+/// `OutOfMemory` (21), by commands that take memory alone: nothing is changed and nothing written. `WriteFault` (23): the
+/// command was carried out, and a front of its reply is written.
+pub fn apply<W: Sink>(
+    alloc: Global,
+    bench: &mut Bench,
+    command: Command,
+    block: Block,
+    writer: &mut W,
+) -> Result<Outcome, CommandFault>
+    requires clear { W.failed writer.old ≡ false }
+    requires block { block.kind ≡ kind_of command }
+
+    // The reply is written, or a front of it.
+    ensures reply { IfOk result (Replies (with_values (judgement block) command) bench.old bench.new
+        (W.contents writer.old) (W.contents writer.new)) }
+    ensures part { result ≡ Err CommandFault.WriteFault → RepliesInPart (with_values (judgement block) command)
+        bench.old bench.new (W.contents writer.old) (W.contents writer.new) }
+
+    // Memory is refused to commands that take some.
+    ensures memory { result ≡ Err CommandFault.OutOfMemory → takes_memory command ≡ true }
+    ensures unchanged { result ≡ Err CommandFault.OutOfMemory → bench.new ≡ bench.old }
+    ensures silent { result ≡ Err CommandFault.OutOfMemory → Keeps (W.contents writer.old) (W.contents writer.new) }
+
+    // The mark tells whether writing failed.
+    ensures mark { result ≡ Err CommandFault.WriteFault → W.failed writer.new ≡ true }
+    ensures clear { result ≢ Err CommandFault.WriteFault → W.failed writer.new ≡ false }
+{
+    if let Some(refusal) = block.refusal() {
+        return Ok(print_ending(Err(refusal), writer)?);
+    }
+    let ended = match command {
+        Command::Plug { page, writable, .. } => {
+            plug(alloc, bench, page, writable, block.into_words())?
+        }
+        Command::Call(address) => bench.calculator.call(address),
+        Command::Step(count) => bench.steps(count),
+        Command::Show(view) => return show(alloc, bench, view, writer),
+    };
+    Ok(print_ending(ended, writer)?)
+}
+
+/// Plugs words, filled with 000 to a page. 21 where memory is refused: nothing is changed then.
+fn plug(
+    alloc: Global,
+    bench: &mut Bench,
+    page: u8,
+    writable: bool,
+    words: Vec<u16>,
+) -> Result<Result<(), Refusal>, AllocError>
+    requires { vec_len words ≤ page_size }
+    ensures refusal { IfOk result (λ ended. result_err ended ≡ page_refusal bench.old page (filled words.items)) }
+    ensures change { IfOk result (λ ended. bench.new ≡ unless (result_err ended)
+        (with_page page writable (filled words.items) bench.old) bench.old) }
+    ensures err { OnErr result (bench.new ≡ bench.old) }
+{
+    let mut words = words;
+    words.resize(PAGE_WORDS, 0)?;
+    match bench.calculator.plug(alloc, page, BANK, writable, &words) {
+        Ok(()) => Ok(Ok(())),
+        Err(refusal) => match refusal {
+            PlugRefusal::OutOfMemory => Err(AllocError),
+            other => Ok(Err(Refusal::from(other))),
+        },
+    }
+}
+
+/// Prints a view. 21 where memory is refused.
+fn show<W: Sink>(
+    alloc: Global,
+    bench: &Bench,
+    view: View,
+    writer: &mut W,
+) -> Result<Outcome, CommandFault>
+    requires { W.failed writer.old ≡ false }
+    ensures outcome { IfOk result (λ outcome. outcome ≡ Outcome.Accepted) }
+    ensures written { OnOk result (Appends (W.contents writer.old) (W.contents writer.new) (view_text view bench.now)) }
+    ensures part { result ≡ Err CommandFault.WriteFault → AppendsPart (W.contents writer.old) (W.contents writer.new)
+        (view_text view bench.now) }
+    ensures silent { result ≡ Err CommandFault.OutOfMemory → Keeps (W.contents writer.old) (W.contents writer.new) }
+    ensures mark { result ≡ Err CommandFault.WriteFault → W.failed writer.new ≡ true }
+    ensures clear { result ≢ Err CommandFault.WriteFault → W.failed writer.new ≡ false }
+{
+    let text = format!(in alloc; "{}", Shown { view, calculator: bench.calculator() })?;
+    write_whole(writer, text.as_bytes())?;
+    Ok(Outcome::Accepted)
+}
+
+/// Prints the refusal that a command ended with, if any, and tells whether it did.
+pub(crate) fn print_ending<W: Sink>(ended: Result<(), Refusal>, writer: &mut W) -> Result<Outcome, WriteFault>
+    requires { W.failed writer.old ≡ false }
+    ensures outcome { IfOk result (λ outcome. outcome ≡ outcome_in (result_err ended)) }
+    ensures written { OnOk result (Appends (W.contents writer.old) (W.contents writer.new) (ending_line (result_err ended))) }
+    ensures clear { OnOk result (W.failed writer.new ≡ false) }
+    ensures mark { OnErr result (W.failed writer.new ≡ true) }
+    ensures part { OnErr result (AppendsPart (W.contents writer.old) (W.contents writer.new) (ending_line (result_err ended))) }
+{
+    match ended {
+        Ok(()) => Ok(Outcome::Accepted),
+        Err(refusal) => {
+            write_whole(writer, refusal.line().as_str().as_bytes())?;
+            Ok(Outcome::Refused)
+        }
+    }
+}

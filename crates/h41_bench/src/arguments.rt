@@ -65,7 +65,7 @@ A deck is a text file of commands, one a line. Such as:
 
   words P [rw]  fills page P, 4 to F, with the words on the lines up to `end`
   call hhhh     begins the function at an address
-  step [n]      carries out n of its words, one where n is missing
+  step [n]      carries out n of its instructions, one where n is missing
   show cpu      prints the processor
   # ...         is a comment, where # is the first character of the line
 

@@ -52,6 +52,33 @@ impl Ending {
     }
 }
 
+/// What help tells behind the usage.
+const DECKS: &str = "\
+A deck is a text file of commands, one a line. Such as:
+
+    words 8
+    130 123 226 3E0
+    end
+    call 8000
+    step 2
+    show cpu
+
+  words P [rw]  fills page P, 4 to F, with the words on the lines up to `end`
+  call hhhh     begins the function at an address
+  step [n]      carries out n of its instructions, one where n is missing
+  show cpu      prints the processor
+  # ...         is a comment, where # is the first character of the line
+
+A refused command prints a line such as `! 24 Busy`, and the deck goes on.
+
+The program ends with status 0 where nothing was refused, 1 where a refusal was
+printed, 2 at a wrong command line, and 3 where the deck could not be read, its
+output could not be written, or memory was refused.
+
+Beside the program's sources, README.md is the place to begin, docs/DECK.md has
+the whole deck language with each refusal and its usual causes, examples/ has
+decks to try, and tools/where tells which lines of a deck were refused.";
+
 /// The command `bench run FILE`.
 fn bench<'a>(alloc: Global) -> Result<Command<'a>, AllocError>
     ensures { IfOk result (λ command. app_of command ≡ bench_app) }
@@ -62,9 +89,11 @@ fn bench<'a>(alloc: Global) -> Result<Command<'a>, AllocError>
         .action(ArgAction::Set);
     let run = Command::new(alloc, "run")
         .about("Runs a deck of commands")
+        .after_help(DECKS)
         .arg(file)?;
     Command::new(alloc, "bench")
         .about("Runs decks of commands of the bench")
+        .after_help(DECKS)
         .subcommand_required(true)
         .subcommand(run)
 }

@@ -1,13 +1,1 @@
-pub mod Blocks
 pub mod CommandLemmas
-pub mod DeckItems
-pub mod DeckLines
-pub mod DeckWords
-pub mod Determined
-pub mod EndsLemmas
-pub mod HexadecimalTexts
-pub mod Inputs
-pub mod Numbers
-pub mod Pages
-pub mod Replies
-pub mod WholeDecks

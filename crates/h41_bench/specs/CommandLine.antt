@@ -1,6 +1,10 @@
 -- What the words of a command line ask for. The first word is the program's name.
-use Rattle.std.specs.Prelude.{◌==◌, ◌&&◌, ◌||◌, ℕ, Bool, true, false, not, List, [], ◌∷◌, Option, Some, None, is_some, if◌then◌else◌, codes, slice_get}
+use Rattle.std.specs.Prelude.{◌==◌, ◌&&◌, ◌||◌, ℕ, Bool, true, false, not, List, [], ◌∷◌, Option, Some, None, is_some, if◌then◌else◌, codes, drop, slice_get}
 use Rattle.std.specs.Str.{bytes_eq, chars}
+
+-- the words that the program was started with, the first of them its own name, whatever that was
+abbrev pub named : List (List ℕ) → List (List ℕ)
+named words = codes "bench" ∷ drop 1 words
 
 -- a hyphen (45), and at least one character after it
 abbrev pub is_flag : List ℕ → Bool

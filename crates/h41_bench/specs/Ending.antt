@@ -1,19 +1,26 @@
--- What an ending prints, and with which status.
-use Rattle.std.specs.Prelude.{◌≡◌, ◌⊎◌, ℕ, List, codes, string_bytes, ◌++◌, ◌∷◌, []}
+-- What the words of a command line are answered with: a job, or how the program ends.
+use Rattle.std.specs.Prelude.{◌≡◌, ◌⊎◌, ℕ, List, string_bytes, Result, MatchResult}
 use Rattle.h41_bench.specs.declared.arguments.Ending.{Ending}
-use Rattle.h41_bench.specs.declared.arguments.Ending.TheVariants.{Help, Mistake, OutOfMemory}
+use Rattle.h41_bench.specs.declared.arguments.Ending.TheVariants as endings
+use Rattle.h41_bench.specs.declared.arguments.Job.{Job}
+use Rattle.h41_deck.specs.declared.refusal.Refusal.TheVariants.{OutOfMemory}
+use Rattle.h41_deck.specs.Refusals.{heading}
 
 abbrev pub status_of : Ending → ℕ
-status_of (Help text) = 0
-status_of (Mistake text) = 2
-status_of OutOfMemory = 3
+status_of (endings.Help text) = 0
+status_of (endings.Mistake text) = 2
+status_of endings.OutOfMemory = 3
 
--- the text; a line feed (10) ends that of `OutOfMemory`
+-- the text
 abbrev pub text_of : Ending → List ℕ
-text_of (Help text) = string_bytes text
-text_of (Mistake text) = string_bytes text
-text_of OutOfMemory = codes "! 21 OutOfMemory" ++ 10 ∷ []
+text_of (endings.Help text) = string_bytes text
+text_of (endings.Mistake text) = string_bytes text
+text_of endings.OutOfMemory = heading OutOfMemory
 
 -- the status, where memory did not run out
 abbrev pub EndsWith : ℕ → Ending → Type 0
-EndsWith status ending = (status_of ending ≡ status) ⊎ (ending ≡ OutOfMemory)
+EndsWith status ending = (status_of ending ≡ status) ⊎ (ending ≡ endings.OutOfMemory)
+
+-- a job over this file, where memory did not run out
+abbrev pub AsksToRun : Result Job Ending → List ℕ → Type 0
+AsksToRun result file = MatchResult result (λ job. job.file.now ≡ file) (λ ending. ending ≡ endings.OutOfMemory)

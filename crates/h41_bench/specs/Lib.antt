@@ -1,10 +1,4 @@
-pub mod Answers
 pub mod BenchCommand
-pub mod Calculator
 pub mod CommandLine
-pub mod Deck
 pub mod Ending
-pub mod Ends
-pub mod FaultText
-pub mod Items
-pub mod Texts
+pub mod Statuses

@@ -1,19 +1,28 @@
 //! Reads the command line.
 
-ghost use Rattle.std.specs.Prelude.{◌≡◌, ◌≢◌, true, codes, map, Some, IfOk, IfSome, IfNone, IsErr, IsErrAnd, IsSome, IsSomeAnd, MatchResult};
+ghost use Rattle.std.specs.Prelude.{◌≡◌, ◌≢◌, true, codes, map, Some, IfOk, IfSome, IfNone, IsErr, IsErrAnd, IsSome, IsSomeAnd};
 ghost use Rattle.clap.specs.Words.{FailsBy, HasMatchesOf, app_of, fault_of, kind_of, subcommand_rows_of};
 ghost use Rattle.clap.specs.declared.error.kind.ErrorKind.TheVariants as kind;
 ghost use Rattle.h41_bench.specs.BenchCommand.{bench_app, command_in, file_in};
 ghost use Rattle.h41_bench.specs.CommandLine.{asks_help, file_to_run, is_mistake};
-ghost use Rattle.h41_bench.specs.Ending.{EndsWith, status_of, text_of};
+ghost use Rattle.h41_bench.specs.Ending.{AsksToRun, EndsWith, status_of, text_of};
 
 use clap::error::ErrorKind;
 use clap::{Arg, ArgAction, ArgMatches, Command, Error};
+use h41_deck::Refusal;
 use std::alloc::{AllocError, Global};
 
-/// What the command line asks for: a run of the deck in `file`, where `-` is standard input.
+/// What a job does with its file.
+#[derive(Clone, Copy, Debug, PartialEq, Eq)]
+pub enum Task {
+    /// Runs the deck in it.
+    Run,
+}
+
+/// What the command line asks for: a task, and the file that it is for, where `-` is standard input.
 #[derive(Clone, Copy, Debug, PartialEq, Eq)]
 pub struct Job<'a> {
+    pub task: Task,
     pub file: &'a str,
 }
 
@@ -40,14 +49,14 @@ impl Ending {
         }
     }
 
-    /// The text that the program prints.
+    /// The text that the program prints. Where memory is refused, it is the fault's line without its end.
     pub fn text(&self) -> &str
         ensures { result.now ≡ text_of self.now }
     {
         match self {
             Ending::Help(text) => text.as_str(),
             Ending::Mistake(text) => text.as_str(),
-            Ending::OutOfMemory => "! 21 OutOfMemory\n",
+            Ending::OutOfMemory => Refusal::OutOfMemory.heading(),
         }
     }
 }
@@ -114,7 +123,10 @@ fn job_of<'a>(matches: &ArgMatches<'a>) -> Job<'a>
 {
     let run = matches.subcommand_matches("run").unwrap();
     let file = run.get_str("FILE").unwrap();
-    Job { file }
+    Job {
+        task: Task::Run,
+        file,
+    }
 }
 
 /// How the program ends where the words ask for no job.
@@ -141,8 +153,7 @@ fn make_ending(alloc: Global, error: Error) -> Ending
 ///
 /// `Help` (status 0), `Mistake` (status 2) and `OutOfMemory` (status 3).
 pub fn read_words<'a>(alloc: Global, words: &'a [&'a str]) -> Result<Job<'a>, Ending>
-    ensures run { IfSome (file_to_run (map (λ w. w.now) words.now)) (λ file.
-        MatchResult result (λ job. job.file.now ≡ file) (λ ending. ending ≡ Ending.OutOfMemory)) }
+    ensures run { IfSome (file_to_run (map (λ w. w.now) words.now)) (AsksToRun result) }
     ensures no_run { IfNone (file_to_run (map (λ w. w.now) words.now)) (IsErr result) }
     ensures help { asks_help (map (λ w. w.now) words.now) ≡ true → IsErrAnd result (EndsWith 0) }
     ensures mistake { is_mistake (map (λ w. w.now) words.now) ≡ true

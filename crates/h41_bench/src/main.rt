@@ -2,43 +2,18 @@
 #![tactic(auto)]
 
 mod arguments;
-mod bench;
-mod calculator;
-mod command;
-mod commands;
-mod deck;
-mod dump;
-mod fault;
-mod hexadecimal;
-mod input;
-mod laws;
-mod line;
-mod lines;
-mod number;
-mod output;
-mod page;
-mod parse;
-mod refusal;
 mod serve;
-mod sink;
-mod source;
 #[cfg(test)]
 mod tests;
-mod text;
-mod words;
 
 ghost use Rattle.std.specs.Prelude.{◌≡◌, ◌≢◌, ◌⊎◌, ◌∷◌, ◌≤◌, true, IfOk, IfSome, IsSome, codes, drop, map, string_bytes};
-ghost use Rattle.h41_bench.specs.Answers.{status_of_outcome};
-ghost use Rattle.h41_bench.specs.CommandLine.{asks_help, file_to_run, is_mistake};
-ghost use Rattle.h41_bench.specs.Deck.{DeckEnds};
+ghost use Rattle.h41_bench.specs.CommandLine.{asks_help, file_to_run, is_mistake, named};
 ghost use Rattle.h41_bench.specs.Ending.{status_of};
-ghost use Rattle.h41_bench.specs.declared.deck.Outcome.{Outcome};
+ghost use Rattle.h41_bench.specs.Statuses.{EndsDeck, IsStatus};
 
 use crate::arguments::{Ending, Job, read_words};
-use crate::fault::Fault;
 use crate::serve::{FAILED, serve};
-use crate::sink::ToWrite;
-use crate::source::FromRead;
+use h41_deck::{Fault, FromRead, ToWrite};
 use std::alloc::{AllocError, Global};
 use std::env;
 use std::fs::File;
@@ -55,7 +30,7 @@ fn main(rt: HostRuntime) -> ExitCode {
     ExitCode::from(run(&rt, rt.alloc()))
 }
 
-// Does what the command line asks for, and answers the status.
+/// Does what the command line asks for, and answers the status.
 fn run(rt: &HostRuntime, alloc: Global) -> u8
     ensures { result ≤ 3 }
 {
@@ -73,11 +48,11 @@ fn run(rt: &HostRuntime, alloc: Global) -> u8
     }
 }
 
-// Does what these words ask for.
+/// Does what these words ask for.
 fn run_words(rt: &HostRuntime, alloc: Global, words: &[String]) -> u8
-    ensures help { asks_help (codes "bench" ∷ drop 1 (map string_bytes words.now)) ≡ true → (result ≡ 0) ⊎ (result ≡ 3) }
-    ensures mistake { is_mistake (codes "bench" ∷ drop 1 (map string_bytes words.now)) ≡ true → (result ≡ 2) ⊎ (result ≡ 3) }
-    ensures run { IsSome (file_to_run (codes "bench" ∷ drop 1 (map string_bytes words.now))) → (result ≡ 0) ⊎ ((result ≡ 1) ⊎ (result ≡ 3)) }
+    ensures help { asks_help (named (map string_bytes words.now)) ≡ true → (result ≡ 0) ⊎ (result ≡ 3) }
+    ensures mistake { is_mistake (named (map string_bytes words.now)) ≡ true → (result ≡ 2) ⊎ (result ≡ 3) }
+    ensures run { IsSome (file_to_run (named (map string_bytes words.now))) → IsStatus result }
     ensures bound { result ≤ 3 }
 {
     match named(alloc, words) {
@@ -89,9 +64,9 @@ fn run_words(rt: &HostRuntime, alloc: Global, words: &[String]) -> u8
     }
 }
 
-// The words with the program's own name for the first, under whatever name it was started.
+/// The words with the program's own name for the first, under whatever name it was started.
 fn named(alloc: Global, words: &[String]) -> Result<Vec<&str>, AllocError>
-    ensures { IfOk result (λ named. map (λ word. word.now) named.items ≡ codes "bench" ∷ drop 1 (map string_bytes words.now)) }
+    ensures { IfOk result (λ words_named. map (λ word. word.now) words_named.items ≡ named (map string_bytes words.now)) }
 {
     let mut named = Vec::new(alloc);
     named.push(NAME)?;
@@ -103,14 +78,15 @@ fn named(alloc: Global, words: &[String]) -> Result<Vec<&str>, AllocError>
     Ok(named)
 }
 
-// Prints what there is to say in place of a job.
+/// Prints what there is to say in place of a job.
 fn end(rt: &HostRuntime, ending: &Ending) -> u8
     ensures { (result ≡ status_of ending.now) ⊎ (result ≡ 3) }
 {
     let text = ending.text();
     let printed = match ending {
         Ending::Help(_) => print!(rt; "{text}"),
-        Ending::Mistake(_) | Ending::OutOfMemory => eprint!(rt; "{text}"),
+        Ending::Mistake(_) => eprint!(rt; "{text}"),
+        Ending::OutOfMemory => eprintln!(rt; "{text}"),
     };
     match printed {
         Ok(()) => ending.status(),
@@ -118,9 +94,9 @@ fn end(rt: &HostRuntime, ending: &Ending) -> u8
     }
 }
 
-// Runs the deck of a file, or of standard input where its name is `-`.
+/// Runs the deck of a file, or of standard input where its name is `-`.
 fn run_job(rt: &HostRuntime, alloc: Global, job: Job<'_>) -> u8
-    ensures { (result ≡ 0) ⊎ ((result ≡ 1) ⊎ (result ≡ 3)) }
+    ensures { IsStatus result }
 {
     if job.file == "-" {
         return run_from(rt, alloc, job, rt.stdin());
@@ -131,10 +107,10 @@ fn run_job(rt: &HostRuntime, alloc: Global, job: Job<'_>) -> u8
     }
 }
 
-// Runs the deck that a reader gives, from there to standard output.
+/// Runs the deck that a reader gives, from there to standard output.
 fn run_from<R: Read + Drop>(rt: &HostRuntime, alloc: Global, job: Job<'_>, reader: R) -> u8
-    ensures status { (result ≡ 0) ⊎ ((result ≡ 1) ⊎ (result ≡ 3)) }
-    ensures outcome { result ≢ 3 → IfSome (R.remaining reader) (λ deck. (outcome : Outcome) × DeckEnds deck outcome × (result ≡ status_of_outcome outcome)) }
+    ensures status { IsStatus result }
+    ensures outcome { result ≢ 3 → IfSome (R.remaining reader) (EndsDeck result) }
 {
     let Ok(output) = BufWriter::new(alloc, rt.stdout()) else {
         return fail(rt, Fault::OutOfMemory);
@@ -145,7 +121,7 @@ fn run_from<R: Read + Drop>(rt: &HostRuntime, alloc: Global, job: Job<'_>, reade
     serve(alloc, job, &mut reader, &mut writer, &mut faults)
 }
 
-// Tells a fault on standard error, as far as that takes it.
+/// Tells a fault on standard error, as far as that takes it.
 fn fail(rt: &HostRuntime, fault: Fault) -> u8
     ensures { result ≡ 3 }
 {

@@ -1,3 +1,5 @@
+//! Rows of command lines.
+
 use crate::arguments::read_words;
 use std::alloc::Global;
 use std::process::Abort;

@@ -1,0 +1,5 @@
+//! Rows that no clause says: command lines, decks, and the statuses of whole runs.
+
+mod arguments;
+mod decks;
+mod ends;

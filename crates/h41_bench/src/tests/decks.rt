@@ -1,0 +1,398 @@
+//! Decks and what they print: rows from the processor's documents, and whole runs over ends that cut and fail.
+
+ghost use Rattle.std.specs.Prelude.{◌≡◌, ◌<◌, false};
+
+use crate::arguments::{Job, Task};
+use crate::serve::serve;
+use crate::tests::ends::{Long, Pieces, Slow};
+use h41_deck::{Fault, FromRead, Outcome, Sink, Source, ToWrite, run_deck};
+use std::alloc::{AllocError, Global};
+use std::io::{BufWriter, Cursor};
+use std::process::Abort;
+use std::test::Fail;
+
+/// The deck prints the text, and is refused where the text has a refusal.
+fn prints(rt: &impl Abort, alloc: Global, deck: &str, text: &str) -> Result<(), Fault> {
+    let mut reader = FromRead::new(deck.as_bytes());
+    let mut writer = ToWrite::new(Vec::new(alloc));
+    let outcome = run_deck(alloc, &mut reader, &mut writer)?;
+    let printed = String::from_utf8(writer.into_inner());
+    match printed {
+        Ok(printed) => assert_eq!(rt; printed.as_str(), text, "at {deck:?}"),
+        Err(_) => assert!(rt; false, "no text at {deck:?}"),
+    }
+    let expected = if text.contains('!') {
+        Outcome::Refused
+    } else {
+        Outcome::Accepted
+    };
+    assert_eq!(rt; outcome, expected, "at {deck:?}");
+    Ok(())
+}
+
+/// What `show cpu` prints where only C, the program counter, the carry and the return addresses are not as at first.
+fn dump(alloc: Global, c: &str, pc: &str, carry: u8, returns: &str) -> Result<String, AllocError> {
+    format!(in alloc;
+        "A=00000000000000 B=00000000000000 C={c}\nM=00000000000000 N=00000000000000\n\
+         G=00 T=00 ST=0000 P=0 Q=0 PT=P\nPC={pc} CY={carry} MODE=HEX RAM=000 KY=00 KF=0\n\
+         RTN={returns}\n"
+    )
+}
+
+const ZERO: &str = "00000000000000";
+
+/// The return addresses of a function that was called, and after its end.
+const CALLED: &str = "00F0 0000 0000 0000";
+
+const ENDED: &str = "0000 0000 0000 0000";
+
+/// The words that make C FFF in 13 steps: LDI 3FF, and then 12 times C=C+1 at XS.
+const FFF: &str = "130 3FF 236 236 236 236 236 236 236 236 236 236 236 236";
+
+#[test]
+fn runs_words(rt: HostRuntime) -> Result<(), Fail> {
+    let cases = [
+        ("130 123", "226 3E0", 2, "00000000000124", "8003", 0),
+        ("", "222", 1, "00000000000001", "8001", 0),
+        ("", "226", 1, "00000000000001", "8001", 0),
+        ("", "22A", 1, "00000000000001", "8001", 0),
+        ("", "22e", 1, "00000000000001", "8001", 0),
+        ("", "232", 1, "00000000000001", "8001", 0),
+        ("", "236", 1, "00000000000100", "8001", 0),
+        ("", "23A", 1, "00000000001000", "8001", 0),
+        ("", "23E", 1, "10000000000000", "8001", 0),
+        ("# LDI", "130\t7\n226 0", 3, "00000000000008", "8004", 0),
+        (
+            "\r",
+            " 130 3fF\r\n\r\n# x\n\t00",
+            2,
+            "000000000003FF",
+            "8003",
+            0,
+        ),
+        (FFF, "", 13, "00000000000FFF", "800E", 0),
+        (FFF, "222", 14, "00000000000FF0", "800F", 1),
+        (FFF, "226", 14, ZERO, "800F", 1),
+        (FFF, "22A", 14, "00000000000FF0", "800F", 1),
+        (FFF, "22E", 14, "00000000001000", "800F", 0),
+        (FFF, "232", 14, "00000000000FF0", "800F", 1),
+        (FFF, "236", 14, "000000000000FF", "800F", 1),
+        (FFF, "23A", 14, "00000000001FFF", "800F", 0),
+        (FFF, "23E", 14, "10000000000FFF", "800F", 0),
+        (FFF, "226 000", 15, ZERO, "8010", 0),
+        (FFF, "226 226", 15, "00000000000001", "8010", 0),
+        (FFF, "226 130 001", 15, "00000000000001", "8011", 0),
+    ];
+    for (first, others, steps, c, pc, carry) in cases {
+        let deck = format!(in rt.alloc();
+            "words 8\n{first}\n{others}\nend\ncall 8000\nstep {steps}\nshow cpu\n"
+        )?;
+        let text = dump(rt.alloc(), c, pc, carry, CALLED)?;
+        prints(&rt, rt.alloc(), &deck, &text)?;
+    }
+    Ok(())
+}
+
+#[test]
+fn refuses_lines(rt: HostRuntime) -> Result<(), Fail> {
+    let cases = [
+        ("", ""),
+        ("\n\r\n \t\n# fly", ""),
+        ("words 8\n1234\nend\n", "! 51 BadNumber\n"),
+        ("words 8\n # x\nend\n", "! 51 BadNumber\n"),
+        ("words 8\n400\nend\n", "! 04 BadImage\n"),
+        ("words 3\n0\nend\n", "! 01 NoSuchPage\n"),
+        ("words 4\nend\nwords F rw\nend", ""),
+        ("words 8\nend\nwords 8 rw\n3FF\nend\n", "! 02 Occupied\n"),
+        ("words 8\n", "! 52 NoEnd\n"),
+        ("words 8\n1\nstep x", "! 52 NoEnd\n"),
+        ("step x\n", "! 51 BadNumber\n"),
+        ("step 0\nstep 007\nstep 9999999\n", ""),
+        ("step 10000000", "! 51 BadNumber\n"),
+        ("call 800\n", "! 51 BadNumber\n"),
+        ("call 00F0\n", "! 08 SystemRom 00F0\n"),
+        ("call 3fff\n", "! 08 SystemRom 3FFF\n"),
+        ("fly\n", "! 50 BadCommand\n"),
+        ("run x\n", "! 50 BadCommand\n"),
+        ("size 9\n", "! 50 BadCommand\n"),
+        ("end\n", "! 50 BadCommand\n"),
+        (" # x\n", "! 50 BadCommand\n"),
+        ("show cpu\r", "! 50 BadCommand\n"),
+        ("step\r\r\n", "! 50 BadCommand\n"),
+        ("call 9000\nstep", "! 09 EmptyPage 9000\n"),
+        ("call 4000\r\nstep 2\r\nstep 0\r\n", "! 09 EmptyPage 4000\n"),
+        (
+            "fly\n# fly\ncall 9000\nstep x\nstep\ncall 9000\nwords 1\nend\nwords 9\nend\nstep\nend",
+            "! 50 BadCommand\n! 51 BadNumber\n! 09 EmptyPage 9000\n! 24 Busy\n! 01 NoSuchPage\n\
+             ! 50 BadCommand\n",
+        ),
+    ];
+    for (deck, text) in cases {
+        prints(&rt, rt.alloc(), deck, text)?;
+    }
+    Ok(())
+}
+
+#[test]
+fn shows_the_processor(rt: HostRuntime) -> Result<(), Fail> {
+    let two = "00000000000002";
+    let cases = [
+        ("", "", ZERO, "00F0", ENDED),
+        ("call 9000\n", "", ZERO, "9000", CALLED),
+        (
+            "words 8\n3E0\nend\ncall 8000\ncall 8000\nstep\n",
+            "! 24 Busy\n",
+            ZERO,
+            "00F0",
+            ENDED,
+        ),
+        (
+            "words 8\n3e0\nend\ncall 8000\nstep 2\n",
+            "",
+            ZERO,
+            "00F0",
+            ENDED,
+        ),
+        (
+            "words 8\r\n226 226\r\n3E0\r\nend\r\ncall 8000\r\nstep 9\r\n",
+            "",
+            two,
+            "00F0",
+            ENDED,
+        ),
+        (
+            "words 8\n226 3E0\nend\ncall 8000\nstep 2\ncall 8001\n",
+            "",
+            ZERO,
+            "8001",
+            CALLED,
+        ),
+        (
+            "words 8\n041\nend\ncall 8000\nstep\n",
+            "! 07 WordNotInProfile 8000\n",
+            ZERO,
+            "8000",
+            CALLED,
+        ),
+        (
+            "words 8\n226 226 041\nend\ncall 8000\nstep 9\nstep 9\n",
+            "! 07 WordNotInProfile 8002\n! 07 WordNotInProfile 8002\n",
+            two,
+            "8002",
+            CALLED,
+        ),
+        (
+            "words F\nend\ncall FFFF\nstep\n",
+            "! 08 SystemRom 0000\n",
+            ZERO,
+            "FFFF",
+            CALLED,
+        ),
+    ];
+    for (commands, refusals, c, pc, returns) in cases {
+        let deck = format!(in rt.alloc(); "{commands}show cpu")?;
+        let shown = dump(rt.alloc(), c, pc, 0, returns)?;
+        let text = format!(in rt.alloc(); "{refusals}{shown}")?;
+        prints(&rt, rt.alloc(), &deck, &text)?;
+    }
+    Ok(())
+}
+
+const DECK: &str = "words 8\n130 123\n226 3E0\nend\ncall 8000\ncall 9000\nstep 2\nshow cpu\nfly\n";
+
+/// What `DECK` prints.
+const TEXT: &str = "! 24 Busy\nA=00000000000000 B=00000000000000 C=00000000000124\n\
+    M=00000000000000 N=00000000000000\nG=00 T=00 ST=0000 P=0 Q=0 PT=P\n\
+    PC=8003 CY=0 MODE=HEX RAM=000 KY=00 KF=0\nRTN=00F0 0000 0000 0000\n! 50 BadCommand\n";
+
+/// `DECK` in pieces of so many bytes, up to a call that fails.
+fn reader<'a>(most: usize, calls: usize) -> Pieces<'a>
+    requires { 0 < most }
+    ensures { result.has_failed ≡ false }
+{
+    Pieces {
+        rest: DECK.as_bytes(),
+        most,
+        calls,
+        has_failed: false,
+    }
+}
+
+/// A sink of so many bytes a call, up to a call that fails.
+fn writer(alloc: Global, most: usize, calls: usize) -> Slow
+    ensures { result.has_failed ≡ false }
+{
+    Slow {
+        taken: Vec::new(alloc),
+        most,
+        calls,
+        has_failed: false,
+    }
+}
+
+#[test]
+fn runs_in_pieces(rt: HostRuntime) -> Result<(), Fail> {
+    for (reads, writes) in [(1, 1), (2, 3), (7, 1), (100, 100), (1, 100), (100, 1)] {
+        let mut reader = reader(reads, 1000);
+        let mut writer = writer(rt.alloc(), writes, 1000);
+        let outcome = run_deck(rt.alloc(), &mut reader, &mut writer)?;
+        assert_eq!(rt; outcome, Outcome::Refused);
+        assert!(rt;
+            writer.taken.as_slice() == TEXT.as_bytes(),
+            "by {reads} and {writes}"
+        );
+        assert!(rt; !reader.failed() && !writer.failed());
+    }
+    Ok(())
+}
+
+#[test]
+fn stops_at_a_failed_read(rt: HostRuntime) {
+    for calls in 0..=DECK.len().div_ceil(7) {
+        let mut reader = reader(7, calls);
+        let mut writer = writer(rt.alloc(), 100, 1000);
+        let result = run_deck(rt.alloc(), &mut reader, &mut writer);
+        assert!(rt;
+            result == Err(Fault::ReadFault),
+            "at call {calls}: {result:?}"
+        );
+        assert!(rt; reader.failed() && !writer.failed(), "at call {calls}");
+        assert!(rt; writer.taken.is_empty(), "at call {calls}");
+    }
+}
+
+#[test]
+fn stops_at_a_failed_write(rt: HostRuntime) {
+    // The last of these calls is the flush.
+    for calls in [0, 1, 9, 10, 100, TEXT.len() - 1, TEXT.len()] {
+        let mut reader = reader(100, 1000);
+        let mut writer = writer(rt.alloc(), 1, calls);
+        let result = run_deck(rt.alloc(), &mut reader, &mut writer);
+        assert!(rt;
+            result == Err(Fault::WriteFault),
+            "at call {calls}: {result:?}"
+        );
+        assert!(rt; writer.failed() && !reader.failed(), "at call {calls}");
+        assert_eq!(rt; writer.taken.len(), calls);
+        assert!(rt;
+            TEXT.as_bytes().starts_with(&writer.taken),
+            "at call {calls}"
+        );
+    }
+}
+
+#[test]
+fn stops_where_a_write_takes_nothing(rt: HostRuntime) {
+    let mut none = writer(rt.alloc(), 0, 1000);
+    let result = run_deck(rt.alloc(), &mut reader(100, 1000), &mut none);
+    assert!(rt; result == Err(Fault::WriteFault), "{result:?}");
+    assert!(rt; none.failed() && none.taken.is_empty());
+
+    // Room for the first refusal and the start of the processor.
+    let mut room = [0u8; 20];
+    let mut full = ToWrite::new(Cursor::new(room.as_mut_slice()));
+    let result = run_deck(rt.alloc(), &mut reader(100, 1000), &mut full);
+    assert!(rt; result == Err(Fault::WriteFault), "{result:?}");
+    assert!(rt; full.failed());
+    assert_eq!(rt; full.into_inner().position(), 20);
+    assert!(rt; TEXT.as_bytes().starts_with(&room), "{room:?}");
+}
+
+/// The deck of these bytes, of blanks up to so many bytes in all, and of more bytes ends and prints so.
+fn ends_at_the_bound(
+    rt: &impl Abort,
+    alloc: Global,
+    (before, count, after): (&[u8], usize, &[u8]),
+    expected: Result<Outcome, Fault>,
+    text: &str,
+) {
+    assert!(rt; before.len() <= count);
+    let mut reader = Long {
+        before,
+        blanks: count - before.len(),
+        after,
+    };
+    let mut writer = writer(alloc, 100, 1000);
+    let result = run_deck(alloc, &mut reader, &mut writer);
+    assert!(rt; result == expected, "{result:?}");
+    assert!(rt; writer.taken.as_slice() == text.as_bytes());
+    assert!(rt; !reader.failed() && !writer.failed());
+}
+
+#[test]
+fn the_longest_deck_is_whole(rt: HostRuntime) {
+    let text = "! 50 BadCommand\n! 53 LineTooLong\n";
+    let deck: (&[u8], usize, &[u8]) = (b"fly\n", 67_108_864, b"");
+    ends_at_the_bound(&rt, rt.alloc(), deck, Ok(Outcome::Refused), text);
+}
+
+#[test]
+fn a_longer_deck_ends_with_its_last_whole_line(rt: HostRuntime) {
+    let text = "! 51 BadNumber\n! 53 LineTooLong\n";
+    let deck: (&[u8], usize, &[u8]) = (b"step x\n", 67_108_863, b"\nfly\n");
+    ends_at_the_bound(&rt, rt.alloc(), deck, Err(Fault::ReadFault), text);
+}
+
+#[test]
+fn an_open_block_of_a_longer_deck_prints_nothing(rt: HostRuntime) {
+    let deck: (&[u8], usize, &[u8]) = (b"fly\nwords 8\n", 67_108_860, b"\n1\nend\n");
+    ends_at_the_bound(
+        &rt,
+        rt.alloc(),
+        deck,
+        Err(Fault::ReadFault),
+        "! 50 BadCommand\n",
+    );
+}
+
+#[test]
+fn serves(rt: HostRuntime) {
+    let job = Job {
+        task: Task::Run,
+        file: "-",
+    };
+    let mut taken = writer(rt.alloc(), 100, 1000);
+    let mut told = writer(rt.alloc(), 100, 1000);
+    let mut steps = FromRead::new("# idle\nstep\n".as_bytes());
+    assert_eq!(rt;
+        serve(rt.alloc(), job, &mut steps, &mut taken, &mut told),
+        0
+    );
+    assert!(rt; taken.taken.is_empty() && told.taken.is_empty());
+
+    // The calls that the input, the output and the end for faults take, the status, and what of the fault is told.
+    let cases = [
+        (1000, 1000, 1000, 1, ""),
+        (3, 1000, 1000, 3, "! 22 ReadFault\n"),
+        (1000, 0, 1000, 3, "! 23 WriteFault\n"),
+        (1000, 30, 1000, 3, "! 23 WriteFault\n"),
+        (0, 0, 1000, 3, "! 22 ReadFault\n"),
+        (1000, 30, 5, 3, "! 23 "),
+        (3, 1000, 0, 3, ""),
+    ];
+    for (reads, writes, tells, status, text) in cases {
+        let mut input = reader(7, reads);
+        let mut taken = writer(rt.alloc(), 1, writes);
+        let mut told = writer(rt.alloc(), 1, tells);
+        let answered = serve(rt.alloc(), job, &mut input, &mut taken, &mut told);
+        assert_eq!(rt; answered, status, "at {reads}, {writes}, {tells}");
+        assert!(rt;
+            told.taken.as_slice() == text.as_bytes(),
+            "at {reads}, {writes}, {tells}"
+        );
+    }
+}
+
+#[test]
+fn flushes_a_writer_of_std(rt: HostRuntime) -> Result<(), Fail> {
+    let inner = Cursor::new([0u8; 20]);
+    let mut writer = ToWrite::new(BufWriter::new(rt.alloc(), inner)?);
+    run_deck(
+        rt.alloc(),
+        &mut FromRead::new("fly\n".as_bytes()),
+        &mut writer,
+    )?;
+    assert!(rt; !writer.failed());
+    assert_eq!(rt; writer.into_inner().get_ref().position(), 16);
+    Ok(())
+}

@@ -1,7 +1,7 @@
 -- The memory of the HP-41: a finite map from the addresses that exist to registers of 14 digits, and what the calculator
 -- reads in its status registers. The layout is that of HP's calculator; the size of the start state, what an address that
 -- does not exist reads, and when memory counts as sound are this project's choices.
-use Rattle.std.specs.Prelude.{ℕ, ◌+◌, ◌-◌, ◌*◌, ◌/◌, ◌%◌, ◌^◌, Bool, true, false, ◌&&◌, List, [], ◌∷◌, ◌++◌, map, length, slice_index, slice_index_or, slice_set, replicate, drop, take, nat_lt, nat_le, ◌==◌, if◌then◌else◌}
+use Rattle.std.specs.Prelude.{ℕ, ◌+◌, ◌-◌, ◌*◌, ◌/◌, ◌%◌, ◌^◌, Bool, ◌&&◌, List, [], ◌∷◌, ◌++◌, map, length, slice_index, slice_index_or, slice_set, replicate, drop, nat_lt, nat_le, ◌==◌, if◌then◌else◌}
 use Rattle.h41_digits.specs.Register.{byte_at}
 
 -- the registers in the order of their addresses

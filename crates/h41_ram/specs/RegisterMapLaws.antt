@@ -1,6 +1,6 @@
 -- What holds of every memory, whatever the code does.
 use Rattle.std.specs.Prelude.{◌≡◌, ◌≢◌, ℕ, ◌<◌, ◌≤◌, ◌⊎◌, List, length, true}
-use Rattle.h41_ram.specs.RegisterMap.{RegisterMap, main_start, status_end, top_of, zeros, register_at, with_register, is_sound, start}
+use Rattle.h41_ram.specs.RegisterMap.{RegisterMap, main_start, status_end, top_of, register_at, with_register, is_sound, start}
 
 -- an address exists where a status register or a register of main memory stands
 abbrev pub Exists : RegisterMap → ℕ → Type 0

@@ -1,1 +1,1 @@
-pub mod WordTable
+pub mod Unassigned

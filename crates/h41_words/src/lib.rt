@@ -2,10 +2,16 @@
 //! listings.
 #![tactic(auto)]
 
+mod operands;
+mod operation;
 mod rows;
-mod table;
+mod second_word;
+mod unassigned;
 mod word;
 
-pub use rows::{Operation, Row};
-pub use table::{length, row};
+pub use operands::{BlockRegister, Digit, Displacement, Place, ReadRegister, StatusBit};
+pub use operation::Operation;
+pub use rows::{Bank, Condition, RegisterTransfer, Row};
+pub use second_word::{LongJumpKind, SecondWord};
+pub use unassigned::UnassignedWord;
 pub use word::Word;

@@ -1,3 +1,7 @@
+pub mod Addresses
+pub mod Going
+pub mod Jumps
 pub mod PageList
+pub mod Pointers
 pub mod Processor
-pub mod WordStep
+pub mod RegisterWords

@@ -1,6 +1,6 @@
 -- Addresses of words: sixteen pages of 4,096 words. Which of them are the system's, and so not held, is this project's
 -- choice.
-use Rattle.std.specs.Prelude.{ℕ, zero, suc, ◌+◌, ◌-◌, ◌*◌, ◌/◌, ◌%◌, ℤ, pos, negsuc, Bool, not, ◌&&◌, nat_lt, ◌==◌}
+use Rattle.std.specs.Prelude.{ℕ, suc, ◌+◌, ◌-◌, ◌/◌, ◌%◌, ℤ, pos, negsuc, Bool, not, ◌&&◌, nat_lt, ◌==◌}
 
 -- how many addresses there are, and how many words a page has
 abbrev pub address_count : ℕ

@@ -43,6 +43,10 @@ plug_refusal pages page bank words =
 abbrev pub plugged : Pages → ℕ → Bool → List ℕ → Pages
 plugged pages page writable words = slice_set pages page (Some (record { words = words; writable = writable }))
 
+-- the system's pages are not held: 8
+abbrev pub system_refusal : ℕ → Option Refusal
+system_refusal address = then_some (is_system address) (SystemRom address)
+
 -- the word at an address: its page is the address's first hexadecimal digit, and its place there the other three. Pages
 -- 0 to 3 are the system's and are not held (8), and in others there is no word where nothing is plugged (9).
 abbrev pub word_in : ℕ → Option PageImage → Result ℕ Refusal

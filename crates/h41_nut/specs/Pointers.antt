@@ -1,5 +1,5 @@
 -- The words of the two pointers and of the status bits. Pointers count 13 to 0 upwards and 0 to 13 downwards.
-use Rattle.std.specs.Prelude.{ℕ, ◌+◌, ◌-◌, ◌*◌, ◌/◌, ◌%◌, ◌^◌, Bool, true, false, ◌==◌, if◌then◌else◌}
+use Rattle.std.specs.Prelude.{ℕ, ◌+◌, ◌-◌, ◌*◌, ◌/◌, ◌%◌, ◌^◌, Bool, ◌==◌, if◌then◌else◌}
 use Rattle.std.specs.Int.{bit_at}
 use Rattle.h41_fields.specs.declared.field.Pointer.{Pointer}
 use Rattle.h41_fields.specs.declared.field.Pointer.TheVariants.{P, Q}
@@ -39,3 +39,14 @@ status_byte s = s.status % 256
 
 abbrev pub with_status_byte : ℕ → Processor → Processor
 with_status_byte byte s = record s { status = s.status / 256 * 256 + byte }
+
+-- the active pointer one place up, and one place down
+abbrev pub with_pointer_up : Processor → Processor
+with_pointer_up s = with_pointer (place_above (pointer_of s)) s
+
+abbrev pub with_pointer_down : Processor → Processor
+with_pointer_down s = with_pointer (place_below (pointer_of s)) s
+
+-- another pointer as the active one
+abbrev pub with_active : Pointer → Processor → Processor
+with_active pointer s = record s { active = pointer }

@@ -11,8 +11,9 @@ use h41_digits::Reg;
 use h41_fields::Pointer;
 use std::marker::Model;
 
+mod arithmetic;
 mod going;
-mod pointers;
+pub(crate) mod pointers;
 mod registers;
 mod status;
 

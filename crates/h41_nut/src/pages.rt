@@ -4,7 +4,7 @@ ghost use Rattle.std.specs.Prelude.{◌≡◌, ◌⊎◌, ◌<◌, None, Some, I
 ghost use Rattle.std.specs.List.{list_all};
 ghost use Rattle.std.specs.Result.{result_err};
 ghost use Rattle.h41_nut.specs.Addresses.{page_of, offset_of};
-ghost use Rattle.h41_nut.specs.PageList.{no_pages, is_image, plug_refusal, plugged, fetched, write_refusal, written};
+ghost use Rattle.h41_nut.specs.PageList.{no_pages, is_image, plug_refusal, plugged, fetched, system_refusal, word_or_zero, write_refusal, written};
 ghost use Rattle.h41_nut.specs.declared.refusal.PlugRefusal.TheVariants.{OutOfMemory};
 
 use crate::addresses::FIRST_ADDRESS;
@@ -62,9 +62,11 @@ impl Pages {
         writable: bool,
         words: &[u16],
     ) -> Result<(), PlugRefusal>
-        ensures ok { OnOk result ((plug_refusal self.old page bank words.now ≡ None) × (self.new ≡ plugged self.old page writable words.now)) }
+        ensures ok { OnOk result ((plug_refusal self.old page bank words.now ≡ None)
+            × (self.new ≡ plugged self.old page writable words.now)) }
         ensures err { OnErr result (self.new ≡ self.old) }
-        ensures refusal { IfErr result (λ refusal. (plug_refusal self.old page bank words.now ≡ Some refusal)
+        ensures refusal { IfErr result (λ refusal.
+            (plug_refusal self.old page bank words.now ≡ Some refusal)
             ⊎ ((plug_refusal self.old page bank words.now ≡ None) × (refusal ≡ OutOfMemory))) }
     {
         if let Some(refusal) = self.plug_refusal(page, bank, words) {
@@ -107,6 +109,28 @@ impl Pages {
         }
     }
 
+    /// The word at an address, and 000 where nothing is plugged (this project's choice). Refused as 8 in pages 0 to 3.
+    #[tactic(auto, unfolding(crate::specs::PageList::fetched))]
+    pub(crate) fn fetch_or_zero(&self, address: u16) -> Result<Word, Refusal>
+        ensures refusal { result_err result ≡ system_refusal address }
+        ensures word { IfOk result (λ word. word ≡ word_or_zero (fetched self.now address)) }
+    {
+        match self.fetch(address) {
+            Err(Refusal::EmptyPage(_)) => Ok(Word::new(0).unwrap()),
+            fetched => fetched,
+        }
+    }
+
+    /// Whether the word at an address may be written. Refused as 12 where the page isn't plugged as writable.
+    pub(crate) fn check_writable(&self, address: u16) -> Result<(), Refusal>
+        ensures { result_err result ≡ write_refusal self.now address }
+    {
+        match &self.pages[page_of(address)] {
+            Some(image) if image.is_writable() => Ok(()),
+            _ => Err(Refusal::ReadOnly(address)),
+        }
+    }
+
     /// Writes the word at an address. Refused as 12 where the page isn't plugged as writable.
     #[tactic(auto, unfolding(crate::specs::PageList::written))]
     pub fn write(&mut self, address: u16, word: Word) -> Result<(), Refusal>
@@ -127,7 +151,8 @@ impl Pages {
 // Whether these are the words of a page.
 fn is_image(words: &[u16]) -> bool
     ensures test { result ≡ is_image words.now }
-    ensures image { IsTrue result → (length words.now ≡ 4096) × All (λ word. word < 1024) words.now }
+    ensures image { IsTrue result → (length words.now ≡ 4096)
+        × All (λ word. word < 1024) words.now }
 {
     words.len() == PAGE_WORDS && all_fit(words)
 }

@@ -1,28 +1,29 @@
 //! How the processor goes on: to the next word, by jumps, and by returns.
 
-ghost use Rattle.std.specs.Prelude.{◌≡◌, false, IsTrue, IfOk, if◌then◌else◌};
+ghost use Rattle.std.specs.Prelude.{◌≡◌, IfOk};
 ghost use Rattle.std.specs.Result.{result_err};
-ghost use Rattle.h41_nut.specs.Addresses.{address_after, displaced};
-ghost use Rattle.h41_nut.specs.Going.{arrival_refusal, at_address, GoesTo, GoesOn};
+ghost use Rattle.h41_nut.specs.Addresses.{displaced};
+ghost use Rattle.h41_nut.specs.Going as going;
+ghost use Rattle.h41_nut.specs.Going.{GoesTo, GoesOn, Answers};
 ghost use Rattle.h41_nut.specs.Jumps as spec;
-ghost use Rattle.h41_nut.specs.RegisterWords.{address_in_c, with_address_in_c};
+ghost use Rattle.h41_nut.specs.RegisterWords.{with_address_pushed, with_address_popped};
 
 use crate::addresses::{END_OF_FUNCTION, FIRST_ADDRESS};
 use crate::cpu::Cpu;
 use crate::refusal::Refusal;
-use h41_words::{Condition, Displacement};
+use h41_words::{Condition, Displacement, Word};
 
 impl Cpu {
     /// The address behind the word.
     pub(crate) fn behind(&self) -> u16
-        ensures { result ≡ address_after self.now.pc 1 }
+        ensures { result ≡ going.behind self.now }
     {
         self.pc.wrapping_add(1)
     }
 
     /// Stands at an address, with a carry.
     pub(crate) fn arrive(&mut self, address: u16, carry: bool)
-        ensures { self.new ≡ at_address address carry self.old }
+        ensures { self.new ≡ going.at_address address carry self.old }
     {
         self.pc = address;
         self.carry = carry;
@@ -30,25 +31,59 @@ impl Cpu {
 
     /// Goes to an address, with no carry.
     pub(crate) fn go_to(&mut self, address: u16) -> Result<(), Refusal>
-        ensures { GoesTo address false self.old self.old self.new result }
+        ensures { GoesTo (λ _. address) (λ s. s) self.old self.new result }
     {
         let next = arrival(address)?;
         self.arrive(next, false);
         Ok(())
     }
 
+    /// Goes on behind the word, with no carry.
+    pub(crate) fn go_on(&mut self) -> Result<(), Refusal>
+        ensures { GoesOn (λ s. s) self.old self.new result }
+    {
+        self.go_to(self.behind())
+    }
+
     /// Goes on behind the word, with the answer of a test as the carry.
     pub(crate) fn answer(&mut self, test: bool) -> Result<(), Refusal>
-        ensures { GoesTo (address_after self.old.pc 1) test self.old self.old self.new result }
+        ensures { Answers test self.old self.new result }
     {
         let next = arrival(self.behind())?;
         self.arrive(next, test);
         Ok(())
     }
 
+    /// `?NC XQ` and the like: goes to the address of both words, where the carry is as the second word says. `XQ` keeps the
+    /// address behind both words.
+    pub(crate) fn long_jump(&mut self, low_byte: u8, second: Word) -> Result<(), Refusal>
+        ensures { GoesTo (spec.jump_target low_byte second) (spec.jump_change second) self.old self.new result }
+    {
+        let behind = self.pc.wrapping_add(2);
+        let number = second.number();
+        let condition = if number % 2 == 1 {
+            Condition::Carry
+        } else {
+            Condition::NoCarry
+        };
+        if !is_taken(condition, self.carry) {
+            return self.go_to(behind);
+        }
+        let next = arrival(number / 4 * 256 + u16::from(low_byte))?;
+        if number / 2 % 2 == 0 {
+            self.push(behind);
+        }
+        self.arrive(next, false);
+        Ok(())
+    }
+
     /// `JNC` and `JC`: goes by the displacement from the word's own address, where the carry is as the condition says.
-    pub(crate) fn short_jump(&mut self, condition: Condition, displacement: Displacement) -> Result<(), Refusal>
-        ensures { GoesTo (if spec.is_taken condition self.old.carry then displaced self.old.pc displacement else address_after self.old.pc 1) false self.old self.old self.new result }
+    pub(crate) fn short_jump(
+        &mut self,
+        condition: Condition,
+        displacement: Displacement,
+    ) -> Result<(), Refusal>
+        ensures { GoesTo (spec.short_jump_target condition displacement) (λ s. s) self.old self.new result }
     {
         if is_taken(condition, self.carry) {
             self.go_to(displaced(self.pc, displacement))
@@ -59,7 +94,7 @@ impl Cpu {
 
     /// `RTN`: goes to the newest return address, which is taken off.
     pub(crate) fn return_to_newest(&mut self) -> Result<(), Refusal>
-        ensures { GoesTo (spec.newest_return self.old) false (spec.popped self.old) self.old self.new result }
+        ensures { GoesTo spec.newest_return spec.popped self.old self.new result }
     {
         let next = arrival(self.newest_return())?;
         self.pop();
@@ -69,8 +104,7 @@ impl Cpu {
 
     /// `?C RTN` and `?NC RTN`: returns where the carry is as the condition says.
     pub(crate) fn return_if(&mut self, condition: Condition) -> Result<(), Refusal>
-        ensures taken { IsTrue (spec.is_taken condition self.old.carry) → GoesTo (spec.newest_return self.old) false (spec.popped self.old) self.old self.new result }
-        ensures not_taken { spec.is_taken condition self.old.carry ≡ false → GoesOn self.old self.old self.new result }
+        ensures { GoesTo (spec.return_target condition) (spec.return_change condition) self.old self.new result }
     {
         if is_taken(condition, self.carry) {
             self.return_to_newest()
@@ -81,7 +115,7 @@ impl Cpu {
 
     /// `XQ->GO`: drops the newest return address.
     pub(crate) fn drop_return(&mut self) -> Result<(), Refusal>
-        ensures { GoesOn (spec.popped self.old) self.old self.new result }
+        ensures { GoesOn spec.popped self.old self.new result }
     {
         let next = arrival(self.behind())?;
         self.pop();
@@ -91,7 +125,7 @@ impl Cpu {
 
     /// `PUSH ADR`: the address in C becomes the newest return address.
     pub(crate) fn push_address(&mut self) -> Result<(), Refusal>
-        ensures { GoesOn (spec.pushed (address_in_c self.old) self.old) self.old self.new result }
+        ensures { GoesOn with_address_pushed self.old self.new result }
     {
         let next = arrival(self.behind())?;
         self.push(self.address_in_c());
@@ -101,7 +135,7 @@ impl Cpu {
 
     /// `POP ADR`: the newest return address goes to C, and is taken off.
     pub(crate) fn pop_address(&mut self) -> Result<(), Refusal>
-        ensures { GoesOn (spec.popped (with_address_in_c (spec.newest_return self.old) self.old)) self.old self.new result }
+        ensures { GoesOn with_address_popped self.old self.new result }
     {
         let next = arrival(self.behind())?;
         let address = self.newest_return();
@@ -118,7 +152,7 @@ impl Cpu {
 
     /// `GOTO KEY`: goes to the next address with the key's code as its low byte.
     pub(crate) fn go_to_key(&mut self, key: u8) -> Result<(), Refusal>
-        ensures { GoesTo (spec.with_low_byte (address_after self.old.pc 1) key) false self.old self.old self.new result }
+        ensures { GoesTo (spec.key_target key) (λ s. s) self.old self.new result }
     {
         self.go_to(self.behind() / 256 * 256 + u16::from(key))
     }
@@ -171,7 +205,7 @@ fn displaced(address: u16, displacement: Displacement) -> u16
 
 /// The address, unless no step may arrive there.
 pub(crate) fn arrival(address: u16) -> Result<u16, Refusal>
-    ensures refusal { result_err result ≡ arrival_refusal address }
+    ensures refusal { result_err result ≡ going.arrival_refusal address }
     ensures address { IfOk result (λ arrived. arrived ≡ address) }
 {
     if address < FIRST_ADDRESS && address != END_OF_FUNCTION {

@@ -25,7 +25,7 @@ impl Cpu {
     /// `R= n`, `R=R+1` and `R=R-1`: puts the active pointer at a place.
     pub(crate) fn set_pointer(&mut self, place: usize) -> Result<(), Refusal>
         requires { place < 14 }
-        ensures { GoesOn (spec.with_pointer place self.old) self.old self.new result }
+        ensures { GoesOn (spec.with_pointer place) self.old self.new result }
     {
         let next = arrival(self.behind())?;
         self.move_pointer(place);
@@ -46,7 +46,7 @@ impl Cpu {
 
     /// `SLCT P` and `SLCT Q`: makes a pointer the active one.
     pub(crate) fn select_pointer(&mut self, pointer: Pointer) -> Result<(), Refusal>
-        ensures { GoesOn (record self.old { active = pointer }) self.old self.new result }
+        ensures { GoesOn (spec.with_active pointer) self.old self.new result }
     {
         let next = arrival(self.behind())?;
         self.active = pointer;

@@ -1,11 +1,8 @@
 //! The words that load, copy and rotate registers, and those that switch.
 
-ghost use Rattle.std.specs.Prelude.{◌≡◌, ◌<◌, ◌≤◌, ◌+◌, ◌*◌, ◌/◌, ◌∷◌, [], not, false, slice_index};
-ghost use Rattle.h41_digits.specs.Register.{IsRegister};
-ghost use Rattle.h41_ram.specs.RegisterMap.{zeros};
-ghost use Rattle.h41_nut.specs.Addresses.{address_after};
-ghost use Rattle.h41_nut.specs.Going.{GoesOn, GoesTo};
-ghost use Rattle.h41_nut.specs.Pointers.{pointer_of, place_below, with_pointer};
+ghost use Rattle.std.specs.Prelude.{◌≡◌, ◌<◌};
+ghost use Rattle.h41_nut.specs.Going.{GoesOn, GoesTo, behind_both};
+ghost use Rattle.h41_nut.specs.MemoryWords.{block_address, selecting};
 ghost use Rattle.h41_nut.specs.RegisterWords as spec;
 
 use crate::base::Base;
@@ -14,7 +11,7 @@ use crate::cpu::going::arrival;
 use crate::cpu::pointers::{place_above, place_below};
 use crate::refusal::Refusal;
 use h41_digits::{PLACES, Reg};
-use h41_words::{BlockRegister, Digit, Place, RegisterTransfer, Word};
+use h41_words::{Digit, Place, RegisterTransfer, Word};
 
 impl Cpu {
     /// The address in C's digits 6 to 3.
@@ -32,7 +29,8 @@ impl Cpu {
         ensures value { result ≡ spec.word_in_c self.now }
         ensures bound { result < 1024 }
     {
-        (u16::from(self.c.get(0)) + 16 * u16::from(self.c.get(1)) + 256 * u16::from(self.c.get(2))) % 1024
+        (u16::from(self.c.get(0)) + 16 * u16::from(self.c.get(1)) + 256 * u16::from(self.c.get(2)))
+            % 1024
     }
 
     /// A word's digits to places 2 to 0 of C.
@@ -49,7 +47,7 @@ impl Cpu {
 
     /// `LDI`: the second word goes to C; the processor goes on behind it.
     pub(crate) fn load_immediate(&mut self, second: Word) -> Result<(), Refusal>
-        ensures { GoesTo (address_after self.old.pc 2) false (spec.with_word_in_c second self.old) self.old self.new result }
+        ensures { GoesTo behind_both (spec.with_word_in_c second) self.old self.new result }
     {
         let next = arrival(self.pc.wrapping_add(2))?;
         self.put_word(second);
@@ -59,7 +57,7 @@ impl Cpu {
 
     /// `FETCH S&X`: a word goes to C.
     pub(crate) fn load_word(&mut self, word: Word) -> Result<(), Refusal>
-        ensures { GoesOn (spec.with_word_in_c word self.old) self.old self.new result }
+        ensures { GoesOn (spec.with_word_in_c word) self.old self.new result }
     {
         let next = arrival(self.behind())?;
         self.put_word(word);
@@ -69,7 +67,7 @@ impl Cpu {
 
     /// `LD@R n`: a digit goes to C at the active pointer, which goes down.
     pub(crate) fn load_digit(&mut self, digit: Digit) -> Result<(), Refusal>
-        ensures { GoesOn (with_pointer (place_below (pointer_of self.old)) (record self.old { c = spec.with_digits self.old.c (pointer_of self.old) (digit ∷ []) })) self.old self.new result }
+        ensures { GoesOn (spec.with_digit_loaded digit) self.old self.new result }
     {
         let next = arrival(self.behind())?;
         let place = self.pointer();
@@ -81,7 +79,7 @@ impl Cpu {
 
     /// `C=KEY`: the key's code goes to C's digits 4 and 3.
     pub(crate) fn load_key(&mut self, key: u8) -> Result<(), Refusal>
-        ensures { GoesOn (record self.old { c = spec.with_digits self.old.c 3 (spec.byte_digits key) }) self.old self.new result }
+        ensures { GoesOn (spec.with_key_in_c key) self.old self.new result }
     {
         let next = arrival(self.behind())?;
         self.c = self.c.with(3, key % 16).with(4, key / 16);
@@ -91,7 +89,7 @@ impl Cpu {
 
     /// `READ DATA`: a register of the memory goes to C.
     pub(crate) fn load_register(&mut self, register: Reg) -> Result<(), Refusal>
-        ensures { GoesOn (record self.old { c = register }) self.old self.new result }
+        ensures { GoesOn (spec.with_c register) self.old self.new result }
     {
         let next = arrival(self.behind())?;
         self.c = register;
@@ -101,7 +99,7 @@ impl Cpu {
 
     /// `RCR n`: rotates C right by so many digits.
     pub(crate) fn rotate_right(&mut self, digits: Place) -> Result<(), Refusal>
-        ensures { GoesOn (record self.old { c = spec.rotated self.old.c digits }) self.old self.new result }
+        ensures { GoesOn (spec.with_c_rotated digits) self.old self.new result }
     {
         let next = arrival(self.behind())?;
         self.c = rotated(self.c, usize::from(digits.number()));
@@ -111,7 +109,7 @@ impl Cpu {
 
     /// `C=C OR A`: joins C and A bit by bit.
     pub(crate) fn join_a(&mut self) -> Result<(), Refusal>
-        ensures { GoesOn (record self.old { c = spec.joined self.old.c self.old.a }) self.old self.new result }
+        ensures { GoesOn spec.with_c_joined self.old self.new result }
     {
         let next = arrival(self.behind())?;
         self.c = joined(self.c, self.a);
@@ -121,7 +119,7 @@ impl Cpu {
 
     /// `C=C AND A`: meets C and A bit by bit.
     pub(crate) fn meet_a(&mut self) -> Result<(), Refusal>
-        ensures { GoesOn (record self.old { c = spec.met self.old.c self.old.a }) self.old self.new result }
+        ensures { GoesOn spec.with_c_met self.old self.new result }
     {
         let next = arrival(self.behind())?;
         self.c = met(self.c, self.a);
@@ -131,7 +129,7 @@ impl Cpu {
 
     /// `CLRABC`: clears A, B and C.
     pub(crate) fn clear_registers(&mut self) -> Result<(), Refusal>
-        ensures { GoesOn (record self.old { a = zeros; b = zeros; c = zeros }) self.old self.new result }
+        ensures { GoesOn spec.with_abc_clear self.old self.new result }
     {
         let next = arrival(self.behind())?;
         self.a = Reg::zero();
@@ -144,7 +142,7 @@ impl Cpu {
     /// `RAM SLCT`, `WRIT n`: selects an address of the memory.
     pub(crate) fn select(&mut self, address: u16) -> Result<(), Refusal>
         requires { address < 1024 }
-        ensures { GoesOn (record self.old { selected = address }) self.old self.new result }
+        ensures { GoesOn (selecting address) self.old self.new result }
     {
         let next = arrival(self.behind())?;
         self.selected = address;
@@ -155,7 +153,7 @@ impl Cpu {
     /// `READ n`: selects an address of the memory, whose register goes to C.
     pub(crate) fn select_and_load(&mut self, address: u16, register: Reg) -> Result<(), Refusal>
         requires { address < 1024 }
-        ensures { GoesOn (record self.old { selected = address; c = register }) self.old self.new result }
+        ensures { GoesOn (λ s. selecting address (spec.with_c register s)) self.old self.new result }
     {
         let next = arrival(self.behind())?;
         self.selected = address;
@@ -166,7 +164,7 @@ impl Cpu {
 
     /// `SETHEX` and `SETDEC`: the base that arithmetic counts in from here on.
     pub(crate) fn set_base(&mut self, base: Base) -> Result<(), Refusal>
-        ensures { GoesOn (record self.old { base = base }) self.old self.new result }
+        ensures { GoesOn (spec.with_base base) self.old self.new result }
     {
         let next = arrival(self.behind())?;
         self.base = base;
@@ -176,7 +174,7 @@ impl Cpu {
 
     /// `DISOFF` and `DISTOG`: turns the display on or off.
     pub(crate) fn set_display(&mut self, on: bool) -> Result<(), Refusal>
-        ensures { GoesOn (record self.old { display = on }) self.old self.new result }
+        ensures { GoesOn (spec.with_display on) self.old self.new result }
     {
         let next = arrival(self.behind())?;
         self.display = on;
@@ -186,7 +184,7 @@ impl Cpu {
 
     /// `G=C`, `C=M`, `ST<>T` and the like: copies a register, or exchanges two.
     pub(crate) fn transfer(&mut self, transfer: RegisterTransfer) -> Result<(), Refusal>
-        ensures { GoesOn (spec.transferred transfer self.old) self.old self.new result }
+        ensures { GoesOn (spec.transferred transfer) self.old self.new result }
     {
         let next = arrival(self.behind())?;
         let (c, g, t) = (self.c, self.g, self.t);
@@ -240,15 +238,19 @@ impl Cpu {
         ensures { self.new ≡ spec.with_byte_at_pointer byte self.old }
     {
         let place = self.pointer();
-        self.c = self.c.with(place, byte % 16).with(place_above(place), byte / 16);
+        self.c = self
+            .c
+            .with(place, byte % 16)
+            .with(place_above(place), byte / 16);
     }
 
-    /// The address of a register in the selected block of 16.
-    pub(crate) fn block_address(&self, register: BlockRegister) -> u16
-        ensures value { result ≡ self.now.selected / 16 * 16 + register }
+    /// The address of a register, 0 to 15, in the selected block of 16.
+    pub(crate) fn block_address(&self, register: u8) -> u16
+        requires { register < 16 }
+        ensures value { result ≡ block_address register self.now }
         ensures bound { result < 1024 }
     {
-        self.selected / 16 * 16 + u16::from(register.number())
+        self.selected / 16 * 16 + u16::from(register)
     }
 }
 

@@ -21,7 +21,7 @@ impl Cpu {
 
     /// `SETF n` and `CLRF n`: sets or clears a status bit.
     pub(crate) fn set_status(&mut self, bit: StatusBit, on: bool) -> Result<(), Refusal>
-        ensures { GoesOn (spec.with_status bit on self.old) self.old self.new result }
+        ensures { GoesOn (spec.with_status bit on) self.old self.new result }
     {
         let next = arrival(self.behind())?;
         self.put_status(bit, on);
@@ -38,7 +38,7 @@ impl Cpu {
 
     /// `ST=0`: clears S0 to S7.
     pub(crate) fn clear_status_byte(&mut self) -> Result<(), Refusal>
-        ensures { GoesOn (spec.with_status_byte 0 self.old) self.old self.new result }
+        ensures { GoesOn (spec.with_status_byte 0) self.old self.new result }
     {
         let next = arrival(self.behind())?;
         self.set_status_byte(0);
@@ -57,6 +57,8 @@ impl Cpu {
     pub(crate) fn set_status_byte(&mut self, byte: u8)
         ensures { self.new ≡ spec.with_status_byte byte self.old }
     {
-        self.status = StatusBits::from_bits_retain(self.status.bits() / 256 * 256 + u16::from(byte));
+        self.status = StatusBits::from_bits_retain(
+            self.status.bits() / 256 * 256 + u16::from(byte),
+        );
     }
 }

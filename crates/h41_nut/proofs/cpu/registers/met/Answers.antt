@@ -1,4 +1,4 @@
-use Rattle.std.proofs.Common.{◌+◌, ◌%◌, get_or, arith}
+use Rattle.std.proofs.Common.{get_or, arith}
 use Rattle.std.specs.Int.RustNames.{bit_and}
 use Rattle.h41_nut.proofs.Digits.{by_place-is}
 use Rattle.h41_nut.proofs.cpu.registers.met.Goals as goal

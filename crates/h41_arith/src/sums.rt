@@ -22,7 +22,8 @@ impl Operation {
         requires is_base { (base ≡ 10) ⊎ (base ≡ 16) }
         requires x_is_digit { x < 16 }
         requires y_is_digit { y < 16 }
-        ensures rule { rule_of self base x y (carry_digit carry_in) result.0 (carry_digit result.1) }
+        ensures rule { rule_of self base x y (carry_digit carry_in)
+            result.0 (carry_digit result.1) }
         ensures is_digit { result.0 < 16 }
     {
         match self {
@@ -42,7 +43,8 @@ impl Operation {
         span: Span,
     ) -> (Reg, bool)
         requires { (base ≡ 10) ⊎ (base ≡ 16) }
-        ensures result { HasResult (rule_of self base) into x y carry_in span.lo span.hi result.0 result.1 }
+        ensures result { HasResult (rule_of self base) into x y carry_in span.lo span.hi
+            result.0 result.1 }
         ensures operands { IsRegister 14 x × IsRegister 14 y }
     {
         let mut digits = into;
@@ -77,7 +79,8 @@ fn difference_digit(base: u8, x: u8, y: u8, borrow_in: bool) -> (u8, bool)
     requires is_base { (base ≡ 10) ⊎ (base ≡ 16) }
     requires x_is_digit { x < 16 }
     requires y_is_digit { y < 16 }
-    ensures rule { DifferenceDigit base x y (carry_digit borrow_in) result.0 (carry_digit result.1) }
+    ensures rule { DifferenceDigit base x y (carry_digit borrow_in)
+        result.0 (carry_digit result.1) }
     ensures is_digit { result.0 < 16 }
 {
     let taken = y + u8::from(borrow_in);

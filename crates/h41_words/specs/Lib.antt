@@ -1,1 +1,3 @@
+pub mod SecondWord
 pub mod Unassigned
+pub mod WordTable

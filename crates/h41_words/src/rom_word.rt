@@ -31,6 +31,14 @@ impl Word {
         }
     }
 
+    /// The word with this number, 000 to 3FF.
+    pub(crate) fn of(number: u16) -> Self
+        requires { number < 1024 }
+        ensures { result ≡ number }
+    {
+        Word { number }
+    }
+
     /// Its number, 0 to 3FF.
     pub fn number(self) -> u16
         ensures value { result ≡ self }

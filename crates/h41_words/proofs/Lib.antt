@@ -1,0 +1,5 @@
+pub mod Columns
+pub mod Displacements
+pub mod Lengths
+pub mod Members
+pub mod RoundTrip

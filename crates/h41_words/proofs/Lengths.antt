@@ -10,7 +10,7 @@ use Rattle.h41_words.specs.declared.rows.RegisterTransfer.TheVariants.{CToG}
 use Rattle.h41_words.specs.declared.rows.Bank.TheVariants.{First, Second, Third, Fourth}
 use Rattle.h41_words.specs.declared.rows.Condition.TheVariants.{NoCarry, Carry}
 use Rattle.h41_fields.specs.declared.field.Pointer.TheVariants.{P, Q}
-use Rattle.h41_words.specs.WordTable.{number_of, mapped_row, operation_number, field_number, displacement_bits, condition_bit, word_at, IsRow, length_of, words_of}
+use Rattle.h41_words.specs.WordTable.{number_of, mapped_line, operation_number, field_number, displacement_bits, condition_bit, word_at, IsRow, length_of, words_of}
 use Rattle.h41_words.specs.Unassigned.{unassigned_words}
 use Rattle.h41_words.proofs.Members.{at_member}
 
@@ -43,12 +43,12 @@ words_of_number (Arithmetic operation field) valid = one_word (operation_number 
 words_of_number (LongJump low_byte) valid = two_words (low_byte * 4 + 1) (omega arith)
 words_of_number (ShortJump condition displacement) valid =
     one_word (displacement_bits displacement * 8 + condition_bit condition * 4 + 3) 3 (omega arith) (λ e. omega (arith, e)) (λ e. omega (arith, e))
-words_of_number (ClearStatus bit) valid = in_column (mapped_row bit) 0x04 refl refl (λ e. omega (arith, e))
-words_of_number (SetStatus bit) valid = in_column (mapped_row bit) 0x08 refl refl (λ e. omega (arith, e))
-words_of_number (TestStatus bit) valid = in_column (mapped_row bit) 0x0C refl refl (λ e. omega (arith, e))
-words_of_number (TestPointer place) valid = in_column (mapped_row place) 0x14 refl refl (λ e. omega (arith, e))
-words_of_number (SetPointer place) valid = in_column (mapped_row place) 0x1C refl refl (λ e. omega (arith, e))
-words_of_number (RotateRight digits) valid = in_column (mapped_row digits) 0x3C refl refl (λ e. omega (arith, e))
+words_of_number (ClearStatus bit) valid = in_column (mapped_line bit) 0x04 refl refl (λ e. omega (arith, e))
+words_of_number (SetStatus bit) valid = in_column (mapped_line bit) 0x08 refl refl (λ e. omega (arith, e))
+words_of_number (TestStatus bit) valid = in_column (mapped_line bit) 0x0C refl refl (λ e. omega (arith, e))
+words_of_number (TestPointer place) valid = in_column (mapped_line place) 0x14 refl refl (λ e. omega (arith, e))
+words_of_number (SetPointer place) valid = in_column (mapped_line place) 0x1C refl refl (λ e. omega (arith, e))
+words_of_number (RotateRight digits) valid = in_column (mapped_line digits) 0x3C refl refl (λ e. omega (arith, e))
 words_of_number (LoadDigit digit) valid = in_column digit 0x10 refl refl (λ e. omega (arith, e))
 words_of_number (Write register) valid = in_column register 0x28 refl refl (λ e. omega (arith, e))
 words_of_number (Read register) valid = in_column register 0x38 refl refl (λ e. omega (arith, e))

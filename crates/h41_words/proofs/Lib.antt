@@ -3,3 +3,4 @@ pub mod Displacements
 pub mod Lengths
 pub mod Members
 pub mod RoundTrip
+pub mod SecondWords

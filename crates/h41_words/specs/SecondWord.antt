@@ -1,5 +1,5 @@
 -- The second word of a jump by address: four times the high byte of the address, and the jump's number.
-use Rattle.std.specs.Prelude.{ℕ, ◌+◌, ◌*◌, ◌/◌, ◌%◌, List, [], ◌∷◌, slice_index_or}
+use Rattle.std.specs.Prelude.{◌≡◌, ℕ, ◌+◌, ◌*◌, ◌/◌, ◌%◌, List, [], ◌∷◌, slice_index_or}
 use Rattle.h41_words.specs.declared.rows.Condition.{Condition}
 use Rattle.h41_words.specs.declared.rows.Condition.TheVariants.{NoCarry, Carry}
 use Rattle.h41_words.specs.declared.second_word.LongJumpKind.{LongJumpKind}
@@ -26,3 +26,11 @@ second_of word =
 -- the number of a second word
 abbrev pub second_number_of : SecondWord → ℕ
 second_number_of second = second.high_byte * 4 + long_jump_number second.condition second.kind
+
+-- the second word round trip: what a word says is said by that word alone
+abbrev pub SaidByWord : Type 0
+SaidByWord = (word : ℕ) → second_number_of (second_of word) ≡ word
+
+-- and each second word is that of one word
+abbrev pub WordOfSecond : Type 0
+WordOfSecond = (second : SecondWord) → second_of (second_number_of second) ≡ second

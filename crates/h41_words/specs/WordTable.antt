@@ -14,11 +14,8 @@ use Rattle.h41_words.specs.declared.rows.RegisterTransfer.TheVariants.{CToG, GTo
 use Rattle.h41_words.specs.declared.rows.Bank.TheVariants.{First, Second, Third, Fourth}
 use Rattle.h41_words.specs.declared.rows.Condition.{Condition}
 use Rattle.h41_words.specs.declared.rows.Condition.TheVariants.{NoCarry, Carry}
+use Rattle.h41_words.specs.Counts.{word_count, status_bit_count, place_count, digit_count, block_register_count, least_displacement, greatest_displacement}
 use Rattle.h41_words.specs.Unassigned.{unassigned_words}
-
--- how many words there are: they have ten bits
-abbrev pub word_count : ℕ
-word_count = 1024
 
 -- the fields in their order
 abbrev pub fields : List Field
@@ -80,22 +77,26 @@ operation_number ShiftRightB = 0x1D
 operation_number ShiftRightC = 0x1E
 operation_number ShiftLeftA = 0x1F
 
--- the mapped columns: which number each of the rows 0 to F means there. Rows 7 and F mean none.
+-- The words whose low two bits are 00 stand in 16 lines, bits 9 to 6, and 16 columns, the low six bits.
+abbrev pub word_at : ℕ → ℕ → ℕ
+word_at line column = line * 0x40 + column
+
+-- the mapped columns: which number each of the lines 0 to F means there. Lines 7 and F mean none.
 abbrev pub mapped_column : List (Option ℕ)
 mapped_column =
     Some 3 ∷ Some 4 ∷ Some 5 ∷ Some 10 ∷ Some 8 ∷ Some 6 ∷ Some 11 ∷ None
     ∷ Some 2 ∷ Some 9 ∷ Some 7 ∷ Some 13 ∷ Some 1 ∷ Some 12 ∷ Some 0 ∷ None ∷ []
 
--- whether a row of a mapped column means this number
+-- whether a line of a mapped column means this number
 abbrev pub means : ℕ → Option ℕ → Bool
 means number None = false
 means number (Some meant) = meant == number
 
--- the row of a mapped column that means a number
-abbrev pub mapped_row : ℕ → ℕ
-mapped_row number = position_or_len (means number) mapped_column
+-- the line of a mapped column that means a number
+abbrev pub mapped_line : ℕ → ℕ
+mapped_line number = position_or_len (means number) mapped_column
 
--- which columns are mapped, by their low six bits
+-- which columns are mapped
 abbrev pub IsMappedColumn : ℕ → Type 0
 IsMappedColumn column =
     (column ≡ 0x04) ⊎ (column ≡ 0x08) ⊎ (column ≡ 0x0C) ⊎ (column ≡ 0x14) ⊎ (column ≡ 0x1C) ⊎ (column ≡ 0x3C)
@@ -109,10 +110,6 @@ displacement_bits (negsuc words) = 127 - words
 abbrev pub condition_bit : Condition → ℕ
 condition_bit NoCarry = 0
 condition_bit Carry = 1
-
--- the word of a row and a column of the words whose low two bits are 00: bits 9 to 6 and the low six bits
-abbrev pub word_at : ℕ → ℕ → ℕ
-word_at row column = row * 0x40 + column
 
 -- the word of a copy or an exchange
 abbrev pub transfer_number : RegisterTransfer → ℕ
@@ -141,13 +138,13 @@ number_of (LongJump low_byte) = low_byte * 4 + 1
 -- JNC and JC: the displacement, the condition and 11
 number_of (ShortJump condition displacement) = displacement_bits displacement * 8 + condition_bit condition * 4 + 3
 -- CLRF n, SETF n, ?FSET n, ?R= n, R= n and RCR n: the mapped columns
-number_of (ClearStatus bit) = word_at (mapped_row bit) 0x04
-number_of (SetStatus bit) = word_at (mapped_row bit) 0x08
-number_of (TestStatus bit) = word_at (mapped_row bit) 0x0C
-number_of (TestPointer place) = word_at (mapped_row place) 0x14
-number_of (SetPointer place) = word_at (mapped_row place) 0x1C
-number_of (RotateRight digits) = word_at (mapped_row digits) 0x3C
--- LD@R n, WRIT n and READ n: n is the row
+number_of (ClearStatus bit) = word_at (mapped_line bit) 0x04
+number_of (SetStatus bit) = word_at (mapped_line bit) 0x08
+number_of (TestStatus bit) = word_at (mapped_line bit) 0x0C
+number_of (TestPointer place) = word_at (mapped_line place) 0x14
+number_of (SetPointer place) = word_at (mapped_line place) 0x1C
+number_of (RotateRight digits) = word_at (mapped_line digits) 0x3C
+-- LD@R n, WRIT n and READ n: n is the line
 number_of (LoadDigit digit) = word_at digit 0x10
 number_of (Write register) = word_at register 0x28
 number_of (Read register) = word_at register 0x38
@@ -218,15 +215,15 @@ families =
     ∷ map (λ low_byte. LongJump low_byte) (range_with_len 0 256)
     ∷ map (λ displacement. ShortJump NoCarry displacement) displacements
     ∷ map (λ displacement. ShortJump Carry displacement) displacements
-    ∷ map (λ bit. ClearStatus bit) (range_with_len 0 14)
-    ∷ map (λ bit. SetStatus bit) (range_with_len 0 14)
-    ∷ map (λ bit. TestStatus bit) (range_with_len 0 14)
-    ∷ map (λ place. TestPointer place) (range_with_len 0 14)
-    ∷ map (λ place. SetPointer place) (range_with_len 0 14)
-    ∷ map (λ digits. RotateRight digits) (range_with_len 0 14)
-    ∷ map (λ digit. LoadDigit digit) (range_with_len 0 16)
-    ∷ map (λ register. Write register) (range_with_len 0 16)
-    ∷ map (λ register. Read register) (range_with_len 1 15)
+    ∷ map (λ bit. ClearStatus bit) (range_with_len 0 status_bit_count)
+    ∷ map (λ bit. SetStatus bit) (range_with_len 0 status_bit_count)
+    ∷ map (λ bit. TestStatus bit) (range_with_len 0 status_bit_count)
+    ∷ map (λ place. TestPointer place) (range_with_len 0 place_count)
+    ∷ map (λ place. SetPointer place) (range_with_len 0 place_count)
+    ∷ map (λ digits. RotateRight digits) (range_with_len 0 place_count)
+    ∷ map (λ digit. LoadDigit digit) (range_with_len 0 digit_count)
+    ∷ map (λ register. Write register) (range_with_len 0 block_register_count)
+    ∷ map (λ register. Read register) (range_with_len 1 (block_register_count - 1))
     ∷ single_rows
     ∷ []
 
@@ -254,16 +251,16 @@ row_of word = row_in word_table word
 -- whether the operands of a row are in their ranges
 abbrev pub IsRow : Row → Type 0
 IsRow (LongJump low_byte) = low_byte < 256
-IsRow (ShortJump condition displacement) = (negsuc 63 ≤ℤ displacement) × (displacement ≤ℤ pos 63)
-IsRow (ClearStatus bit) = bit < 14
-IsRow (SetStatus bit) = bit < 14
-IsRow (TestStatus bit) = bit < 14
-IsRow (TestPointer place) = place < 14
-IsRow (SetPointer place) = place < 14
-IsRow (RotateRight digits) = digits < 14
-IsRow (LoadDigit digit) = digit < 16
-IsRow (Write register) = register < 16
-IsRow (Read register) = (1 ≤ register) × (register < 16)
+IsRow (ShortJump condition displacement) = (least_displacement ≤ℤ displacement) × (displacement ≤ℤ greatest_displacement)
+IsRow (ClearStatus bit) = bit < status_bit_count
+IsRow (SetStatus bit) = bit < status_bit_count
+IsRow (TestStatus bit) = bit < status_bit_count
+IsRow (TestPointer place) = place < place_count
+IsRow (SetPointer place) = place < place_count
+IsRow (RotateRight digits) = digits < place_count
+IsRow (LoadDigit digit) = digit < digit_count
+IsRow (Write register) = register < block_register_count
+IsRow (Read register) = (1 ≤ register) × (register < block_register_count)
 IsRow (Constant number) = Contains unassigned_words number
 IsRow row = Unit {0}
 

@@ -1,5 +1,6 @@
 //! The table of the words: from a word to its row, and back.
 ghost use Rattle.std.specs.Prelude.{◌≡◌, ◌%◌, ◌/◌, ◌<◌, ◌⊎◌, IfSome, IfNone};
+ghost use Rattle.h41_words.specs.Counts.{word_count};
 ghost use Rattle.h41_words.specs.WordTable as spec;
 
 use crate::operands::{BlockRegister, Digit, Displacement, Place, ReadRegister, StatusBit};
@@ -24,7 +25,6 @@ pub fn row(word: Word) -> Row
 }
 
 /// The operation with this number, 0 to 31.
-#[tactic(auto, unfolding(crate::specs::WordTable::number_of))]
 fn operation(number: u16) -> Operation
     requires { number < 32 }
     ensures { spec.operation_number result ≡ number }
@@ -129,7 +129,7 @@ fn miscellaneous(word: Word) -> Row
 /// The number that a line, 0 to 15, of a mapped column means, 0 to 13; the lines 7 and 15 mean none.
 fn meant_by(line: u8) -> Option<u8>
     requires { line < 16 }
-    ensures meant { IfSome result (λ number. spec.mapped_row number ≡ line) }
+    ensures meant { IfSome result (λ number. spec.mapped_line number ≡ line) }
     ensures bound { IfSome result (λ number. number < 14) }
     ensures none { IfNone result ((line ≡ 7) ⊎ (line ≡ 15)) }
 {
@@ -157,7 +157,7 @@ fn meant_by(line: u8) -> Option<u8>
 #[tactic(auto, unfolding(crate::specs::WordTable::number_of))]
 fn mapped(word: Word, meant: u8) -> Row
     requires column { spec.IsMappedColumn (word % 64) }
-    requires meant { spec.mapped_row meant ≡ word / 64 }
+    requires meant { spec.mapped_line meant ≡ word / 64 }
     requires bound { meant < 14 }
     ensures number { spec.number_of result ≡ word }
     ensures valid { spec.IsRow result }
@@ -295,7 +295,7 @@ pub fn word(row: Row) -> Word
 #[tactic(auto, unfolding(crate::specs::WordTable::number_of))]
 fn number(row: Row) -> u16
     ensures value { result ≡ spec.number_of row }
-    ensures bound { result < spec.word_count }
+    ensures bound { result < word_count }
 {
     match row {
         Row::Arithmetic(operation, field) => {
@@ -363,7 +363,7 @@ fn at(line: u8, column: u16) -> u16
     requires line { line < 16 }
     requires column { column < 64 }
     ensures value { result ≡ spec.word_at line column }
-    ensures bound { result < spec.word_count }
+    ensures bound { result < word_count }
 {
     u16::from(line) * 64 + column
 }
@@ -371,7 +371,7 @@ fn at(line: u8, column: u16) -> u16
 /// The line of a mapped column that means a number, 0 to 13.
 fn line_of(meant: u8) -> u8
     requires { meant < 14 }
-    ensures value { result ≡ spec.mapped_row meant }
+    ensures value { result ≡ spec.mapped_line meant }
     ensures bound { result < 15 }
 {
     match meant {
@@ -434,7 +434,7 @@ fn field_number(field: Field) -> u16
 #[tactic(auto, unfolding(crate::specs::WordTable::number_of))]
 fn bank_number(bank: Bank) -> u16
     ensures value { result ≡ spec.number_of (Row.EnableBank bank) }
-    ensures bound { result < spec.word_count }
+    ensures bound { result < word_count }
 {
     match bank {
         Bank::First => 0x100,
@@ -447,7 +447,7 @@ fn bank_number(bank: Bank) -> u16
 /// The word of a copy or an exchange.
 fn transfer_number(transfer: RegisterTransfer) -> u16
     ensures value { result ≡ spec.transfer_number transfer }
-    ensures bound { result < spec.word_count }
+    ensures bound { result < word_count }
 {
     match transfer {
         RegisterTransfer::CToG => 0x058,
@@ -479,3 +479,6 @@ pub fn length(word: Word) -> u16
         _ => 1,
     }
 }
+
+#[cfg(test)]
+mod tests;

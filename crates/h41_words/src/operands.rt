@@ -1,5 +1,6 @@
 //! The operands of words: numbers, each with its range.
-ghost use Rattle.std.specs.Prelude.{◌≡◌, ℕ, ℤ, ◌<◌, ◌≤◌, ◌≤ℤ◌, pos, negsuc};
+ghost use Rattle.std.specs.Prelude.{◌≡◌, ℕ, ℤ, ◌<◌, ◌≤◌, ◌≤ℤ◌};
+ghost use Rattle.h41_words.specs.Counts.{status_bit_count, place_count, digit_count, block_register_count, least_displacement, greatest_displacement};
 
 use std::marker::Model;
 
@@ -14,7 +15,7 @@ impl Model for StatusBit {
 
     ghost view = { λ operand. operand.number };
 
-    ghost invariant = { λ operand. operand.number < 14 };
+    ghost invariant = { λ operand. operand.number < status_bit_count };
 
     ghost inverse = { λ number. record { number = number } };
 }
@@ -22,7 +23,7 @@ impl Model for StatusBit {
 impl StatusBit {
     /// The status bit with this number.
     pub fn new(number: u8) -> Self
-        requires { number < 14 }
+        requires { number < status_bit_count }
         ensures { result ≡ number }
     {
         StatusBit { number }
@@ -31,7 +32,7 @@ impl StatusBit {
     /// Its number, 0 to 13.
     pub fn number(self) -> u8
         ensures value { result ≡ self }
-        ensures bound { result < 14 }
+        ensures bound { result < status_bit_count }
     {
         self.number
     }
@@ -48,7 +49,7 @@ impl Model for Place {
 
     ghost view = { λ operand. operand.number };
 
-    ghost invariant = { λ operand. operand.number < 14 };
+    ghost invariant = { λ operand. operand.number < place_count };
 
     ghost inverse = { λ number. record { number = number } };
 }
@@ -56,7 +57,7 @@ impl Model for Place {
 impl Place {
     /// The place with this number.
     pub fn new(number: u8) -> Self
-        requires { number < 14 }
+        requires { number < place_count }
         ensures { result ≡ number }
     {
         Place { number }
@@ -65,7 +66,7 @@ impl Place {
     /// Its number, 0 to 13.
     pub fn number(self) -> u8
         ensures value { result ≡ self }
-        ensures bound { result < 14 }
+        ensures bound { result < place_count }
     {
         self.number
     }
@@ -82,7 +83,7 @@ impl Model for Digit {
 
     ghost view = { λ operand. operand.number };
 
-    ghost invariant = { λ operand. operand.number < 16 };
+    ghost invariant = { λ operand. operand.number < digit_count };
 
     ghost inverse = { λ number. record { number = number } };
 }
@@ -90,7 +91,7 @@ impl Model for Digit {
 impl Digit {
     /// The digit with this number.
     pub fn new(number: u8) -> Self
-        requires { number < 16 }
+        requires { number < digit_count }
         ensures { result ≡ number }
     {
         Digit { number }
@@ -99,7 +100,7 @@ impl Digit {
     /// Its number, 0 to 15.
     pub fn number(self) -> u8
         ensures value { result ≡ self }
-        ensures bound { result < 16 }
+        ensures bound { result < digit_count }
     {
         self.number
     }
@@ -116,7 +117,7 @@ impl Model for BlockRegister {
 
     ghost view = { λ operand. operand.number };
 
-    ghost invariant = { λ operand. operand.number < 16 };
+    ghost invariant = { λ operand. operand.number < block_register_count };
 
     ghost inverse = { λ number. record { number = number } };
 }
@@ -124,7 +125,7 @@ impl Model for BlockRegister {
 impl BlockRegister {
     /// The register with this number.
     pub fn new(number: u8) -> Self
-        requires { number < 16 }
+        requires { number < block_register_count }
         ensures { result ≡ number }
     {
         BlockRegister { number }
@@ -133,7 +134,7 @@ impl BlockRegister {
     /// Its number, 0 to 15.
     pub fn number(self) -> u8
         ensures value { result ≡ self }
-        ensures bound { result < 16 }
+        ensures bound { result < block_register_count }
     {
         self.number
     }
@@ -150,7 +151,7 @@ impl Model for ReadRegister {
 
     ghost view = { λ operand. operand.number };
 
-    ghost invariant = { λ operand. (1 ≤ operand.number) × (operand.number < 16) };
+    ghost invariant = { λ operand. (1 ≤ operand.number) × (operand.number < block_register_count) };
 
     ghost inverse = { λ number. record { number = number } };
 }
@@ -159,7 +160,7 @@ impl ReadRegister {
     /// The register with this number.
     pub fn new(number: u8) -> Self
         requires low { 1 ≤ number }
-        requires high { number < 16 }
+        requires high { number < block_register_count }
         ensures { result ≡ number }
     {
         ReadRegister { number }
@@ -169,7 +170,7 @@ impl ReadRegister {
     pub fn number(self) -> u8
         ensures value { result ≡ self }
         ensures low { 1 ≤ result }
-        ensures bound { result < 16 }
+        ensures bound { result < block_register_count }
     {
         self.number
     }
@@ -186,7 +187,7 @@ impl Model for Displacement {
 
     ghost view = { λ displacement. displacement.words };
 
-    ghost invariant = { λ displacement. (negsuc 63 ≤ℤ displacement.words) × (displacement.words ≤ℤ pos 63) };
+    ghost invariant = { λ displacement. (least_displacement ≤ℤ displacement.words) × (displacement.words ≤ℤ greatest_displacement) };
 
     ghost inverse = { λ words. record { words = words } };
 }
@@ -194,8 +195,8 @@ impl Model for Displacement {
 impl Displacement {
     /// The displacement by so many words.
     pub fn new(words: i8) -> Self
-        requires low { negsuc 63 ≤ℤ words }
-        requires high { words ≤ℤ pos 63 }
+        requires low { least_displacement ≤ℤ words }
+        requires high { words ≤ℤ greatest_displacement }
         ensures { result ≡ words }
     {
         Displacement { words }
@@ -204,8 +205,8 @@ impl Displacement {
     /// By how many words, -64 to 63.
     pub fn words(self) -> i8
         ensures value { result ≡ self }
-        ensures low { negsuc 63 ≤ℤ result }
-        ensures high { result ≤ℤ pos 63 }
+        ensures low { least_displacement ≤ℤ result }
+        ensures high { result ≤ℤ greatest_displacement }
     {
         self.words
     }

@@ -2,7 +2,7 @@
 ghost use Rattle.std.specs.Prelude.{◌≡◌, ℕ, ◌<◌, Contains};
 ghost use Rattle.h41_words.specs.Unassigned.{unassigned_words};
 
-use crate::word::Word;
+use crate::rom_word::Word;
 use std::marker::Model;
 
 /// One of the 72 words that stand for no instruction.

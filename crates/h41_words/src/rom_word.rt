@@ -1,6 +1,11 @@
+//! A word of a ROM.
 ghost use Rattle.std.specs.Prelude.{◌≡◌, ℕ, ◌<◌, ◌↔◌, IsSome, IfSome};
+ghost use Rattle.h41_words.specs.Counts.{word_count};
 
 use std::marker::Model;
+
+/// How many words there are.
+const COUNT: u16 = 1024;
 
 /// A word of the processor's ROM: ten bits, 000 to 3FF.
 #[derive(Clone, Copy, Debug, PartialEq, Eq, PartialOrd, Ord, Hash)]
@@ -13,7 +18,7 @@ impl Model for Word {
 
     ghost view = { λ word. word.number };
 
-    ghost invariant = { λ word. word.number < 1024 };
+    ghost invariant = { λ word. word.number < word_count };
 
     ghost inverse = { λ number. record { number = number } };
 }
@@ -21,20 +26,28 @@ impl Model for Word {
 impl Word {
     /// The word with this number, or nothing where it is above 3FF.
     pub fn new(number: u16) -> Option<Self>
-        ensures fits { IsSome result ↔ (number < 1024) }
+        ensures fits { IsSome result ↔ (number < word_count) }
         ensures value { IfSome result (λ word. word ≡ number) }
     {
-        if number < 1024 {
+        if number < COUNT {
             Some(Word { number })
         } else {
             None
         }
     }
 
+    /// The word with this number, 000 to 3FF.
+    pub(crate) fn of(number: u16) -> Self
+        requires { number < word_count }
+        ensures { result ≡ number }
+    {
+        Word { number }
+    }
+
     /// Its number, 0 to 3FF.
     pub fn number(self) -> u16
         ensures value { result ≡ self }
-        ensures bound { result < 1024 }
+        ensures bound { result < word_count }
     {
         self.number
     }

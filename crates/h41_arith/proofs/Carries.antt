@@ -1,10 +1,11 @@
 -- The carries of the digit rule: they are determined from below, and go on by one place.
-use Rattle.std.proofs.Common.{◌≡◌, ℕ, zero, suc, ◌+◌, ◌-◌, ◌<◌, ◌≤◌, List, [], ◌∷◌, ◌++◌, length, slice_index, ap, arith, inl, inr, sym, subst, ◌∙◌}
+use Rattle.std.proofs.Common.{◌≡◌, ℕ, zero, suc, ◌+◌, ◌-◌, ◌<◌, ◌≤◌, Bool, true, false, List, [], ◌∷◌, ◌++◌, length, slice_index, refl, ap, arith, inl, inr, sym, subst, ◌∙◌}
 use Rattle.std.proofs.Common.{replicate, set, length-append, get_or-set_other, get_or-set_same, ◌≢◌}
-use Rattle.std.proofs.lemmas.List.{length-replicate, get_or_append_left}
+use Rattle.std.proofs.lemmas.List.{length-replicate, get_or_append_left, ext_get_or}
 use Rattle.std.proofs.lemmas.Bool.{cases_lt}
 use Rattle.std.proofs.Math.Seq.{get_or-append_seam}
-use Rattle.h41_arith.specs.DigitRule.{SumDigit, DifferenceDigit, HasCarries}
+use Rattle.h41_arith.specs.DigitRule.{SumDigit, DifferenceDigit, HasCarries, carry_digit}
+use Rattle.h41_arith.specs.DigitRuleLaws.{IsDetermined}
 
 -- a rule of one place by which the digit and the carry out are determined
 abbrev pub Determines : (ℕ → ℕ → ℕ → ℕ → ℕ → Type 0) → Type 0
@@ -106,3 +107,26 @@ carried_all rule x y carry_in lo hi z out bit done = record {
   last = done.last;
   places = λ place from to. done.places place from (omega arith);
 }
+
+pub carry_le : (carry : Bool) → carry_digit carry ≤ 1
+carry_le true = omega arith
+carry_le false = omega arith
+
+same_carry_bit : (a b : Bool) → carry_digit a ≡ carry_digit b → a ≡ b
+same_carry_bit true true h = refl
+same_carry_bit true false h = absurd (omega (arith, h))
+same_carry_bit false true h = absurd (omega (arith, h))
+same_carry_bit false false h = refl
+
+-- a rule that determines one place gives one register and one carry
+pub result_determined : (rule : ℕ → ℕ → ℕ → ℕ → ℕ → Type 0) → Determines rule → IsDetermined rule
+result_determined rule determines into x y z w carry_in carry other lo hi ordered a b = (
+  ext_get_or 0 z w (a.register.size ∙ sym b.register.size) (λ place _. elim (cases_lt place lo) [
+    | inl below ↦ a.outside.below place below ∙ sym (b.outside.below place below)
+    | inr from ↦ elim (cases_lt hi place) [
+      | inl above ↦ a.outside.above place above ∙ sym (b.outside.above place above)
+      | inr to ↦ same_digit rule determines x y z w (carry_digit carry_in) lo hi (carry_digit carry) (carry_digit other) a.digits b.digits place from to
+    ]
+  ]),
+  same_carry_bit carry other (same_out rule determines x y z w (carry_digit carry_in) lo hi (carry_digit carry) (carry_digit other) a.digits b.digits ordered),
+)

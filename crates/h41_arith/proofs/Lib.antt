@@ -1,1 +1,3 @@
 pub mod Carries
+pub mod Borrows
+pub mod Places

@@ -1,7 +1,12 @@
--- The digit rule: how two registers are added and subtracted over a span of places, digit by digit with a carry, in
--- base 16 or 10, as the Nut processor's words do it. It is stated for all digits; what it says of A to F in base 10 is this
--- project's choice.
-use Rattle.std.specs.Prelude.{◌≡◌, ℕ, ◌+◌, ◌-◌, ◌%◌, ◌<◌, ◌≤◌, ◌⊎◌, Bool, List, slice_index, replicate, if◌then◌else◌}
+-- The digit rule: how the Nut processor's words work on a span of places of a register. Two registers are added and
+-- subtracted digit by digit with a carry, in base 16 or 10; digits are copied, exchanged, shifted by one place and compared.
+-- The rule is stated for all digits; what it says of A to F in base 10 is this project's choice.
+use Rattle.std.specs.Prelude.{◌≡◌, ℕ, ◌+◌, ◌-◌, ◌*◌, ◌%◌, ◌^◌, ◌<◌, ◌≤◌, ◌⊎◌, Bool, not, ◌&&◌, ◌==◌, nat_lt, nat_le, List, map, slice_index, sum_by, replicate, if◌then◌else◌}
+use Rattle.std.specs.List.{list_any}
+use Rattle.h41_digits.specs.Register.{IsRegister}
+use Rattle.h41_fields.specs.Field.{from_to}
+use Rattle.h41_arith.specs.declared.sums.Operation.{Operation}
+use Rattle.h41_arith.specs.declared.sums.Operation.TheVariants.{Add, Subtract}
 
 -- one place of a sum: z and the carry out, from x, y and the carry in
 abbrev pub SumDigit : ℕ → ℕ → ℕ → ℕ → ℕ → ℕ → Type 0
@@ -15,6 +20,11 @@ abbrev pub DifferenceDigit : ℕ → ℕ → ℕ → ℕ → ℕ → ℕ → Typ
 DifferenceDigit base x y borrow_in z borrow_out =
     ((y + borrow_in ≤ x) × (z ≡ x - (y + borrow_in)) × (borrow_out ≡ 0))
     ⊎ ((x < y + borrow_in) × (z ≡ (x + base + 16 - (y + borrow_in)) % 16) × (borrow_out ≡ 1))
+
+-- the rule of one place, by what is done there
+abbrev pub rule_of : Operation → ℕ → ℕ → ℕ → ℕ → ℕ → ℕ → Type 0
+rule_of Add base = SumDigit base
+rule_of Subtract base = DifferenceDigit base
 
 -- There is a list of carries, the carry in (0 or 1) at place lo and the carry out behind place hi, by which the rule of
 -- one place holds at each place from lo to hi. So each of these carries is 0 or 1.
@@ -49,3 +59,51 @@ zeros = replicate 14 0
 pub record KeepsOutside (other : List ℕ) (lo hi : ℕ) (z : List ℕ) : Type 0 where
   pub below : (place : ℕ) → place < lo → slice_index z place ≡ slice_index other place
   pub above : (place : ℕ) → hi < place → slice_index z place ≡ slice_index other place
+
+-- The register z has at each place from lo to hi the digit that the rule gives for x, y and the carry in, and elsewhere the
+-- digit of `into`; the carry out comes from place hi.
+pub record HasResult (rule : ℕ → ℕ → ℕ → ℕ → ℕ → Type 0) (into x y : List ℕ) (carry_in : Bool) (lo hi : ℕ) (z : List ℕ) (carry_out : Bool) : Type 0 where
+  pub register : IsRegister 14 z
+  pub digits : HasCarries rule x y (carry_digit carry_in) lo hi z (carry_digit carry_out)
+  pub outside : KeepsOutside into lo hi z
+
+-- the register z is `into` with x + y + carry in, in the places from lo to hi
+abbrev pub SumInto : ℕ → List ℕ → List ℕ → List ℕ → Bool → ℕ → ℕ → List ℕ → Bool → Type 0
+SumInto base into x y carry_in lo hi z carry_out = HasResult (SumDigit base) into x y carry_in lo hi z carry_out
+
+-- the register z is `into` with x - y - borrow in, in the places from lo to hi
+abbrev pub DifferenceInto : ℕ → List ℕ → List ℕ → List ℕ → Bool → ℕ → ℕ → List ℕ → Bool → Type 0
+DifferenceInto base into x y borrow_in lo hi z borrow_out = HasResult (DifferenceDigit base) into x y borrow_in lo hi z borrow_out
+
+-- the register with these digits at the places from lo to hi, and elsewhere with those of `into`
+unfoldable pub replaced : List ℕ → ℕ → ℕ → (ℕ → ℕ) → List ℕ
+replaced into lo hi digit = map (λ place. if nat_le lo place && nat_le place hi then digit place else slice_index into place) (from_to 0 13)
+
+-- a copy: each place from lo to hi takes the digit of x
+abbrev pub copied : List ℕ → List ℕ → ℕ → ℕ → List ℕ
+copied into x lo hi = replaced into lo hi (λ place. slice_index x place)
+
+-- a shift to the left: place lo becomes 0, each place above it takes the digit below its own
+abbrev pub shifted_left : List ℕ → List ℕ → ℕ → ℕ → List ℕ
+shifted_left into x lo hi = replaced into lo hi (λ place. if place == lo then 0 else slice_index x (place - 1))
+
+-- a shift to the right: place hi becomes 0, each place below it takes the digit above its own
+abbrev pub shifted_right : List ℕ → List ℕ → ℕ → ℕ → List ℕ
+shifted_right into x lo hi = replaced into lo hi (λ place. if place == hi then 0 else slice_index x (place + 1))
+
+-- the digits from lo to hi as a number, of which the digit at lo is the last: each digit times 16 to the power of its place
+-- in the span, added up
+unfoldable pub span_value : List ℕ → ℕ → ℕ → ℕ
+span_value x lo hi = sum_by (λ place. slice_index x place * 16 ^ (place - lo)) (from_to lo hi)
+
+-- whether x is below y, from lo to hi
+unfoldable pub is_less : List ℕ → List ℕ → ℕ → ℕ → Bool
+is_less x y lo hi = nat_lt (span_value x lo hi) (span_value y lo hi)
+
+-- whether x and y have different digits at some place from lo to hi
+unfoldable pub is_different : List ℕ → List ℕ → ℕ → ℕ → Bool
+is_different x y lo hi = list_any (λ place. not (slice_index x place == slice_index y place)) (from_to lo hi)
+
+-- whether x has a digit other than 0 at some place from lo to hi
+abbrev pub is_nonzero : List ℕ → ℕ → ℕ → Bool
+is_nonzero x lo hi = is_different x zeros lo hi

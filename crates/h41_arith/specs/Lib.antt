@@ -1,1 +1,2 @@
 pub mod DigitRule
+pub mod DigitRuleLaws

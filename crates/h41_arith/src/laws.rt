@@ -1,20 +1,28 @@
 //! Laws of the digit rule: each is the contract of a function with nothing to do.
 
-ghost use Rattle.std.specs.Prelude.{◌≡◌, ◌≤◌, ℕ, List, slice_index};
-ghost use Rattle.h41_arith.specs.DigitRule.{Sum, Difference};
+ghost use Rattle.h41_arith.specs.DigitRuleLaws.{SumIsDetermined, DifferenceIsDetermined, BorrowTellsLess, ReplacedIsDetermined, DifferentAtAPlace};
 
-/// The digits of a sum within its span, and its carry, are determined.
+/// The register and the carry of a sum are determined.
 pub fn sum_is_determined()
-    ensures digits { (base carry_in lo hi : ℕ) (x y z w : List ℕ) (carry other : ℕ) → lo ≤ hi → Sum base x y carry_in lo hi z carry
-        → Sum base x y carry_in lo hi w other → (place : ℕ) → lo ≤ place → place ≤ hi → slice_index z place ≡ slice_index w place }
-    ensures carry { (base carry_in lo hi : ℕ) (x y z w : List ℕ) (carry other : ℕ) → lo ≤ hi → Sum base x y carry_in lo hi z carry
-        → Sum base x y carry_in lo hi w other → carry ≡ other }
+    ensures { SumIsDetermined }
 {}
 
-/// The digits of a difference within its span, and its borrow, are determined.
+/// The register and the borrow of a difference are determined.
 pub fn difference_is_determined()
-    ensures digits { (base borrow_in lo hi : ℕ) (x y z w : List ℕ) (borrow other : ℕ) → lo ≤ hi → Difference base x y borrow_in lo hi z borrow
-        → Difference base x y borrow_in lo hi w other → (place : ℕ) → lo ≤ place → place ≤ hi → slice_index z place ≡ slice_index w place }
-    ensures borrow { (base borrow_in lo hi : ℕ) (x y z w : List ℕ) (borrow other : ℕ) → lo ≤ hi → Difference base x y borrow_in lo hi z borrow
-        → Difference base x y borrow_in lo hi w other → borrow ≡ other }
+    ensures { DifferenceIsDetermined }
+{}
+
+/// In any base, the borrow of a difference tells whether the first register is below the second.
+pub fn borrow_tells_less()
+    ensures { BorrowTellsLess }
+{}
+
+/// The register of a copy or a shift is the one with the digits of its definition at each place.
+pub fn replaced_is_determined()
+    ensures { ReplacedIsDetermined }
+{}
+
+/// Two registers are told to be different exactly where they are so at a place of the span.
+pub fn different_at_a_place()
+    ensures { DifferentAtAPlace }
 {}

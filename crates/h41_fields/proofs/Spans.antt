@@ -1,11 +1,13 @@
 -- Why the places of a field stand in a row.
 use Rattle.std.proofs.Common.{List, cond, ◌≡◌, ℕ, zero, suc, ◌+◌, ◌-◌, ◌<◌, ◌≤◌, Bool, true, false, ◌∷◌, length, slice_index, filter, refl, ap, arith, inl, inr, ◌∙◌, sym}
+use Rattle.std.specs.List.{range_with_len}
 use Rattle.std.proofs.lemmas.Bool.Decides.{nat_tests}
+use Rattle.std.proofs.lemmas.List.FromFn.{length-range_with_len, get_or-range_with_len}
 use Rattle.h41_fields.specs.declared.field.Field.TheVariants.{AtPointer, SignAndExponent, ToPointer, All, PToQ, ExponentSign, Mantissa, MantissaSign}
 use Rattle.std.proofs.lemmas.Bool.{cases_lt}
 use Rattle.h41_fields.specs.declared.field.Field.{Field}
 use Rattle.h41_fields.specs.declared.field.Pointer.{Pointer}
-use Rattle.h41_fields.specs.Field.{active_place, is_place, register_places, places, first_place, last_place, counted_from, from_to}
+use Rattle.h41_fields.specs.Field.{active_place, is_place, register_places, places, first_place, last_place, from_to}
 
 -- the test passes from lo to hi, and nowhere else
 pub record PassesFromTo (test : ℕ → Bool) (lo hi : ℕ) : Type 0 where
@@ -15,7 +17,7 @@ pub record PassesFromTo (test : ℕ → Bool) (lo hi : ℕ) : Type 0 where
 
 -- from the first passing place on
 filter_from : (test : ℕ → Bool) (lo hi first count : ℕ) → PassesFromTo test lo hi → lo ≤ first → hi < first + count → first + count ≤ 14
-    → filter test (counted_from first count) ≡ counted_from first (hi + 1 - first)
+    → filter test (range_with_len first count) ≡ range_with_len first (hi + 1 - first)
 filter_from test lo hi first zero passes from past few =
     let none : hi + 1 - first ≡ 0 = omega arith in rw none refl
 filter_from test lo hi first (suc count) passes from past few =
@@ -23,7 +25,7 @@ filter_from test lo hi first (suc count) passes from past few =
       | inl gone ↦
           let none : hi + 1 - first ≡ 0 = omega arith in
           let next : hi + 1 - (first + 1) ≡ 0 = omega arith in
-          rw (passes.above first gone (omega arith), none) (filter_from test lo hi (first + 1) count passes (omega arith) (omega arith) (omega arith) ∙ ap (counted_from (first + 1)) next)
+          rw (passes.above first gone (omega arith), none) (filter_from test lo hi (first + 1) count passes (omega arith) (omega arith) (omega arith) ∙ ap (range_with_len (first + 1)) next)
       | inr here ↦
           let some : hi + 1 - first ≡ suc (hi + 1 - (first + 1)) = omega arith in
           rw (passes.inside first from here, some) (ap (λ rest. first ∷ rest) (filter_from test lo hi (first + 1) count passes (omega arith) (omega arith) (omega arith)))
@@ -31,7 +33,7 @@ filter_from test lo hi first (suc count) passes from past few =
 
 -- from a place before it
 filter_to : (test : ℕ → Bool) (lo hi first count : ℕ) → PassesFromTo test lo hi → first ≤ lo → lo ≤ hi → hi < first + count → first + count ≤ 14
-    → filter test (counted_from first count) ≡ counted_from lo (hi + 1 - lo)
+    → filter test (range_with_len first count) ≡ range_with_len lo (hi + 1 - lo)
 filter_to test lo hi first zero passes before ordered past few = absurd (omega arith)
 filter_to test lo hi first (suc count) passes before ordered past few =
     elim (cases_lt first lo) [
@@ -47,23 +49,14 @@ pub record IsSpanOf (field : Field) (p q : ℕ) (active : Pointer) (lo hi : ℕ)
   pub last : hi ≡ last_place field p q active
   pub each : places field p q active ≡ from_to lo hi
 
-length_counted : (first count : ℕ) → length (counted_from first count) ≡ count
-length_counted first zero = refl
-length_counted first (suc count) = ap suc (length_counted (first + 1) count)
-
-get_counted : (first count index : ℕ) → index < count → slice_index (counted_from first count) index ≡ first + index
-get_counted first zero index inside = absurd (omega arith)
-get_counted first (suc count) zero inside = omega arith
-get_counted first (suc count) (suc index) inside = omega (arith, get_counted (first + 1) count index (omega arith))
-
 pub IsSpanOf-from_test : (field : Field) (p q : ℕ) (active : Pointer) (lo hi : ℕ) → PassesFromTo (is_place field p q active) lo hi → lo ≤ hi → hi < 14 → IsSpanOf field p q active lo hi
 unfolding places register_places from_to first_place last_place
 IsSpanOf-from_test field p q active lo hi passes ordered inside =
-    let all : places field p q active ≡ counted_from lo (hi + 1 - lo) = filter_to (is_place field p q active) lo hi 0 14 passes (omega arith) ordered (omega arith) (omega arith) in
-    let size : length (places field p q active) ≡ hi + 1 - lo = ap length all ∙ length_counted lo (hi + 1 - lo) in record {
-      first = sym (ap (λ list. slice_index list 0) all ∙ get_counted lo (hi + 1 - lo) 0 (omega arith) ∙ omega arith);
-      last = sym (ap (λ list. slice_index list (length list - 1)) all ∙ ap (λ count. slice_index (counted_from lo (hi + 1 - lo)) (count - 1)) (length_counted lo (hi + 1 - lo))
-          ∙ get_counted lo (hi + 1 - lo) (hi + 1 - lo - 1) (omega arith) ∙ omega arith);
+    let all : places field p q active ≡ range_with_len lo (hi + 1 - lo) = filter_to (is_place field p q active) lo hi 0 14 passes (omega arith) ordered (omega arith) (omega arith) in
+    let size : length (places field p q active) ≡ hi + 1 - lo = ap length all ∙ length-range_with_len lo (hi + 1 - lo) in record {
+      first = sym (ap (λ list. slice_index list 0) all ∙ get_or-range_with_len lo (hi + 1 - lo) 0 0 (omega arith) ∙ omega arith);
+      last = sym (ap (λ list. slice_index list (length list - 1)) all ∙ ap (λ count. slice_index (range_with_len lo (hi + 1 - lo)) (count - 1)) (length-range_with_len lo (hi + 1 - lo))
+          ∙ get_or-range_with_len lo (hi + 1 - lo) (hi + 1 - lo - 1) 0 (omega arith) ∙ omega arith);
       each = all;
     }
 
@@ -117,10 +110,10 @@ from_cons first rest behind zero inside = omega arith
 from_cons first rest behind (suc index) inside = behind index (omega arith)
 
 -- what a row keeps is at least its first number
-kept_from : (test : ℕ → Bool) (first count : ℕ) → AllFrom first (filter test (counted_from first count))
+kept_from : (test : ℕ → Bool) (first count : ℕ) → AllFrom first (filter test (range_with_len first count))
 kept_from test first zero = λ index inside. absurd (omega arith)
 kept_from test first (suc count) =
-    let rest = filter test (counted_from (first + 1) count) in
+    let rest = filter test (range_with_len (first + 1) count) in
     let behind = kept_from test (first + 1) count in
     elim (test first) as (λ passes. AllFrom first (cond passes (first ∷ rest) rest)) [
       | true ↦ from_cons first rest (λ index inside. omega (arith, behind index inside))
@@ -131,10 +124,10 @@ kept_from test first (suc count) =
 abbrev FirstIsLow : List ℕ → Type 0
 FirstIsLow list = slice_index list 0 ≤ slice_index list (length list - 1)
 
-kept_ordered : (test : ℕ → Bool) (first count : ℕ) → FirstIsLow (filter test (counted_from first count))
+kept_ordered : (test : ℕ → Bool) (first count : ℕ) → FirstIsLow (filter test (range_with_len first count))
 kept_ordered test first zero = omega arith
 kept_ordered test first (suc count) =
-    let rest = filter test (counted_from (first + 1) count) in
+    let rest = filter test (range_with_len (first + 1) count) in
     elim (test first) as (λ passes. FirstIsLow (cond passes (first ∷ rest) rest)) [
       | true ↦ from_cons first rest (λ index inside. omega (arith, kept_from test (first + 1) count index inside)) (length (first ∷ rest) - 1) (omega arith)
       | false ↦ kept_ordered test (first + 1) count

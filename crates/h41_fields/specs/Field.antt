@@ -1,5 +1,6 @@
 -- The fields of a register: the places that a word of the Nut processor works on, by the names of HP's VASM listings.
-use Rattle.std.specs.Prelude.{ℕ, zero, suc, ◌+◌, ◌-◌, Bool, true, ◌&&◌, ◌||◌, List, [], ◌∷◌, length, slice_index, filter, nat_lt, nat_le, ◌==◌}
+use Rattle.std.specs.Prelude.{ℕ, ◌+◌, ◌-◌, Bool, true, ◌&&◌, ◌||◌, List, [], ◌∷◌, length, slice_index, filter, nat_lt, nat_le, ◌==◌}
+use Rattle.std.specs.List.{range_with_len}
 use Rattle.h41_fields.specs.declared.field.Field.{Field}
 use Rattle.h41_fields.specs.declared.field.Field.TheVariants.{AtPointer, SignAndExponent, ToPointer, All, PToQ, ExponentSign, Mantissa, MantissaSign}
 use Rattle.h41_fields.specs.declared.field.Pointer.{Pointer}
@@ -44,11 +45,6 @@ first_place field p q active = slice_index (places field p q active) 0
 unfoldable pub last_place : Field → ℕ → ℕ → Pointer → ℕ
 last_place field p q active = slice_index (places field p q active) (length (places field p q active) - 1)
 
--- so many numbers in a row, from a first one on
-abbrev pub counted_from : ℕ → ℕ → List ℕ
-counted_from first zero = []
-counted_from first (suc count) = first ∷ counted_from (first + 1) count
-
 -- all the numbers from lo to hi
 unfoldable pub from_to : ℕ → ℕ → List ℕ
-from_to lo hi = counted_from lo (hi + 1 - lo)
+from_to lo hi = range_with_len lo (hi + 1 - lo)

@@ -1,9 +1,13 @@
+//! Fields, the pointers that some of them follow, and spans of places.
+
 ghost use Rattle.std.specs.Prelude.{◌<◌, ◌≤◌};
 
 /// One of the two pointers of the processor.
 #[derive(Clone, Copy, Debug, PartialEq, Eq)]
 pub enum Pointer {
+    /// The pointer P.
     P,
+    /// The pointer Q.
     Q,
 }
 
@@ -31,7 +35,9 @@ pub enum Field {
 /// Places in a row, from `lo` to `hi`, both with them. There is at least one.
 #[derive(Clone, Copy, Debug, PartialEq, Eq)]
 pub struct Span {
+    /// The first place, 0 to 13, the rightmost one.
     pub lo: usize,
+    /// The last place, 0 to 13, not below the first.
     pub hi: usize,
     ghost ordered: { lo ≤ hi },
     ghost in_register: { hi < 14 },

@@ -1,9 +1,12 @@
+//! The places of a field.
+
 ghost use Rattle.std.specs.Prelude.{◌≡◌, ◌<◌};
 ghost use Rattle.h41_fields.specs.Field.{places, from_to, first_place, last_place};
 
 use crate::field::{Field, Pointer, Span};
 use h41_digits::PLACES;
 
+/// The leftmost place of a register.
 const LAST_PLACE: usize = PLACES - 1;
 
 /// The places of a field, where the pointers P and Q, each 0 to 13, name these places and one of them is active.

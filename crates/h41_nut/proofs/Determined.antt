@@ -1,68 +1,66 @@
--- Why the change that a step makes is determined, where the digits and the carry of a sum are.
-use Rattle.std.proofs.Common.{◌≡◌, ℕ, ◌≤◌, Bool, true, false, List, slice_index, refl, sym, arith, inl, inr, ◌∙◌}
-use Rattle.std.proofs.lemmas.Bool.{cases_lt}
-use Rattle.std.proofs.lemmas.List.{ext_get_or}
-use Rattle.h41_digits.specs.Register.{IsRegister}
+-- Why the change that a step makes is determined, where the digits and the carry of a sum and of a difference are.
+use Rattle.std.proofs.Common.{◌≡◌, ℕ, ◌≤◌, Bool, true, false, List, sym, ◌∙◌}
 use Rattle.h41_fields.specs.declared.field.Field.{Field}
 use Rattle.h41_fields.specs.declared.field.Pointer.{Pointer}
 use Rattle.h41_fields.specs.Field.{first_place, last_place}
-use Rattle.h41_arith.specs.DigitRule.{Sum, KeepsOutside, carry_digit}
+use Rattle.h41_arith.specs.DigitRule.{SumInto, DifferenceInto, zeros}
+use Rattle.h41_arith.specs.DigitRuleLaws.{SumIsDetermined, DifferenceIsDetermined}
+use Rattle.h41_words.specs.declared.operation.Operation.{Operation}
+use Rattle.h41_words.specs.declared.operation.Operation.TheVariants.{AddBToA, AddCToA, IncrementA, SubtractBFromA, DecrementA, SubtractCFromA, DoubleC, AddAToC, IncrementC, SubtractCFromAToC, DecrementC, NegateC, ComplementC}
 use Rattle.h41_words.specs.declared.rows.Row.{Row}
-use Rattle.h41_words.specs.declared.rows.Row.TheVariants.{Nop, LoadImmediate, Return, Arithmetic, Other}
-use Rattle.h41_words.specs.declared.rows.Operation.TheVariants.{IncrementC}
+use Rattle.h41_words.specs.declared.rows.Row.TheVariants.{Arithmetic}
 use Rattle.h41_words.specs.WordTable.{row_of}
+use Rattle.h41_nut.specs.Arithmetic.{IntoA, IntoC, Operates}
 use Rattle.h41_nut.specs.Processor.{Processor}
-use Rattle.h41_nut.specs.WordStep.{Nut, Effect, IncrementsC, Micro, word_of, gone_to, goes_to}
+use Rattle.h41_nut.specs.WordStep.{Nut, Effect, Micro, word_of}
 
--- what the laws of fields and of the digit rule say
+-- what the law of fields says
 abbrev pub Ordered : Type 0
 Ordered = (field : Field) (p q : ℕ) (active : Pointer) → first_place field p q active ≤ last_place field p q active
 
-abbrev pub SameDigits : Type 0
-SameDigits = (base carry_in lo hi : ℕ) (x y z w : List ℕ) (carry other : ℕ) → lo ≤ hi → Sum base x y carry_in lo hi z carry
-    → Sum base x y carry_in lo hi w other → (place : ℕ) → lo ≤ place → place ≤ hi → slice_index z place ≡ slice_index w place
+-- a rule that gives one register and one carry
+abbrev Single : (List ℕ → Bool → Type 0) → Type 0
+Single Rule = (z w : List ℕ) (carry other : Bool) → Rule z carry → Rule w other → (z ≡ w) × (carry ≡ other)
 
-abbrev pub SameCarry : Type 0
-SameCarry = (base carry_in lo hi : ℕ) (x y z w : List ℕ) (carry other : ℕ) → lo ≤ hi → Sum base x y carry_in lo hi z carry
-    → Sum base x y carry_in lo hi w other → carry ≡ other
+same_a : (Rule : List ℕ → Bool → Type 0) (s t u : Processor) → Single Rule → IntoA Rule s t → IntoA Rule s u → t ≡ u
+same_a Rule s t u single p q =
+    let same = single t.a u.a t.carry u.carry p.0 q.0 in
+    p.1 ∙ (λ i. record s { a = same.0 i; carry = same.1 i }) ∙ sym q.1
 
-same_bit : (a b : Bool) → carry_digit a ≡ carry_digit b → a ≡ b
-same_bit true true h = refl
-same_bit true false h = absurd (omega (arith, h))
-same_bit false true h = absurd (omega (arith, h))
-same_bit false false h = refl
+same_c : (Rule : List ℕ → Bool → Type 0) (s t u : Processor) → Single Rule → IntoC Rule s t → IntoC Rule s u → t ≡ u
+same_c Rule s t u single p q =
+    let same = single t.c u.c t.carry u.carry p.0 q.0 in
+    p.1 ∙ (λ i. record s { c = same.0 i; carry = same.1 i }) ∙ sym q.1
 
--- registers that agree within a span and are the same outside it
-same_register : (other z w : List ℕ) (lo hi : ℕ) → IsRegister 14 z → IsRegister 14 w → KeepsOutside other lo hi z → KeepsOutside other lo hi w
-    → ((place : ℕ) → lo ≤ place → place ≤ hi → slice_index z place ≡ slice_index w place) → z ≡ w
-same_register other z w lo hi p q outside_z outside_w inside =
-    ext_get_or 0 z w (p.size ∙ sym q.size) (λ place _. elim (cases_lt place lo) [
-      | inl below ↦ outside_z.below place below ∙ sym (outside_w.below place below)
-      | inr from ↦ elim (cases_lt hi place) [
-        | inl above ↦ outside_z.above place above ∙ sym (outside_w.above place above)
-        | inr to ↦ inside place from to
-      ]
-    ])
+module _ (ordered : Ordered) (sums : SumIsDetermined) (differences : DifferenceIsDetermined) where
+  one_sum : (base : ℕ) (into x y : List ℕ) (carry_in : Bool) (lo hi : ℕ) → lo ≤ hi → Single (SumInto base into x y carry_in lo hi)
+  one_sum base into x y carry_in lo hi le z w carry other p q = sums base into x y z w carry_in carry other lo hi le p q
 
-module _ (ordered : Ordered) (same_digits : SameDigits) (same_carry : SameCarry) where
-  same_c : (field : Field) (s t u : Processor) → IncrementsC field s t → IncrementsC field s u → t.c ≡ u.c
-  same_c field s t u p q =
-      same_register s.c t.c u.c _ _ p.register q.register p.outside q.outside (same_digits _ _ _ _ _ _ t.c u.c _ _ (ordered field s.p s.q s.active) p.sum q.sum)
+  one_difference : (base : ℕ) (into x y : List ℕ) (borrow_in : Bool) (lo hi : ℕ) → lo ≤ hi → Single (DifferenceInto base into x y borrow_in lo hi)
+  one_difference base into x y borrow_in lo hi le z w borrow other p q = differences base into x y z w borrow_in borrow other lo hi le p q
 
-  same_out : (field : Field) (s t u : Processor) → IncrementsC field s t → IncrementsC field s u → t.carry ≡ u.carry
-  same_out field s t u p q = same_bit t.carry u.carry (same_carry _ _ _ _ _ _ t.c u.c _ _ (ordered field s.p s.q s.active) p.sum q.sum)
+  same_operates : (operation : Operation) (lo hi : ℕ) (s t u : Processor) → lo ≤ hi → Operates operation lo hi s t → Operates operation lo hi s u → t ≡ u
+  same_operates AddBToA lo hi s t u le p q = same_a _ s t u (one_sum _ s.a s.a s.b false lo hi le) p q
+  same_operates AddCToA lo hi s t u le p q = same_a _ s t u (one_sum _ s.a s.a s.c false lo hi le) p q
+  same_operates IncrementA lo hi s t u le p q = same_a _ s t u (one_sum _ s.a s.a zeros true lo hi le) p q
+  same_operates SubtractBFromA lo hi s t u le p q = same_a _ s t u (one_difference _ s.a s.a s.b false lo hi le) p q
+  same_operates DecrementA lo hi s t u le p q = same_a _ s t u (one_difference _ s.a s.a zeros true lo hi le) p q
+  same_operates SubtractCFromA lo hi s t u le p q = same_a _ s t u (one_difference _ s.a s.a s.c false lo hi le) p q
+  same_operates DoubleC lo hi s t u le p q = same_c _ s t u (one_sum _ s.c s.c s.c false lo hi le) p q
+  same_operates AddAToC lo hi s t u le p q = same_c _ s t u (one_sum _ s.c s.a s.c false lo hi le) p q
+  same_operates IncrementC lo hi s t u le p q = same_c _ s t u (one_sum _ s.c s.c zeros true lo hi le) p q
+  same_operates SubtractCFromAToC lo hi s t u le p q = same_c _ s t u (one_difference _ s.c s.a s.c false lo hi le) p q
+  same_operates DecrementC lo hi s t u le p q = same_c _ s t u (one_difference _ s.c s.c zeros true lo hi le) p q
+  same_operates NegateC lo hi s t u le p q = same_c _ s t u (one_difference _ s.c zeros s.c false lo hi le) p q
+  same_operates ComplementC lo hi s t u le p q = same_c _ s t u (one_difference _ s.c zeros s.c true lo hi le) p q
+  same_operates operation lo hi s t u le p q = p ∙ sym q
 
-  same_effect : (row : Row) (s : Nut) (t u : Processor) → Effect row s t → Effect row s u → t ≡ u
-  same_effect Nop s t u p q = p ∙ sym q
-  same_effect LoadImmediate s t u p q = p ∙ sym q
-  same_effect Return s t u p q = p ∙ sym q
-  same_effect (Arithmetic IncrementC field) s t u p q =
-      let c : t.c ≡ u.c = same_c field s.processor t u p.1 q.1 in
-      let carry : t.carry ≡ u.carry = same_out field s.processor t u p.1 q.1 in
-      p.0 ∙ (λ i. record (gone_to (goes_to (Arithmetic IncrementC field) s) s.processor) { c = c i; carry = carry i }) ∙ sym q.0
-  same_effect Other s t u p q = absurd p
+  same_effect : (row : Row) (s t u : Nut) → Effect row s t → Effect row s u → t ≡ u
+  same_effect (Arithmetic operation field) s t u p q =
+      let le = ordered field s.processor.p s.processor.q s.processor.active in
+      let same = same_operates operation _ _ _ t.processor u.processor le p.0 q.0 in
+      p.1 ∙ (λ i. record s { processor = same i }) ∙ sym q.1
+  same_effect row s t u p q = p ∙ sym q
 
   pub same_micro : (s t u : Nut) → Micro s t → Micro s u → t ≡ u
-  same_micro s t u p q =
-      let processor = same_effect (row_of (word_of s)) s t.processor u.processor p.effect q.effect in
-      p.rest ∙ (λ i. record s { processor = processor i }) ∙ sym q.rest
+  same_micro s t u p q = same_effect (row_of (word_of s)) s t u p.effect q.effect

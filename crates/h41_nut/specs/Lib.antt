@@ -1,4 +1,12 @@
 pub mod Addresses
+pub mod Arithmetic
+pub mod Going
+pub mod Jumps
+pub mod MemoryWords
 pub mod PageList
+pub mod Pointers
 pub mod Processor
+pub mod ProcessorLaws
+pub mod RegisterWords
+pub mod Unheld
 pub mod WordStep

@@ -2,6 +2,7 @@
 use Rattle.std.specs.Prelude.{ℕ, Bool, true, false, List, [], ◌∷◌, replicate}
 use Rattle.h41_fields.specs.declared.field.Pointer.{Pointer}
 use Rattle.h41_fields.specs.declared.field.Pointer.TheVariants.{P}
+use Rattle.h41_nut.specs.Addresses.{end_of_function}
 use Rattle.h41_nut.specs.declared.base.Base.{Base}
 use Rattle.h41_nut.specs.declared.base.Base.TheVariants.{Hexadecimal}
 
@@ -32,7 +33,7 @@ pub record Processor : Type 0 where
   -- whether the display is on
   pub display : Bool
 
--- the state before the first call: all zero, but for the address 00F0 and the display, which is on
+-- the state before the first call: all zero, but for the address at which a function ends and the display, which is on
 abbrev pub initial : Processor
 initial = record {
   a = replicate 14 0;
@@ -46,7 +47,7 @@ initial = record {
   p = 0;
   q = 0;
   active = P;
-  pc = 0x00F0;
+  pc = end_of_function;
   returns = 0 ∷ 0 ∷ 0 ∷ 0 ∷ [];
   carry = false;
   base = Hexadecimal;
@@ -55,6 +56,6 @@ initial = record {
 }
 
 -- the state in which a function begins at an address (this project's choice): all zero as at first, the newest return
--- address 00F0, the other three 0000; the display stays as it is
+-- address that of a function's end, the other three 0000; the display stays as it is
 abbrev pub entered : Processor → ℕ → Processor
-entered s address = record initial { pc = address; returns = 0x00F0 ∷ 0 ∷ 0 ∷ 0 ∷ []; display = s.display }
+entered s address = record initial { pc = address; returns = end_of_function ∷ 0 ∷ 0 ∷ 0 ∷ []; display = s.display }

@@ -1,122 +1,183 @@
 -- One step of the processor: the first refusal there is, or none, and where there is none the change that the word makes.
 -- What the words do is HP's; what is refused, and in which order, is this project's choice.
-use Rattle.std.specs.Prelude.{◌≡◌, ℕ, ◌+◌, ◌/◌, ◌%◌, Bool, false, not, ◌&&◌, List, [], ◌∷◌, ◌++◌, slice_index, drop, nat_lt, ◌==◌, if◌then◌else◌, Option, Some, None, Result, Ok, Err}
-use Rattle.h41_digits.specs.Register.{IsRegister}
-use Rattle.h41_fields.specs.declared.field.Field.{Field}
-use Rattle.h41_fields.specs.Field.{first_place, last_place}
-use Rattle.h41_arith.specs.DigitRule.{Sum, KeepsOutside, carry_digit, zeros}
+use Rattle.std.specs.Prelude.{◌≡◌, ℕ, Bool, true, false, not, ◌==◌, Option, Some, None}
+use Rattle.std.specs.Option.{option_or}
+use Rattle.std.specs.Result.{result_err}
 use Rattle.h41_words.specs.declared.rows.Row.{Row}
-use Rattle.h41_words.specs.declared.rows.Row.TheVariants.{Nop, LoadImmediate, Return, Arithmetic, Other}
-use Rattle.h41_words.specs.declared.rows.Operation.TheVariants.{IncrementC}
-use Rattle.h41_words.specs.WordTable.{row_of, length_of}
-use Rattle.h41_nut.specs.declared.base.Base.{Base}
+use Rattle.h41_words.specs.declared.rows.Row.TheVariants.{Arithmetic, LongJump, ShortJump, ClearStatus, SetStatus, TestStatus, TestPointer, SetPointer, RotateRight, LoadDigit, Write, Read, Constant, WriteRom, EnableBank, ClearStatusByte, ClearKeyFlag, TestKeyFlag, DecrementPointer, IncrementPointer, Transfer, DropReturn, PowerOff, SelectPointer, TestPointersEqual, TestLowBattery, ClearRegisters, GoToAddress, ReadKey, SetHexadecimal, SetDecimal, DisplayOff, ToggleDisplay, ReturnIf, Return, LoadImmediate, PushAddress, PopAddress, GoToKey, SelectRegister, WriteData, ReadData, FetchWord, Or, And, SelectPeripheral}
+use Rattle.h41_words.specs.WordTable.{row_of}
+use Rattle.h41_ram.specs.RegisterMap.{RegisterMap}
+use Rattle.h41_nut.specs.Arithmetic.{OperatesOn}
 use Rattle.h41_nut.specs.declared.base.Base.TheVariants.{Hexadecimal, Decimal}
 use Rattle.h41_nut.specs.declared.keys.Keys.{Keys}
 use Rattle.h41_nut.specs.declared.refusal.Refusal.{Refusal}
-use Rattle.h41_nut.specs.declared.refusal.Refusal.TheVariants.{WordNotInProfile, SystemRom}
+use Rattle.h41_nut.specs.declared.refusal.Refusal.TheVariants.{WordNotInProfile, Asleep}
+use Rattle.h41_nut.specs.Going.{behind, behind_both, arrival_refusal, at_address, gone_on}
+use Rattle.h41_nut.specs.Jumps.{newest_return, popped, jump_target, jump_change, short_jump_target, return_target, return_change, key_target}
+use Rattle.h41_nut.specs.MemoryWords.{block_address, selecting_from_c, selecting_in_block, with_selected_in_c, with_register_in_c, with_c_at, with_fetched_word, refusal_to_fetch, refusal_to_write, with_word_written}
+use Rattle.h41_nut.specs.PageList.{Pages, fetched, word_or_zero}
+use Rattle.h41_nut.specs.Pointers.{pointer_of, with_pointer, with_pointer_up, with_pointer_down, with_active, is_status_set, with_status, with_status_byte}
 use Rattle.h41_nut.specs.Processor.{Processor}
-use Rattle.h41_nut.specs.PageList.{Pages, fetched, or_else, when}
+use Rattle.h41_nut.specs.RegisterWords.{address_in_c, with_word_in_c, with_key_in_c, with_address_pushed, with_address_popped, with_digit_loaded, transferred, with_c_rotated, with_c_joined, with_c_met, with_abc_clear, with_base, with_display}
+use Rattle.h41_nut.specs.Unheld.{peripheral_refusal, constant_refusal}
 
 -- all that a word may read or change
 pub record Nut : Type 0 where
   pub processor : Processor
+  pub ram : RegisterMap
   pub pages : Pages
   pub keys : Keys
 
-abbrev pub nut_of : Processor → Pages → Keys → Nut
-nut_of processor pages keys = record { processor = processor; pages = pages; keys = keys }
+abbrev pub nut_of : Processor → RegisterMap → Pages → Keys → Nut
+nut_of processor ram pages keys = record { processor = processor; ram = ram; pages = pages; keys = keys }
 
--- an address some words further on; behind FFFF comes 0000
-abbrev pub address_after : ℕ → ℕ → ℕ
-address_after address count = (address + count) % 0x10000
-
--- the word that is fetched at an address, where one is
-abbrev pub fetched_word : Result ℕ Refusal → ℕ
-fetched_word (Ok word) = word
-fetched_word (Err refusal) = 0
-
-abbrev pub fetch_refusal : Result ℕ Refusal → Option Refusal
-fetch_refusal (Ok word) = None
-fetch_refusal (Err refusal) = Some refusal
-
--- the word of the step, its row, and the word behind it
+-- the word of the step, and the word behind it
 abbrev pub word_of : Nut → ℕ
-word_of s = fetched_word (fetched s.pages s.processor.pc)
+word_of s = word_or_zero (fetched s.pages s.processor.pc)
 
 abbrev pub second_word : Nut → ℕ
-second_word s = fetched_word (fetched s.pages (address_after s.processor.pc 1))
+second_word s = word_or_zero (fetched s.pages (behind s.processor))
 
--- the newest return address
-abbrev pub newest_return : Processor → ℕ
-newest_return s = slice_index s.returns 0
-
--- where the step goes: behind the word and, where it takes two, its second word; RTN goes to the newest return address
+-- where the step goes
 abbrev pub goes_to : Row → Nut → ℕ
+-- ?NC XQ and the like: to the address of both words, where the carry is as the second word says
+goes_to (LongJump low_byte) s = jump_target low_byte (second_word s) s.processor
+-- JNC and JC: by the displacement from the word's own address, where the carry is as the word says
+goes_to (ShortJump condition displacement) s = short_jump_target condition displacement s.processor
+-- ?C RTN, ?NC RTN and RTN: to the newest return address
+goes_to (ReturnIf condition) s = return_target condition s.processor
 goes_to Return s = newest_return s.processor
-goes_to row s = address_after s.processor.pc (length_of (word_of s))
+-- GOTO ADR: to the address in C
+goes_to GoToAddress s = address_in_c s.processor
+-- GOTO KEY: to the next address, with the key's code as its low byte
+goes_to GoToKey s = key_target s.keys.ky s.processor
+-- LDI: behind the word that it loads
+goes_to LoadImmediate s = behind_both s.processor
+-- each other word: to the next
+goes_to row s = behind s.processor
 
--- a word whose effect is not held is refused as 7, with its address
-abbrev pub word_refusal : Row → ℕ → Option Refusal
-word_refusal Other address = Some (WordNotInProfile address)
-word_refusal row address = None
+-- the carry behind a word, but for arithmetic: the answer of a test; each other word clears it
+abbrev pub answer : Row → Nut → Bool
+-- ?FSET n: whether the status bit is set
+answer (TestStatus bit) s = is_status_set bit s.processor
+-- ?R= n: whether the active pointer is there
+answer (TestPointer place) s = pointer_of s.processor == place
+-- ?P=Q: whether both pointers are at one place
+answer TestPointersEqual s = s.processor.p == s.processor.q
+-- ?KEY: whether the key flag is set
+answer TestKeyFlag s = s.keys.flag
+-- ?LLD: no (this project's choice)
+answer TestLowBattery s = false
+answer row s = false
+
+-- the registers of the processor behind a word, but for the address, the carry and arithmetic
+abbrev pub registers_after : Row → Nut → Processor
+-- XQ, where it is taken: the address behind both words becomes the newest return address
+registers_after (LongJump low_byte) s = jump_change (second_word s) s.processor
+-- CLRF n, SETF n and ST=0
+registers_after (ClearStatus bit) s = with_status bit false s.processor
+registers_after (SetStatus bit) s = with_status bit true s.processor
+registers_after ClearStatusByte s = with_status_byte 0 s.processor
+-- R= n, R=R+1, R=R-1, SLCT P and SLCT Q
+registers_after (SetPointer place) s = with_pointer place s.processor
+registers_after IncrementPointer s = with_pointer_up s.processor
+registers_after DecrementPointer s = with_pointer_down s.processor
+registers_after (SelectPointer pointer) s = with_active pointer s.processor
+-- RCR n and LD@R n
+registers_after (RotateRight digits) s = with_c_rotated digits s.processor
+registers_after (LoadDigit digit) s = with_digit_loaded digit s.processor
+-- LDI and FETCH S&X: a word to C's digits 2 to 0
+registers_after LoadImmediate s = with_word_in_c (second_word s) s.processor
+registers_after FetchWord s = with_fetched_word s.pages s.processor
+-- G=C, C=M and the like
+registers_after (Transfer transfer) s = transferred transfer s.processor
+-- CLRABC, C=C OR A and C=C AND A
+registers_after ClearRegisters s = with_abc_clear s.processor
+registers_after Or s = with_c_joined s.processor
+registers_after And s = with_c_met s.processor
+-- XQ->GO, RTN, ?C RTN and ?NC RTN take the newest return address off
+registers_after DropReturn s = popped s.processor
+registers_after Return s = popped s.processor
+registers_after (ReturnIf condition) s = return_change condition s.processor
+-- PUSH ADR and POP ADR
+registers_after PushAddress s = with_address_pushed s.processor
+registers_after PopAddress s = with_address_popped s.processor
+-- C=KEY
+registers_after ReadKey s = with_key_in_c s.keys.ky s.processor
+-- SETHEX, SETDEC, DISOFF and DISTOG
+registers_after SetHexadecimal s = with_base Hexadecimal s.processor
+registers_after SetDecimal s = with_base Decimal s.processor
+registers_after DisplayOff s = with_display false s.processor
+registers_after ToggleDisplay s = with_display (not s.processor.display) s.processor
+-- RAM SLCT, WRIT n, READ n and READ DATA
+registers_after SelectRegister s = selecting_from_c s.processor
+registers_after (Write register) s = selecting_in_block register s.processor
+registers_after (Read register) s = with_register_in_c s.ram register s.processor
+registers_after ReadData s = with_selected_in_c s.ram s.processor
+registers_after row s = s.processor
+
+-- the memory behind a word: WRIT DATA writes C to the selected register, WRIT n to register n of the selected block
+abbrev pub ram_after : Row → Nut → RegisterMap
+ram_after WriteData s = with_c_at s.ram s.processor.selected s.processor
+ram_after (Write register) s = with_c_at s.ram (block_address register s.processor) s.processor
+ram_after row s = s.ram
+
+-- the pages behind a word: WROM writes the word in C at the address in C
+abbrev pub pages_after : Row → Nut → Pages
+pages_after WriteRom s = with_word_written s.pages s.processor
+pages_after row s = s.pages
+
+-- the keyboard behind a word: CLRKEY clears the key flag
+abbrev pub keys_after : Row → Nut → Keys
+keys_after ClearKeyFlag s = record s.keys { flag = false }
+keys_after row s = s.keys
+
+-- all of it
+abbrev pub after : Row → Nut → Nut
+after row s = record {
+  processor = at_address (goes_to row s) (answer row s) (registers_after row s);
+  ram = ram_after row s;
+  pages = pages_after row s;
+  keys = keys_after row s;
+}
+
+-- what a row does: arithmetic by the digit rule, which a relation states; all else is a function of the state
+abbrev pub Effect : Row → Nut → Nut → Type 0
+Effect (Arithmetic operation field) s t =
+    OperatesOn operation field (gone_on s.processor) t.processor × (t ≡ record s { processor = t.processor })
+Effect row s t = t ≡ after row s
+
+-- why a word itself is refused, with its address: no instruction; a bank (7); a peripheral that is selected (10); the
+-- processor goes to sleep (11)
+abbrev pub word_refusal : Row → Nut → Option Refusal
+word_refusal (Constant word) s = Some (constant_refusal word s.processor.pc)
+word_refusal (EnableBank bank) s = Some (WordNotInProfile s.processor.pc)
+word_refusal SelectPeripheral s = peripheral_refusal s.processor
+word_refusal PowerOff s = Some (Asleep s.processor.pc)
+word_refusal row s = None
 
 -- an instruction of two words fetches the second, whether it needs it or not
-abbrev pub second_refusal : Nut → Option Refusal
-second_refusal s = if length_of (word_of s) == 2 then fetch_refusal (fetched s.pages (address_after s.processor.pc 1)) else None
+abbrev pub second_refusal : Row → Nut → Option Refusal
+second_refusal (LongJump low_byte) s = result_err (fetched s.pages (behind s.processor))
+second_refusal LoadImmediate s = result_err (fetched s.pages (behind s.processor))
+second_refusal row s = None
 
--- no step arrives in pages 0 to 3, where the system's ROM would be, but at 00F0, where a function ends
-abbrev pub is_system : ℕ → Bool
-is_system address = nat_lt address 0x4000 && not (address == 0x00F0)
+-- a read of the system's pages (8), and a write where none may be (12)
+abbrev pub data_refusal : Row → Nut → Option Refusal
+data_refusal FetchWord s = refusal_to_fetch s.processor
+data_refusal WriteRom s = refusal_to_write s.pages s.processor
+data_refusal row s = None
 
-abbrev pub arrival_refusal : ℕ → Option Refusal
-arrival_refusal address = when (is_system address) (SystemRom address)
+-- the first refusal of a row that was fetched: of the word itself, of the fetch of its second word, of what it reads or
+-- writes, of the arrival
+abbrev pub row_refusal : Row → Nut → Option Refusal
+row_refusal row s = option_or (word_refusal row s) (option_or (second_refusal row s) (option_or (data_refusal row s) (arrival_refusal (goes_to row s))))
 
--- the first refusal of a step, or none: of the fetch of the word, of the word itself, of the fetch of its second word, of
--- the arrival
+-- the first refusal of a step, or none: of the fetch of the word, of its row
 abbrev pub refused : Nut → Option Refusal
-refused s =
-    or_else (fetch_refusal (fetched s.pages s.processor.pc))
-    (or_else (word_refusal (row_of (word_of s)) s.processor.pc)
-    (or_else (second_refusal s)
-    (arrival_refusal (goes_to (row_of (word_of s)) s))))
+refused s = option_or (result_err (fetched s.pages s.processor.pc)) (row_refusal (row_of (word_of s)) s)
 
--- the base that arithmetic counts in
-abbrev pub base_number : Base → ℕ
-base_number Hexadecimal = 16
-base_number Decimal = 10
-
--- the hexadecimal digits of a word at places 0 to 2 of a register, whose other digits stay
-abbrev pub low_digits : ℕ → List ℕ
-low_digits word = word % 16 ∷ word / 16 % 16 ∷ word / 256 ∷ []
-
-abbrev pub with_low_digits : ℕ → List ℕ → List ℕ
-with_low_digits word register = low_digits word ++ drop 3 register
-
--- the processor at the step's next address, with no carry
-abbrev pub gone_to : ℕ → Processor → Processor
-gone_to address s = record s { pc = address; carry = false }
-
--- the return addresses when the newest is taken off: where there is none, 0000 stands (this project's choice)
-abbrev pub returns_after : List ℕ → List ℕ
-returns_after returns = drop 1 returns ++ 0 ∷ []
-
--- C with one added within a field, and the field's carry out, from one processor state to the next
-pub record IncrementsC (field : Field) (s t : Processor) : Type 0 where
-  pub register : IsRegister 14 t.c
-  pub sum : Sum (base_number s.base) s.c zeros 1 (first_place field s.p s.q s.active) (last_place field s.p s.q s.active) t.c (carry_digit t.carry)
-  pub outside : KeepsOutside s.c (first_place field s.p s.q s.active) (last_place field s.p s.q s.active) t.c
-
--- what a row does to the processor; whatever a row does not name stays
-abbrev pub Effect : Row → Nut → Processor → Type 0
-Effect Nop s t = t ≡ gone_to (goes_to Nop s) s.processor
-Effect LoadImmediate s t = t ≡ record (gone_to (goes_to LoadImmediate s) s.processor) { c = with_low_digits (second_word s) s.processor.c }
-Effect Return s t = t ≡ record (gone_to (goes_to Return s) s.processor) { returns = returns_after s.processor.returns }
-Effect (Arithmetic IncrementC field) s t =
-    (t ≡ record (gone_to (goes_to (Arithmetic IncrementC field) s) s.processor) { c = t.c; carry = t.carry }) × IncrementsC field s.processor t
-Effect Other s t = ⊥
-
--- the change that a step makes, which is there only where it is not refused: all but the processor stays
+-- the change that a step makes, which is there only where it is not refused
 pub record Micro (s t : Nut) : Type 0 where
   pub accepted : refused s ≡ None
-  pub effect : Effect (row_of (word_of s)) s t.processor
-  pub rest : t ≡ record s { processor = t.processor }
+  pub effect : Effect (row_of (word_of s)) s t

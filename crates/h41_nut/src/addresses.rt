@@ -1,3 +1,5 @@
+//! The addresses of words.
+
 /// The first address of the pages that may be plugged. Those below are of the system's ROM, which is not held (this
 /// project's choice).
 pub const FIRST_ADDRESS: u16 = 0x4000;

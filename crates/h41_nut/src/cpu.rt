@@ -1,15 +1,21 @@
-ghost use Rattle.std.specs.Prelude.{◌≡◌, ◌^◌, ◌<◌, slice_index};
-ghost use Rattle.h41_digits.specs.Register.{IsRegister};
+//! The registers of the processor, its states at the start, and what its words do to them, family by family.
+
+ghost use Rattle.std.specs.Prelude.{◌≡◌, ◌^◌, ◌<◌};
 ghost use Rattle.h41_nut.specs.Processor.{initial, entered};
-ghost use Rattle.h41_nut.specs.WordStep.{gone_to, with_low_digits, returns_after, newest_return, IncrementsC};
 
 use crate::addresses::END_OF_FUNCTION;
 use crate::base::Base;
-use h41_arith::inc;
+use crate::status_bits::StatusBits;
+use bitflags::Flags;
 use h41_digits::Reg;
-use h41_fields::{Field, Pointer, span};
-use h41_words::Word;
+use h41_fields::Pointer;
 use std::marker::Model;
+
+mod arithmetic;
+mod going;
+pub(crate) mod pointers;
+mod registers;
+mod status;
 
 /// How many return addresses the processor keeps.
 const RETURNS: usize = 4;
@@ -24,7 +30,7 @@ pub struct Cpu {
     n: Reg,
     g: u8,
     t: u8,
-    status: u16,
+    status: StatusBits,
     p: usize,
     q: usize,
     active: Pointer,
@@ -50,7 +56,7 @@ impl Model for Cpu {
       n = cpu.n;
       g = cpu.g;
       t = cpu.t;
-      status = cpu.status;
+      status = cpu.status.0;
       p = cpu.p;
       q = cpu.q;
       active = cpu.active;
@@ -62,7 +68,7 @@ impl Model for Cpu {
       display = cpu.display;
     } };
 
-    ghost invariant = { λ cpu. (cpu.p < 14) × (cpu.q < 14) × (cpu.status < 2 ^ 14) × (cpu.selected < 2 ^ 10) };
+    ghost invariant = { λ cpu. (cpu.p < 14) × (cpu.q < 14) × (cpu.status.0 < 2 ^ 14) × (cpu.selected < 2 ^ 10) };
 }
 
 impl Cpu {
@@ -78,7 +84,7 @@ impl Cpu {
             n: Reg::zero(),
             g: 0,
             t: 0,
-            status: 0,
+            status: StatusBits::empty(),
             p: 0,
             q: 0,
             active: Pointer::P,
@@ -154,12 +160,12 @@ impl Cpu {
         self.t
     }
 
-    /// The status bits, S0 the lowest of 14.
+    /// The status bits as a number, S0 the lowest of 14.
     pub fn status(&self) -> u16
         ensures value { result ≡ self.now.status }
         ensures bound { result < 2 ^ 14 }
     {
-        self.status
+        self.status.bits()
     }
 
     /// The pointer P, a place from 0 to 13.
@@ -226,54 +232,5 @@ impl Cpu {
         ensures { result ≡ self.now.display }
     {
         self.display
-    }
-
-    /// The newest return address, 0000 where there is none.
-    pub(crate) fn newest_return(&self) -> u16
-        ensures { result ≡ newest_return self.now }
-    {
-        self.returns[0]
-    }
-
-    /// Goes on at an address, with no carry.
-    pub(crate) fn go_to(&mut self, address: u16)
-        ensures { self.new ≡ gone_to address self.old }
-    {
-        self.pc = address;
-        self.carry = false;
-    }
-
-    /// Takes the newest return address off; the oldest is 0000 then.
-    pub(crate) fn drop_return(&mut self)
-        ensures { self.new ≡ record self.old { returns = returns_after self.old.returns } }
-    {
-        let [_newest, second, third, fourth] = self.returns;
-        self.returns = [second, third, fourth, 0];
-    }
-
-    /// A word's digits to places 2 to 0 of C.
-    pub(crate) fn load_immediate(&mut self, word: Word)
-        ensures { self.new ≡ record self.old { c = with_low_digits word self.old.c } }
-    {
-        let number = word.number();
-        self.c = self
-            .c
-            .with(0, (number % 16) as u8)
-            .with(1, (number / 16 % 16) as u8)
-            .with(2, (number / 256) as u8);
-    }
-
-    /// One more in a field of C, with the field's carry out.
-    pub(crate) fn increment_c(&mut self, field: Field)
-        ensures change { self.new ≡ record self.old { c = self.new.c; carry = self.new.carry } }
-        ensures increment { IncrementsC field self.old self.new }
-    {
-        let places = span(field, self.p, self.q, self.active);
-        let (sum, carry) = match self.base {
-            Base::Hexadecimal => inc::<false>(self.c, self.c, places),
-            Base::Decimal => inc::<true>(self.c, self.c, places),
-        };
-        self.c = sum;
-        self.carry = carry;
     }
 }

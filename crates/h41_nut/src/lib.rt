@@ -4,13 +4,13 @@
 mod addresses;
 mod base;
 mod cpu;
+mod image;
 mod keys;
 pub mod laws;
 mod machine;
-mod page;
 mod pages;
-mod ram;
 mod refusal;
+mod status_bits;
 
 pub use addresses::{END_OF_FUNCTION, FIRST_ADDRESS};
 pub use base::Base;
@@ -18,5 +18,5 @@ pub use cpu::Cpu;
 pub use keys::Keys;
 pub use machine::step;
 pub use pages::Pages;
-pub use ram::Ram;
 pub use refusal::{PlugRefusal, Refusal};
+pub use status_bits::StatusBits;

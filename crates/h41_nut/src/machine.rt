@@ -1,112 +1,110 @@
-ghost use Rattle.std.specs.Prelude.{◌≡◌, None, Some, MatchOption, MatchResult, OnOk, OnErr};
-ghost use Rattle.h41_nut.specs.Processor.{Processor};
-ghost use Rattle.h41_nut.specs.PageList.{Pages as PageList};
-ghost use Rattle.h41_nut.specs.WordStep.{Nut, nut_of, refused, Micro, arrival_refusal};
+//! One step: the word at the processor's address, and what it changes.
 
-use crate::addresses::{END_OF_FUNCTION, FIRST_ADDRESS};
+ghost use Rattle.std.specs.Prelude.{◌≡◌, OnOk, OnErr};
+ghost use Rattle.std.specs.Result.{result_err};
+ghost use Rattle.h41_nut.specs.WordStep.{nut_of, refused, row_refusal, Effect, Micro};
+
+use crate::base::Base;
 use crate::cpu::Cpu;
+use crate::cpu::pointers::{place_above, place_below};
 use crate::keys::Keys;
+use crate::machine::memory::{read_register, write_data, write_register};
+use crate::machine::peripherals::{clear_key_flag, constant_refusal, select_peripheral};
+use crate::machine::rom::{fetch_word, write_rom};
 use crate::pages::Pages;
-use crate::ram::Ram;
 use crate::refusal::Refusal;
-use h41_words::{Operation, Row, length, row};
+use h41_ram::Ram;
+use h41_words::{Row, row};
+
+mod memory;
+mod peripherals;
+mod rom;
 
 /// Carries out the word at the processor's address. It is refused by the first of these, and changes nothing then: the
-/// fetch of the word (8, 9), a word that is not held (7), the fetch of a second word (8, 9), an arrival in pages 0 to 3
-/// other than at 00F0 (8). The order is this project's choice; behind FFFF comes 0000.
-pub fn step(cpu: &mut Cpu, ram: &mut Ram, pages: &mut Pages, keys: &mut Keys) -> Result<(), Refusal>
-    ensures refusal { MatchResult result (λ _. refused (nut_of cpu.old pages.old keys.old) ≡ None) (λ refusal. refused (nut_of cpu.old pages.old keys.old) ≡ Some refusal) }
-    ensures change { OnOk result (Micro (nut_of cpu.old pages.old keys.old) (nut_of cpu.new pages.new keys.new)) }
-    ensures ram { ram.new ≡ ram.old }
-    ensures err { OnErr result (nut_of cpu.new pages.new keys.new ≡ nut_of cpu.old pages.old keys.old) }
+/// fetch of the word (8, 9); the word itself (6, 7, 10, 11); the fetch of a second word (8, 9); a read or write of a page
+/// (8, 12); an arrival in pages 0 to 3 other than at 00F0 (8). The order is this project's choice; behind FFFF comes 0000.
+pub fn step<const REGS: usize>(
+    cpu: &mut Cpu,
+    ram: &mut Ram<REGS>,
+    pages: &mut Pages,
+    keys: &mut Keys,
+) -> Result<(), Refusal>
+    ensures refusal { result_err result ≡ refused (nut_of cpu.old ram.old pages.old keys.old) }
+    ensures change { OnOk result (Micro (nut_of cpu.old ram.old pages.old keys.old)
+        (nut_of cpu.new ram.new pages.new keys.new)) }
+    ensures err { OnErr result (nut_of cpu.new ram.new pages.new keys.new
+        ≡ nut_of cpu.old ram.old pages.old keys.old) }
 {
-    let address = cpu.pc();
-    let word = pages.fetch(address)?;
-    let behind = address.wrapping_add(length(word));
-    match row(word) {
-        Row::Nop => cpu.go_to(arrival(behind)?),
+    let word = pages.fetch(cpu.pc())?;
+    carry_out(row(word), cpu, ram, pages, keys)
+}
+
+/// Carries out a row of the table of words.
+fn carry_out<const REGS: usize>(
+    row: Row,
+    cpu: &mut Cpu,
+    ram: &mut Ram<REGS>,
+    pages: &mut Pages,
+    keys: &mut Keys,
+) -> Result<(), Refusal>
+    ensures refusal { result_err result ≡ row_refusal row (nut_of cpu.old ram.old pages.old keys.old) }
+    ensures change { OnOk result (Effect row (nut_of cpu.old ram.old pages.old keys.old)
+        (nut_of cpu.new ram.new pages.new keys.new)) }
+    ensures err { OnErr result (nut_of cpu.new ram.new pages.new keys.new
+        ≡ nut_of cpu.old ram.old pages.old keys.old) }
+{
+    match row {
+        Row::Arithmetic(operation, field) => cpu.arithmetic(operation, field),
+        Row::LongJump(low_byte) => {
+            let second = pages.fetch(cpu.behind())?;
+            cpu.long_jump(low_byte, second)
+        }
+        Row::ShortJump(condition, displacement) => cpu.short_jump(condition, displacement),
+        Row::ClearStatus(bit) => cpu.set_status(bit, false),
+        Row::SetStatus(bit) => cpu.set_status(bit, true),
+        Row::TestStatus(bit) => cpu.answer(cpu.is_status_set(bit)),
+        Row::TestPointer(place) => cpu.answer(cpu.pointer() == usize::from(place.number())),
+        Row::SetPointer(place) => cpu.set_pointer(usize::from(place.number())),
+        Row::RotateRight(digits) => cpu.rotate_right(digits),
+        Row::LoadDigit(digit) => cpu.load_digit(digit),
+        Row::Write(register) => write_register(cpu, ram, register),
+        Row::Read(register) => read_register(cpu, ram, register),
+        Row::Constant(word) => Err(constant_refusal(word, cpu.pc())),
+        Row::Nop | Row::TestLowBattery => cpu.go_on(),
+        Row::WriteRom => write_rom(cpu, pages),
+        Row::EnableBank(_bank) => Err(Refusal::WordNotInProfile(cpu.pc())),
+        Row::ClearStatusByte => cpu.clear_status_byte(),
+        Row::ClearKeyFlag => clear_key_flag(cpu, keys),
+        Row::TestKeyFlag => cpu.answer(keys.flag),
+        Row::DecrementPointer => cpu.set_pointer(place_below(cpu.pointer())),
+        Row::IncrementPointer => cpu.set_pointer(place_above(cpu.pointer())),
+        Row::Transfer(transfer) => cpu.transfer(transfer),
+        Row::DropReturn => cpu.drop_return(),
+        Row::PowerOff => Err(Refusal::Asleep(cpu.pc())),
+        Row::SelectPointer(pointer) => cpu.select_pointer(pointer),
+        Row::TestPointersEqual => cpu.answer(cpu.p() == cpu.q()),
+        Row::ClearRegisters => cpu.clear_registers(),
+        Row::GoToAddress => cpu.go_to(cpu.address_in_c()),
+        Row::ReadKey => cpu.load_key(keys.ky),
+        Row::SetHexadecimal => cpu.set_base(Base::Hexadecimal),
+        Row::SetDecimal => cpu.set_base(Base::Decimal),
+        Row::DisplayOff => cpu.set_display(false),
+        Row::ToggleDisplay => cpu.set_display(!cpu.display()),
+        Row::ReturnIf(condition) => cpu.return_if(condition),
+        Row::Return => cpu.return_to_newest(),
         Row::LoadImmediate => {
-            let second = pages.fetch(address.wrapping_add(1))?;
-            let next = arrival(behind)?;
-            cpu.load_immediate(second);
-            cpu.go_to(next);
+            let second = pages.fetch(cpu.behind())?;
+            cpu.load_immediate(second)
         }
-        Row::Return => {
-            let next = arrival(cpu.newest_return())?;
-            cpu.drop_return();
-            cpu.go_to(next);
-        }
-        Row::Arithmetic(Operation::IncrementC, field) => {
-            let next = arrival(behind)?;
-            cpu.go_to(next);
-            cpu.increment_c(field);
-        }
-        Row::Other => return Err(Refusal::WordNotInProfile(address)),
-    }
-    Ok(())
-}
-
-// The address, unless no step may arrive there.
-fn arrival(address: u16) -> Result<u16, Refusal>
-    ensures { MatchOption (arrival_refusal address) (result ≡ Ok address) (λ refusal. result ≡ Err refusal) }
-{
-    if address < FIRST_ADDRESS && address != END_OF_FUNCTION {
-        Err(Refusal::SystemRom(address))
-    } else {
-        Ok(address)
-    }
-}
-
-#[cfg(test)]
-mod tests {
-    use super::*;
-    use crate::base::Base;
-    use h41_fields::Pointer;
-    use std::alloc::Global;
-    use std::test::Fail;
-
-    // A page of these words, filled with NOP.
-    fn page(alloc: Global, words: &[u16]) -> Result<Vec<u16>, Fail> {
-        let mut page = Vec::new(alloc);
-        page.extend_from_slice(words)?;
-        for _filler in words.len()..4096 {
-            page.push(0)?;
-        }
-        Ok(page)
-    }
-
-    #[test]
-    fn four_words(rt: HostRuntime) -> Result<(), Fail> {
-        let alloc = rt.alloc();
-        let mut pages = Pages::new(alloc)?;
-        let words = page(alloc, &[0x130, 0x123, 0x226, 0x3E0])?;
-        pages.plug(alloc, 8, 1, false, &words)?;
-        let mut cpu = Cpu::new();
-        let mut ram = Ram::new();
-        let mut keys = Keys::new();
-        cpu.enter(0x8000);
-        for _word in 0..3 {
-            step(&mut cpu, &mut ram, &mut pages, &mut keys)?;
-        }
-        assert_eq!(rt;
-            (cpu.a(), cpu.b(), cpu.m(), cpu.n()),
-            (cpu.b(), cpu.m(), cpu.n(), cpu.a())
-        );
-        assert_eq!(rt; (cpu.c().to_u64(), cpu.a().to_u64()), (0x124, 0));
-        assert_eq!(rt;
-            (cpu.g(), cpu.t(), cpu.status(), cpu.selected()),
-            (0, 0, 0, 0)
-        );
-        assert_eq!(rt; (cpu.p(), cpu.q(), cpu.active()), (0, 0, Pointer::P));
-        assert_eq!(rt; (cpu.pc(), cpu.returns()), (0x00F0, [0; 4]));
-        assert_eq!(rt;
-            (cpu.carry(), cpu.base(), cpu.display()),
-            (false, Base::Hexadecimal, true)
-        );
-        assert_eq!(rt;
-            step(&mut cpu, &mut ram, &mut pages, &mut keys),
-            Err(Refusal::SystemRom(0x00F0))
-        );
-        Ok(())
+        Row::PushAddress => cpu.push_address(),
+        Row::PopAddress => cpu.pop_address(),
+        Row::GoToKey => cpu.go_to_key(keys.ky),
+        Row::SelectRegister => cpu.select(cpu.word_in_c()),
+        Row::WriteData => write_data(cpu, ram),
+        Row::ReadData => cpu.load_register(ram.read(cpu.selected())),
+        Row::FetchWord => fetch_word(cpu, pages),
+        Row::Or => cpu.join_a(),
+        Row::And => cpu.meet_a(),
+        Row::SelectPeripheral => select_peripheral(cpu),
     }
 }

@@ -1,10 +1,14 @@
+//! The pages of the address space.
+
 ghost use Rattle.std.specs.Prelude.{◌≡◌, ◌⊎◌, ◌<◌, None, Some, IfOk, IfErr, IfNone, OnOk, OnErr, All, length, IsTrue, nat_le};
 ghost use Rattle.std.specs.List.{list_all};
-ghost use Rattle.h41_nut.specs.PageList.{no_pages, is_image, plug_refusal, plugged, fetched};
+ghost use Rattle.std.specs.Result.{result_err};
+ghost use Rattle.h41_nut.specs.Addresses.{page_of, offset_of};
+ghost use Rattle.h41_nut.specs.PageList.{no_pages, is_image, plug_refusal, plugged, fetched, system_refusal, word_or_zero, write_refusal, written};
 ghost use Rattle.h41_nut.specs.declared.refusal.PlugRefusal.TheVariants.{OutOfMemory};
 
 use crate::addresses::FIRST_ADDRESS;
-use crate::page::{PAGE_WORDS, Page};
+use crate::image::{Image, PAGE_WORDS};
 use crate::refusal::{PlugRefusal, Refusal};
 use h41_words::Word;
 use std::alloc::{AllocError, Global};
@@ -21,7 +25,7 @@ const LAST_PAGE: u8 = 15;
 /// The pages of the address space: sixteen of 4,096 words, of which 4 to F may be plugged.
 #[derive(Drop)]
 pub struct Pages {
-    pages: Vec<Option<Page>>,
+    pages: Vec<Option<Image>>,
 }
 
 impl Model for Pages {
@@ -58,15 +62,17 @@ impl Pages {
         writable: bool,
         words: &[u16],
     ) -> Result<(), PlugRefusal>
-        ensures ok { OnOk result ((plug_refusal self.old page bank words.now ≡ None) × (self.new ≡ plugged self.old page writable words.now)) }
+        ensures ok { OnOk result ((plug_refusal self.old page bank words.now ≡ None)
+            × (self.new ≡ plugged self.old page writable words.now)) }
         ensures err { OnErr result (self.new ≡ self.old) }
-        ensures refusal { IfErr result (λ refusal. (plug_refusal self.old page bank words.now ≡ Some refusal)
+        ensures refusal { IfErr result (λ refusal.
+            (plug_refusal self.old page bank words.now ≡ Some refusal)
             ⊎ ((plug_refusal self.old page bank words.now ≡ None) × (refusal ≡ OutOfMemory))) }
     {
         if let Some(refusal) = self.plug_refusal(page, bank, words) {
             return Err(refusal);
         }
-        let image = Page::new(alloc, writable, words)?;
+        let image = Image::new(alloc, writable, words)?;
         self.pages[usize::from(page)] = Some(image);
         Ok(())
     }
@@ -97,10 +103,47 @@ impl Pages {
         if address < FIRST_ADDRESS {
             return Err(Refusal::SystemRom(address));
         }
-        let page = usize::from(address / 0x1000);
-        match &self.pages[page] {
+        match &self.pages[page_of(address)] {
             None => Err(Refusal::EmptyPage(address)),
-            Some(image) => Ok(image.word(usize::from(address % 0x1000))),
+            Some(image) => Ok(image.word(offset_of(address))),
+        }
+    }
+
+    /// The word at an address, and 000 where nothing is plugged (this project's choice). Refused as 8 in pages 0 to 3.
+    #[tactic(auto, unfolding(crate::specs::PageList::fetched))]
+    pub(crate) fn fetch_or_zero(&self, address: u16) -> Result<Word, Refusal>
+        ensures refusal { result_err result ≡ system_refusal address }
+        ensures word { IfOk result (λ word. word ≡ word_or_zero (fetched self.now address)) }
+    {
+        match self.fetch(address) {
+            Err(Refusal::EmptyPage(_)) => Ok(Word::new(0).unwrap()),
+            fetched => fetched,
+        }
+    }
+
+    /// Whether the word at an address may be written. Refused as 12 where the page isn't plugged as writable.
+    pub(crate) fn check_writable(&self, address: u16) -> Result<(), Refusal>
+        ensures { result_err result ≡ write_refusal self.now address }
+    {
+        match &self.pages[page_of(address)] {
+            Some(image) if image.is_writable() => Ok(()),
+            _ => Err(Refusal::ReadOnly(address)),
+        }
+    }
+
+    /// Writes the word at an address. Refused as 12 where the page isn't plugged as writable.
+    #[tactic(auto, unfolding(crate::specs::PageList::written))]
+    pub fn write(&mut self, address: u16, word: Word) -> Result<(), Refusal>
+        ensures refusal { result_err result ≡ write_refusal self.old address }
+        ensures ok { OnOk result (self.new ≡ written self.old address word) }
+        ensures err { OnErr result (self.new ≡ self.old) }
+    {
+        match &mut self.pages[page_of(address)] {
+            Some(image) if image.is_writable() => {
+                image.write(offset_of(address), word);
+                Ok(())
+            }
+            _ => Err(Refusal::ReadOnly(address)),
         }
     }
 }
@@ -108,7 +151,8 @@ impl Pages {
 // Whether these are the words of a page.
 fn is_image(words: &[u16]) -> bool
     ensures test { result ≡ is_image words.now }
-    ensures image { IsTrue result → (length words.now ≡ 4096) × All (λ word. word < 1024) words.now }
+    ensures image { IsTrue result → (length words.now ≡ 4096)
+        × All (λ word. word < 1024) words.now }
 {
     words.len() == PAGE_WORDS && all_fit(words)
 }
@@ -119,4 +163,20 @@ fn all_fit(words: &[u16]) -> bool
     ensures each { IsTrue result → All (λ word. word < 1024) words.now }
 {
     words.iter().all(|word| *word <= 0x3FF)
+}
+
+/// The page of an address.
+fn page_of(address: u16) -> usize
+    ensures page { result ≡ page_of address }
+    ensures bound { result < 16 }
+{
+    usize::from(address) / PAGE_WORDS
+}
+
+/// The place of an address in its page.
+fn offset_of(address: u16) -> usize
+    ensures offset { result ≡ offset_of address }
+    ensures bound { result < 4096 }
+{
+    usize::from(address) % PAGE_WORDS
 }

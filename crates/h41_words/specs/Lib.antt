@@ -1,1 +1,4 @@
+pub mod Counts
+pub mod SecondWord
+pub mod Unassigned
 pub mod WordTable

@@ -2,10 +2,19 @@
 //! listings.
 #![tactic(auto)]
 
+pub mod laws;
+mod operands;
+mod operation;
+mod rom_word;
 mod rows;
+mod second_word;
 mod table;
-mod word;
+mod unassigned;
 
-pub use rows::{Operation, Row};
-pub use table::{length, row};
-pub use word::Word;
+pub use operands::{BlockRegister, Digit, Displacement, Place, ReadRegister, StatusBit};
+pub use operation::Operation;
+pub use rom_word::Word;
+pub use rows::{Bank, Condition, RegisterTransfer, Row};
+pub use second_word::{LongJumpKind, SecondWord};
+pub use table::{length, row, word};
+pub use unassigned::UnassignedWord;

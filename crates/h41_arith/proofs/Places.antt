@@ -1,0 +1,153 @@
+-- Registers whose digits are known place by place.
+use Rattle.std.proofs.Common.{if◌then◌else◌, ◌≡◌, ◌≢◌, ℕ, ◌+◌, ◌-◌, ◌<◌, ◌≤◌, true, false, not, ◌==◌, ◌&&◌, nat_le, List, length, slice_index, set, refl, ap, sym, arith, inl, inr, ◌∙◌, get_or-set_other, get_or-set_same}
+use Rattle.std.proofs.lemmas.List.{ext_get_or, get_or_past}
+use Rattle.std.specs.List.{range_with_len}
+use Rattle.std.proofs.lemmas.List.Folds.{list_any_none, list_any_at, Any-from_list_any}
+use Rattle.std.proofs.lemmas.List.FromFn.{length-range_with_len, get_or-range_with_len, length-map-range_with_len, get_or-map-range_with_len}
+use Rattle.std.proofs.lemmas.Bool.{cases_lt}
+use Rattle.std.proofs.lemmas.Bool.Decides.{nat_tests}
+use Rattle.h41_fields.specs.Field.{from_to}
+use Rattle.h41_arith.specs.DigitRule.{replaced, is_different}
+use Rattle.h41_arith.specs.DigitRuleLaws.{HasDigits, ReplacedIsDetermined, DifferentAtAPlace}
+
+-- Up to the place below next, z has these digits from lo on; elsewhere it is as `into`.
+pub record FilledTo (into : List ℕ) (lo next : ℕ) (digit : ℕ → ℕ) (z : List ℕ) : Type 0 where
+  pub inside : (place : ℕ) → lo ≤ place → place < next → slice_index z place ≡ digit place
+  pub below : (place : ℕ) → place < lo → slice_index z place ≡ slice_index into place
+  pub above : (place : ℕ) → next ≤ place → slice_index z place ≡ slice_index into place
+
+pub filled_none : (into : List ℕ) (lo : ℕ) (digit : ℕ → ℕ) → FilledTo into lo lo digit into
+filled_none into lo digit = record {
+  inside = λ place from below. absurd (omega arith);
+  below = λ place low. refl;
+  above = λ place high. refl;
+}
+
+-- one place more
+pub filled_more : (into z : List ℕ) (lo next : ℕ) (digit : ℕ → ℕ) (new : ℕ) → next < length z → lo ≤ next → new ≡ digit next
+    → FilledTo into lo next digit z → FilledTo into lo (next + 1) digit (set z next new)
+filled_more into z lo next digit new within from is so_far = record {
+  inside = λ place low high. elim (cases_lt place next) [
+    | inl less ↦
+        let other : place ≢ next = omega arith in
+        get_or-set_other z next place new 0 other ∙ so_far.inside place low less
+    | inr here ↦
+        let same : place ≡ next = omega arith in
+        rw same (get_or-set_same z next new 0 within ∙ is)
+  ];
+  below = λ place low.
+      let other : place ≢ next = omega arith in
+      get_or-set_other z next place new 0 other ∙ so_far.below place low;
+  above = λ place high.
+      let other : place ≢ next = omega arith in
+      get_or-set_other z next place new 0 other ∙ so_far.above place (omega arith);
+}
+
+-- a place is itself
+pub place_itself : (place : ℕ) → (place == place) ≡ true
+place_itself place = grind (arith, nat_tests)
+
+-- the digit of a replaced span at a place
+replaced_at : (into : List ℕ) (lo hi : ℕ) (digit : ℕ → ℕ) (place : ℕ) → place < 14
+    → slice_index (replaced into lo hi digit) place ≡ (if nat_le lo place && nat_le place hi then digit place else slice_index into place)
+unfolding replaced from_to
+replaced_at into lo hi digit place within =
+    get_or-map-range_with_len (λ place. if nat_le lo place && nat_le place hi then digit place else slice_index into place) 0 14 place place 0 within (omega arith)
+
+length-replaced : (into : List ℕ) (lo hi : ℕ) (digit : ℕ → ℕ) → length (replaced into lo hi digit) ≡ 14
+unfolding replaced from_to
+length-replaced into lo hi digit =
+    length-map-range_with_len (λ place. if nat_le lo place && nat_le place hi then digit place else slice_index into place) 0 14
+
+within_span : (lo place hi : ℕ) → lo ≤ place → place ≤ hi → (nat_le lo place && nat_le place hi) ≡ true
+within_span lo place hi from to = grind (arith, nat_tests)
+
+below_span : (lo place hi : ℕ) → place < lo → (nat_le lo place && nat_le place hi) ≡ false
+below_span lo place hi low = grind (arith, nat_tests)
+
+above_span : (lo place hi : ℕ) → hi < place → (nat_le lo place && nat_le place hi) ≡ false
+above_span lo place hi high = grind (arith, nat_tests)
+
+-- a register with the digits of a replaced span is that one
+pub filled_all : (into z : List ℕ) (lo hi : ℕ) (digit : ℕ → ℕ) → length z ≡ 14 → FilledTo into lo (hi + 1) digit z → z ≡ replaced into lo hi digit
+filled_all into z lo hi digit size filled =
+    ext_get_or 0 z (replaced into lo hi digit) (size ∙ sym (length-replaced into lo hi digit)) (λ place within.
+    let small : place < 14 = omega arith in
+    let there = replaced_at into lo hi digit place small in
+    elim (cases_lt place lo) [
+      | inl low ↦ filled.below place low ∙ sym (rw (below_span lo place hi low) at there)
+      | inr from ↦ elim (cases_lt hi place) [
+        | inl high ↦ filled.above place (omega arith) ∙ sym (rw (above_span lo place hi high) at there)
+        | inr to ↦ filled.inside place from (omega arith) ∙ sym (rw (within_span lo place hi from to) at there)
+      ]
+    ])
+
+-- a replaced span has its digits
+has_digits : (into : List ℕ) (lo hi : ℕ) (digit : ℕ → ℕ) → length into ≡ 14 → hi < 14 → HasDigits into lo hi digit (replaced into lo hi digit)
+has_digits into lo hi digit size inside = record {
+  size = length-replaced into lo hi digit;
+  inside = λ place from to. rw (within_span lo place hi from to) at (replaced_at into lo hi digit place (omega arith));
+  outside = record {
+    below = λ place low. elim (cases_lt place 14) [
+      | inl small ↦ rw (below_span lo place hi low) at (replaced_at into lo hi digit place small)
+      | inr large ↦ past place large
+    ];
+    above = λ place high. elim (cases_lt place 14) [
+      | inl small ↦ rw (above_span lo place hi high) at (replaced_at into lo hi digit place small)
+      | inr large ↦ past place large
+    ];
+  };
+}
+  where
+    past : (place : ℕ) → 14 ≤ place → slice_index (replaced into lo hi digit) place ≡ slice_index into place
+    past place large = get_or_past (replaced into lo hi digit) place 0 (omega (arith, length-replaced into lo hi digit)) ∙ sym (get_or_past into place 0 (omega (arith, size)))
+
+pub replaced_determined : ReplacedIsDetermined
+replaced_determined into z lo hi digit size inside = (
+  λ known. filled_all into z lo hi digit known.size (record {
+    inside = λ place from below. known.inside place from (omega arith);
+    below = known.outside.below;
+    above = λ place high. known.outside.above place (omega arith);
+  }),
+  λ same. rw same (has_digits into lo hi digit size inside),
+)
+
+not_same : (a b : ℕ) → a ≢ b → not (a == b) ≡ true
+not_same a b other = grind (arith, nat_tests)
+
+same : (a b : ℕ) → a ≡ b → not (a == b) ≡ false
+same a b equal = grind (arith, nat_tests)
+
+-- a place where two registers differ
+pub different_at : (x y : List ℕ) (lo hi place : ℕ) → lo ≤ place → place ≤ hi → slice_index x place ≢ slice_index y place → is_different x y lo hi ≡ true
+unfolding is_different from_to
+different_at x y lo hi place from to other =
+    let test = λ (place : ℕ). not (slice_index x place == slice_index y place) in
+    let index : place - lo < hi + 1 - lo = omega arith in
+    let there : lo + (place - lo) ≡ place = omega arith in
+    list_any_at test (range_with_len lo (hi + 1 - lo)) (place - lo) 0 (omega (arith, length-range_with_len lo (hi + 1 - lo)))
+    (ap test (get_or-range_with_len lo (hi + 1 - lo) (place - lo) 0 index ∙ there) ∙ not_same (slice_index x place) (slice_index y place) other)
+
+-- no place where they differ
+pub same_throughout : (x y : List ℕ) (lo hi : ℕ) → ((place : ℕ) → lo ≤ place → place ≤ hi → slice_index x place ≡ slice_index y place) → is_different x y lo hi ≡ false
+unfolding is_different from_to
+same_throughout x y lo hi equal =
+    let test = λ (place : ℕ). not (slice_index x place == slice_index y place) in
+    list_any_none test (range_with_len lo (hi + 1 - lo)) (λ index d within.
+    let few : index < hi + 1 - lo = omega (arith, length-range_with_len lo (hi + 1 - lo)) in
+    ap test (get_or-range_with_len lo (hi + 1 - lo) index d few) ∙ same (slice_index x (lo + index)) (slice_index y (lo + index)) (equal (lo + index) (omega arith) (omega arith)))
+
+pub is_different_tells : DifferentAtAPlace
+unfolding is_different from_to
+is_different_tells x y lo hi = (
+  λ told.
+      let test = λ (place : ℕ). not (slice_index x place == slice_index y place) in
+      let found = Any-from_list_any test (range_with_len lo (hi + 1 - lo)) told in
+      let few : found.0 < hi + 1 - lo = omega (arith, found.2, length-range_with_len lo (hi + 1 - lo)) in
+      let there : found.1 ≡ lo + found.0 = sym found.3 ∙ get_or-range_with_len lo (hi + 1 - lo) found.0 found.1 few in
+      (found.1, omega arith, omega arith, λ equal. true_not_false (sym found.4 ∙ same (slice_index x found.1) (slice_index y found.1) equal)),
+  λ place. different_at x y lo hi place.0 place.1 place.2 place.3,
+)
+  where
+    true_not_false : true ≡ false → ⊥
+    true_not_false h = cc

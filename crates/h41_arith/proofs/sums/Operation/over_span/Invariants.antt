@@ -1,0 +1,14 @@
+use Rattle.std.proofs.Common.{◌≡◌, ℕ, ◌<◌, ◌≤◌, slice_index}
+use Rattle.h41_digits.specs.Register.{IsRegister}
+use Rattle.h41_arith.specs.DigitRule.{rule_of, carry_digit}
+use Rattle.h41_arith.proofs.Carries.{CarriedTo}
+use Rattle.h41_arith.proofs.sums.Operation.over_span.Given as goal
+
+-- the rule holds up to the place, and the places outside are those of `into`
+abbrev pub invariant-loop-place : goal.invariant-loop-place
+invariant-loop-place l = record {
+  carried : CarriedTo (rule_of l.self l.base) l.x l.y (carry_digit l.fn.carry_in) l.fn.span.lo l.place l.digits (carry_digit l.carry);
+  below : (place : ℕ) → place < l.fn.span.lo → slice_index l.digits place ≡ slice_index l.fn.into place;
+  above : (place : ℕ) → l.place ≤ place → slice_index l.digits place ≡ slice_index l.fn.into place;
+  registers : l.fn.span.lo < l.place → IsRegister 14 l.digits × IsRegister 14 l.x × IsRegister 14 l.y;
+}

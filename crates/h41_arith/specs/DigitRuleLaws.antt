@@ -1,0 +1,38 @@
+-- What follows from the digit rule alone.
+use Rattle.std.specs.Prelude.{◌≡◌, ◌≢◌, ℕ, ◌<◌, ◌≤◌, ◌↔◌, Bool, false, IsTrue, List, length, slice_index}
+use Rattle.h41_digits.specs.Register.{IsRegister}
+use Rattle.h41_arith.specs.DigitRule.{SumDigit, DifferenceDigit, HasResult, DifferenceInto, KeepsOutside, replaced, is_less, is_different}
+
+-- a rule of one place gives one register and one carry
+abbrev pub IsDetermined : (ℕ → ℕ → ℕ → ℕ → ℕ → Type 0) → Type 0
+IsDetermined rule = (into x y z w : List ℕ) (carry_in carry other : Bool) (lo hi : ℕ) → lo ≤ hi
+    → HasResult rule into x y carry_in lo hi z carry → HasResult rule into x y carry_in lo hi w other → (z ≡ w) × (carry ≡ other)
+
+-- a sum is determined, with its carry
+abbrev pub SumIsDetermined : Type 0
+SumIsDetermined = (base : ℕ) → IsDetermined (SumDigit base)
+
+-- a difference is determined, with its borrow
+abbrev pub DifferenceIsDetermined : Type 0
+DifferenceIsDetermined = (base : ℕ) → IsDetermined (DifferenceDigit base)
+
+-- in any base, the borrow of x - y tells whether x is below y
+abbrev pub BorrowTellsLess : Type 0
+BorrowTellsLess = (base lo hi : ℕ) (into x y z : List ℕ) (borrow : Bool) → lo ≤ hi → hi < 14 → IsRegister 14 x → IsRegister 14 y
+    → DifferenceInto base into x y false lo hi z borrow → borrow ≡ is_less x y lo hi
+
+-- z has these digits at the places from lo to hi, and elsewhere those of `into`
+pub record HasDigits (into : List ℕ) (lo hi : ℕ) (digit : ℕ → ℕ) (z : List ℕ) : Type 0 where
+  pub size : length z ≡ 14
+  pub inside : (place : ℕ) → lo ≤ place → place ≤ hi → slice_index z place ≡ digit place
+  pub outside : KeepsOutside into lo hi z
+
+-- that is so of the register of a copy or a shift, and of no other
+abbrev pub ReplacedIsDetermined : Type 0
+ReplacedIsDetermined = (into z : List ℕ) (lo hi : ℕ) (digit : ℕ → ℕ) → length into ≡ 14 → hi < 14
+    → HasDigits into lo hi digit z ↔ (z ≡ replaced into lo hi digit)
+
+-- two registers are told to be different exactly where they are so at a place of the span
+abbrev pub DifferentAtAPlace : Type 0
+DifferentAtAPlace = (x y : List ℕ) (lo hi : ℕ)
+    → IsTrue (is_different x y lo hi) ↔ ((place : ℕ) × (lo ≤ place) × (place ≤ hi) × (slice_index x place ≢ slice_index y place))

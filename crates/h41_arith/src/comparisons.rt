@@ -1,0 +1,34 @@
+//! Questions about the digits of a span.
+
+ghost use Rattle.std.specs.Prelude.{◌≡◌};
+ghost use Rattle.h41_arith.specs.DigitRule.{is_less, is_different, is_nonzero};
+
+use crate::sums::Operation;
+use h41_digits::Reg;
+use h41_fields::Span;
+
+/// Whether `x` is below `y` in the span: the borrow of `x` - `y`, which is the same in either base.
+pub fn less(x: Reg, y: Reg, span: Span) -> bool
+    ensures { result ≡ is_less x y span.lo span.hi }
+{
+    Operation::Subtract.over_span(16, x, x, y, false, span).1
+}
+
+/// Whether `x` and `y` have different digits in the span.
+pub fn differs(x: Reg, y: Reg, span: Span) -> bool
+    ensures { result ≡ is_different x y span.lo span.hi }
+{
+    for place in span.lo..span.hi + 1 {
+        if x.get(place) != y.get(place) {
+            return true;
+        }
+    }
+    false
+}
+
+/// Whether `x` has a digit other than 0 in the span.
+pub fn nonzero(x: Reg, span: Span) -> bool
+    ensures { result ≡ is_nonzero x span.lo span.hi }
+{
+    differs(x, Reg::zero(), span)
+}

@@ -1,0 +1,143 @@
+//! Sums and differences of two registers over a span. All of them go through one loop.
+
+ghost use Rattle.std.specs.Prelude.{◌≡◌, ◌<◌, ◌⊎◌, true, false};
+ghost use Rattle.h41_digits.specs.Register.{IsRegister};
+ghost use Rattle.h41_arith.specs.DigitRule.{SumDigit, DifferenceDigit, SumInto, DifferenceInto, HasResult, rule_of, base_of, carry_digit, zeros};
+
+use h41_digits::Reg;
+use h41_fields::Span;
+
+/// What is done with the digits of two registers.
+#[derive(Clone, Copy)]
+pub enum Operation {
+    /// A sum with its carry.
+    Add,
+    /// A difference with its borrow.
+    Subtract,
+}
+
+impl Operation {
+    /// One place: the digit, and whether there is a carry or borrow out.
+    fn digit(self, base: u8, x: u8, y: u8, carry_in: bool) -> (u8, bool)
+        requires is_base { (base ≡ 10) ⊎ (base ≡ 16) }
+        requires x_is_digit { x < 16 }
+        requires y_is_digit { y < 16 }
+        ensures rule { rule_of self base x y (carry_digit carry_in)
+            result.0 (carry_digit result.1) }
+        ensures is_digit { result.0 < 16 }
+    {
+        match self {
+            Operation::Add => sum_digit(base, x, y, carry_in),
+            Operation::Subtract => difference_digit(base, x, y, carry_in),
+        }
+    }
+
+    /// `into` with the digits of `x` and `y` added or subtracted in the span, and the carry or borrow out of its top digit.
+    pub fn over_span(
+        self,
+        base: u8,
+        into: Reg,
+        x: Reg,
+        y: Reg,
+        carry_in: bool,
+        span: Span,
+    ) -> (Reg, bool)
+        requires { (base ≡ 10) ⊎ (base ≡ 16) }
+        ensures result { HasResult (rule_of self base) into x y carry_in span.lo span.hi
+            result.0 result.1 }
+        ensures operands { IsRegister 14 x × IsRegister 14 y }
+    {
+        let mut digits = into;
+        let mut carry = carry_in;
+        for place in span.lo..span.hi + 1 {
+            let (digit, carry_out) = self.digit(base, x.get(place), y.get(place), carry);
+            digits = digits.with(place, digit);
+            carry = carry_out;
+        }
+        (digits, carry)
+    }
+}
+
+/// One place of a sum: the digit, and whether there is a carry out.
+fn sum_digit(base: u8, x: u8, y: u8, carry_in: bool) -> (u8, bool)
+    requires is_base { (base ≡ 10) ⊎ (base ≡ 16) }
+    requires x_is_digit { x < 16 }
+    requires y_is_digit { y < 16 }
+    ensures rule { SumDigit base x y (carry_digit carry_in) result.0 (carry_digit result.1) }
+    ensures is_digit { result.0 < 16 }
+{
+    let sum = x + y + u8::from(carry_in);
+    if sum < base {
+        (sum, false)
+    } else {
+        ((sum - base) % 16, true)
+    }
+}
+
+/// One place of a difference: the digit, and whether there is a borrow out.
+fn difference_digit(base: u8, x: u8, y: u8, borrow_in: bool) -> (u8, bool)
+    requires is_base { (base ≡ 10) ⊎ (base ≡ 16) }
+    requires x_is_digit { x < 16 }
+    requires y_is_digit { y < 16 }
+    ensures rule { DifferenceDigit base x y (carry_digit borrow_in)
+        result.0 (carry_digit result.1) }
+    ensures is_digit { result.0 < 16 }
+{
+    let taken = y + u8::from(borrow_in);
+    if taken <= x {
+        (x - taken, false)
+    } else {
+        ((x + base + 16 - taken) % 16, true)
+    }
+}
+
+/// 10 in decimal mode, 16 in hexadecimal mode.
+fn base<const DEC: bool>() -> u8
+    ensures { result ≡ base_of DEC }
+{
+    if DEC { 10 } else { 16 }
+}
+
+/// `into` with `x` + `y` + the carry in, in the span, and the carry out of the span's top digit. The base is 10 where `DEC`,
+/// else 16. In base 10 a digit from A to F is added like others: F + 1 is 6 with a carry (this project's choice).
+pub fn add<const DEC: bool>(into: Reg, x: Reg, y: Reg, carry_in: bool, span: Span) -> (Reg, bool)
+    ensures { SumInto (base_of DEC) into x y carry_in span.lo span.hi result.0 result.1 }
+{
+    Operation::Add.over_span(base::<DEC>(), into, x, y, carry_in, span)
+}
+
+/// `into` with `x` - `y` - the borrow in, in the span, and the borrow out of the span's top digit. The base is 10 where
+/// `DEC`, else 16. In base 10 a digit from A to F is subtracted like others: 0 - F is B with a borrow (this project's choice).
+pub fn sub<const DEC: bool>(into: Reg, x: Reg, y: Reg, borrow_in: bool, span: Span) -> (Reg, bool)
+    ensures { DifferenceInto (base_of DEC) into x y borrow_in span.lo span.hi result.0 result.1 }
+{
+    Operation::Subtract.over_span(base::<DEC>(), into, x, y, borrow_in, span)
+}
+
+/// `into` with `x` + 1 in the span, and the carry.
+pub fn inc<const DEC: bool>(into: Reg, x: Reg, span: Span) -> (Reg, bool)
+    ensures { SumInto (base_of DEC) into x zeros true span.lo span.hi result.0 result.1 }
+{
+    add::<DEC>(into, x, Reg::zero(), true, span)
+}
+
+/// `into` with `x` - 1 in the span, and the borrow.
+pub fn dec<const DEC: bool>(into: Reg, x: Reg, span: Span) -> (Reg, bool)
+    ensures { DifferenceInto (base_of DEC) into x zeros true span.lo span.hi result.0 result.1 }
+{
+    sub::<DEC>(into, x, Reg::zero(), true, span)
+}
+
+/// `into` with 0 - `x` in the span, the complement to the base, and the borrow.
+pub fn neg<const DEC: bool>(into: Reg, x: Reg, span: Span) -> (Reg, bool)
+    ensures { DifferenceInto (base_of DEC) into zeros x false span.lo span.hi result.0 result.1 }
+{
+    sub::<DEC>(into, Reg::zero(), x, false, span)
+}
+
+/// `into` with 0 - `x` - 1 in the span, each digit's complement to the base less one, and the borrow, which is always set.
+pub fn neg1<const DEC: bool>(into: Reg, x: Reg, span: Span) -> (Reg, bool)
+    ensures { DifferenceInto (base_of DEC) into zeros x true span.lo span.hi result.0 result.1 }
+{
+    sub::<DEC>(into, Reg::zero(), x, true, span)
+}

@@ -1,0 +1,59 @@
+//! Each kernel once, and digits A to F in base 10.
+
+use super::*;
+use h41_digits::Reg;
+use h41_fields::Span;
+use std::test::Fail;
+
+#[test]
+fn sums_and_differences(rt: HostRuntime) -> Result<(), Fail> {
+    let span = Span { lo: 0, hi: 2 };
+    let nines = Reg::holding(0x1999);
+    let letters = Reg::holding(0x1FFF);
+    let rows = [
+        (inc::<false>(nines, nines, span), 0x199A, false),
+        (inc::<true>(nines, nines, span), 0x1000, true),
+        (inc::<false>(Reg::zero(), letters, span), 0, true),
+        (inc::<true>(letters, letters, span), 0x1666, true),
+        (add::<true>(nines, nines, nines, false, span), 0x1998, true),
+        (
+            add::<true>(letters, letters, letters, false, span),
+            0x1554,
+            true,
+        ),
+        (
+            sub::<true>(nines, Reg::zero(), nines, false, span),
+            0x1001,
+            true,
+        ),
+        (
+            sub::<false>(nines, letters, nines, true, span),
+            0x1665,
+            false,
+        ),
+        (dec::<true>(nines, Reg::zero(), span), 0x1999, true),
+        (neg::<true>(nines, Reg::holding(0x2), span), 0x1998, true),
+        (neg1::<true>(nines, Reg::holding(0x2), span), 0x1997, true),
+        (neg1::<false>(nines, Reg::holding(0x2), span), 0x1FFD, true),
+    ];
+    for ((register, carry), number, carry_out) in rows {
+        assert_eq!(rt; (register.to_u64(), carry), (number, carry_out));
+    }
+    Ok(())
+}
+
+#[test]
+fn moves_and_comparisons(rt: HostRuntime) -> Result<(), Fail> {
+    let span = Span { lo: 1, hi: 3 };
+    let x = Reg::holding(0x12345);
+    let y = Reg::holding(0xABCDE);
+    assert_eq!(rt; copy(y, x, span).0.to_u64(), 0xA234E);
+    assert_eq!(rt; shift_left(y, x, span).0.to_u64(), 0xA340E);
+    assert_eq!(rt; shift_right(y, x, span).0.to_u64(), 0xA023E);
+    let (first, second) = exchange(x, y, span);
+    assert_eq!(rt; (first.to_u64(), second.to_u64()), (0x1BCD5, 0xA234E));
+    assert!(rt; less(x, y, span) && !less(y, x, span) && !less(x, x, span));
+    assert!(rt; differs(x, y, span) && !differs(x, first, Span { lo: 0, hi: 0 }));
+    assert!(rt; nonzero(x, span) && !nonzero(x, Span { lo: 5, hi: 13 }));
+    Ok(())
+}

@@ -1,0 +1,38 @@
+-- The status bits as a number: what a test, a set and a clear of one bit come to.
+use Rattle.std.proofs.Common.{◌≡◌, ℕ, zero, suc, ◌+◌, ◌-◌, ◌*◌, ◌^◌, ◌<◌, Bool, true, false, arith, ◌∙◌, ap}
+use Rattle.std.specs.Prelude.{◌==◌, if◌then◌else◌}
+use Rattle.std.specs.Int.{bit_at}
+use Rattle.std.specs.Int.Bits.{or_add_and}
+use Rattle.std.specs.Int.RustNames.{bit_and, bit_or}
+use Rattle.std.proofs.lemmas.Bool.Decides.{nat_tests}
+use Rattle.std.proofs.lemmas.Nat.{and_le_l, and_comm, pow_pos, and-not, or_lt}
+use Rattle.bitflags.specs.Sets.{without}
+use Rattle.std.proofs.lemmas.Nat.Bits.{and_pow, bit_at-lt}
+
+weight_counts : (bit weight : ℕ) → bit < 2 → 0 < weight → (bit * weight == weight) ≡ (bit == 1)
+weight_counts zero weight small some = grind (arith, nat_tests)
+weight_counts (suc zero) weight small some = grind (arith, nat_tests)
+weight_counts (suc (suc bit)) weight small some = absurd (omega arith)
+
+-- a bit is set where the number has all of its weight
+pub contains_bit : (s n : ℕ) → (bit_and s (2 ^ n) == 2 ^ n) ≡ (bit_at s n == 1)
+contains_bit s n = ap (λ met. met == 2 ^ n) (and_pow s n) ∙ weight_counts (bit_at s n) (2 ^ n) (bit_at-lt s n) (pow_pos n)
+
+-- a bit is set by its weight, where that does not count yet
+pub set_bit : (s n : ℕ) → bit_or s (2 ^ n) ≡ s - bit_at s n * 2 ^ n + 2 ^ n
+set_bit s n = omega (arith, or_add_and s (2 ^ n), and_pow s n, and_le_l s (2 ^ n))
+
+-- and cleared by taking it off, where it counts
+pub clear_bit : (s n : ℕ) → s < 2 ^ 16 → 2 ^ n < 2 ^ 16 → bit_and s (2 ^ 16 - 1 - 2 ^ n) ≡ s - bit_at s n * 2 ^ n
+clear_bit s n small weight =
+    omega (arith, and-not 16 (2 ^ n) s weight small, and_comm s (2 ^ 16 - 1 - 2 ^ n), and_comm s (2 ^ n), and_pow s n)
+
+-- a bit that is put on or off, among the 14
+pub put_bit : (s n : ℕ) (on : Bool) → s < 2 ^ 14 → 2 ^ n < 2 ^ 14
+    → (if on then bit_or s (2 ^ n) else without 16 s (2 ^ n)) ≡ s - bit_at s n * 2 ^ n + (if on then 2 ^ n else 0)
+put_bit s n true small weight = set_bit s n
+put_bit s n false small weight = omega (arith, clear_bit s n (omega arith) (omega arith))
+
+pub put_bit-lt : (s n : ℕ) (on : Bool) → s < 2 ^ 14 → 2 ^ n < 2 ^ 14 → (if on then bit_or s (2 ^ n) else without 16 s (2 ^ n)) < 2 ^ 14
+put_bit-lt s n true small weight = or_lt 14 s (2 ^ n) small weight
+put_bit-lt s n false small weight = omega (arith, and_le_l s (2 ^ 16 - 1 - 2 ^ n))

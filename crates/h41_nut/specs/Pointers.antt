@@ -1,0 +1,52 @@
+-- The words of the two pointers and of the status bits. Pointers count 13 to 0 upwards and 0 to 13 downwards.
+use Rattle.std.specs.Prelude.{ℕ, ◌+◌, ◌-◌, ◌*◌, ◌/◌, ◌%◌, ◌^◌, Bool, ◌==◌, if◌then◌else◌}
+use Rattle.std.specs.Int.{bit_at}
+use Rattle.h41_fields.specs.declared.field.Pointer.{Pointer}
+use Rattle.h41_fields.specs.declared.field.Pointer.TheVariants.{P, Q}
+use Rattle.h41_fields.specs.Field.{active_place}
+use Rattle.h41_nut.specs.Processor.{Processor}
+
+-- where the active pointer is
+abbrev pub pointer_of : Processor → ℕ
+pointer_of s = active_place s.p s.q s.active
+
+-- the active pointer at another place
+abbrev pub moved : Pointer → ℕ → Processor → Processor
+moved P place s = record s { p = place }
+moved Q place s = record s { q = place }
+
+abbrev pub with_pointer : ℕ → Processor → Processor
+with_pointer place s = moved s.active place s
+
+-- the place above another, and the place below
+abbrev pub place_above : ℕ → ℕ
+place_above place = if place == 13 then 0 else place + 1
+
+abbrev pub place_below : ℕ → ℕ
+place_below place = if place == 0 then 13 else place - 1
+
+-- whether a status bit is set
+abbrev pub is_status_set : ℕ → Processor → Bool
+is_status_set bit s = bit_at s.status bit == 1
+
+-- a status bit set or clear: its weight is taken off where it counts, and added where it is to be set
+abbrev pub with_status : ℕ → Bool → Processor → Processor
+with_status bit on s = record s { status = s.status - bit_at s.status bit * 2 ^ bit + (if on then 2 ^ bit else 0) }
+
+-- the status bits S0 to S7 as a byte, and the status bits with another byte there
+abbrev pub status_byte : Processor → ℕ
+status_byte s = s.status % 256
+
+abbrev pub with_status_byte : ℕ → Processor → Processor
+with_status_byte byte s = record s { status = s.status / 256 * 256 + byte }
+
+-- the active pointer one place up, and one place down
+abbrev pub with_pointer_up : Processor → Processor
+with_pointer_up s = with_pointer (place_above (pointer_of s)) s
+
+abbrev pub with_pointer_down : Processor → Processor
+with_pointer_down s = with_pointer (place_below (pointer_of s)) s
+
+-- another pointer as the active one
+abbrev pub with_active : Pointer → Processor → Processor
+with_active pointer s = record s { active = pointer }

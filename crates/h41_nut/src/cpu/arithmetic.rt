@@ -1,0 +1,79 @@
+//! The words that work on a field of A, B and C.
+
+ghost use Rattle.std.specs.Prelude.{◌≡◌, false, OnOk, OnErr};
+ghost use Rattle.std.specs.Result.{result_err};
+ghost use Rattle.h41_arith.specs.DigitRule.{base_of};
+ghost use Rattle.h41_nut.specs.Arithmetic.{Operates, OperatesOn, base_number};
+ghost use Rattle.h41_nut.specs.Going.{arrival_refusal, behind, gone_on};
+
+use crate::base::Base;
+use crate::cpu::Cpu;
+use crate::cpu::going::arrival;
+use crate::refusal::Refusal;
+use h41_arith::{
+    add, copy, dec, differs, exchange, inc, less, neg, neg1, nonzero, shift_left, shift_right, sub,
+};
+use h41_digits::Reg;
+use h41_fields::{Field, Span, span};
+use h41_words::Operation;
+
+impl Cpu {
+    /// `OPERATION FIELD`: works on a field in the base that is set.
+    pub(crate) fn arithmetic(&mut self, operation: Operation, field: Field) -> Result<(), Refusal>
+        ensures refusal { result_err result ≡ arrival_refusal (behind self.old) }
+        ensures operates { OnOk result (OperatesOn operation field (gone_on self.old) self.new) }
+        ensures stays { OnErr result (self.new ≡ self.old) }
+    {
+        let next = arrival(self.behind())?;
+        let places = span(field, self.p, self.q, self.active);
+        self.arrive(next, false);
+        match self.base {
+            Base::Hexadecimal => self.operate::<false>(operation, places),
+            Base::Decimal => self.operate::<true>(operation, places),
+        }
+        Ok(())
+    }
+
+    /// Works on a span of places, in base 10 where `DEC`, else in base 16. The carry is clear before.
+    fn operate<const DEC: bool>(&mut self, operation: Operation, span: Span)
+        requires base { base_of DEC ≡ base_number self.old.base }
+        requires carry { self.old.carry ≡ false }
+        ensures { Operates operation span.lo span.hi self.old self.new }
+    {
+        let (a, b, c) = (self.a, self.b, self.c);
+        match operation {
+            Operation::ClearA => (self.a, self.carry) = copy(a, Reg::zero(), span),
+            Operation::ClearB => (self.b, self.carry) = copy(b, Reg::zero(), span),
+            Operation::ClearC => (self.c, self.carry) = copy(c, Reg::zero(), span),
+            Operation::ExchangeAB => (self.a, self.b) = exchange(a, b, span),
+            Operation::AToB => (self.b, self.carry) = copy(b, a, span),
+            Operation::ExchangeAC => (self.a, self.c) = exchange(a, c, span),
+            Operation::BToC => (self.c, self.carry) = copy(c, b, span),
+            Operation::ExchangeBC => (self.b, self.c) = exchange(b, c, span),
+            Operation::CToA => (self.a, self.carry) = copy(a, c, span),
+            Operation::AddBToA => (self.a, self.carry) = add::<DEC>(a, a, b, false, span),
+            Operation::AddCToA => (self.a, self.carry) = add::<DEC>(a, a, c, false, span),
+            Operation::IncrementA => (self.a, self.carry) = inc::<DEC>(a, a, span),
+            Operation::SubtractBFromA => (self.a, self.carry) = sub::<DEC>(a, a, b, false, span),
+            Operation::DecrementA => (self.a, self.carry) = dec::<DEC>(a, a, span),
+            Operation::SubtractCFromA => (self.a, self.carry) = sub::<DEC>(a, a, c, false, span),
+            Operation::DoubleC => (self.c, self.carry) = add::<DEC>(c, c, c, false, span),
+            Operation::AddAToC => (self.c, self.carry) = add::<DEC>(c, a, c, false, span),
+            Operation::IncrementC => (self.c, self.carry) = inc::<DEC>(c, c, span),
+            Operation::SubtractCFromAToC => (self.c, self.carry) = sub::<DEC>(c, a, c, false, span),
+            Operation::DecrementC => (self.c, self.carry) = dec::<DEC>(c, c, span),
+            Operation::NegateC => (self.c, self.carry) = neg::<DEC>(c, c, span),
+            Operation::ComplementC => (self.c, self.carry) = neg1::<DEC>(c, c, span),
+            Operation::TestBNonzero => self.carry = nonzero(b, span),
+            Operation::TestCNonzero => self.carry = nonzero(c, span),
+            Operation::TestALessThanC => self.carry = less(a, c, span),
+            Operation::TestALessThanB => self.carry = less(a, b, span),
+            Operation::TestANonzero => self.carry = nonzero(a, span),
+            Operation::TestADiffersFromC => self.carry = differs(a, c, span),
+            Operation::ShiftRightA => (self.a, self.carry) = shift_right(a, a, span),
+            Operation::ShiftRightB => (self.b, self.carry) = shift_right(b, b, span),
+            Operation::ShiftRightC => (self.c, self.carry) = shift_right(c, c, span),
+            Operation::ShiftLeftA => (self.a, self.carry) = shift_left(a, a, span),
+        }
+    }
+}

@@ -1,0 +1,216 @@
+//! How the processor goes on: to the next word, by jumps, and by returns.
+
+ghost use Rattle.std.specs.Prelude.{◌≡◌, IfOk};
+ghost use Rattle.std.specs.Result.{result_err};
+ghost use Rattle.h41_nut.specs.Addresses.{displaced};
+ghost use Rattle.h41_nut.specs.Going as going;
+ghost use Rattle.h41_nut.specs.Going.{GoesTo, GoesOn, Answers};
+ghost use Rattle.h41_nut.specs.Jumps as spec;
+ghost use Rattle.h41_nut.specs.RegisterWords.{with_address_pushed, with_address_popped};
+
+use crate::addresses::{END_OF_FUNCTION, FIRST_ADDRESS};
+use crate::cpu::Cpu;
+use crate::refusal::Refusal;
+use h41_words::{Condition, Displacement, Word};
+
+impl Cpu {
+    /// The address behind the word.
+    pub(crate) fn behind(&self) -> u16
+        ensures { result ≡ going.behind self.now }
+    {
+        self.pc.wrapping_add(1)
+    }
+
+    /// Stands at an address, with a carry.
+    pub(crate) fn arrive(&mut self, address: u16, carry: bool)
+        ensures { self.new ≡ going.at_address address carry self.old }
+    {
+        self.pc = address;
+        self.carry = carry;
+    }
+
+    /// Goes to an address, with no carry.
+    pub(crate) fn go_to(&mut self, address: u16) -> Result<(), Refusal>
+        ensures { GoesTo (λ _. address) (λ s. s) self.old self.new result }
+    {
+        let next = arrival(address)?;
+        self.arrive(next, false);
+        Ok(())
+    }
+
+    /// Goes on behind the word, with no carry.
+    pub(crate) fn go_on(&mut self) -> Result<(), Refusal>
+        ensures { GoesOn (λ s. s) self.old self.new result }
+    {
+        self.go_to(self.behind())
+    }
+
+    /// Goes on behind the word, with the answer of a test as the carry.
+    pub(crate) fn answer(&mut self, test: bool) -> Result<(), Refusal>
+        ensures { Answers test self.old self.new result }
+    {
+        let next = arrival(self.behind())?;
+        self.arrive(next, test);
+        Ok(())
+    }
+
+    /// `?NC XQ` and the like: goes to the address of both words, where the carry is as the second word says. `XQ` keeps the
+    /// address behind both words.
+    pub(crate) fn long_jump(&mut self, low_byte: u8, second: Word) -> Result<(), Refusal>
+        ensures { GoesTo (spec.jump_target low_byte second) (spec.jump_change second) self.old self.new result }
+    {
+        let behind = self.pc.wrapping_add(2);
+        let number = second.number();
+        let condition = if number % 2 == 1 {
+            Condition::Carry
+        } else {
+            Condition::NoCarry
+        };
+        if !is_taken(condition, self.carry) {
+            return self.go_to(behind);
+        }
+        let next = arrival(number / 4 * 256 + u16::from(low_byte))?;
+        if number / 2 % 2 == 0 {
+            self.push(behind);
+        }
+        self.arrive(next, false);
+        Ok(())
+    }
+
+    /// `JNC` and `JC`: goes by the displacement from the word's own address, where the carry is as the condition says.
+    pub(crate) fn short_jump(
+        &mut self,
+        condition: Condition,
+        displacement: Displacement,
+    ) -> Result<(), Refusal>
+        ensures { GoesTo (spec.short_jump_target condition displacement) (λ s. s) self.old self.new result }
+    {
+        if is_taken(condition, self.carry) {
+            self.go_to(displaced(self.pc, displacement))
+        } else {
+            self.go_to(self.behind())
+        }
+    }
+
+    /// `RTN`: goes to the newest return address, which is taken off.
+    pub(crate) fn return_to_newest(&mut self) -> Result<(), Refusal>
+        ensures { GoesTo spec.newest_return spec.popped self.old self.new result }
+    {
+        let next = arrival(self.newest_return())?;
+        self.pop();
+        self.arrive(next, false);
+        Ok(())
+    }
+
+    /// `?C RTN` and `?NC RTN`: returns where the carry is as the condition says.
+    pub(crate) fn return_if(&mut self, condition: Condition) -> Result<(), Refusal>
+        ensures { GoesTo (spec.return_target condition) (spec.return_change condition) self.old self.new result }
+    {
+        if is_taken(condition, self.carry) {
+            self.return_to_newest()
+        } else {
+            self.go_to(self.behind())
+        }
+    }
+
+    /// `XQ->GO`: drops the newest return address.
+    pub(crate) fn drop_return(&mut self) -> Result<(), Refusal>
+        ensures { GoesOn spec.popped self.old self.new result }
+    {
+        let next = arrival(self.behind())?;
+        self.pop();
+        self.arrive(next, false);
+        Ok(())
+    }
+
+    /// `PUSH ADR`: the address in C becomes the newest return address.
+    pub(crate) fn push_address(&mut self) -> Result<(), Refusal>
+        ensures { GoesOn with_address_pushed self.old self.new result }
+    {
+        let next = arrival(self.behind())?;
+        self.push(self.address_in_c());
+        self.arrive(next, false);
+        Ok(())
+    }
+
+    /// `POP ADR`: the newest return address goes to C, and is taken off.
+    pub(crate) fn pop_address(&mut self) -> Result<(), Refusal>
+        ensures { GoesOn with_address_popped self.old self.new result }
+    {
+        let next = arrival(self.behind())?;
+        let address = self.newest_return();
+        self.c = self
+            .c
+            .with(3, (address % 16) as u8)
+            .with(4, (address / 16 % 16) as u8)
+            .with(5, (address / 256 % 16) as u8)
+            .with(6, (address / 4096) as u8);
+        self.pop();
+        self.arrive(next, false);
+        Ok(())
+    }
+
+    /// `GOTO KEY`: goes to the next address with the key's code as its low byte.
+    pub(crate) fn go_to_key(&mut self, key: u8) -> Result<(), Refusal>
+        ensures { GoesTo (spec.key_target key) (λ s. s) self.old self.new result }
+    {
+        self.go_to(self.behind() / 256 * 256 + u16::from(key))
+    }
+
+    /// The newest return address, 0000 where there is none.
+    fn newest_return(&self) -> u16
+        ensures { result ≡ spec.newest_return self.now }
+    {
+        self.returns[0]
+    }
+
+    /// Takes the newest return address off; the oldest is 0000 then.
+    fn pop(&mut self)
+        ensures { self.new ≡ spec.popped self.old }
+    {
+        let [_newest, second, third, fourth] = self.returns;
+        self.returns = [second, third, fourth, 0];
+    }
+
+    /// Puts a return address in front; the oldest is lost.
+    fn push(&mut self, address: u16)
+        ensures { self.new ≡ spec.pushed address self.old }
+    {
+        let [newest, second, third, _oldest] = self.returns;
+        self.returns = [address, newest, second, third];
+    }
+}
+
+/// Whether a jump or a return is taken at this carry.
+fn is_taken(condition: Condition, carry: bool) -> bool
+    ensures { result ≡ spec.is_taken condition carry }
+{
+    match condition {
+        Condition::NoCarry => !carry,
+        Condition::Carry => carry,
+    }
+}
+
+/// The address that lies by a displacement further on or back.
+fn displaced(address: u16, displacement: Displacement) -> u16
+    ensures { result ≡ displaced address displacement }
+{
+    let words = displacement.words();
+    if words < 0 {
+        address.wrapping_sub(u16::from(words.unsigned_abs()))
+    } else {
+        address.wrapping_add(u16::from(words.unsigned_abs()))
+    }
+}
+
+/// The address, unless no step may arrive there.
+pub(crate) fn arrival(address: u16) -> Result<u16, Refusal>
+    ensures refusal { result_err result ≡ going.arrival_refusal address }
+    ensures address { IfOk result (λ arrived. arrived ≡ address) }
+{
+    if address < FIRST_ADDRESS && address != END_OF_FUNCTION {
+        Err(Refusal::SystemRom(address))
+    } else {
+        Ok(address)
+    }
+}

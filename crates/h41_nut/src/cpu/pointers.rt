@@ -1,0 +1,74 @@
+//! The words of the pointers.
+
+ghost use Rattle.std.specs.Prelude.{◌≡◌, ◌<◌};
+ghost use Rattle.h41_nut.specs.Going.{GoesOn};
+ghost use Rattle.h41_nut.specs.Pointers as spec;
+
+use crate::cpu::Cpu;
+use crate::cpu::going::arrival;
+use crate::refusal::Refusal;
+use h41_digits::PLACES;
+use h41_fields::Pointer;
+
+impl Cpu {
+    /// Where the active pointer is, 0 to 13.
+    pub(crate) fn pointer(&self) -> usize
+        ensures place { result ≡ spec.pointer_of self.now }
+        ensures bound { result < 14 }
+    {
+        match self.active {
+            Pointer::P => self.p,
+            Pointer::Q => self.q,
+        }
+    }
+
+    /// `R= n`, `R=R+1` and `R=R-1`: puts the active pointer at a place.
+    pub(crate) fn set_pointer(&mut self, place: usize) -> Result<(), Refusal>
+        requires { place < 14 }
+        ensures { GoesOn (spec.with_pointer place) self.old self.new result }
+    {
+        let next = arrival(self.behind())?;
+        self.move_pointer(place);
+        self.arrive(next, false);
+        Ok(())
+    }
+
+    /// Puts the active pointer at a place.
+    pub(crate) fn move_pointer(&mut self, place: usize)
+        requires { place < 14 }
+        ensures { self.new ≡ spec.with_pointer place self.old }
+    {
+        match self.active {
+            Pointer::P => self.p = place,
+            Pointer::Q => self.q = place,
+        }
+    }
+
+    /// `SLCT P` and `SLCT Q`: makes a pointer the active one.
+    pub(crate) fn select_pointer(&mut self, pointer: Pointer) -> Result<(), Refusal>
+        ensures { GoesOn (spec.with_active pointer) self.old self.new result }
+    {
+        let next = arrival(self.behind())?;
+        self.active = pointer;
+        self.arrive(next, false);
+        Ok(())
+    }
+}
+
+/// The place above another; above 13 comes 0.
+pub(crate) fn place_above(place: usize) -> usize
+    requires { place < 14 }
+    ensures value { result ≡ spec.place_above place }
+    ensures bound { result < 14 }
+{
+    if place == PLACES - 1 { 0 } else { place + 1 }
+}
+
+/// The place below another; below 0 comes 13.
+pub(crate) fn place_below(place: usize) -> usize
+    requires { place < 14 }
+    ensures value { result ≡ spec.place_below place }
+    ensures bound { result < 14 }
+{
+    if place == 0 { PLACES - 1 } else { place - 1 }
+}

@@ -1,0 +1,290 @@
+//! The words that load, copy and rotate registers, and those that switch.
+
+ghost use Rattle.std.specs.Prelude.{◌≡◌, ◌<◌};
+ghost use Rattle.h41_nut.specs.Going.{GoesOn, GoesTo, behind_both};
+ghost use Rattle.h41_nut.specs.MemoryWords.{block_address, selecting};
+ghost use Rattle.h41_nut.specs.RegisterWords as spec;
+
+use crate::base::Base;
+use crate::cpu::Cpu;
+use crate::cpu::going::arrival;
+use crate::cpu::pointers::{place_above, place_below};
+use crate::refusal::Refusal;
+use h41_digits::{PLACES, Reg};
+use h41_words::{Digit, Place, RegisterTransfer, Word};
+
+impl Cpu {
+    /// The address in C's digits 6 to 3.
+    pub(crate) fn address_in_c(&self) -> u16
+        ensures { result ≡ spec.address_in_c self.now }
+    {
+        u16::from(self.c.get(3))
+            + 16 * u16::from(self.c.get(4))
+            + 256 * u16::from(self.c.get(5))
+            + 4096 * u16::from(self.c.get(6))
+    }
+
+    /// The low ten bits of C's digits 2 to 0.
+    pub(crate) fn word_in_c(&self) -> u16
+        ensures value { result ≡ spec.word_in_c self.now }
+        ensures bound { result < 1024 }
+    {
+        (u16::from(self.c.get(0)) + 16 * u16::from(self.c.get(1)) + 256 * u16::from(self.c.get(2)))
+            % 1024
+    }
+
+    /// A word's digits to places 2 to 0 of C.
+    fn put_word(&mut self, word: Word)
+        ensures { self.new ≡ spec.with_word_in_c word self.old }
+    {
+        let number = word.number();
+        self.c = self
+            .c
+            .with(0, (number % 16) as u8)
+            .with(1, (number / 16 % 16) as u8)
+            .with(2, (number / 256) as u8);
+    }
+
+    /// `LDI`: the second word goes to C; the processor goes on behind it.
+    pub(crate) fn load_immediate(&mut self, second: Word) -> Result<(), Refusal>
+        ensures { GoesTo behind_both (spec.with_word_in_c second) self.old self.new result }
+    {
+        let next = arrival(self.pc.wrapping_add(2))?;
+        self.put_word(second);
+        self.arrive(next, false);
+        Ok(())
+    }
+
+    /// `FETCH S&X`: a word goes to C.
+    pub(crate) fn load_word(&mut self, word: Word) -> Result<(), Refusal>
+        ensures { GoesOn (spec.with_word_in_c word) self.old self.new result }
+    {
+        let next = arrival(self.behind())?;
+        self.put_word(word);
+        self.arrive(next, false);
+        Ok(())
+    }
+
+    /// `LD@R n`: a digit goes to C at the active pointer, which goes down.
+    pub(crate) fn load_digit(&mut self, digit: Digit) -> Result<(), Refusal>
+        ensures { GoesOn (spec.with_digit_loaded digit) self.old self.new result }
+    {
+        let next = arrival(self.behind())?;
+        let place = self.pointer();
+        self.c = self.c.with(place, digit.number());
+        self.move_pointer(place_below(place));
+        self.arrive(next, false);
+        Ok(())
+    }
+
+    /// `C=KEY`: the key's code goes to C's digits 4 and 3.
+    pub(crate) fn load_key(&mut self, key: u8) -> Result<(), Refusal>
+        ensures { GoesOn (spec.with_key_in_c key) self.old self.new result }
+    {
+        let next = arrival(self.behind())?;
+        self.c = self.c.with(3, key % 16).with(4, key / 16);
+        self.arrive(next, false);
+        Ok(())
+    }
+
+    /// `READ DATA`: a register of the memory goes to C.
+    pub(crate) fn load_register(&mut self, register: Reg) -> Result<(), Refusal>
+        ensures { GoesOn (spec.with_c register) self.old self.new result }
+    {
+        let next = arrival(self.behind())?;
+        self.c = register;
+        self.arrive(next, false);
+        Ok(())
+    }
+
+    /// `RCR n`: rotates C right by so many digits.
+    pub(crate) fn rotate_right(&mut self, digits: Place) -> Result<(), Refusal>
+        ensures { GoesOn (spec.with_c_rotated digits) self.old self.new result }
+    {
+        let next = arrival(self.behind())?;
+        self.c = rotated(self.c, usize::from(digits.number()));
+        self.arrive(next, false);
+        Ok(())
+    }
+
+    /// `C=C OR A`: joins C and A bit by bit.
+    pub(crate) fn join_a(&mut self) -> Result<(), Refusal>
+        ensures { GoesOn spec.with_c_joined self.old self.new result }
+    {
+        let next = arrival(self.behind())?;
+        self.c = joined(self.c, self.a);
+        self.arrive(next, false);
+        Ok(())
+    }
+
+    /// `C=C AND A`: meets C and A bit by bit.
+    pub(crate) fn meet_a(&mut self) -> Result<(), Refusal>
+        ensures { GoesOn spec.with_c_met self.old self.new result }
+    {
+        let next = arrival(self.behind())?;
+        self.c = met(self.c, self.a);
+        self.arrive(next, false);
+        Ok(())
+    }
+
+    /// `CLRABC`: clears A, B and C.
+    pub(crate) fn clear_registers(&mut self) -> Result<(), Refusal>
+        ensures { GoesOn spec.with_abc_clear self.old self.new result }
+    {
+        let next = arrival(self.behind())?;
+        self.a = Reg::zero();
+        self.b = Reg::zero();
+        self.c = Reg::zero();
+        self.arrive(next, false);
+        Ok(())
+    }
+
+    /// `RAM SLCT`, `WRIT n`: selects an address of the memory.
+    pub(crate) fn select(&mut self, address: u16) -> Result<(), Refusal>
+        requires { address < 1024 }
+        ensures { GoesOn (selecting address) self.old self.new result }
+    {
+        let next = arrival(self.behind())?;
+        self.selected = address;
+        self.arrive(next, false);
+        Ok(())
+    }
+
+    /// `READ n`: selects an address of the memory, whose register goes to C.
+    pub(crate) fn select_and_load(&mut self, address: u16, register: Reg) -> Result<(), Refusal>
+        requires { address < 1024 }
+        ensures { GoesOn (λ s. selecting address (spec.with_c register s)) self.old self.new result }
+    {
+        let next = arrival(self.behind())?;
+        self.selected = address;
+        self.c = register;
+        self.arrive(next, false);
+        Ok(())
+    }
+
+    /// `SETHEX` and `SETDEC`: the base that arithmetic counts in from here on.
+    pub(crate) fn set_base(&mut self, base: Base) -> Result<(), Refusal>
+        ensures { GoesOn (spec.with_base base) self.old self.new result }
+    {
+        let next = arrival(self.behind())?;
+        self.base = base;
+        self.arrive(next, false);
+        Ok(())
+    }
+
+    /// `DISOFF` and `DISTOG`: turns the display on or off.
+    pub(crate) fn set_display(&mut self, on: bool) -> Result<(), Refusal>
+        ensures { GoesOn (spec.with_display on) self.old self.new result }
+    {
+        let next = arrival(self.behind())?;
+        self.display = on;
+        self.arrive(next, false);
+        Ok(())
+    }
+
+    /// `G=C`, `C=M`, `ST<>T` and the like: copies a register, or exchanges two.
+    pub(crate) fn transfer(&mut self, transfer: RegisterTransfer) -> Result<(), Refusal>
+        ensures { GoesOn (spec.transferred transfer) self.old self.new result }
+    {
+        let next = arrival(self.behind())?;
+        let (c, g, t) = (self.c, self.g, self.t);
+        match transfer {
+            RegisterTransfer::CToG => self.g = self.byte_at_pointer(),
+            RegisterTransfer::GToC => self.put_byte_at_pointer(g),
+            RegisterTransfer::ExchangeCG => {
+                let byte = self.byte_at_pointer();
+                self.put_byte_at_pointer(g);
+                self.g = byte;
+            }
+            RegisterTransfer::CToM => self.m = c,
+            RegisterTransfer::MToC => self.c = self.m,
+            RegisterTransfer::ExchangeCM => {
+                self.c = self.m;
+                self.m = c;
+            }
+            RegisterTransfer::CToN => self.n = c,
+            RegisterTransfer::NToC => self.c = self.n,
+            RegisterTransfer::ExchangeCN => {
+                self.c = self.n;
+                self.n = c;
+            }
+            RegisterTransfer::StatusToT => self.t = self.status_byte(),
+            RegisterTransfer::TToStatus => self.set_status_byte(t),
+            RegisterTransfer::ExchangeStatusT => {
+                self.t = self.status_byte();
+                self.set_status_byte(t);
+            }
+            RegisterTransfer::CToStatus => self.set_status_byte(c.byte(0)),
+            RegisterTransfer::StatusToC => self.c = c.with_byte(0, self.status_byte()),
+            RegisterTransfer::ExchangeCStatus => {
+                self.c = c.with_byte(0, self.status_byte());
+                self.set_status_byte(c.byte(0));
+            }
+        }
+        self.arrive(next, false);
+        Ok(())
+    }
+
+    /// The byte of C at the active pointer, its low digit there and its high digit one place above.
+    fn byte_at_pointer(&self) -> u8
+        ensures { result ≡ spec.byte_at_pointer self.now }
+    {
+        let place = self.pointer();
+        self.c.get(place) + 16 * self.c.get(place_above(place))
+    }
+
+    /// Puts a byte into C at the active pointer.
+    fn put_byte_at_pointer(&mut self, byte: u8)
+        ensures { self.new ≡ spec.with_byte_at_pointer byte self.old }
+    {
+        let place = self.pointer();
+        self.c = self
+            .c
+            .with(place, byte % 16)
+            .with(place_above(place), byte / 16);
+    }
+
+    /// The address of a register, 0 to 15, in the selected block of 16.
+    pub(crate) fn block_address(&self, register: u8) -> u16
+        requires { register < 16 }
+        ensures value { result ≡ block_address register self.now }
+        ensures bound { result < 1024 }
+    {
+        self.selected / 16 * 16 + u16::from(register)
+    }
+}
+
+/// A register rotated right by so many digits.
+fn rotated(register: Reg, digits: usize) -> Reg
+    requires { digits < 14 }
+    ensures { result ≡ spec.rotated register digits }
+{
+    let mut result = register;
+    for place in 0..PLACES {
+        result = result.with(place, register.get((place + digits) % PLACES));
+    }
+    result
+}
+
+/// Two registers joined bit by bit.
+#[tactic(auto, using(crate::proofs::Digits::or_is_digit))]
+fn joined(x: Reg, y: Reg) -> Reg
+    ensures { result ≡ spec.joined x y }
+{
+    let mut result = x;
+    for place in 0..PLACES {
+        result = result.with(place, x.get(place) | y.get(place));
+    }
+    result
+}
+
+/// Two registers met bit by bit.
+fn met(x: Reg, y: Reg) -> Reg
+    ensures { result ≡ spec.met x y }
+{
+    let mut result = x;
+    for place in 0..PLACES {
+        result = result.with(place, x.get(place) & y.get(place));
+    }
+    result
+}

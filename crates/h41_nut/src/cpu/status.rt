@@ -1,0 +1,64 @@
+//! The words of the status bits.
+
+ghost use Rattle.std.specs.Prelude.{◌≡◌};
+ghost use Rattle.h41_nut.specs.Going.{GoesOn};
+ghost use Rattle.h41_nut.specs.Pointers as spec;
+
+use crate::cpu::Cpu;
+use crate::cpu::going::arrival;
+use crate::refusal::Refusal;
+use crate::status_bits::{StatusBits, named};
+use bitflags::Flags;
+use h41_words::StatusBit;
+
+impl Cpu {
+    /// Whether a status bit is set.
+    pub(crate) fn is_status_set(&self, bit: StatusBit) -> bool
+        ensures { result ≡ spec.is_status_set bit self.now }
+    {
+        self.status.contains(named(bit))
+    }
+
+    /// `SETF n` and `CLRF n`: sets or clears a status bit.
+    pub(crate) fn set_status(&mut self, bit: StatusBit, on: bool) -> Result<(), Refusal>
+        ensures { GoesOn (spec.with_status bit on) self.old self.new result }
+    {
+        let next = arrival(self.behind())?;
+        self.put_status(bit, on);
+        self.arrive(next, false);
+        Ok(())
+    }
+
+    /// Sets or clears a status bit.
+    fn put_status(&mut self, bit: StatusBit, on: bool)
+        ensures { self.new ≡ spec.with_status bit on self.old }
+    {
+        self.status.set(named(bit), on);
+    }
+
+    /// `ST=0`: clears S0 to S7.
+    pub(crate) fn clear_status_byte(&mut self) -> Result<(), Refusal>
+        ensures { GoesOn (spec.with_status_byte 0) self.old self.new result }
+    {
+        let next = arrival(self.behind())?;
+        self.set_status_byte(0);
+        self.arrive(next, false);
+        Ok(())
+    }
+
+    /// S0 to S7 as a byte.
+    pub(crate) fn status_byte(&self) -> u8
+        ensures { result ≡ spec.status_byte self.now }
+    {
+        (self.status.bits() % 256) as u8
+    }
+
+    /// Sets S0 to S7 as a byte.
+    pub(crate) fn set_status_byte(&mut self, byte: u8)
+        ensures { self.new ≡ spec.with_status_byte byte self.old }
+    {
+        self.status = StatusBits::from_bits_retain(
+            self.status.bits() / 256 * 256 + u16::from(byte),
+        );
+    }
+}

@@ -1,0 +1,49 @@
+//! The words that write and read the memory.
+
+ghost use Rattle.std.specs.Prelude.{◌≡◌, OnOk, OnErr};
+ghost use Rattle.h41_nut.specs.Going.{GoesOn};
+ghost use Rattle.h41_nut.specs.MemoryWords as spec;
+
+use crate::cpu::Cpu;
+use crate::refusal::Refusal;
+use h41_ram::Ram;
+use h41_words::{BlockRegister, ReadRegister};
+
+/// `WRIT n`: C goes to a register of the selected block, which stays selected.
+pub fn write_register<const REGS: usize>(
+    cpu: &mut Cpu,
+    ram: &mut Ram<REGS>,
+    register: BlockRegister,
+) -> Result<(), Refusal>
+    ensures processor { GoesOn (spec.selecting_in_block register) cpu.old cpu.new result }
+    ensures written { OnOk result (ram.new ≡ spec.with_c_at ram.old (spec.block_address register cpu.old) cpu.old) }
+    ensures kept { OnErr result (ram.new ≡ ram.old) }
+{
+    let address = cpu.block_address(register.number());
+    cpu.select(address)?;
+    ram.write(address, cpu.c());
+    Ok(())
+}
+
+/// `READ n`: a register of the selected block goes to C, and stays selected.
+pub fn read_register<const REGS: usize>(
+    cpu: &mut Cpu,
+    ram: &Ram<REGS>,
+    register: ReadRegister,
+) -> Result<(), Refusal>
+    ensures { GoesOn (spec.with_register_in_c ram.now register) cpu.old cpu.new result }
+{
+    let address = cpu.block_address(register.number());
+    cpu.select_and_load(address, ram.read(address))
+}
+
+/// `WRIT DATA`: C goes to the selected register.
+pub fn write_data<const REGS: usize>(cpu: &mut Cpu, ram: &mut Ram<REGS>) -> Result<(), Refusal>
+    ensures processor { GoesOn (λ s. s) cpu.old cpu.new result }
+    ensures written { OnOk result (ram.new ≡ spec.with_c_at ram.old cpu.old.selected cpu.old) }
+    ensures kept { OnErr result (ram.new ≡ ram.old) }
+{
+    cpu.go_on()?;
+    ram.write(cpu.selected(), cpu.c());
+    Ok(())
+}

@@ -1,0 +1,52 @@
+//! The words of the key flag and of peripherals, and those that stand for nothing.
+
+ghost use Rattle.std.specs.Prelude.{◌≡◌, false, OnOk, OnErr};
+ghost use Rattle.h41_nut.specs.Going.{GoesOn, GoesOnUnless};
+ghost use Rattle.h41_nut.specs.Unheld as spec;
+
+use crate::cpu::Cpu;
+use crate::keys::Keys;
+use crate::refusal::Refusal;
+use h41_words::UnassignedWord;
+
+/// `CLRKEY`: clears the key flag.
+pub fn clear_key_flag(cpu: &mut Cpu, keys: &mut Keys) -> Result<(), Refusal>
+    ensures processor { GoesOn (λ s. s) cpu.old cpu.new result }
+    ensures flag { OnOk result (keys.new ≡ record keys.old { flag = false }) }
+    ensures kept { OnErr result (keys.new ≡ keys.old) }
+{
+    cpu.go_on()?;
+    keys.flag = false;
+    Ok(())
+}
+
+/// `PRPH SLCT`: does nothing where C's digits 1 and 0 are zero, and is refused as 10 else.
+pub fn select_peripheral(cpu: &mut Cpu) -> Result<(), Refusal>
+    ensures { GoesOnUnless (spec.peripheral_refusal cpu.old) (λ s. s) cpu.old cpu.new result }
+{
+    if cpu.c().byte(0) != 0 {
+        return Err(Refusal::PeripheralNotHeld(cpu.pc()));
+    }
+    cpu.go_on()
+}
+
+/// Why a word that stands for no instruction is refused: 3FC as 7, peripherals' words as 10, each other as 6.
+pub fn constant_refusal(word: UnassignedWord, address: u16) -> Refusal
+    ensures { result ≡ spec.constant_refusal word address }
+{
+    let number = word.word().number();
+    if number == 0x3FC {
+        Refusal::WordNotInProfile(address)
+    } else if is_peripheral(number) {
+        Refusal::PeripheralNotHeld(address)
+    } else {
+        Refusal::UndefinedWord(address)
+    }
+}
+
+/// Whether a word is one of a peripheral.
+fn is_peripheral(word: u16) -> bool
+    ensures { result ≡ spec.is_peripheral word }
+{
+    matches!(word % 64, 0x24 | 0x2C) || (word % 64 == 0 && word >= 0x200)
+}

@@ -1,0 +1,18 @@
+//! Laws of memory: each is the contract of a function with nothing to do.
+
+ghost use Rattle.h41_ram.specs.RegisterMapLaws.{ReadsWhatWasWritten, KeepsOtherAddresses, StartIsSound};
+
+/// A register is read as it was written, where its address exists.
+pub fn read_after_write()
+    ensures { ReadsWhatWasWritten }
+{}
+
+/// A write changes no other address.
+pub fn write_keeps_other_addresses()
+    ensures { KeepsOtherAddresses }
+{}
+
+/// The start state is sound, for every size of memory.
+pub fn start_is_sound()
+    ensures { StartIsSound }
+{}

@@ -1,0 +1,10 @@
+//! The memory of the HP-41: the sixteen status registers and main memory.
+#![tactic(auto)]
+
+mod alpha;
+pub mod laws;
+mod ram;
+mod start;
+
+pub use alpha::ALPHA_LENGTH;
+pub use ram::{MAIN_START, Ram, STATUS_REGISTERS};

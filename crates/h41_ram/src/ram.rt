@@ -1,0 +1,289 @@
+//! The registers, and what the calculator reads in its status registers: flags, ALPHA, the parts of memory.
+
+ghost use Rattle.std.specs.Prelude.{◌≡◌, ◌<◌, ◌≤◌, ◌^◌, ◌%◌};
+ghost use Rattle.h41_ram.specs.RegisterMap as spec;
+
+use crate::alpha::{self, ALPHA_LENGTH};
+use crate::start::{empty_program, start_c, start_d};
+use h41_digits::Reg;
+use std::marker::Model;
+
+/// How many status registers there are: T Z Y X L M N O P Q append a b c d e, at the addresses 000 to 00F.
+pub const STATUS_REGISTERS: usize = 16;
+
+/// The address of the first register of main memory.
+pub const MAIN_START: usize = 0x0C0;
+
+/// The addresses of the status registers that hold ALPHA, the addresses of the parts of memory, and the flags.
+const M: usize = 0x005;
+
+const N: usize = 0x006;
+
+const O: usize = 0x007;
+
+const P: usize = 0x008;
+
+const C: usize = 0x00D;
+
+const D: usize = 0x00E;
+
+/// The number of the flag that is the lowest bit of register d.
+const LAST_FLAG: usize = 55;
+
+/// The constant in register c by which memory is known to be sound.
+const SOUND: u16 = 0x169;
+
+/// The memory of the calculator, with `REGS` registers, 64 to 320, in main memory.
+#[derive(Debug, Drop)]
+pub struct Ram<const REGS: usize> {
+    status: [Reg; STATUS_REGISTERS],
+    main: [Reg; REGS],
+}
+
+impl<const REGS: usize> Model for Ram<REGS> {
+    ghost use Rattle.std.specs.Prelude.{◌≤◌};
+    ghost use Rattle.h41_ram.specs.RegisterMap.{RegisterMap};
+
+    ghost Value = { RegisterMap };
+
+    ghost view = { λ ram. record { status = ram.status; main = ram.main } };
+
+    ghost invariant = { λ ram. (64 ≤ REGS) × (REGS ≤ 320) };
+}
+
+impl<const REGS: usize> Ram<REGS> {
+    /// The memory at the start (this project's choice): all zero but for c and d and an empty program; 100 data registers,
+    /// or 17 where main memory has not more than 100 registers; flags 26, 28 and 29 set, the display in FIX 4.
+    pub fn new() -> Self
+        requires at_least { 64 ≤ REGS }
+        requires at_most { REGS ≤ 320 }
+        ensures { result ≡ spec.start REGS }
+    {
+        let size = if REGS < 101 { 17 } else { 100 };
+        let curtain = MAIN_START + REGS - size;
+        let end = curtain - 1;
+        let mut status = [Reg::zero(); STATUS_REGISTERS];
+        status[C] = start_c(curtain as u16);
+        status[D] = start_d();
+        let mut main = [Reg::zero(); REGS];
+        main[end - MAIN_START] = empty_program();
+        Ram { status, main }
+    }
+
+    /// The register at an address. An address that does not exist reads zero (this project's choice).
+    pub fn read(&self, address: u16) -> Reg
+        ensures { result ≡ spec.register_at self.now address }
+    {
+        let address = usize::from(address);
+        if address < STATUS_REGISTERS {
+            self.status[address]
+        } else if address >= MAIN_START && address - MAIN_START < REGS {
+            self.main[address - MAIN_START]
+        } else {
+            Reg::zero()
+        }
+    }
+
+    /// Writes the register at an address. An address that does not exist takes no write (this project's choice).
+    pub fn write(&mut self, address: u16, register: Reg)
+        ensures { self.new ≡ spec.with_register self.old address register }
+    {
+        let address = usize::from(address);
+        if address < STATUS_REGISTERS {
+            self.status[address] = register;
+        } else if address >= MAIN_START && address - MAIN_START < REGS {
+            self.main[address - MAIN_START] = register;
+        }
+    }
+
+    /// The status register at an address from 0 to 15.
+    pub fn status(&self, n: usize) -> Reg
+        requires { n < 16 }
+        ensures { result ≡ spec.register_at self.now n }
+    {
+        self.status[n]
+    }
+
+    /// A flag, 0 to 55: bit 55 - `flag` of register d.
+    pub fn flag(&self, flag: usize) -> bool
+        requires { flag < 56 }
+        ensures { result ≡ spec.flag_of self.now flag }
+    {
+        bit(self.status[D], LAST_FLAG - flag)
+    }
+
+    /// Sets or clears a flag, 0 to 55; all else stays.
+    pub fn set_flag(&mut self, flag: usize, on: bool)
+        requires { flag < 56 }
+        ensures { self.new ≡ spec.with_flag self.old flag on }
+    {
+        self.status[D] = with_bit(self.status[D], LAST_FLAG - flag, on);
+    }
+
+    /// ALPHA's 24 bytes, the leftmost first; leading ones that are 0 are not shown.
+    pub fn alpha(&self) -> [u8; ALPHA_LENGTH]
+        ensures { result ≡ spec.alpha_of self.now }
+    {
+        alpha::text(
+            self.status[P],
+            self.status[O],
+            self.status[N],
+            self.status[M],
+        )
+    }
+
+    /// Writes ALPHA's 24 bytes, the leftmost first; the left four bytes of P stay.
+    pub fn set_alpha(&mut self, text: [u8; ALPHA_LENGTH])
+        ensures { self.new ≡ spec.with_alpha self.old text }
+    {
+        let p = self.status[P];
+        self.status[M] = alpha::seven_bytes(text, 17);
+        self.status[N] = alpha::seven_bytes(text, 10);
+        self.status[O] = alpha::seven_bytes(text, 3);
+        self.status[P] = alpha::first_bytes(p, text);
+    }
+
+    /// The curtain: the address of data register R00, 000 to FFF, from register c.
+    pub fn curtain(&self) -> u16
+        ensures { result ≡ spec.curtain_of self.now }
+    {
+        three_digits(self.status[C], 3)
+    }
+
+    /// The address of the register that holds .END., 000 to FFF, from register c.
+    pub fn end_register(&self) -> u16
+        ensures { result ≡ spec.end_of self.now }
+    {
+        three_digits(self.status[C], 0)
+    }
+
+    /// Whether memory is sound (this project's choice): c holds the constant 169, 0C0 ≤ end < curtain ≤ top, and the last
+    /// three bytes of the end's register are .END. .
+    pub fn is_sound(&self) -> bool
+        ensures { result ≡ spec.is_sound self.now }
+    {
+        let end = self.end_register();
+        let curtain = self.curtain();
+        three_digits(self.status[C], 6) == SOUND
+            && (usize::from(end) >= MAIN_START
+                && end < curtain
+                && usize::from(curtain) <= MAIN_START + REGS)
+            && is_final_end(self.read(end))
+    }
+}
+
+/// The number of three digits, from a place up.
+fn three_digits(register: Reg, place: usize) -> u16
+    requires { place < 12 }
+    ensures { result ≡ spec.three_digits register place }
+{
+    u16::from(register.get(place))
+        + 16 * u16::from(register.get(place + 1))
+        + 256 * u16::from(register.get(place + 2))
+}
+
+/// One bit of a register, 0 to 55 from the right.
+fn bit(register: Reg, bit: usize) -> bool
+    requires { bit < 56 }
+    ensures { result ≡ spec.bit_of register bit }
+{
+    register.get(bit / 4) / weight(bit) % 2 == 1
+}
+
+/// The register with one bit, 0 to 55 from the right, set or clear.
+fn with_bit(register: Reg, bit: usize, on: bool) -> Reg
+    requires { bit < 56 }
+    ensures { result ≡ spec.with_bit register bit on }
+{
+    let digit = digit_with(register.get(bit / 4), bit, on);
+    register.with(bit / 4, digit)
+}
+
+/// A digit of a register with one of its bits set or clear.
+#[tactic(auto, using(crate::proofs::Bits::set_bit_is_digit))]
+fn digit_with(digit: u8, bit: usize, on: bool) -> u8
+    requires { digit < 16 }
+    ensures value { result ≡ spec.digit_with digit (2 ^ (bit % 4)) on }
+    ensures is_digit { result < 16 }
+{
+    let weight = weight(bit);
+    let clear = digit - digit / weight % 2 * weight;
+    if on { clear + weight } else { clear }
+}
+
+/// What a bit of a register weighs in its digit.
+fn weight(bit: usize) -> u8
+    ensures { result ≡ 2 ^ (bit % 4) }
+{
+    1 << (bit % 4)
+}
+
+/// Whether a register's last three bytes are an END with the mark .END. .
+fn is_final_end(register: Reg) -> bool
+    ensures { result ≡ spec.is_final_end register }
+{
+    (0xC0..=0xCD).contains(&register.byte(2)) && register.byte(0) < 0xF0 && bit(register, 5)
+}
+
+#[cfg(test)]
+mod tests {
+    use super::*;
+    use std::test::Fail;
+
+    #[test]
+    fn memory_at_the_start(rt: HostRuntime) {
+        let ram = Ram::<320>::new();
+        assert_eq!(rt; ram.status(0x00D).to_u64(), 0x1A_7001_6919_C19B);
+        assert_eq!(rt; ram.status(0x00E).to_u64(), 0x2C04_8000);
+        assert_eq!(rt; ram.read(0x19B).to_u64(), 0xC0_0020);
+        assert_eq!(rt; (ram.curtain(), ram.end_register()), (0x19C, 0x19B));
+        for flag in 0..56 {
+            assert_eq!(rt;
+                ram.flag(flag),
+                [26, 28, 29, 37, 40].contains(&flag),
+                "flag {flag}"
+            );
+        }
+        assert!(rt; ram.is_sound());
+    }
+
+    #[test]
+    fn small_memory_at_the_start(rt: HostRuntime) {
+        let bare = Ram::<64>::new();
+        assert_eq!(rt; bare.status(0x00D).to_u64(), 0xFA_0016_90EF_0EE);
+        assert_eq!(rt; bare.read(0x0EE).to_u64(), 0xC0_0020);
+        assert_eq!(rt; Ram::<100>::new().curtain(), 0x0C0 + 100 - 17);
+        assert_eq!(rt; Ram::<101>::new().curtain(), 0x0C1);
+    }
+
+    #[test]
+    fn registers_flags_and_alpha(rt: HostRuntime) -> Result<(), Fail> {
+        let mut ram = Ram::<64>::new();
+        let register = Reg::from_u64(0x12_3456_789A_BCDE).ok_or("14 digits")?;
+        for address in [0x000, 0x00F, 0x010, 0x0BF, 0x0C0, 0x0FF, 0x100, 0xFFFF] {
+            ram.write(address, register);
+        }
+        for (address, exists) in [(0x000, true), (0x00F, true), (0x010, false), (0x0BF, false)] {
+            assert_eq!(rt; ram.read(address) == register, exists, "{address:03X}");
+        }
+        for (address, exists) in [
+            (0x0C0, true),
+            (0x0FF, true),
+            (0x100, false),
+            (0xFFFF, false),
+        ] {
+            assert_eq!(rt; ram.read(address) == register, exists, "{address:03X}");
+        }
+        ram.set_flag(55, true);
+        ram.set_flag(26, false);
+        assert_eq!(rt; ram.status(0x00E).to_u64(), 0x0C04_8001);
+        ram.write(0x008, register);
+        ram.set_alpha(*b"ABCDEFGHIJKLMNOPQRSTUVWX");
+        assert_eq!(rt; ram.alpha(), *b"ABCDEFGHIJKLMNOPQRSTUVWX");
+        assert_eq!(rt; ram.status(0x008).to_u64(), 0x12_3456_7841_4243);
+        assert_eq!(rt; ram.status(0x005).to_u64(), 0x52_5354_5556_5758);
+        ram.write(0x00D, Reg::zero());
+        assert!(rt; !ram.is_sound());
+        Ok(())
+    }
+}

@@ -2,7 +2,7 @@
 use Rattle.std.specs.Prelude.{◌≡◌, ℕ, ◌-◌, Bool, not, ◌||◌, List, [], ◌∷◌, ◌++◌, map, length, replicate, filter, flat_map, nat_lt, if◌then◌else◌, Option, Some, None, Result, Ok, Err}
 use Rattle.std.specs.List.{list_any, list_all}
 use Rattle.std.specs.Str.Parse.{digits_value}
-use Rattle.h41_nut.specs.Addresses.{page_size, greatest_word}
+use Rattle.h41_nut.specs.Addresses.{last_word, page_size}
 use Rattle.h41_deck.specs.declared.commands.BlockKind.{BlockKind}
 use Rattle.h41_deck.specs.declared.commands.BlockKind.TheVariants.{Words}
 use Rattle.h41_deck.specs.declared.refusal.Refusal.{Refusal}
@@ -19,7 +19,7 @@ block_words lines = flat_map words_of (filter (λ line. not (is_skipped line)) l
 abbrev pub word_values : List (List ℕ) → Result (List ℕ) Refusal
 word_values words =
     if not (list_all (is_hexadecimal 1 3) words) then Err BadNumber
-    else (if nat_lt page_size (length words) || list_any (λ word. nat_lt greatest_word (digits_value 16 word)) words then Err BadImage
+    else (if nat_lt page_size (length words) || list_any (λ word. nat_lt last_word (digits_value 16 word)) words then Err BadImage
     else Ok (map (digits_value 16) words))
 
 -- what the lines of a block say but for its own fault of a line that is too long; a command without a block has none

@@ -6,6 +6,7 @@ use Rattle.h41_nut.specs.declared.refusal.Refusal as nut
 use Rattle.h41_nut.specs.declared.refusal.Refusal.TheVariants as words
 use Rattle.h41_nut.specs.declared.refusal.PlugRefusal as plug
 use Rattle.h41_nut.specs.declared.refusal.PlugRefusal.TheVariants as plugs
+use Rattle.h41_ram.specs.RegisterMap as ram
 use Rattle.h41_nut.specs.Processor.{initial, entered}
 use Rattle.h41_nut.specs.Addresses.{first_address, end_of_function}
 use Rattle.h41_nut.specs.PageList.{no_pages, plug_refusal, plugged}
@@ -13,17 +14,21 @@ use Rattle.h41_nut.specs.WordStep.{Nut, nut_of, refused, Micro}
 use Rattle.h41_deck.specs.declared.calculator.Mode.{Mode}
 use Rattle.h41_deck.specs.declared.calculator.Mode.TheVariants as modes
 use Rattle.h41_deck.specs.declared.refusal.Refusal.{Refusal}
-use Rattle.h41_deck.specs.declared.refusal.Refusal.TheVariants.{WordNotInProfile, SystemRom, EmptyPage, NoSuchPage, Occupied, BadImage, OutOfMemory, Busy}
+use Rattle.h41_deck.specs.declared.refusal.Refusal.TheVariants.{UndefinedWord, WordNotInProfile, SystemRom, EmptyPage, PeripheralNotHeld, Asleep, ReadOnly, NoSuchPage, Occupied, BadImage, OutOfMemory, Busy}
 
 -- The state of the calculator.
 pub record State : Type 0 where
-  -- the processor, its pages and keys
+  -- the processor, its memory, pages and keys
   pub nut : Nut
   pub mode : Mode
 
--- nothing is plugged, nothing runs
+-- how many registers main memory has
+abbrev pub registers : ℕ
+registers = 320
+
+-- nothing is plugged, nothing runs, and memory has an empty program
 abbrev pub start : State
-start = record { nut = nut_of initial no_pages (record { ky = 0; flag = false }); mode = modes.Idle }
+start = record { nut = nut_of initial (ram.start registers) no_pages (record { ky = 0; flag = false }); mode = modes.Idle }
 
 abbrev pub is_idle : Mode → Bool
 is_idle modes.Idle = true
@@ -40,9 +45,13 @@ called address s = record s { nut = record s.nut { processor = entered s.nut.pro
 
 -- a processor's refusal, as the calculator's
 abbrev pub of_nut : nut.Refusal → Refusal
+of_nut (words.UndefinedWord address) = UndefinedWord address
 of_nut (words.WordNotInProfile address) = WordNotInProfile address
 of_nut (words.SystemRom address) = SystemRom address
 of_nut (words.EmptyPage address) = EmptyPage address
+of_nut (words.PeripheralNotHeld address) = PeripheralNotHeld address
+of_nut (words.Asleep address) = Asleep address
+of_nut (words.ReadOnly address) = ReadOnly address
 
 -- a page's refusal likewise
 abbrev pub of_plug : plug.PlugRefusal → Refusal

@@ -6,7 +6,7 @@ use Rattle.h41_deck.specs.declared.commands.Command.TheVariants.{Plug, Call, Ste
 use Rattle.h41_deck.specs.declared.commands.BlockKind.{BlockKind}
 use Rattle.h41_deck.specs.declared.commands.BlockKind.TheVariants.{Words}
 use Rattle.h41_deck.specs.declared.commands.View.{View}
-use Rattle.h41_deck.specs.declared.commands.View.TheVariants.{Cpu}
+use Rattle.h41_deck.specs.declared.commands.View.TheVariants.{Cpu, Register, Stack, Flags, Position}
 use Rattle.h41_deck.specs.declared.refusal.Refusal.{Refusal}
 use Rattle.h41_deck.specs.declared.refusal.Refusal.TheVariants.{BadCommand}
 use Rattle.h41_deck.specs.Numbers.{hexadecimal, number_up_to}
@@ -39,8 +39,18 @@ step_command (count ∷ []) = and_then (number_up_to most_steps 10 count) (λ co
 step_command operands = Err BadCommand
 
 -- show WHAT
+abbrev pub view_named : List ℕ → Result View Refusal
+view_named what =
+    if bytes_eq what (codes "cpu") then Ok Cpu
+    else (if bytes_eq what (codes "stack") then Ok Stack
+    else (if bytes_eq what (codes "flags") then Ok Flags
+    else (if bytes_eq what (codes "pos") then Ok Position
+    else Err BadCommand)))
+
 abbrev pub view_of : List (List ℕ) → Result View Refusal
-view_of (what ∷ []) = if bytes_eq what (codes "cpu") then Ok Cpu else Err BadCommand
+view_of (what ∷ []) = view_named what
+view_of (what ∷ address ∷ []) =
+    if bytes_eq what (codes "ram") then and_then (hexadecimal 3 address) (λ address. Ok (Register address)) else Err BadCommand
 view_of operands = Err BadCommand
 
 abbrev pub show_command : List (List ℕ) → Result Command Refusal

@@ -2,7 +2,7 @@
 use Rattle.std.specs.Prelude.{ℕ, List, [], ◌++◌, Option, Some, None, codes}
 use Rattle.h41_digits.specs.Register.{hexadecimal_text}
 use Rattle.h41_deck.specs.declared.refusal.Refusal.{Refusal}
-use Rattle.h41_deck.specs.declared.refusal.Refusal.TheVariants.{NoSuchPage, Occupied, BadImage, WordNotInProfile, SystemRom, EmptyPage, OutOfMemory, ReadFault, WriteFault, Busy, BadCommand, BadNumber, NoEnd, LineTooLong}
+use Rattle.h41_deck.specs.declared.refusal.Refusal.TheVariants.{NoSuchPage, Occupied, BadImage, UndefinedWord, WordNotInProfile, SystemRom, EmptyPage, PeripheralNotHeld, Asleep, ReadOnly, OutOfMemory, ReadFault, WriteFault, Busy, BadCommand, BadNumber, NoEnd, LineTooLong}
 use Rattle.h41_deck.specs.declared.fault.Fault.{Fault}
 use Rattle.h41_deck.specs.declared.fault.Fault.TheVariants as faults
 
@@ -11,9 +11,13 @@ abbrev pub number_and_name : Refusal → List ℕ
 number_and_name NoSuchPage = codes "01 NoSuchPage"
 number_and_name Occupied = codes "02 Occupied"
 number_and_name BadImage = codes "04 BadImage"
+number_and_name (UndefinedWord address) = codes "06 UndefinedWord"
 number_and_name (WordNotInProfile address) = codes "07 WordNotInProfile"
 number_and_name (SystemRom address) = codes "08 SystemRom"
 number_and_name (EmptyPage address) = codes "09 EmptyPage"
+number_and_name (PeripheralNotHeld address) = codes "10 PeripheralNotHeld"
+number_and_name (Asleep address) = codes "11 Asleep"
+number_and_name (ReadOnly address) = codes "12 ReadOnly"
 number_and_name OutOfMemory = codes "21 OutOfMemory"
 number_and_name ReadFault = codes "22 ReadFault"
 number_and_name WriteFault = codes "23 WriteFault"
@@ -25,9 +29,13 @@ number_and_name LineTooLong = codes "53 LineTooLong"
 
 -- the address that a refusal tells, where it tells one
 abbrev pub detail : Refusal → Option ℕ
+detail (UndefinedWord address) = Some address
 detail (WordNotInProfile address) = Some address
 detail (SystemRom address) = Some address
 detail (EmptyPage address) = Some address
+detail (PeripheralNotHeld address) = Some address
+detail (Asleep address) = Some address
+detail (ReadOnly address) = Some address
 detail refusal = None
 
 -- a blank and the address of four hexadecimal digits

@@ -1,14 +1,19 @@
 -- What `show` prints, view by view. The form is this project's choice.
-use Rattle.std.specs.Prelude.{ℕ, Bool, List, ◌++◌, slice_index, if◌then◌else◌, codes}
+use Rattle.std.specs.Prelude.{ℕ, ◌/◌, ◌%◌, Bool, true, List, [], ◌∷◌, ◌++◌, map, filter, slice_index, if◌then◌else◌, codes}
+use Rattle.std.specs.Fmt.{digit_glyph}
+use Rattle.std.specs.List.{join_with_byte, range_with_len}
 use Rattle.h41_digits.specs.Register.{text, hexadecimal_text}
 use Rattle.h41_fields.specs.declared.field.Pointer.{Pointer}
 use Rattle.h41_fields.specs.declared.field.Pointer.TheVariants.{P, Q}
 use Rattle.h41_nut.specs.declared.base.Base.{Base}
 use Rattle.h41_nut.specs.declared.base.Base.TheVariants.{Hexadecimal, Decimal}
 use Rattle.h41_nut.specs.declared.keys.Keys.{Keys}
+use Rattle.h41_ram.specs.RegisterMap.{RegisterMap, flag_of, register_at}
 use Rattle.h41_nut.specs.Processor.{Processor}
 use Rattle.h41_deck.specs.declared.commands.View.{View}
-use Rattle.h41_deck.specs.declared.commands.View.TheVariants.{Cpu}
+use Rattle.h41_deck.specs.declared.commands.View.TheVariants.{Cpu, Register, Stack, Flags, Position}
+use Rattle.h41_deck.specs.declared.calculator.Mode.{Mode}
+use Rattle.h41_deck.specs.declared.calculator.Mode.TheVariants as modes
 use Rattle.h41_deck.specs.Calculator.{State}
 
 abbrev pub bit_text : Bool → List ℕ
@@ -45,6 +50,39 @@ returns_line s = codes "RTN=" ++ hexadecimal_text 4 (slice_index s.returns 0) ++
 unfoldable pub processor_text : Processor → Keys → List ℕ
 processor_text s keys = registers_line s ++ memories_line s ++ pointers_line s ++ modes_line s keys ++ returns_line s
 
+-- a register by its address
+unfoldable pub register_line : RegisterMap → ℕ → List ℕ
+register_line ram address = hexadecimal_text 3 address ++ codes "=" ++ text (register_at ram address) ++ codes "\n"
+
+-- the stack from the top, and L: the status registers 0 to 4
+unfoldable pub level_line : List ℕ → List ℕ → List ℕ
+level_line name register = name ++ codes "=" ++ text register ++ codes "\n"
+
+unfoldable pub stack_text : RegisterMap → List ℕ
+stack_text ram =
+    level_line (codes "T") (register_at ram 0) ++ level_line (codes "Z") (register_at ram 1) ++ level_line (codes "Y") (register_at ram 2)
+    ++ level_line (codes "X") (register_at ram 3) ++ level_line (codes "L") (register_at ram 4)
+
+-- a number below 100 by its two decimal digits
+abbrev pub two_digits : ℕ → List ℕ
+two_digits number = digit_glyph true (number / 10) ∷ digit_glyph true (number % 10) ∷ []
+
+-- the flags that are set among so many, from flag 0 on, by their numbers, which blanks (32) part
+abbrev pub flags_below : ℕ → RegisterMap → List ℕ
+flags_below count ram = join_with_byte 32 (map two_digits (filter (flag_of ram) (range_with_len 0 count)))
+
+unfoldable pub flags_line : RegisterMap → List ℕ
+flags_line ram = flags_below 56 ram ++ codes "\n"
+
+-- the mode, and the address of the next word or, while nothing runs, the position in program memory, in decimal
+abbrev pub position_line : State → Mode → List ℕ
+position_line s modes.Idle = codes "Idle 0000\n"
+position_line s modes.Micro = codes "Micro " ++ hexadecimal_text 4 s.nut.processor.pc ++ codes "\n"
+
 -- the text of each view
 abbrev pub view_text : View → State → List ℕ
 view_text Cpu s = processor_text s.nut.processor s.nut.keys
+view_text (Register address) s = register_line s.nut.ram address
+view_text Stack s = stack_text s.nut.ram
+view_text Flags s = flags_line s.nut.ram
+view_text Position s = position_line s s.mode

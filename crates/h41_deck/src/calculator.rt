@@ -6,9 +6,13 @@ ghost use Rattle.h41_nut.specs.PageList.{plug_refusal};
 ghost use Rattle.h41_deck.specs.Calculator.{RefusesPage, Step, call_refusal, called, start, step_refusal, with_page};
 
 use crate::refusal::Refusal;
-use h41_nut::{Cpu, END_OF_FUNCTION, FIRST_ADDRESS, Keys, Pages, PlugRefusal, Ram, step};
+use h41_nut::{Cpu, END_OF_FUNCTION, FIRST_ADDRESS, Keys, Pages, PlugRefusal, step};
+use h41_ram::Ram;
 use std::alloc::{AllocError, Global};
 use std::marker::Model;
+
+/// How many registers main memory has.
+pub const REGISTERS: usize = 320;
 
 /// What the calculator does.
 #[derive(Clone, Copy, Debug, PartialEq, Eq)]
@@ -23,7 +27,7 @@ pub enum Mode {
 #[derive(Drop)]
 pub struct Calculator {
     cpu: Cpu,
-    ram: Ram,
+    ram: Ram<REGISTERS>,
     pages: Pages,
     keys: Keys,
     mode: Mode,
@@ -35,7 +39,7 @@ impl Model for Calculator {
 
     ghost Value = { State };
 
-    ghost view = { λ all. record { nut = nut_of all.cpu all.pages all.keys; mode = all.mode } };
+    ghost view = { λ all. record { nut = nut_of all.cpu all.ram all.pages all.keys; mode = all.mode } };
 }
 
 impl Calculator {
@@ -57,6 +61,20 @@ impl Calculator {
         ensures { result.now ≡ self.now.nut.processor }
     {
         &self.cpu
+    }
+
+    /// The memory.
+    pub fn ram(&self) -> &Ram<REGISTERS>
+        ensures { result.now ≡ self.now.nut.ram }
+    {
+        &self.ram
+    }
+
+    /// What it does.
+    pub fn mode(&self) -> Mode
+        ensures { result ≡ self.now.mode }
+    {
+        self.mode
     }
 
     /// The keyboard as the processor sees it.
@@ -85,7 +103,7 @@ impl Calculator {
     }
 
     /// One step: a word while a function runs, which ends where it arrives at 00F0, and else nothing. A word is refused
-    /// as 7, 8 or 9, and nothing is changed then.
+    /// as 6 to 12, and nothing is changed then.
     pub fn step(&mut self) -> Result<(), Refusal>
         ensures refusal { result_err result ≡ step_refusal self.old }
         ensures change { OnOk result (Step self.old self.new) }

@@ -17,6 +17,14 @@ pub enum BlockKind {
 pub enum View {
     /// `cpu`: the processor.
     Cpu,
+    /// `ram hhh`: the register at an address, 000 to FFF.
+    Register(u16),
+    /// `stack`: the stack and L.
+    Stack,
+    /// `flags`: the flags that are set.
+    Flags,
+    /// `pos`: the mode, and the position in it.
+    Position,
 }
 
 /// One command of a deck.

@@ -10,7 +10,7 @@ use arrayvec::ArrayString;
 use h41_nut::{PlugRefusal, Refusal as NutRefusal};
 
 /// The most bytes of a refusal's line.
-const LINE: usize = 27;
+const LINE: usize = 28;
 
 /// Why a command was refused, or what ends a deck (21 to 23). What is refused changes nothing.
 #[derive(Clone, Copy, Debug, PartialEq, Eq)]
@@ -21,12 +21,20 @@ pub enum Refusal {
     Occupied,
     /// 4: more than 4,096 words, or a word above 3FF.
     BadImage,
-    /// 7: the word at this address is not held.
+    /// 6: the word at this address stands for no instruction.
+    UndefinedWord(u16),
+    /// 7: the effect of the word at this address is not held.
     WordNotInProfile(u16),
     /// 8: this address lies in pages 0 to 3, where the system's ROM would be.
     SystemRom(u16),
     /// 9: nothing is plugged at this address.
     EmptyPage(u16),
+    /// 10: the word at this address is a peripheral's.
+    PeripheralNotHeld(u16),
+    /// 11: the word at this address puts the processor to sleep.
+    Asleep(u16),
+    /// 12: the page of this address is not plugged as writable.
+    ReadOnly(u16),
     /// 21: no memory is left.
     OutOfMemory,
     /// 22: the input cannot be read, or is too long.
@@ -67,15 +75,19 @@ impl Refusal {
     /// `! NN Name`.
     pub fn heading(self) -> &'static str
         ensures text { result.now ≡ heading self }
-        ensures short { length result.now ≤ 21 }
+        ensures short { length result.now ≤ 22 }
     {
         match self {
             Refusal::NoSuchPage => "! 01 NoSuchPage",
             Refusal::Occupied => "! 02 Occupied",
             Refusal::BadImage => "! 04 BadImage",
+            Refusal::UndefinedWord(_) => "! 06 UndefinedWord",
             Refusal::WordNotInProfile(_) => "! 07 WordNotInProfile",
             Refusal::SystemRom(_) => "! 08 SystemRom",
             Refusal::EmptyPage(_) => "! 09 EmptyPage",
+            Refusal::PeripheralNotHeld(_) => "! 10 PeripheralNotHeld",
+            Refusal::Asleep(_) => "! 11 Asleep",
+            Refusal::ReadOnly(_) => "! 12 ReadOnly",
             Refusal::OutOfMemory => "! 21 OutOfMemory",
             Refusal::ReadFault => "! 22 ReadFault",
             Refusal::WriteFault => "! 23 WriteFault",
@@ -92,9 +104,13 @@ impl Refusal {
         ensures { result ≡ detail self }
     {
         match self {
-            Refusal::WordNotInProfile(address)
+            Refusal::UndefinedWord(address)
+            | Refusal::WordNotInProfile(address)
             | Refusal::SystemRom(address)
-            | Refusal::EmptyPage(address) => Some(address),
+            | Refusal::EmptyPage(address)
+            | Refusal::PeripheralNotHeld(address)
+            | Refusal::Asleep(address)
+            | Refusal::ReadOnly(address) => Some(address),
             _ => None,
         }
     }
@@ -108,9 +124,13 @@ impl From<NutRefusal> for Refusal {
 
     fn from(refusal: NutRefusal) -> Self {
         match refusal {
+            NutRefusal::UndefinedWord(address) => Refusal::UndefinedWord(address),
             NutRefusal::WordNotInProfile(address) => Refusal::WordNotInProfile(address),
             NutRefusal::SystemRom(address) => Refusal::SystemRom(address),
             NutRefusal::EmptyPage(address) => Refusal::EmptyPage(address),
+            NutRefusal::PeripheralNotHeld(address) => Refusal::PeripheralNotHeld(address),
+            NutRefusal::Asleep(address) => Refusal::Asleep(address),
+            NutRefusal::ReadOnly(address) => Refusal::ReadOnly(address),
         }
     }
 }
@@ -146,7 +166,7 @@ fn push_address(line: &mut ArrayString<LINE>, address: u16)
 }
 
 /// A hexadecimal digit, in upper case.
-fn glyph(digit: u16) -> char
+pub(crate) fn glyph(digit: u16) -> char
     requires { digit < 16 }
     ensures { result ≡ digit_glyph true digit }
 {

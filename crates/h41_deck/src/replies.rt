@@ -24,6 +24,8 @@ use crate::replies::view::Shown;
 use h41_nut::PlugRefusal;
 use std::alloc::{AllocError, Global};
 
+mod memory;
+mod position;
 mod processor;
 mod view;
 

@@ -1,7 +1,7 @@
 //! The command that a line's words spell.
 
 ghost use Rattle.std.specs.Prelude.{◌≡◌, Ok};
-ghost use Rattle.h41_deck.specs.Commands.{and_then, call_command, is_opening, parsed, plug_command, show_command, step_command, view_of};
+ghost use Rattle.h41_deck.specs.Commands.{and_then, call_command, is_opening, parsed, plug_command, show_command, step_command, view_named, view_of};
 ghost use Rattle.h41_deck.specs.Lines.{words_of};
 ghost use Rattle.h41_deck.specs.Numbers.{hexadecimal};
 
@@ -90,8 +90,22 @@ fn show(operands: LineWords<'_>) -> Result<Command, Refusal>
 fn view(mut operands: LineWords<'_>) -> Result<View, Refusal>
     ensures { result ≡ view_of (words_of operands.entry.rest.now) }
 {
-    match (operands.next(), operands.next()) {
-        (Some(b"cpu"), None) => Ok(View::Cpu),
+    match (operands.next(), operands.next(), operands.next()) {
+        (Some(what), None, _) => view_named(what),
+        (Some(b"ram"), Some(address), None) => Ok(View::Register(hexadecimal(3, 3, address)?)),
+        _ => Err(Refusal::BadCommand),
+    }
+}
+
+/// The view of one word.
+fn view_named(what: &[u8]) -> Result<View, Refusal>
+    ensures { result ≡ view_named what.now }
+{
+    match what {
+        b"cpu" => Ok(View::Cpu),
+        b"stack" => Ok(View::Stack),
+        b"flags" => Ok(View::Flags),
+        b"pos" => Ok(View::Position),
         _ => Err(Refusal::BadCommand),
     }
 }

@@ -2,6 +2,8 @@
 
 use crate::calculator::Calculator;
 use crate::commands::View;
+use crate::replies::memory::{write_flags, write_register, write_stack};
+use crate::replies::position::write_position;
 use crate::replies::processor::Processor;
 use std::fmt;
 
@@ -26,6 +28,10 @@ impl fmt::Display for Shown<'_> {
                 keys: calculator.keys(),
             }
             .fmt(f),
+            View::Register(address) => write_register(f, calculator.ram(), address),
+            View::Stack => write_stack(f, calculator.ram()),
+            View::Flags => write_flags(f, calculator.ram()),
+            View::Position => write_position(f, calculator),
         }
     }
 }

@@ -1,0 +1,89 @@
+//! The memory as `show ram`, `show stack` and `show flags` print it.
+
+ghost use Rattle.std.specs.Prelude.{◌≡◌, ◌+◌, ◌*◌, ◌<◌, ◌≤◌, ◌++◌, Some};
+ghost use Rattle.std.specs.Fmt.{DisplaysOnOk};
+ghost use Rattle.arrayvec.specs.ArrayString.{array_string_len};
+ghost use Rattle.h41_deck.specs.Views.{flags_below, flags_line, level_line, register_line, stack_text, two_digits};
+
+use crate::calculator::REGISTERS;
+use crate::refusal::glyph;
+use arrayvec::ArrayString;
+use h41_digits::{Digits, Reg};
+use h41_ram::Ram;
+use std::fmt;
+
+/// How many flags there are.
+const FLAGS: usize = 56;
+
+/// The most bytes of their numbers: two digits and a blank each.
+const FLAGS_TEXT: usize = 168;
+
+/// A register with its address, of three hexadecimal digits.
+#[tactic(auto, unfolding(crate::specs::Views::register_line))]
+pub fn write_register<W: fmt::Write>(
+    f: &mut fmt::Formatter<W>,
+    ram: &Ram<REGISTERS>,
+    address: u16,
+) -> fmt::Result
+    ensures { DisplaysOnOk W.write_str_gives f.old result (Some (register_line ram.now address)) f.new }
+{
+    let name = Digits::<3>::holding(u64::from(address % 0x1000));
+    let register = ram.read(address);
+    writeln!(f, "{name}={register}")
+}
+
+/// The stack from T down, and L.
+#[tactic(auto, unfolding(crate::specs::Views::stack_text))]
+pub fn write_stack<W: fmt::Write>(f: &mut fmt::Formatter<W>, ram: &Ram<REGISTERS>) -> fmt::Result
+    ensures { DisplaysOnOk W.write_str_gives f.old result (Some (stack_text ram.now)) f.new }
+{
+    write_level(f, "T", ram.status(0))?;
+    write_level(f, "Z", ram.status(1))?;
+    write_level(f, "Y", ram.status(2))?;
+    write_level(f, "X", ram.status(3))?;
+    write_level(f, "L", ram.status(4))
+}
+
+/// A level of the stack, or L, by its name.
+#[tactic(auto, unfolding(crate::specs::Views::level_line))]
+fn write_level<W: fmt::Write>(f: &mut fmt::Formatter<W>, name: &str, register: Reg) -> fmt::Result
+    ensures { DisplaysOnOk W.write_str_gives f.old result (Some (level_line name.now register)) f.new }
+{
+    writeln!(f, "{name}={register}")
+}
+
+/// The numbers of the flags that are set.
+#[tactic(auto, unfolding(crate::specs::Views::flags_line))]
+pub fn write_flags<W: fmt::Write>(f: &mut fmt::Formatter<W>, ram: &Ram<REGISTERS>) -> fmt::Result
+    ensures { DisplaysOnOk W.write_str_gives f.old result (Some (flags_line ram.now)) f.new }
+{
+    let flags = set_flags(ram);
+    let flags = flags.as_str();
+    writeln!(f, "{flags}")
+}
+
+/// The numbers of the flags that are set, parted by blanks.
+fn set_flags(ram: &Ram<REGISTERS>) -> ArrayString<FLAGS_TEXT>
+    ensures { result.bytes ≡ flags_below 56 ram.now }
+{
+    let mut flags = ArrayString::new();
+    for flag in 0..FLAGS {
+        if ram.flag(flag) {
+            if !flags.is_empty() {
+                flags.push(' ');
+            }
+            push_number(&mut flags, flag);
+        }
+    }
+    flags
+}
+
+/// Appends the two digits of a flag's number.
+fn push_number(flags: &mut ArrayString<FLAGS_TEXT>, flag: usize)
+    requires room { array_string_len flags.old + 2 ≤ FLAGS_TEXT }
+    requires number { flag < 100 }
+    ensures { flags.new.bytes ≡ flags.old.bytes ++ two_digits flag }
+{
+    flags.push(glyph((flag / 10) as u16));
+    flags.push(glyph((flag % 10) as u16));
+}

@@ -1,0 +1,22 @@
+//! The mode and the position in it, as `show pos` prints them.
+
+ghost use Rattle.std.specs.Prelude.{Some};
+ghost use Rattle.std.specs.Fmt.{DisplaysOnOk};
+ghost use Rattle.h41_deck.specs.Views.{position_line};
+
+use crate::calculator::{Calculator, Mode};
+use h41_digits::Digits;
+use std::fmt;
+
+/// `Micro` and the address of the next word while a function runs, else `Idle` and the position, which is 0000 for now.
+pub fn write_position<W: fmt::Write>(f: &mut fmt::Formatter<W>, calculator: &Calculator) -> fmt::Result
+    ensures { DisplaysOnOk W.write_str_gives f.old result (Some (position_line calculator.now calculator.now.mode)) f.new }
+{
+    match calculator.mode() {
+        Mode::Idle => f.write_str("Idle 0000\n"),
+        Mode::Micro => {
+            let address = Digits::<4>::holding(u64::from(calculator.cpu().pc()));
+            writeln!(f, "Micro {address}")
+        }
+    }
+}

@@ -109,3 +109,6 @@ fn carry_out<const REGS: usize>(
         Row::SelectPeripheral => select_peripheral(cpu),
     }
 }
+
+#[cfg(test)]
+mod tests;

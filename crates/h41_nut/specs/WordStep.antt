@@ -5,6 +5,7 @@ use Rattle.std.specs.Option.{option_or}
 use Rattle.std.specs.Result.{result_err}
 use Rattle.h41_words.specs.declared.rows.Row.{Row}
 use Rattle.h41_words.specs.declared.rows.Row.TheVariants.{Arithmetic, LongJump, ShortJump, ClearStatus, SetStatus, TestStatus, TestPointer, SetPointer, RotateRight, LoadDigit, Write, Read, Constant, WriteRom, EnableBank, ClearStatusByte, ClearKeyFlag, TestKeyFlag, DecrementPointer, IncrementPointer, Transfer, DropReturn, PowerOff, SelectPointer, TestPointersEqual, TestLowBattery, ClearRegisters, GoToAddress, ReadKey, SetHexadecimal, SetDecimal, DisplayOff, ToggleDisplay, ReturnIf, Return, LoadImmediate, PushAddress, PopAddress, GoToKey, SelectRegister, WriteData, ReadData, FetchWord, Or, And, SelectPeripheral}
+use Rattle.h41_words.specs.SecondWord.{second_of}
 use Rattle.h41_words.specs.WordTable.{row_of}
 use Rattle.h41_ram.specs.RegisterMap.{RegisterMap}
 use Rattle.h41_nut.specs.Arithmetic.{OperatesOn}
@@ -41,7 +42,7 @@ second_word s = word_or_zero (fetched s.pages (behind s.processor))
 -- where the step goes
 abbrev pub goes_to : Row → Nut → ℕ
 -- ?NC XQ and the like: to the address of both words, where the carry is as the second word says
-goes_to (LongJump low_byte) s = jump_target low_byte (second_word s) s.processor
+goes_to (LongJump low_byte) s = jump_target low_byte (second_of (second_word s)) s.processor
 -- JNC and JC: by the displacement from the word's own address, where the carry is as the word says
 goes_to (ShortJump condition displacement) s = short_jump_target condition displacement s.processor
 -- ?C RTN, ?NC RTN and RTN: to the newest return address
@@ -73,7 +74,7 @@ answer row s = false
 -- the registers of the processor behind a word, but for the address, the carry and arithmetic
 abbrev pub registers_after : Row → Nut → Processor
 -- XQ, where it is taken: the address behind both words becomes the newest return address
-registers_after (LongJump low_byte) s = jump_change (second_word s) s.processor
+registers_after (LongJump low_byte) s = jump_change (second_of (second_word s)) s.processor
 -- CLRF n, SETF n and ST=0
 registers_after (ClearStatus bit) s = with_status bit false s.processor
 registers_after (SetStatus bit) s = with_status bit true s.processor

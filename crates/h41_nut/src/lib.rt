@@ -19,4 +19,3 @@ pub use keys::Keys;
 pub use machine::step;
 pub use pages::Pages;
 pub use refusal::{PlugRefusal, Refusal};
-pub use status_bits::StatusBits;

@@ -14,7 +14,7 @@ use crate::machine::rom::{fetch_word, write_rom};
 use crate::pages::Pages;
 use crate::refusal::Refusal;
 use h41_ram::Ram;
-use h41_words::{Row, row};
+use h41_words::{Row, SecondWord, row};
 
 mod memory;
 mod peripherals;
@@ -47,7 +47,8 @@ fn carry_out<const REGS: usize>(
     pages: &mut Pages,
     keys: &mut Keys,
 ) -> Result<(), Refusal>
-    ensures refusal { result_err result ≡ row_refusal row (nut_of cpu.old ram.old pages.old keys.old) }
+    ensures refusal { result_err result
+        ≡ row_refusal row (nut_of cpu.old ram.old pages.old keys.old) }
     ensures change { OnOk result (Effect row (nut_of cpu.old ram.old pages.old keys.old)
         (nut_of cpu.new ram.new pages.new keys.new)) }
     ensures err { OnErr result (nut_of cpu.new ram.new pages.new keys.new
@@ -57,7 +58,7 @@ fn carry_out<const REGS: usize>(
         Row::Arithmetic(operation, field) => cpu.arithmetic(operation, field),
         Row::LongJump(low_byte) => {
             let second = pages.fetch(cpu.behind())?;
-            cpu.long_jump(low_byte, second)
+            cpu.long_jump(low_byte, SecondWord::of(second))
         }
         Row::ShortJump(condition, displacement) => cpu.short_jump(condition, displacement),
         Row::ClearStatus(bit) => cpu.set_status(bit, false),
@@ -108,3 +109,6 @@ fn carry_out<const REGS: usize>(
         Row::SelectPeripheral => select_peripheral(cpu),
     }
 }
+
+#[cfg(test)]
+mod tests;

@@ -11,7 +11,7 @@ ghost use Rattle.h41_nut.specs.RegisterWords.{with_address_pushed, with_address_
 use crate::addresses::{END_OF_FUNCTION, FIRST_ADDRESS};
 use crate::cpu::Cpu;
 use crate::refusal::Refusal;
-use h41_words::{Condition, Displacement, Word};
+use h41_words::{Condition, Displacement, LongJumpKind, SecondWord};
 
 impl Cpu {
     /// The address behind the word.
@@ -56,21 +56,16 @@ impl Cpu {
 
     /// `?NC XQ` and the like: goes to the address of both words, where the carry is as the second word says. `XQ` keeps the
     /// address behind both words.
-    pub(crate) fn long_jump(&mut self, low_byte: u8, second: Word) -> Result<(), Refusal>
-        ensures { GoesTo (spec.jump_target low_byte second) (spec.jump_change second) self.old self.new result }
+    pub(crate) fn long_jump(&mut self, low_byte: u8, second: SecondWord) -> Result<(), Refusal>
+        ensures { GoesTo (spec.jump_target low_byte second) (spec.jump_change second)
+            self.old self.new result }
     {
         let behind = self.pc.wrapping_add(2);
-        let number = second.number();
-        let condition = if number % 2 == 1 {
-            Condition::Carry
-        } else {
-            Condition::NoCarry
-        };
-        if !is_taken(condition, self.carry) {
+        if !is_taken(second.condition, self.carry) {
             return self.go_to(behind);
         }
-        let next = arrival(number / 4 * 256 + u16::from(low_byte))?;
-        if number / 2 % 2 == 0 {
+        let next = arrival(u16::from(second.high_byte) * 256 + u16::from(low_byte))?;
+        if second.kind == LongJumpKind::Execute {
             self.push(behind);
         }
         self.arrive(next, false);
@@ -83,7 +78,8 @@ impl Cpu {
         condition: Condition,
         displacement: Displacement,
     ) -> Result<(), Refusal>
-        ensures { GoesTo (spec.short_jump_target condition displacement) (λ s. s) self.old self.new result }
+        ensures { GoesTo (spec.short_jump_target condition displacement) (λ s. s)
+            self.old self.new result }
     {
         if is_taken(condition, self.carry) {
             self.go_to(displaced(self.pc, displacement))
@@ -104,7 +100,8 @@ impl Cpu {
 
     /// `?C RTN` and `?NC RTN`: returns where the carry is as the condition says.
     pub(crate) fn return_if(&mut self, condition: Condition) -> Result<(), Refusal>
-        ensures { GoesTo (spec.return_target condition) (spec.return_change condition) self.old self.new result }
+        ensures { GoesTo (spec.return_target condition) (spec.return_change condition)
+            self.old self.new result }
     {
         if is_taken(condition, self.carry) {
             self.return_to_newest()

@@ -153,7 +153,8 @@ impl Cpu {
     /// `READ n`: selects an address of the memory, whose register goes to C.
     pub(crate) fn select_and_load(&mut self, address: u16, register: Reg) -> Result<(), Refusal>
         requires { address < 1024 }
-        ensures { GoesOn (λ s. selecting address (spec.with_c register s)) self.old self.new result }
+        ensures { GoesOn (λ s. selecting address (spec.with_c register s))
+            self.old self.new result }
     {
         let next = arrival(self.behind())?;
         self.selected = address;

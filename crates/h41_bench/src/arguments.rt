@@ -76,6 +76,10 @@ A deck is a text file of commands, one a line. Such as:
   call hhhh     begins the function at an address
   step [n]      carries out n of its instructions, one where n is missing
   show cpu      prints the processor
+  show ram hhh  prints the register at an address in memory
+  show stack    prints the registers T, Z, Y, X and L of the stack
+  show flags    prints the numbers of the flags that are set
+  show pos      prints whether a function runs, and where
   # ...         is a comment, where # is the first character of the line
 
 A refused command prints a line such as `! 24 Busy`, and the deck goes on.

@@ -51,7 +51,8 @@ fn run(rt: &HostRuntime, alloc: Global) -> u8
 /// Does what these words ask for.
 fn run_words(rt: &HostRuntime, alloc: Global, words: &[String]) -> u8
     ensures help { asks_help (named (map string_bytes words.now)) ≡ true → (result ≡ 0) ⊎ (result ≡ 3) }
-    ensures mistake { is_mistake (named (map string_bytes words.now)) ≡ true → (result ≡ 2) ⊎ (result ≡ 3) }
+    ensures mistake { is_mistake (named (map string_bytes words.now)) ≡ true
+        → (result ≡ 2) ⊎ (result ≡ 3) }
     ensures run { IsSome (file_to_run (named (map string_bytes words.now))) → IsStatus result }
     ensures bound { result ≤ 3 }
 {
@@ -66,7 +67,8 @@ fn run_words(rt: &HostRuntime, alloc: Global, words: &[String]) -> u8
 
 /// The words with the program's own name for the first, under whatever name it was started.
 fn named(alloc: Global, words: &[String]) -> Result<Vec<&str>, AllocError>
-    ensures { IfOk result (λ words_named. map (λ word. word.now) words_named.items ≡ named (map string_bytes words.now)) }
+    ensures { IfOk result (λ words_named. map (λ word. word.now) words_named.items
+        ≡ named (map string_bytes words.now)) }
 {
     let mut named = Vec::new(alloc);
     named.push(NAME)?;

@@ -61,7 +61,8 @@ pub fn serve<R: Source, W: Sink, E: Sink>(
 /// Writes a fault's line.
 fn report<E: Sink>(fault: Fault, faults: &mut E) -> Result<(), WriteFault>
     requires { E.failed faults.old ≡ false }
-    ensures line { OnOk result (Appends (E.contents faults.old) (E.contents faults.new) (refusal_line (of_fault fault))) }
+    ensures line { OnOk result
+        (Appends (E.contents faults.old) (E.contents faults.new) (refusal_line (of_fault fault))) }
     ensures mark { OnErr result (E.failed faults.new ≡ true) }
 {
     write_whole(faults, fault.refusal().line().as_str().as_bytes())?;

@@ -8,7 +8,6 @@ use Rattle.h41_deck.specs.declared.commands.Command.{Command}
 use Rattle.h41_deck.specs.declared.commands.Command.TheVariants as commands
 use Rattle.h41_deck.specs.declared.replies.Outcome.{Outcome}
 use Rattle.h41_deck.specs.declared.refusal.Refusal.{Refusal}
-
 use Rattle.h41_deck.specs.Calculator.{State, start, StepIn, Step, Steps, step_refusal, mode_at}
 use Rattle.h41_deck.specs.Deck.{Answers, Deck, DeckDeterminesOutcome, DeckDeterminesText, DeckEnds, LongDeck, LongDeckDeterminesText, outcome_of}
 use Rattle.h41_deck.specs.Items.{Spelled}

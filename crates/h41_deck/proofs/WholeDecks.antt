@@ -19,20 +19,20 @@ module _ (known old new : Option (List ℕ)) (bytes : List ℕ) (whole : Bool) (
       → whole ≡ true → AnswersItems (commands (lines bytes)) old new outcome → IfSome known (Prints Deck old new)
   deck_prints front fits all answers = elim known as (λ known. IfSome known (λ deck. bytes ≡ take most_bytes deck)
       → IfSome known (λ deck. whole ≡ nat_le (length deck) most_bytes) → IfSome known (Prints Deck old new)) [
-    | None ↦ λ front fits. tt
-    | Some deck ↦ λ front fits.
-      let is = whole_is deck bytes whole front fits all in
-      let told = subst (λ (from : List ℕ). AnswersItems (commands (lines from)) old new outcome) is.0 answers in
-      (told.0, (told.1.answers, record { bound = is.1; answered = told.1.answered }, told.1.text_is), told.2)
-  ] front fits
+        | None ↦ λ front fits. tt
+        | Some deck ↦ λ front fits.
+            let is = whole_is deck bytes whole front fits all in
+            let told = subst (λ (from : List ℕ). AnswersItems (commands (lines from)) old new outcome) is.0 answers in
+            (told.0, (told.1.answers, record { bound = is.1; answered = told.1.answered }, told.1.text_is), told.2)
+      ] front fits
 
   pub deck_ends : IfSome known (λ deck. bytes ≡ take most_bytes deck) → IfSome known (λ deck. whole ≡ nat_le (length deck) most_bytes)
       → whole ≡ true → AnswersItems (commands (lines bytes)) old new outcome → IfSome known (λ deck. DeckEnds deck outcome)
   deck_ends front fits all answers = elim known as (λ known. IfSome known (λ deck. bytes ≡ take most_bytes deck)
       → IfSome known (λ deck. whole ≡ nat_le (length deck) most_bytes) → IfSome known (λ deck. DeckEnds deck outcome)) [
-    | None ↦ λ front fits. tt
-    | Some deck ↦ λ front fits.
-      let is = whole_is deck bytes whole front fits all in
-      let told = subst (λ (from : List ℕ). AnswersItems (commands (lines from)) old new outcome) is.0 answers in
-      (told.1.answers, record { bound = is.1; answered = told.1.answered }, told.1.outcome_is)
-  ] front fits
+        | None ↦ λ front fits. tt
+        | Some deck ↦ λ front fits.
+            let is = whole_is deck bytes whole front fits all in
+            let told = subst (λ (from : List ℕ). AnswersItems (commands (lines from)) old new outcome) is.0 answers in
+            (told.1.answers, record { bound = is.1; answered = told.1.answered }, told.1.outcome_is)
+      ] front fits

@@ -3,7 +3,7 @@ use Rattle.std.specs.Prelude.{◌≡◌, ◌⊎◌, ℕ, zero, suc, Bool, true, 
 use Rattle.std.specs.Bool.{then_some}
 use Rattle.std.specs.Option.{option_or}
 use Rattle.h41_nut.specs.declared.refusal.Refusal as nut
-use Rattle.h41_nut.specs.declared.refusal.Refusal.TheVariants as words
+use Rattle.h41_nut.specs.declared.refusal.Refusal.TheVariants as steps
 use Rattle.h41_nut.specs.declared.refusal.PlugRefusal as plug
 use Rattle.h41_nut.specs.declared.refusal.PlugRefusal.TheVariants as plugs
 use Rattle.h41_ram.specs.RegisterMap as ram
@@ -45,13 +45,13 @@ called address s = record s { nut = record s.nut { processor = entered s.nut.pro
 
 -- a processor's refusal, as the calculator's
 abbrev pub of_nut : nut.Refusal → Refusal
-of_nut (words.UndefinedWord address) = UndefinedWord address
-of_nut (words.WordNotInProfile address) = WordNotInProfile address
-of_nut (words.SystemRom address) = SystemRom address
-of_nut (words.EmptyPage address) = EmptyPage address
-of_nut (words.PeripheralNotHeld address) = PeripheralNotHeld address
-of_nut (words.Asleep address) = Asleep address
-of_nut (words.ReadOnly address) = ReadOnly address
+of_nut (steps.UndefinedWord address) = UndefinedWord address
+of_nut (steps.WordNotInProfile address) = WordNotInProfile address
+of_nut (steps.SystemRom address) = SystemRom address
+of_nut (steps.EmptyPage address) = EmptyPage address
+of_nut (steps.PeripheralNotHeld address) = PeripheralNotHeld address
+of_nut (steps.Asleep address) = Asleep address
+of_nut (steps.ReadOnly address) = ReadOnly address
 
 -- a page's refusal likewise
 abbrev pub of_plug : plug.PlugRefusal → Refusal
@@ -61,12 +61,12 @@ of_plug plugs.BadImage = BadImage
 of_plug plugs.OutOfMemory = OutOfMemory
 
 -- the bank that a deck's blocks fill
-abbrev pub bank : ℕ
-bank = 1
+abbrev pub block_bank : ℕ
+block_bank = 1
 
 -- why words are not plugged at a page's bank
 abbrev pub page_refusal : State → ℕ → List ℕ → Option Refusal
-page_refusal s page words = option_map of_plug (plug_refusal s.nut.pages page bank words)
+page_refusal s page words = option_map of_plug (plug_refusal s.nut.pages page block_bank words)
 
 -- this is why words are not plugged; memory that was refused comes last
 abbrev pub RefusesPage : State → ℕ → ℕ → List ℕ → plug.PlugRefusal → Type 0

@@ -54,7 +54,7 @@ Prints text_of old new deck = (text : List ℕ) × text_of deck text × Appends 
 abbrev pub FailedOrTooLong : Bool → Option (List ℕ) → Option (List ℕ) → Option (List ℕ) → Type 0
 FailedOrTooLong failed known old new = (failed ≡ true) ⊎ IfSome known (Prints LongDeck old new)
 
--- what so many commands print, and how they end
+-- what these commands print, and how they end
 pub record Answered (items : List Spelled) (text : List ℕ) (outcome : Outcome) : Type 0 where
   pub answers : List Answer
   pub answered : Answers items start answers

@@ -41,7 +41,8 @@ pub fn run_deck<R: Source, W: Sink>(
     // What is written is the text of the deck that was read, where both ends tell their bytes.
     ensures deck { OnOk result (IfSome (R.remaining reader.old)
         (Prints Deck (W.contents writer.old) (W.contents writer.new))) }
-    ensures outcome { IfOk result (λ outcome. IfSome (R.remaining reader.old) (λ deck. DeckEnds deck outcome)) }
+    ensures outcome { IfOk result (λ outcome. IfSome (R.remaining reader.old)
+        (λ deck. DeckEnds deck outcome)) }
 
     // A read failed, or the deck is too long, and the text of its commands within the bound is written.
     ensures read_fault { result ≡ Err Fault.ReadFault → FailedOrTooLong (R.failed reader.new)
@@ -96,7 +97,8 @@ fn answer<W: Sink>(
     writer: &mut W,
 ) -> Result<Outcome, CommandFault>
     requires { W.failed writer.old ≡ false }
-    ensures reply { IfOk result (Replies (given item) bench.old bench.new (W.contents writer.old) (W.contents writer.new)) }
+    ensures reply { IfOk result (Replies (given item) bench.old bench.new
+        (W.contents writer.old) (W.contents writer.new)) }
     ensures mark { result ≡ Err CommandFault.WriteFault → W.failed writer.new ≡ true }
     ensures clear { result ≢ Err CommandFault.WriteFault → W.failed writer.new ≡ false }
 {

@@ -77,26 +77,3 @@ pub fn ended_lines(deck: &[u8]) -> &[u8]
     }
     &deck[..end]
 }
-
-#[cfg(test)]
-mod tests {
-    use super::*;
-    use std::test::Fail;
-
-    #[test]
-    fn cuts_at_line_ends(rt: HostRuntime) -> Result<(), Fail> {
-        let cases: [(&[u8], &[&[u8]]); 6] = [
-            (b"", &[]),
-            (b"a\r\nb", &[b"a", b"b"]),
-            (b"a\n\nb\n", &[b"a", b"", b"b"]),
-            (b"a\r", &[b"a\r"]),
-            (b"\r\r\n", &[b"\r"]),
-            (b"\n", &[b""]),
-        ];
-        for (deck, expected) in cases {
-            let lines = Lines::new(deck).collect::<Vec<&[u8]>>(rt.alloc())?;
-            assert_eq!(rt; lines.as_slice(), expected);
-        }
-        Ok(())
-    }
-}

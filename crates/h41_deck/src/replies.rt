@@ -75,13 +75,15 @@ pub fn apply<W: Sink>(
     // The reply is written, or a front of it.
     ensures reply { IfOk result (Replies (with_values (judgement block) command) bench.old bench.new
         (W.contents writer.old) (W.contents writer.new)) }
-    ensures part { result ≡ Err CommandFault.WriteFault → RepliesInPart (with_values (judgement block) command)
-        bench.old bench.new (W.contents writer.old) (W.contents writer.new) }
+    ensures part { result ≡ Err CommandFault.WriteFault
+        → RepliesInPart (with_values (judgement block) command) bench.old bench.new
+        (W.contents writer.old) (W.contents writer.new) }
 
     // Memory is refused to commands that take some.
     ensures memory { result ≡ Err CommandFault.OutOfMemory → takes_memory command ≡ true }
     ensures unchanged { result ≡ Err CommandFault.OutOfMemory → bench.new ≡ bench.old }
-    ensures silent { result ≡ Err CommandFault.OutOfMemory → Keeps (W.contents writer.old) (W.contents writer.new) }
+    ensures silent { result ≡ Err CommandFault.OutOfMemory
+        → Keeps (W.contents writer.old) (W.contents writer.new) }
 
     // The mark tells whether writing failed.
     ensures mark { result ≡ Err CommandFault.WriteFault → W.failed writer.new ≡ true }
@@ -110,7 +112,8 @@ fn plug(
     words: Vec<u16>,
 ) -> Result<Result<(), Refusal>, AllocError>
     requires { vec_len words ≤ page_size }
-    ensures refusal { IfOk result (λ ended. result_err ended ≡ page_refusal bench.old page (filled words.items)) }
+    ensures refusal { IfOk result (λ ended. result_err ended
+        ≡ page_refusal bench.old page (filled words.items)) }
     ensures change { IfOk result (λ ended. bench.new ≡ unless (result_err ended)
         (with_page page writable (filled words.items) bench.old) bench.old) }
     ensures err { OnErr result (bench.new ≡ bench.old) }
@@ -135,26 +138,39 @@ fn show<W: Sink>(
 ) -> Result<Outcome, CommandFault>
     requires { W.failed writer.old ≡ false }
     ensures outcome { IfOk result (λ outcome. outcome ≡ Outcome.Accepted) }
-    ensures written { OnOk result (Appends (W.contents writer.old) (W.contents writer.new) (view_text view bench.now)) }
-    ensures part { result ≡ Err CommandFault.WriteFault → AppendsPart (W.contents writer.old) (W.contents writer.new)
-        (view_text view bench.now) }
-    ensures silent { result ≡ Err CommandFault.OutOfMemory → Keeps (W.contents writer.old) (W.contents writer.new) }
+    ensures written { OnOk result
+        (Appends (W.contents writer.old) (W.contents writer.new) (view_text view bench.now)) }
+    ensures part { result ≡ Err CommandFault.WriteFault
+        → AppendsPart (W.contents writer.old) (W.contents writer.new) (view_text view bench.now) }
+    ensures silent { result ≡ Err CommandFault.OutOfMemory
+        → Keeps (W.contents writer.old) (W.contents writer.new) }
     ensures mark { result ≡ Err CommandFault.WriteFault → W.failed writer.new ≡ true }
     ensures clear { result ≢ Err CommandFault.WriteFault → W.failed writer.new ≡ false }
 {
-    let text = format!(in alloc; "{}", Shown { view, calculator: bench.calculator() })?;
+    let text = format!(in alloc;
+        "{}",
+        Shown {
+            view,
+            calculator: bench.calculator()
+        }
+    )?;
     write_whole(writer, text.as_bytes())?;
     Ok(Outcome::Accepted)
 }
 
 /// Prints the refusal that a command ended with, if any, and tells whether it did.
-pub(crate) fn print_ending<W: Sink>(ended: Result<(), Refusal>, writer: &mut W) -> Result<Outcome, WriteFault>
+pub(crate) fn print_ending<W: Sink>(
+    ended: Result<(), Refusal>,
+    writer: &mut W,
+) -> Result<Outcome, WriteFault>
     requires { W.failed writer.old ≡ false }
     ensures outcome { IfOk result (λ outcome. outcome ≡ outcome_in (result_err ended)) }
-    ensures written { OnOk result (Appends (W.contents writer.old) (W.contents writer.new) (ending_line (result_err ended))) }
+    ensures written { OnOk result
+        (Appends (W.contents writer.old) (W.contents writer.new) (ending_line (result_err ended))) }
     ensures clear { OnOk result (W.failed writer.new ≡ false) }
     ensures mark { OnErr result (W.failed writer.new ≡ true) }
-    ensures part { OnErr result (AppendsPart (W.contents writer.old) (W.contents writer.new) (ending_line (result_err ended))) }
+    ensures part { OnErr result
+        (AppendsPart (W.contents writer.old) (W.contents writer.new) (ending_line (result_err ended))) }
 {
     match ended {
         Ok(()) => Ok(Outcome::Accepted),

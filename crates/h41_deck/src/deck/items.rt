@@ -55,8 +55,10 @@ fn line_item(alloc: Global, line: &[u8]) -> Item
 
 /// The item of a block by its first line; takes the block's other lines.
 fn block_item(alloc: Global, first: &[u8], rest: &mut Lines<'_>) -> Result<Item, AllocError>
-    ensures item { IfOk result (λ item. given item ≡ opened_block first.now (spec.lines rest.old.rest.now)) }
-    ensures rest { IfOk result (λ _. spec.lines rest.new.rest.now ≡ after_first spec.is_end (spec.lines rest.old.rest.now)) }
+    ensures item { IfOk result (λ item. given item
+        ≡ opened_block first.now (spec.lines rest.old.rest.now)) }
+    ensures rest { IfOk result (λ _. spec.lines rest.new.rest.now
+        ≡ after_first spec.is_end (spec.lines rest.old.rest.now)) }
 {
     let parsed = parse(first);
     let block = Block::of_kind(alloc, parsed.ok().and_then(Command::block_kind));
@@ -72,9 +74,12 @@ fn block_item(alloc: Global, first: &[u8], rest: &mut Lines<'_>) -> Result<Item,
 /// Takes the lines of a block up to its end; nothing where it has none.
 fn take_lines(block: Block, rest: &mut Lines<'_>) -> Result<Option<Block>, AllocError>
     requires { HasTaken block [] }
-    ensures end { IfOk result (λ taken. is_some taken ≡ list_any spec.is_end (spec.lines rest.old.rest.now)) }
-    ensures taken { IfOk result (IfTaken block.kind (before_first spec.is_end (spec.lines rest.old.rest.now))) }
-    ensures rest { IfOk result (λ _. spec.lines rest.new.rest.now ≡ after_first spec.is_end (spec.lines rest.old.rest.now)) }
+    ensures end { IfOk result (λ taken. is_some taken
+        ≡ list_any spec.is_end (spec.lines rest.old.rest.now)) }
+    ensures taken { IfOk result (IfTaken block.kind
+        (before_first spec.is_end (spec.lines rest.old.rest.now))) }
+    ensures rest { IfOk result (λ _. spec.lines rest.new.rest.now
+        ≡ after_first spec.is_end (spec.lines rest.old.rest.now)) }
 {
     let mut block = block;
     while let Some(line) = rest.next() {

@@ -29,11 +29,13 @@ pub struct Input {
 /// `ReadFault` (22) where a read fails, and `OutOfMemory` (21).
 pub fn read_whole<R: Source>(alloc: Global, reader: &mut R) -> Result<Input, InputFault>
     requires { R.failed reader.old ≡ false }
-    ensures bytes { IfOk result (λ input. IfSome (R.remaining reader.old) (λ xs. input.bytes.items ≡ take most_bytes xs)) }
-    ensures whole { IfOk result (λ input. IfSome (R.remaining reader.old) (λ xs. input.is_whole ≡ nat_le (length xs) most_bytes)) }
+    ensures bytes { IfOk result (λ input. IfSome (R.remaining reader.old)
+        (λ xs. input.bytes.items ≡ take most_bytes xs)) }
+    ensures whole { IfOk result (λ input. IfSome (R.remaining reader.old)
+        (λ xs. input.is_whole ≡ nat_le (length xs) most_bytes)) }
     ensures bound { IfOk result (λ input. vec_len input.bytes ≤ most_bytes) }
-    ensures read_fault { result ≡ Err InputFault.ReadFault → R.failed reader.new ≡ true }
-    ensures mark { result ≢ Err InputFault.ReadFault → R.failed reader.new ≡ false }
+    ensures mark { result ≡ Err InputFault.ReadFault → R.failed reader.new ≡ true }
+    ensures clear { result ≢ Err InputFault.ReadFault → R.failed reader.new ≡ false }
 {
     let mut bytes = Vec::new(alloc);
     let mut block = [0u8; BLOCK];

@@ -25,7 +25,8 @@ pub fn write_register<W: fmt::Write>(
     ram: &Ram<REGISTERS>,
     address: u16,
 ) -> fmt::Result
-    ensures { DisplaysOnOk W.write_str_gives f.old result (Some (register_line ram.now address)) f.new }
+    ensures { DisplaysOnOk W.write_str_gives f.old result
+        (Some (register_line ram.now address)) f.new }
 {
     let name = Digits::<3>::holding(u64::from(address % 0x1000));
     let register = ram.read(address);
@@ -47,7 +48,8 @@ pub fn write_stack<W: fmt::Write>(f: &mut fmt::Formatter<W>, ram: &Ram<REGISTERS
 /// A level of the stack, or L, by its name.
 #[tactic(auto, unfolding(crate::specs::Views::level_line))]
 fn write_level<W: fmt::Write>(f: &mut fmt::Formatter<W>, name: &str, register: Reg) -> fmt::Result
-    ensures { DisplaysOnOk W.write_str_gives f.old result (Some (level_line name.now register)) f.new }
+    ensures { DisplaysOnOk W.write_str_gives f.old result
+        (Some (level_line name.now register)) f.new }
 {
     writeln!(f, "{name}={register}")
 }

@@ -9,8 +9,12 @@ use h41_digits::Digits;
 use std::fmt;
 
 /// `Micro` and the address of the next word while a function runs, else `Idle` and the position, which is 0000 for now.
-pub fn write_position<W: fmt::Write>(f: &mut fmt::Formatter<W>, calculator: &Calculator) -> fmt::Result
-    ensures { DisplaysOnOk W.write_str_gives f.old result (Some (position_line calculator.now calculator.now.mode)) f.new }
+pub fn write_position<W: fmt::Write>(
+    f: &mut fmt::Formatter<W>,
+    calculator: &Calculator,
+) -> fmt::Result
+    ensures { DisplaysOnOk W.write_str_gives f.old result
+        (Some (position_line calculator.now calculator.now.mode)) f.new }
 {
     match calculator.mode() {
         Mode::Idle => f.write_str("Idle 0000\n"),

@@ -1,6 +1,6 @@
 -- A flag that was set or cleared is read so, and the others stay.
 use Rattle.std.proofs.Common.{◌≡◌, ◌≢◌, ℕ, zero, suc, ◌+◌, ◌-◌, ◌*◌, ◌/◌, ◌%◌, ◌^◌, ◌<◌, Bool, true, false, List, length, get_or, get_or-set_same, get_or-set_other, inl, inr, refl, ap, arith, ◌∙◌}
-use Rattle.std.specs.Prelude.{◌==◌, ◌⊎◌, if◌then◌else◌}
+use Rattle.std.specs.Prelude.{◌==◌}
 use Rattle.std.proofs.lemmas.Bool.{cases_eq}
 use Rattle.h41_ram.specs.RegisterMap.{RegisterMap, digit_with, bit_of, with_bit, d_of, zeros, flag_of, with_flag}
 
@@ -70,12 +70,12 @@ bit_of-with_bit d bit on inside =
 bit_of-with_bit_other : (d : List ℕ) (bit other : ℕ) (on : Bool) → other ≢ bit → bit / 4 < length d → bit_of (with_bit d bit on) other ≡ bit_of d other
 bit_of-with_bit_other d bit other on apart inside = elim (cases_eq (other / 4) (bit / 4)) [
   | inl same ↦
-    let bits : other % 4 ≢ bit % 4 = λ equal. apart (omega (arith, same, equal)) in
-    let digit = get_or d (bit / 4) 0 in
-    rw (same, get_or-set_same d (bit / 4) (digit_with digit (2 ^ (bit % 4)) on) 0 inside)
-    (ap (λ n. n == 1) (kept_bit digit (bit % 4) (other % 4) on (omega arith) (omega arith) bits))
+      let bits : other % 4 ≢ bit % 4 = λ equal. apart (omega (arith, same, equal)) in
+      let digit = get_or d (bit / 4) 0 in
+      rw (same, get_or-set_same d (bit / 4) (digit_with digit (2 ^ (bit % 4)) on) 0 inside)
+      (ap (λ n. n == 1) (kept_bit digit (bit % 4) (other % 4) on (omega arith) (omega arith) bits))
   | inr different ↦
-    rw (get_or-set_other d (bit / 4) (other / 4) (digit_with (get_or d (bit / 4) 0) (2 ^ (bit % 4)) on) 0 different)
+      rw (get_or-set_other d (bit / 4) (other / 4) (digit_with (get_or d (bit / 4) 0) (2 ^ (bit % 4)) on) 0 different)
 ]
 
 -- in register d of the memory

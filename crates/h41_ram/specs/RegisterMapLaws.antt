@@ -1,6 +1,6 @@
 -- What holds of every memory, whatever the code does.
 use Rattle.std.specs.Prelude.{◌≡◌, ◌≢◌, ℕ, ◌<◌, ◌≤◌, ◌⊎◌, Bool, List, length, true}
-use Rattle.h41_ram.specs.RegisterMap.{RegisterMap, main_start, status_end, top_of, register_at, with_register, is_sound, start, d_of, flag_of, with_flag}
+use Rattle.h41_ram.specs.RegisterMap.{RegisterMap, main_start, status_end, top_of, register_at, with_register, is_sound, start, d_of, flag_of, with_flag, alpha_of, with_alpha}
 
 -- an address exists where a status register or a register of main memory stands
 abbrev pub Exists : RegisterMap → ℕ → Type 0
@@ -34,3 +34,7 @@ FlagIsRead = (memory : RegisterMap) (flag : ℕ) (on : Bool) → HasFlags memory
 abbrev pub OtherFlagsStay : Type 0
 OtherFlagsStay = (memory : RegisterMap) (flag other : ℕ) (on : Bool) → HasFlags memory → flag < 56 → other < 56 → other ≢ flag
     → flag_of (with_flag memory flag on) other ≡ flag_of memory other
+
+-- ALPHA is read as it was written
+abbrev pub AlphaIsRead : Type 0
+AlphaIsRead = (memory : RegisterMap) (text : List ℕ) → length memory.status ≡ 16 → length text ≡ 24 → alpha_of (with_alpha memory text) ≡ text

@@ -1,6 +1,6 @@
 //! Laws of memory: each is the contract of a function with nothing to do.
 
-ghost use Rattle.h41_ram.specs.RegisterMapLaws.{ReadsWhatWasWritten, KeepsOtherAddresses, FlagIsRead, OtherFlagsStay, StartIsSound};
+ghost use Rattle.h41_ram.specs.RegisterMapLaws.{ReadsWhatWasWritten, KeepsOtherAddresses, FlagIsRead, OtherFlagsStay, AlphaIsRead, StartIsSound};
 
 /// A register is read as it was written, where its address exists.
 pub fn read_after_write()
@@ -20,6 +20,11 @@ pub fn flag_is_read()
 /// No other flag changes with it.
 pub fn other_flags_stay()
     ensures { OtherFlagsStay }
+{}
+
+/// ALPHA is read as it was written.
+pub fn alpha_is_read()
+    ensures { AlphaIsRead }
 {}
 
 /// The start state is sound, for every size of memory.

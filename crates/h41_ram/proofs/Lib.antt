@@ -1,1 +1,3 @@
+pub mod AlphaTexts
 pub mod Bits
+pub mod Flags

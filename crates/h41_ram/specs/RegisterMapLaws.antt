@@ -1,6 +1,6 @@
 -- What holds of every memory, whatever the code does.
-use Rattle.std.specs.Prelude.{◌≡◌, ◌≢◌, ℕ, ◌<◌, ◌≤◌, ◌⊎◌, List, length, true}
-use Rattle.h41_ram.specs.RegisterMap.{RegisterMap, main_start, status_end, top_of, register_at, with_register, is_sound, start}
+use Rattle.std.specs.Prelude.{◌≡◌, ◌≢◌, ℕ, ◌<◌, ◌≤◌, ◌⊎◌, Bool, List, length, true}
+use Rattle.h41_ram.specs.RegisterMap.{RegisterMap, main_start, status_end, top_of, register_at, with_register, is_sound, start, d_of, flag_of, with_flag, alpha_of, with_alpha}
 
 -- an address exists where a status register or a register of main memory stands
 abbrev pub Exists : RegisterMap → ℕ → Type 0
@@ -20,3 +20,21 @@ KeepsOtherAddresses =
 -- the start state is sound, from 64 registers of main memory to 320
 abbrev pub StartIsSound : Type 0
 StartIsSound = (registers : ℕ) → 64 ≤ registers → registers ≤ 320 → is_sound (start registers) ≡ true
+
+-- what the memory of a calculator is: sixteen status registers, and 14 digits in the register of the flags
+pub record HasFlags (memory : RegisterMap) : Type 0 where
+  pub status : length memory.status ≡ 16
+  pub digits : length (d_of memory) ≡ 14
+
+-- a flag is read as it was set or cleared
+abbrev pub FlagIsRead : Type 0
+FlagIsRead = (memory : RegisterMap) (flag : ℕ) (on : Bool) → HasFlags memory → flag < 56 → flag_of (with_flag memory flag on) flag ≡ on
+
+-- and no other flag changes with it
+abbrev pub OtherFlagsStay : Type 0
+OtherFlagsStay = (memory : RegisterMap) (flag other : ℕ) (on : Bool) → HasFlags memory → flag < 56 → other < 56 → other ≢ flag
+    → flag_of (with_flag memory flag on) other ≡ flag_of memory other
+
+-- ALPHA is read as it was written
+abbrev pub AlphaIsRead : Type 0
+AlphaIsRead = (memory : RegisterMap) (text : List ℕ) → length memory.status ≡ 16 → length text ≡ 24 → alpha_of (with_alpha memory text) ≡ text

@@ -22,7 +22,7 @@ word_values words =
     else (if nat_lt page_size (length words) || list_any (λ word. nat_lt last_word (digits_value 16 word)) words then Err BadImage
     else Ok (map (digits_value 16) words))
 
--- what the lines of a block say but for its own fault of a line that is too long; a command without a block has none
+-- what the lines of a block say; a command without a block has none
 abbrev pub content_of : Option BlockKind → List (List ℕ) → Result (List ℕ) Refusal
 content_of None lines = Ok []
 content_of (Some Words) lines = word_values (block_words lines)
@@ -31,8 +31,12 @@ content_of (Some Words) lines = word_values (block_words lines)
 abbrev pub judged : Bool → Result (List ℕ) Refusal → Result (List ℕ) Refusal
 judged has_long content = if has_long then Err LineTooLong else content
 
+-- the lines that are not too long
+abbrev pub short_lines : List (List ℕ) → List (List ℕ)
+short_lines lines = filter (λ line. not (is_long line)) lines
+
 abbrev pub block_values : Option BlockKind → List (List ℕ) → Result (List ℕ) Refusal
-block_values kind lines = judged (list_any is_long lines) (content_of kind lines)
+block_values kind lines = judged (list_any is_long lines) (content_of kind (short_lines lines))
 
 -- words of a page, filled with 000 to its end
 abbrev pub filled : List ℕ → List ℕ
@@ -47,7 +51,7 @@ pub record TakenBlock : Type 0 where
 -- these are the lines that it has taken
 pub record HasTaken (block : TakenBlock) (lines : List (List ℕ)) : Type 0 where
   pub long : block.has_long ≡ list_any is_long lines
-  pub content : block.content ≡ content_of block.kind lines
+  pub content : block.content ≡ content_of block.kind (short_lines lines)
 
 -- a block of this kind that has taken no lines
 pub record IsNew (kind : Option BlockKind) (block : TakenBlock) : Type 0 where

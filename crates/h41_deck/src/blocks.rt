@@ -71,7 +71,10 @@ impl Block {
     pub fn line(&mut self, text: &[u8]) -> Result<(), AllocError>
         ensures { IfOk result (λ _. Takes self.old text.now self.new) }
     {
-        self.has_long |= is_long(text);
+        if is_long(text) {
+            self.has_long = true;
+            return Ok(());
+        }
         match &mut self.content {
             Content::Nothing => Ok(()),
             Content::Words(words) => words.add_line(text),

@@ -168,14 +168,14 @@ fn shows_the_processor(rt: HostRuntime) -> Result<(), Fail> {
             CALLED,
         ),
         (
-            "words 8\n041\nend\ncall 8000\nstep\n",
+            "words 8\n3FC\nend\ncall 8000\nstep\n",
             "! 07 WordNotInProfile 8000\n",
             ZERO,
             "8000",
             CALLED,
         ),
         (
-            "words 8\n226 226 041\nend\ncall 8000\nstep 9\nstep 9\n",
+            "words 8\n226 226 3FC\nend\ncall 8000\nstep 9\nstep 9\n",
             "! 07 WordNotInProfile 8002\n! 07 WordNotInProfile 8002\n",
             two,
             "8002",
@@ -195,6 +195,70 @@ fn shows_the_processor(rt: HostRuntime) -> Result<(), Fail> {
         let text = format!(in rt.alloc(); "{refusals}{shown}")?;
         prints(&rt, rt.alloc(), &deck, &text)?;
     }
+    Ok(())
+}
+
+/// What decks over words of every kind print: worked rows of the processor, its memory and the views.
+const WORDS: [(&str, &str); 12] = [
+    (
+        "words 8\n130 123 03C 3E0\nend\ncall 8000\nstep 2\nshow pos\n",
+        "Micro 8003\n",
+    ),
+    (
+        "words 8\n003\nend\ncall 8000\nstep\nshow pos",
+        "Micro 8000\n",
+    ),
+    ("words 8\n060\nend\ncall 8000\nstep", "! 11 Asleep 8000\n"),
+    (
+        "words 8\n024\nend\ncall 8000\nstep",
+        "! 10 PeripheralNotHeld 8000\n",
+    ),
+    (
+        "words 8\n3FC\nend\ncall 8000\nstep",
+        "! 07 WordNotInProfile 8000\n",
+    ),
+    (
+        "words 8\n034\nend\ncall 8000\nstep",
+        "! 06 UndefinedWord 8000\n",
+    ),
+    (
+        "words 8\n330\nend\ncall 8000\nstep",
+        "! 08 SystemRom 0000\n",
+    ),
+    ("show flags", "26 28 29 37 40\n"),
+    (
+        "show ram 00D\nshow ram 19b\nshow ram FFF",
+        "00D=1A70016919C19B\n19B=00000000C00020\nFFF=00000000000000\n",
+    ),
+    (
+        "show pos\nshow stack",
+        "Idle 0000\nT=00000000000000\nZ=00000000000000\nY=00000000000000\nX=00000000000000\nL=00000000000000\n",
+    ),
+    (
+        "show ram\nshow ram 00\nshow cpu x\nshow ram 00D x\nshow",
+        "! 50 BadCommand\n! 51 BadNumber\n! 50 BadCommand\n! 50 BadCommand\n! 50 BadCommand\n",
+    ),
+    (
+        "words 8\n009 200 011 200 019 200 021 200 1B0 1B0 1B0 1B0 3E0\nend\ncall 8000\nstep 9\nshow pos",
+        "! 08 SystemRom 0000\nMicro 800C\n",
+    ),
+];
+
+#[test]
+fn carries_out_words(rt: HostRuntime) -> Result<(), Fail> {
+    for (deck, text) in WORDS {
+        prints(&rt, rt.alloc(), deck, text)?;
+    }
+    Ok(())
+}
+
+#[test]
+fn adds_in_decimal_mode(rt: HostRuntime) -> Result<(), Fail> {
+    let deck = "words 8\n2A0 04E 26E 10E 16E 017 000 017\nend\ncall 8000\nstep 7\nshow cpu";
+    let text = "A=00000000000000 B=00000000000000 C=99999999999999\n\
+        M=00000000000000 N=00000000000000\nG=00 T=00 ST=0000 P=0 Q=0 PT=P\n\
+        PC=8008 CY=0 MODE=DEC RAM=000 KY=00 KF=0\nRTN=00F0 0000 0000 0000\n";
+    prints(&rt, rt.alloc(), deck, text)?;
     Ok(())
 }
 

@@ -77,4 +77,5 @@ rewritten (Some image) offset word = Some (record image { words = slice_set imag
 
 -- the pages with another word at an address
 unfoldable pub written : Pages → ℕ → ℕ → Pages
-written pages address word = slice_set pages (page_of address) (rewritten (image_at pages (page_of address)) (offset_of address) word)
+written pages address word =
+    slice_set pages (page_of address) (rewritten (image_at pages (page_of address)) (offset_of address) word)

@@ -65,7 +65,8 @@ abbrev pub byte_at_pointer : Processor → ℕ
 byte_at_pointer s = slice_index s.c (pointer_of s) + 16 * slice_index s.c (place_above (pointer_of s))
 
 abbrev pub with_byte_at_pointer : ℕ → Processor → Processor
-with_byte_at_pointer byte s = record s { c = slice_set (slice_set s.c (pointer_of s) (byte % 16)) (place_above (pointer_of s)) (byte / 16) }
+with_byte_at_pointer byte s =
+    with_c (slice_set (slice_set s.c (pointer_of s) (byte % 16)) (place_above (pointer_of s)) (byte / 16)) s
 
 -- copies and exchanges of whole registers; the status bits take part with S7 to S0, and C then with its digits 1 and 0
 abbrev pub transferred : RegisterTransfer → Processor → Processor

@@ -172,7 +172,11 @@ data_refusal row s = None
 -- the first refusal of a row that was fetched: of the word itself, of the fetch of its second word, of what it reads or
 -- writes, of the arrival
 abbrev pub row_refusal : Row → Nut → Option Refusal
-row_refusal row s = option_or (word_refusal row s) (option_or (second_refusal row s) (option_or (data_refusal row s) (arrival_refusal (goes_to row s))))
+row_refusal row s =
+    option_or (word_refusal row s)
+    (option_or (second_refusal row s)
+    (option_or (data_refusal row s)
+    (arrival_refusal (goes_to row s))))
 
 -- the first refusal of a step, or none: of the fetch of the word, of its row
 abbrev pub refused : Nut → Option Refusal

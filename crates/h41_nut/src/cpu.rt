@@ -68,7 +68,8 @@ impl Model for Cpu {
       display = cpu.display;
     } };
 
-    ghost invariant = { λ cpu. (cpu.p < 14) × (cpu.q < 14) × (cpu.status.0 < 2 ^ 14) × (cpu.selected < 2 ^ 10) };
+    ghost invariant = { λ cpu.
+        (cpu.p < 14) × (cpu.q < 14) × (cpu.status.0 < 2 ^ 14) × (cpu.selected < 2 ^ 10) };
 }
 
 impl Cpu {

@@ -33,9 +33,10 @@ impl Flags for StatusBits {
 
     ghost exact = { ⊤ };
 
-    ghost table = { (codes "S0", 1) ∷ (codes "S1", 2) ∷ (codes "S2", 4) ∷ (codes "S3", 8) ∷ (codes "S4", 16)
-        ∷ (codes "S5", 32) ∷ (codes "S6", 64) ∷ (codes "S7", 128) ∷ (codes "S8", 256) ∷ (codes "S9", 512)
-        ∷ (codes "S10", 1024) ∷ (codes "S11", 2048) ∷ (codes "S12", 4096) ∷ (codes "S13", 8192) ∷ [] };
+    ghost table = { (codes "S0", 1) ∷ (codes "S1", 2) ∷ (codes "S2", 4) ∷ (codes "S3", 8)
+        ∷ (codes "S4", 16) ∷ (codes "S5", 32) ∷ (codes "S6", 64) ∷ (codes "S7", 128)
+        ∷ (codes "S8", 256) ∷ (codes "S9", 512) ∷ (codes "S10", 1024) ∷ (codes "S11", 2048)
+        ∷ (codes "S12", 4096) ∷ (codes "S13", 8192) ∷ [] };
 
     ghost set_of = { λ status. status.0 };
 

@@ -90,17 +90,22 @@ abbrev pub digits_from : List ℕ → List ℕ → List ℕ
 digits_from text [] = []
 digits_from text (index ∷ indices) = digits_from text indices ++ slice_index text index % 16 ∷ slice_index text index / 16 ∷ []
 
+-- seven indices in a row
+abbrev pub seven_from : ℕ → List ℕ
+seven_from first = first ∷ (first + 1) ∷ (first + 2) ∷ (first + 3) ∷ (first + 4) ∷ (first + 5) ∷ (first + 6) ∷ []
+
 -- the memory with these 24 bytes in ALPHA; the left four bytes of P stay
 abbrev pub with_alpha : RegisterMap → List ℕ → RegisterMap
 with_alpha memory text =
-    let m = with_register memory 0x005 (digits_from text (17 ∷ 18 ∷ 19 ∷ 20 ∷ 21 ∷ 22 ∷ 23 ∷ [])) in
-    let n = with_register m 0x006 (digits_from text (10 ∷ 11 ∷ 12 ∷ 13 ∷ 14 ∷ 15 ∷ 16 ∷ [])) in
-    let o = with_register n 0x007 (digits_from text (3 ∷ 4 ∷ 5 ∷ 6 ∷ 7 ∷ 8 ∷ 9 ∷ [])) in
+    let m = with_register memory 0x005 (digits_from text (seven_from 17)) in
+    let n = with_register m 0x006 (digits_from text (seven_from 10)) in
+    let o = with_register n 0x007 (digits_from text (seven_from 3)) in
     with_register o 0x008 (digits_from text (0 ∷ 1 ∷ 2 ∷ []) ++ drop 6 (p_of memory))
 
 -- the number of three digits of a register, from a place up
 abbrev pub three_digits : List ℕ → ℕ → ℕ
-three_digits register place = slice_index register place + 16 * slice_index register (place + 1) + 256 * slice_index register (place + 2)
+three_digits register place =
+    slice_index register place + 16 * slice_index register (place + 1) + 256 * slice_index register (place + 2)
 
 -- the address of the register that holds .END., the last of program memory
 abbrev pub end_of : RegisterMap → ℕ
@@ -124,7 +129,9 @@ is_final_end register =
 abbrev pub is_sound : RegisterMap → Bool
 is_sound memory =
     constant_of memory == 0x169
-    && (nat_le main_start (end_of memory) && nat_lt (end_of memory) (curtain_of memory) && nat_le (curtain_of memory) (top_of memory))
+    && (nat_le main_start (end_of memory)
+    && nat_lt (end_of memory) (curtain_of memory)
+    && nat_le (curtain_of memory) (top_of memory))
     && is_final_end (register_at memory (end_of memory))
 
 -- a register with the digits of a number below 1000 hexadecimal, from a place up

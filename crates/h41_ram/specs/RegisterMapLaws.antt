@@ -4,12 +4,15 @@ use Rattle.h41_ram.specs.RegisterMap.{RegisterMap, main_start, status_end, top_o
 
 -- an address exists where a status register or a register of main memory stands
 abbrev pub Exists : RegisterMap → ℕ → Type 0
-Exists memory address = (address < length memory.status) × (address < status_end) ⊎ (main_start ≤ address) × (address < top_of memory)
+Exists memory address =
+    (address < length memory.status) × (address < status_end)
+    ⊎ (main_start ≤ address) × (address < top_of memory)
 
 -- a register is read as it was written, where its address exists
 abbrev pub ReadsWhatWasWritten : Type 0
 ReadsWhatWasWritten =
-    (memory : RegisterMap) (address : ℕ) (register : List ℕ) → Exists memory address → register_at (with_register memory address register) address ≡ register
+    (memory : RegisterMap) (address : ℕ) (register : List ℕ) → Exists memory address
+    → register_at (with_register memory address register) address ≡ register
 
 -- a write changes no other address
 abbrev pub KeepsOtherAddresses : Type 0
@@ -28,13 +31,18 @@ pub record HasFlags (memory : RegisterMap) : Type 0 where
 
 -- a flag is read as it was set or cleared
 abbrev pub FlagIsRead : Type 0
-FlagIsRead = (memory : RegisterMap) (flag : ℕ) (on : Bool) → HasFlags memory → flag < 56 → flag_of (with_flag memory flag on) flag ≡ on
+FlagIsRead =
+    (memory : RegisterMap) (flag : ℕ) (on : Bool) → HasFlags memory → flag < 56
+    → flag_of (with_flag memory flag on) flag ≡ on
 
 -- and no other flag changes with it
 abbrev pub OtherFlagsStay : Type 0
-OtherFlagsStay = (memory : RegisterMap) (flag other : ℕ) (on : Bool) → HasFlags memory → flag < 56 → other < 56 → other ≢ flag
+OtherFlagsStay =
+    (memory : RegisterMap) (flag other : ℕ) (on : Bool) → HasFlags memory → flag < 56 → other < 56 → other ≢ flag
     → flag_of (with_flag memory flag on) other ≡ flag_of memory other
 
 -- ALPHA is read as it was written
 abbrev pub AlphaIsRead : Type 0
-AlphaIsRead = (memory : RegisterMap) (text : List ℕ) → length memory.status ≡ 16 → length text ≡ 24 → alpha_of (with_alpha memory text) ≡ text
+AlphaIsRead =
+    (memory : RegisterMap) (text : List ℕ) → length memory.status ≡ 16 → length text ≡ 24
+    → alpha_of (with_alpha memory text) ≡ text

@@ -1,7 +1,7 @@
 //! ALPHA's 24 bytes, in the status registers P, O, N and M.
 
 ghost use Rattle.std.specs.Prelude.{◌≡◌, ◌+◌, ◌<◌, ◌≤◌, ◌++◌, drop, [], ◌∷◌};
-ghost use Rattle.h41_ram.specs.RegisterMap.{bytes_of, digits_from};
+ghost use Rattle.h41_ram.specs.RegisterMap.{bytes_of, digits_from, seven_from};
 
 use h41_digits::Reg;
 
@@ -49,7 +49,7 @@ pub fn first_bytes(p: Reg, text: [u8; ALPHA_LENGTH]) -> Reg
 /// The register with seven bytes of the text, from its byte `first` on.
 pub fn seven_bytes(text: [u8; ALPHA_LENGTH], first: usize) -> Reg
     requires { first ≤ 17 }
-    ensures { result ≡ digits_from text (first ∷ (first + 1) ∷ (first + 2) ∷ (first + 3) ∷ (first + 4) ∷ (first + 5) ∷ (first + 6) ∷ []) }
+    ensures { result ≡ digits_from text (seven_from first) }
 {
     Reg::zero()
         .with_byte(6, text[first])

@@ -1,5 +1,5 @@
 -- Registers whose digits are known place by place.
-use Rattle.std.proofs.Common.{if◌then◌else◌, ◌≡◌, ◌≢◌, ℕ, ◌+◌, ◌-◌, ◌<◌, ◌≤◌, true, false, not, ◌==◌, ◌&&◌, nat_le, List, length, slice_index, set, refl, ap, sym, arith, inl, inr, ◌∙◌, get_or-set_other, get_or-set_same}
+use Rattle.std.proofs.Common.{if◌then◌else◌, ◌≡◌, ◌≢◌, ℕ, ◌+◌, ◌-◌, ◌<◌, ◌≤◌, true, false, not, ◌==◌, ◌&&◌, nat_le, List, length, slice_index, set, ap, sym, arith, inl, inr, ◌∙◌, get_or-set_other, get_or-set_same}
 use Rattle.std.proofs.lemmas.List.{ext_get_or, get_or_past}
 use Rattle.std.specs.List.{range_with_len}
 use Rattle.std.proofs.lemmas.List.Folds.{list_any_none, list_any_at, Any-from_list_any}
@@ -15,13 +15,6 @@ pub record FilledTo (into : List ℕ) (lo next : ℕ) (digit : ℕ → ℕ) (z :
   pub inside : (place : ℕ) → lo ≤ place → place < next → slice_index z place ≡ digit place
   pub below : (place : ℕ) → place < lo → slice_index z place ≡ slice_index into place
   pub above : (place : ℕ) → next ≤ place → slice_index z place ≡ slice_index into place
-
-pub filled_none : (into : List ℕ) (lo : ℕ) (digit : ℕ → ℕ) → FilledTo into lo lo digit into
-filled_none into lo digit = record {
-  inside = λ place from below. absurd (omega arith);
-  below = λ place low. refl;
-  above = λ place high. refl;
-}
 
 -- one place more
 pub filled_more : (into z : List ℕ) (lo next : ℕ) (digit : ℕ → ℕ) (new : ℕ) → next < length z → lo ≤ next → new ≡ digit next

@@ -13,7 +13,7 @@ pub fn copy(into: Reg, x: Reg, span: Span) -> (Reg, bool)
 {
     let mut digits = into;
     for place in span.lo..span.hi + 1 {
-        digits = digits.with(place, x.get(place));
+        digits.set(place, x.get(place));
     }
     (digits, false)
 }
@@ -26,7 +26,7 @@ pub fn shift_left(into: Reg, x: Reg, span: Span) -> (Reg, bool)
 {
     let mut digits = into.with(span.lo, 0);
     for place in span.lo..span.hi {
-        digits = digits.with(place + 1, x.get(place));
+        digits.set(place + 1, x.get(place));
     }
     (digits, false)
 }
@@ -39,7 +39,7 @@ pub fn shift_right(into: Reg, x: Reg, span: Span) -> (Reg, bool)
 {
     let mut digits = into;
     for place in span.lo..span.hi {
-        digits = digits.with(place, x.get(place + 1));
+        digits.set(place, x.get(place + 1));
     }
     (digits.with(span.hi, 0), false)
 }

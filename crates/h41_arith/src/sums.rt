@@ -51,7 +51,7 @@ impl Operation {
         let mut carry = carry_in;
         for place in span.lo..span.hi + 1 {
             let (digit, carry_out) = self.digit(base, x.get(place), y.get(place), carry);
-            digits = digits.with(place, digit);
+            digits.set(place, digit);
             carry = carry_out;
         }
         (digits, carry)

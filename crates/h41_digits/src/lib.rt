@@ -99,9 +99,19 @@ impl<const N: usize> Digits<N> {
         ensures changed { result ≡ slice_set self.now place digit }
         ensures register { IsRegister N self.now × IsRegister N result }
     {
-        let mut digits = self.digits;
-        digits[place] = digit;
-        Digits { digits }
+        let mut changed = *self;
+        changed.set(place, digit);
+        changed
+    }
+
+    /// Writes another digit, 0 to 15, at one place, 0 to `N` - 1.
+    pub fn set(&mut self, place: usize, digit: u8)
+        requires in_register { place < N }
+        requires is_digit { digit < 16 }
+        ensures changed { self.new ≡ slice_set self.old place digit }
+        ensures register { IsRegister N self.old × IsRegister N self.new }
+    {
+        self.digits[place] = digit;
     }
 
     /// The byte of places 2`k` + 1 (its higher digit) and 2`k` (its lower digit).

@@ -15,8 +15,8 @@ loop-place-init c = record {
 pub loop-place-preserved : goal.loop-place-preserved
 loop-place-preserved c =
     let at = c.loop-place.place in
-    let changed = c.with-digits.ensures.changed in
-    let inside : at < length c.loop-place.digits = omega (arith, c.with-digits.ensures.register.0.size, c.args.span.in_register) in
+    let changed = c.set.ensures.changed in
+    let inside : at < length c.loop-place.digits = omega (arith, c.set.ensures.register.0.size, c.args.span.in_register) in
     let rule = c.digit-digit.ensures.rule in
     let step = carried_more (rule_of c.args.self c.args.base) c.args.x c.args.y (carry_digit c.args.carry_in) c.args.span.lo at c.loop-place.digits (carry_digit c.loop-place.carry)
     c.digit-digit.result.0 (carry_digit c.digit-digit.result.1) inside c.loop-place.auto.place c.loop-place.invariant.carried
@@ -24,7 +24,7 @@ loop-place-preserved c =
       carried = rw changed step;
       below = λ place low. let other : place ≢ at = omega arith in rw changed (get_or-set_other c.loop-place.digits at place c.digit-digit.result.0 0 other ∙ c.loop-place.invariant.below place low);
       above = λ place high. let other : place ≢ at = omega arith in rw changed (get_or-set_other c.loop-place.digits at place c.digit-digit.result.0 0 other ∙ c.loop-place.invariant.above place (omega arith));
-      registers = λ h. (c.with-digits.ensures.register.1, c.get.ensures.register, c.get-in-loop-place.ensures.register);
+      registers = λ h. (c.set.ensures.register.1, c.get.ensures.register, c.get-in-loop-place.ensures.register);
     }
 
 pub returns-clause-result : goal.returns-clause-result

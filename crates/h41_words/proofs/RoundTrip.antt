@@ -1,23 +1,23 @@
 -- The word table round trip: a word's row has that word's number, and the row of a row's number is that row.
-use Rattle.std.specs.Prelude.{◌≡◌, ℕ, zero, suc, ◌+◌, ◌-◌, ◌<◌, ◌≤◌, ℤ, pos, negsuc, ◌≤ℤ◌, Bool, true, false, not, ◌&&◌, ◌||◌, ◌↔◌, List, [], ◌∷◌, ◌++◌, map, length, Contains, ◌==◌, refl}
+use Rattle.std.specs.Prelude.{◌≡◌, ℕ, zero, suc, ◌+◌, ◌<◌, ◌≤◌, ℤ, pos, negsuc, ◌≤ℤ◌, Bool, true, false, not, ◌&&◌, ◌↔◌, List, [], ◌∷◌, map, length, Contains, ◌==◌, refl}
 use Rattle.std.specs.List.{flat_map, range_with_len, list_any, list_all}
 use Rattle.std.proofs.Math.Dec.{leb→le}
-use Rattle.std.proofs.Common.{sym, ◌∙◌, ap, subst, arith, get_or}
-use Rattle.std.proofs.lemmas.Bool.{cond_both, cond-true, cond-false, eqb-true, eq-eqb, or_parts, and_parts, not-true, not_from_true}
+use Rattle.std.proofs.Common.{sym, ◌∙◌, ap, arith, get_or}
+use Rattle.std.proofs.lemmas.Bool.{cond_both, cond-true, cond-false, eqb-true, eq-eqb, or_parts, and_parts, not-true}
 use Rattle.std.proofs.lemmas.List.Elements.{Contains-append_left, Contains-append_right}
 use Rattle.h41_fields.specs.declared.field.Field.{Field}
-use Rattle.h41_fields.specs.declared.field.Field.TheVariants.{AtPointer, SignAndExponent, ToPointer, All, PToQ, ExponentSign, Mantissa, MantissaSign}
+use Rattle.h41_fields.specs.declared.field.Field.TheVariants.{AtPointer}
 use Rattle.h41_fields.specs.declared.field.Pointer.TheVariants.{P, Q}
 use Rattle.h41_words.specs.declared.operation.Operation.{Operation}
 use Rattle.h41_words.specs.declared.operation.Operation.TheVariants.{ClearA}
 use Rattle.h41_words.specs.declared.rows.Row.{Row}
-use Rattle.h41_words.specs.declared.rows.Row.TheVariants.{Arithmetic, LongJump, ShortJump, ClearStatus, SetStatus, TestStatus, TestPointer, SetPointer, RotateRight, LoadDigit, Write, Read, Constant, And, ClearKeyFlag, ClearRegisters, ClearStatusByte, DecrementPointer, DisplayOff, DropReturn, EnableBank, FetchWord, GoToAddress, GoToKey, IncrementPointer, LoadImmediate, Nop, Or, PopAddress, PowerOff, PushAddress, ReadData, ReadKey, Return, ReturnIf, SelectPeripheral, SelectPointer, SelectRegister, SetDecimal, SetHexadecimal, TestKeyFlag, TestLowBattery, TestPointersEqual, ToggleDisplay, Transfer, WriteData, WriteRom}
+use Rattle.h41_words.specs.declared.rows.Row.TheVariants.{Arithmetic, LongJump, ShortJump, ClearStatus, SetStatus, TestStatus, TestPointer, SetPointer, RotateRight, LoadDigit, Write, Read, Constant, EnableBank, ReturnIf, SelectPointer, Transfer}
 use Rattle.h41_words.specs.declared.rows.RegisterTransfer.{RegisterTransfer}
 use Rattle.h41_words.specs.declared.rows.RegisterTransfer.TheVariants.{CToG}
 use Rattle.h41_words.specs.declared.rows.Bank.TheVariants.{First, Second, Third, Fourth}
 use Rattle.h41_words.specs.declared.rows.Condition.{Condition}
 use Rattle.h41_words.specs.declared.rows.Condition.TheVariants.{NoCarry, Carry}
-use Rattle.h41_words.specs.WordTable.{fields, field_number, operations, operation_number, displacements, number_of, families, single_rows, listed_rows, numbered, row_in, row_of, word_table, IsRow}
+use Rattle.h41_words.specs.WordTable.{fields, field_number, operations, operation_number, displacements, number_of, families, listed_rows, numbered, row_in, row_of, word_table, IsRow}
 use Rattle.h41_words.specs.Unassigned.{unassigned_words}
 use Rattle.h41_words.proofs.Members.{in_flat_map, in_map, in_range, at_member}
 

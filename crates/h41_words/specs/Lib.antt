@@ -1,4 +1,5 @@
 pub mod Counts
+pub mod Mnemonics
 pub mod SecondWord
 pub mod Unassigned
 pub mod WordTable

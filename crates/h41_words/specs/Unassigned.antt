@@ -1,8 +1,7 @@
 -- The words that stand for no instruction.
 use Rattle.std.specs.Prelude.{ℕ, List, [], ◌∷◌}
 
--- those of the listing that it leaves out, column by column: they all end in the bits 00, and the column is the low six bits, the
--- line bits 9 to 6
+-- column by column: their low two bits are 00, the column is the low six bits, the line bits 9 to 6
 unfoldable pub unassigned_words : List ℕ
 unassigned_words =
     -- 00: lines 2, 3 and 8 to F

@@ -191,7 +191,7 @@ number_of And = 0x3B0
 number_of SelectPeripheral = 0x3F0
 number_of (Transfer transfer) = transfer_number transfer
 
--- the single words, by their low six bits
+-- the single words, column by column
 abbrev pub single_rows : List Row
 single_rows =
     Nop ∷ WriteRom ∷ EnableBank First ∷ EnableBank Second ∷ EnableBank Third ∷ EnableBank Fourth

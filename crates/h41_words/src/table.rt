@@ -1,6 +1,6 @@
 //! The table of the words: from a word to its row, and back.
 ghost use Rattle.std.specs.Prelude.{◌≡◌, ◌%◌, ◌/◌, ◌<◌, ◌⊎◌, IfSome, IfNone};
-ghost use Rattle.h41_words.specs.Counts.{word_count};
+ghost use Rattle.h41_words.specs.Counts.{word_count, place_count};
 ghost use Rattle.h41_words.specs.WordTable as spec;
 
 use crate::operands::{BlockRegister, Digit, Displacement, Place, ReadRegister, StatusBit};
@@ -130,7 +130,7 @@ fn miscellaneous(word: Word) -> Row
 fn meant_by(line: u8) -> Option<u8>
     requires { line < 16 }
     ensures meant { IfSome result (λ number. spec.mapped_line number ≡ line) }
-    ensures bound { IfSome result (λ number. number < 14) }
+    ensures bound { IfSome result (λ number. number < place_count) }
     ensures none { IfNone result ((line ≡ 7) ⊎ (line ≡ 15)) }
 {
     match line {
@@ -158,7 +158,7 @@ fn meant_by(line: u8) -> Option<u8>
 fn mapped(word: Word, meant: u8) -> Row
     requires column { spec.IsMappedColumn (word % 64) }
     requires meant { spec.mapped_line meant ≡ word / 64 }
-    requires bound { meant < 14 }
+    requires bound { meant < place_count }
     ensures number { spec.number_of result ≡ word }
     ensures valid { spec.IsRow result }
 {
@@ -370,7 +370,7 @@ fn at(line: u8, column: u16) -> u16
 
 /// The line of a mapped column that means a number, 0 to 13.
 fn line_of(meant: u8) -> u8
-    requires { meant < 14 }
+    requires { meant < place_count }
     ensures value { result ≡ spec.mapped_line meant }
     ensures bound { result < 15 }
 {

@@ -1,6 +1,6 @@
-use Rattle.std.proofs.Common.{◌≡◌, ℕ, ◌<◌, ◌%◌, List, [], ◌∷◌, Bool, true, false, refl, rules, arith}
+use Rattle.std.proofs.Common.{[], ◌∷◌, refl, rules, arith}
 use Rattle.h41_words.specs.Unassigned.{unassigned_words}
-use Rattle.h41_words.proofs.Columns.{covers, is_one_of, unassigned_unless}
+use Rattle.h41_words.proofs.Columns.{covers, unassigned_unless}
 use Rattle.h41_words.proofs.table.column_18.Goals as goal
 
 pub new-requires : goal.new-requires

@@ -1,6 +1,6 @@
-use Rattle.std.proofs.Common.{inl, inr, ◌≡◌, ℕ, ◌<◌, ◌%◌, List, [], ◌∷◌, Bool, true, false, refl, rules, arith}
+use Rattle.std.proofs.Common.{inl, inr, [], refl, arith}
 use Rattle.h41_words.specs.Unassigned.{unassigned_words}
-use Rattle.h41_words.proofs.Columns.{covers, is_one_of, unassigned_unless}
+use Rattle.h41_words.proofs.Columns.{covers, unassigned_unless}
 use Rattle.h41_words.proofs.table.miscellaneous.Goals as goal
 
 pub new-requires-in-36 : goal.new-requires-in-36

@@ -1,7 +1,6 @@
-use Rattle.std.proofs.Common.{arith, ◌≡◌, ℕ, ◌/◌, ◌<◌, refl}
-use Rattle.h41_words.specs.declared.rows.Row.{Row}
+use Rattle.std.proofs.Common.{arith, ◌/◌}
 use Rattle.h41_words.specs.declared.rows.Row.TheVariants.{LongJump, Arithmetic}
-use Rattle.h41_words.specs.WordTable.{number_of, IsRow}
+use Rattle.h41_words.specs.WordTable.{number_of}
 use Rattle.h41_words.proofs.RoundTrip.{is_row_of}
 use Rattle.h41_words.proofs.Lengths.{is_length_of}
 use Rattle.h41_words.proofs.table.row.Goals as goal

@@ -1,4 +1,4 @@
-use Rattle.std.proofs.Common.{inl, inr, ◌≡◌, ℕ, ◌<◌, ◌%◌, List, [], ◌∷◌, Bool, true, false, refl, rules, arith}
+use Rattle.std.proofs.Common.{inl, inr, ◌≡◌, ℕ, List, [], ◌∷◌, false, refl, rules}
 use Rattle.h41_words.specs.Unassigned.{unassigned_words}
 use Rattle.h41_words.proofs.Columns.{covers, is_one_of, unassigned_unmapped}
 use Rattle.h41_words.proofs.table.unmapped.Goals as goal

@@ -1,7 +1,8 @@
 -- The text of each instruction as HP's VASM listings have it. Addresses, displacements and the numbers of LDI and CON are
 -- hexadecimal and in upper case, the other operands decimal.
-use Rattle.std.specs.Prelude.{ℕ, zero, suc, ◌+◌, ◌*◌, ◌/◌, ◌%◌, ℤ, pos, negsuc, true, List, [], ◌∷◌, ◌++◌, codes}
-use Rattle.std.specs.Fmt.{decimal, digit_glyph}
+use Rattle.std.specs.Prelude.{ℕ, ◌+◌, ◌*◌, ℤ, pos, negsuc, List, ◌++◌, codes}
+use Rattle.std.specs.Fmt.{decimal}
+use Rattle.h41_digits.specs.Register.{hexadecimal_text}
 use Rattle.h41_fields.specs.declared.field.Field.{Field}
 use Rattle.h41_fields.specs.declared.field.Field.TheVariants.{AtPointer, SignAndExponent, ToPointer, All, PToQ, ExponentSign, Mantissa, MantissaSign}
 use Rattle.h41_fields.specs.declared.field.Pointer.TheVariants.{P, Q}
@@ -19,11 +20,7 @@ use Rattle.h41_words.specs.declared.second_word.LongJumpKind.TheVariants.{Execut
 use Rattle.h41_words.specs.SecondWord.{second_of}
 use Rattle.h41_words.specs.WordTable.{number_of}
 
--- so many hexadecimal digits of a number, in upper case, the lowest last
-abbrev pub hexadecimal_text : ℕ → ℕ → List ℕ
-hexadecimal_text zero number = []
-hexadecimal_text (suc count) number = hexadecimal_text count (number / 16) ++ digit_glyph true (number % 16) ∷ []
-
+-- the fields
 abbrev pub field_text : Field → List ℕ
 field_text AtPointer = codes "@R"
 field_text SignAndExponent = codes "S&X"

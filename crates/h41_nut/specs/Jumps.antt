@@ -1,6 +1,6 @@
 -- Where the processor goes: jumps and returns, and the four return addresses. An empty stack gives 0000, and a fifth
 -- address loses the oldest (this project's choice).
-use Rattle.std.specs.Prelude.{ℕ, ◌+◌, ◌*◌, ◌/◌, ◌%◌, ℤ, Bool, true, false, not, [], ◌∷◌, ◌++◌, slice_index, take, drop, ◌==◌, ◌&&◌, if◌then◌else◌}
+use Rattle.std.specs.Prelude.{ℕ, ◌+◌, ◌*◌, ◌/◌, ℤ, Bool, true, false, not, [], ◌∷◌, ◌++◌, slice_index, take, drop, ◌&&◌, if◌then◌else◌}
 use Rattle.h41_words.specs.declared.rows.Condition.{Condition}
 use Rattle.h41_words.specs.declared.rows.Condition.TheVariants.{NoCarry, Carry}
 use Rattle.h41_words.specs.declared.second_word.LongJumpKind.{LongJumpKind}

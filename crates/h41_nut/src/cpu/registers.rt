@@ -199,16 +199,10 @@ impl Cpu {
             }
             RegisterTransfer::CToM => self.m = c,
             RegisterTransfer::MToC => self.c = self.m,
-            RegisterTransfer::ExchangeCM => {
-                self.c = self.m;
-                self.m = c;
-            }
+            RegisterTransfer::ExchangeCM => (self.c, self.m) = (self.m, c),
             RegisterTransfer::CToN => self.n = c,
             RegisterTransfer::NToC => self.c = self.n,
-            RegisterTransfer::ExchangeCN => {
-                self.c = self.n;
-                self.n = c;
-            }
+            RegisterTransfer::ExchangeCN => (self.c, self.n) = (self.n, c),
             RegisterTransfer::StatusToT => self.t = self.status_byte(),
             RegisterTransfer::TToStatus => self.set_status_byte(t),
             RegisterTransfer::ExchangeStatusT => {

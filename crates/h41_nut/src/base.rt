@@ -1,3 +1,5 @@
+//! The base of arithmetic.
+
 /// The base that arithmetic words count in.
 #[derive(Clone, Copy, Debug, PartialEq, Eq)]
 pub enum Base {

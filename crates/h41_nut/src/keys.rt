@@ -1,3 +1,5 @@
+//! The keyboard as the processor sees it.
+
 ghost use Rattle.std.specs.Prelude.{◌≡◌, false};
 
 /// The keyboard as the processor sees it.

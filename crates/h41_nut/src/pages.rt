@@ -77,7 +77,7 @@ impl Pages {
         Ok(())
     }
 
-    // Why words are not plugged, but for want of memory.
+    /// Why words are not plugged, but for want of memory.
     fn plug_refusal(&self, page: u8, bank: u8, words: &[u16]) -> Option<PlugRefusal>
         ensures refusal { result ≡ plug_refusal self.now page bank words.now }
         ensures page { IfNone result (page < 16) }
@@ -148,7 +148,7 @@ impl Pages {
     }
 }
 
-// Whether these are the words of a page.
+/// Whether these are the words of a page.
 fn is_image(words: &[u16]) -> bool
     ensures test { result ≡ is_image words.now }
     ensures image { IsTrue result → (length words.now ≡ 4096)
@@ -157,7 +157,7 @@ fn is_image(words: &[u16]) -> bool
     words.len() == PAGE_WORDS && all_fit(words)
 }
 
-// Whether none is above 3FF.
+/// Whether none is above 3FF.
 fn all_fit(words: &[u16]) -> bool
     ensures test { result ≡ list_all (λ word. nat_le word 0x3FF) words.now }
     ensures each { IsTrue result → All (λ word. word < 1024) words.now }

@@ -33,7 +33,7 @@ pub enum Command {
     /// `words P [rw]`, with a block up to `end`: plugs what the block says at page P, 0 to 15, writable with `rw`. Pages 0
     /// to 3 are refused when it is carried out.
     Plug {
-        block: BlockKind,
+        kind: BlockKind,
         page: u8,
         writable: bool,
     },
@@ -53,7 +53,7 @@ impl Command {
         ensures { result ≡ kind_of self }
     {
         match self {
-            Command::Plug { block, .. } => Some(block),
+            Command::Plug { kind, .. } => Some(kind),
             _ => None,
         }
     }

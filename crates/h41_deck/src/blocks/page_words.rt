@@ -1,6 +1,7 @@
 //! The words of a page, as the lines of a `words` block give them.
 
 ghost use Rattle.std.specs.Prelude.{◌≤◌, vec_len};
+ghost use Rattle.h41_nut.specs.Addresses.{page_size};
 
 use crate::commands::number::hexadecimal;
 use crate::lines::line::is_skipped;
@@ -20,13 +21,12 @@ pub struct PageWords {
     words: Vec<u16>,
     /// The gravest fault so far: a word that is no number, or else a page that takes no such words.
     fault: Option<Refusal>,
-    ghost bounded: { vec_len words ≤ 4096 },
+    ghost bounded: { vec_len words ≤ page_size },
 }
 
 impl PageWords {
     ghost use Rattle.std.specs.Prelude.{◌≡◌, ◌≤◌, [], IfOk, None, Ok, vec_len};
     ghost use Rattle.std.specs.Result.{result_err};
-    ghost use Rattle.h41_nut.specs.Addresses.{page_size};
     ghost use Rattle.h41_deck.specs.Blocks.{word_values};
     ghost use Rattle.h41_deck.specs.Contents.{TakesLine, TakesWord, words_in};
 

@@ -47,13 +47,13 @@ fn plug(kind: BlockKind, mut operands: LineWords<'_>) -> Result<Command, Refusal
 }
 
 /// The same, by the word that names the page.
-fn plug_at(block: BlockKind, page: &[u8], writable: bool) -> Result<Command, Refusal>
+fn plug_at(kind: BlockKind, page: &[u8], writable: bool) -> Result<Command, Refusal>
     ensures { result
-        ≡ and_then (hexadecimal 1 page.now) (λ page. Ok (Command.Plug block page writable)) }
+        ≡ and_then (hexadecimal 1 page.now) (λ page. Ok (Command.Plug kind page writable)) }
 {
     let page = hexadecimal(1, 1, page)? as u8;
     Ok(Command::Plug {
-        block,
+        kind,
         page,
         writable,
     })

@@ -29,7 +29,7 @@ pub returns-in_err-print_ending-2-clause-part : goal.returns-in_err-print_ending
 returns-in_err-print_ending-2-clause-part g c = λ _.
     let reply : ItemReply (with_values (judgement c.args.block) c.args.command) c.args.bench.now c.match-command.bench (ends_by (result_err c.match-command.ended)) =
     elim c.match-command.branch [
-      | in-Plug+in_ok-ended-in-Plug w ↦ rw (w.bench-is, w.ended-is) (plug_reply (judgement c.args.block) c.args.command w.in-Plug.block w.in-Plug.page w.in-Plug.writable _ w.in_ok-ended-in-Plug.ended c.args.bench.now _
+      | in-Plug+in_ok-ended-in-Plug w ↦ rw (w.bench-is, w.ended-is) (plug_reply (judgement c.args.block) c.args.command w.in-Plug.kind w.in-Plug.page w.in-Plug.writable _ w.in_ok-ended-in-Plug.ended c.args.bench.now _
           w.in-Plug.is w.into_words.ensures.words w.in_ok-ended-in-Plug.ensures.refusal w.in_ok-ended-in-Plug.ensures.change)
       | in-Call w ↦ rw (w.bench-is, w.ended-is) (call_reply (judgement c.args.block) c.args.command w.in-Call.address w.call-ended.result c.args.bench.now _
           w.in-Call.is c.in_default.ensures (rw w.bench.view_is at w.call-ended.ensures.refusal) (rw w.bench.view_is at w.call-ended.ensures.change) (rw w.bench.view_is at w.call-ended.ensures.err))
@@ -41,7 +41,7 @@ pub returns-clause-reply : goal.returns-clause-reply
 returns-clause-reply g c =
     let reply : ItemReply (with_values (judgement c.args.block) c.args.command) c.args.bench.now c.match-command.bench (ends_by (result_err c.match-command.ended)) =
     elim c.match-command.branch [
-      | in-Plug+in_ok-ended-in-Plug w ↦ rw (w.bench-is, w.ended-is) (plug_reply (judgement c.args.block) c.args.command w.in-Plug.block w.in-Plug.page w.in-Plug.writable _ w.in_ok-ended-in-Plug.ended c.args.bench.now _
+      | in-Plug+in_ok-ended-in-Plug w ↦ rw (w.bench-is, w.ended-is) (plug_reply (judgement c.args.block) c.args.command w.in-Plug.kind w.in-Plug.page w.in-Plug.writable _ w.in_ok-ended-in-Plug.ended c.args.bench.now _
           w.in-Plug.is w.into_words.ensures.words w.in_ok-ended-in-Plug.ensures.refusal w.in_ok-ended-in-Plug.ensures.change)
       | in-Call w ↦ rw (w.bench-is, w.ended-is) (call_reply (judgement c.args.block) c.args.command w.in-Call.address w.call-ended.result c.args.bench.now _
           w.in-Call.is c.in_default.ensures (rw w.bench.view_is at w.call-ended.ensures.refusal) (rw w.bench.view_is at w.call-ended.ensures.change) (rw w.bench.view_is at w.call-ended.ensures.err))

@@ -7,6 +7,7 @@ use Rattle.std.specs.List.{sum_by, range_with_len}
 use Rattle.h41_digits.specs.Register.{IsRegister}
 use Rattle.h41_fields.specs.Field.{from_to}
 use Rattle.h41_arith.specs.DigitRule.{DifferenceDigit, HasCarries, DifferenceInto, carry_digit, span_value, is_less}
+use Rattle.h41_arith.specs.DigitRuleLaws.{BorrowTellsLess}
 
 -- a sum over a row of numbers, with the last of them
 sum_more : (f : ℕ → ℕ) (first count : ℕ) → sum_by f (range_with_len first (suc count)) ≡ sum_by f (range_with_len first count) + f (first + count)
@@ -88,8 +89,7 @@ told false x y (inl order) = sym (lt_false x y order.1)
 told false x y (inr order) = absurd (omega (arith, order.0))
 
 -- in any base, the borrow of x - y tells whether x is below y
-pub borrow_is_less : (base lo hi : ℕ) (into x y z : List ℕ) (borrow : Bool) → lo ≤ hi → hi < 14 → IsRegister 14 x → IsRegister 14 y
-    → DifferenceInto base into x y false lo hi z borrow → borrow ≡ is_less x y lo hi
+pub borrow_is_less : BorrowTellsLess
 unfolding is_less span_value from_to
 borrow_is_less base lo hi into x y z borrow ordered inside p q difference =
     told borrow (span_value x lo hi) (span_value y lo hi) (borrow_out base lo hi x y z (carry_digit borrow) p q inside difference.digits ordered)

@@ -1,7 +1,7 @@
 -- Why a deck determines what it prints, where a word's change is determined.
 use Rattle.std.proofs.Common.{◌≡◌, ℕ, zero, suc, Option, Some, None, Ok, Err, List, [], ◌∷◌, flat_map, refl, sym, ap, subst, ◌∙◌}
 use Rattle.std.specs.Prelude.{MatchOption}
-use Rattle.h41_nut.specs.WordStep.{Nut, Micro}
+use Rattle.h41_nut.specs.ProcessorLaws.{MicroIsDetermined}
 use Rattle.h41_deck.specs.declared.calculator.Mode.{Mode}
 use Rattle.h41_deck.specs.declared.calculator.Mode.TheVariants as modes
 use Rattle.h41_deck.specs.declared.commands.Command.{Command}
@@ -13,10 +13,7 @@ use Rattle.h41_deck.specs.Deck.{Answers, Deck, DeckDeterminesOutcome, DeckDeterm
 use Rattle.h41_deck.specs.Items.{Spelled}
 use Rattle.h41_deck.specs.Replies.{Answer, Reply, ItemReply, printed}
 
-abbrev pub SameMicro : Type 0
-SameMicro = (s t u : Nut) → Micro s t → Micro s u → t ≡ u
-
-module _ (same_micro : SameMicro) where
+module _ (same_micro : MicroIsDetermined) where
   same_step : (mode : Mode) (s t u : State) → StepIn mode s t → StepIn mode s u → t ≡ u
   same_step modes.Idle s t u p q = p ∙ sym q
   same_step modes.Micro s t u p q =

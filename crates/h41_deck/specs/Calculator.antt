@@ -9,7 +9,7 @@ use Rattle.h41_nut.specs.declared.refusal.PlugRefusal.TheVariants as plugs
 use Rattle.h41_ram.specs.RegisterMap as ram
 use Rattle.h41_nut.specs.Processor.{initial, entered}
 use Rattle.h41_nut.specs.Addresses.{first_address, end_of_function}
-use Rattle.h41_nut.specs.PageList.{no_pages, plug_refusal, plugged}
+use Rattle.h41_nut.specs.PageList.{RefusesPlug, no_pages, plug_refusal, plugged}
 use Rattle.h41_nut.specs.WordStep.{Nut, nut_of, refused, Micro}
 use Rattle.h41_deck.specs.declared.calculator.Mode.{Mode}
 use Rattle.h41_deck.specs.declared.calculator.Mode.TheVariants as modes
@@ -70,9 +70,7 @@ page_refusal s page words = option_map of_plug (plug_refusal s.nut.pages page bl
 
 -- this is why words are not plugged; memory that was refused comes last
 abbrev pub RefusesPage : State → ℕ → ℕ → List ℕ → plug.PlugRefusal → Type 0
-RefusesPage s page bank words refusal =
-    (plug_refusal s.nut.pages page bank words ≡ Some refusal)
-    ⊎ ((plug_refusal s.nut.pages page bank words ≡ None) × (refusal ≡ plugs.OutOfMemory))
+RefusesPage s page bank words refusal = RefusesPlug s.nut.pages page bank words refusal
 
 -- the words plugged there
 abbrev pub with_page : ℕ → Bool → List ℕ → State → State

@@ -32,6 +32,7 @@ is_only_end [] = false
 is_only_end (name ∷ []) = bytes_eq name (codes "end")
 is_only_end (name ∷ other ∷ others) = false
 
+-- and is not too long
 abbrev pub is_end : List ℕ → Bool
 is_end line = not (is_long line) && is_only_end (words_of line)
 

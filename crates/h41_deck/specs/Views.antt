@@ -54,10 +54,11 @@ processor_text s keys = registers_line s ++ memories_line s ++ pointers_line s +
 unfoldable pub register_line : RegisterMap → ℕ → List ℕ
 register_line ram address = hexadecimal_text 3 address ++ codes "=" ++ text (register_at ram address) ++ codes "\n"
 
--- the stack from the top, and L: the status registers 0 to 4
+-- a level of the stack, or L, by its name
 unfoldable pub level_line : List ℕ → List ℕ → List ℕ
 level_line name register = name ++ codes "=" ++ text register ++ codes "\n"
 
+-- the stack from the top, and L: the status registers 0 to 4
 unfoldable pub stack_text : RegisterMap → List ℕ
 stack_text ram =
     level_line (codes "T") (register_at ram 0) ++ level_line (codes "Z") (register_at ram 1) ++ level_line (codes "Y") (register_at ram 2)
@@ -74,7 +75,7 @@ flags_below count ram = join_with_byte 32 (map two_digits (filter (flag_of ram) 
 unfoldable pub flags_line : RegisterMap → List ℕ
 flags_line ram = flags_below 56 ram ++ codes "\n"
 
--- the mode, and the address of the next word or, while nothing runs, the position in program memory, in decimal
+-- the mode, and the address of the next word; while nothing runs it is 0000, until there are positions in program memory
 abbrev pub position_line : State → Mode → List ℕ
 position_line s modes.Idle = codes "Idle 0000\n"
 position_line s modes.Micro = codes "Micro " ++ hexadecimal_text 4 s.nut.processor.pc ++ codes "\n"

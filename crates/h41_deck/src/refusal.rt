@@ -12,7 +12,8 @@ use h41_nut::{PlugRefusal, Refusal as NutRefusal};
 /// The most bytes of a refusal's line.
 const LINE: usize = 28;
 
-/// Why a command was refused, or what ends a deck (21 to 23). What is refused changes nothing.
+/// Why a command was refused, or what ends a deck (21 to 23). A refused command changes nothing, but for the steps before the
+/// one that is refused.
 #[derive(Clone, Copy, Debug, PartialEq, Eq)]
 pub enum Refusal {
     /// 1: the page is not 4 to F.
@@ -21,7 +22,7 @@ pub enum Refusal {
     Occupied,
     /// 4: more than 4,096 words, or a word above 3FF.
     BadImage,
-    /// 6: the word at this address stands for no instruction.
+    /// 6: the word at this address is neither an instruction nor a peripheral's.
     UndefinedWord(u16),
     /// 7: the effect of the word at this address is not held.
     WordNotInProfile(u16),

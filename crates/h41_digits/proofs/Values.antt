@@ -8,6 +8,7 @@ use Rattle.std.specs.Fmt.{digits as glyphs_of, digit_glyph}
 use Rattle.std.specs.List.{AllByRecursion}
 use Rattle.std.proofs.lemmas.List.Elements.{recursion_from_All, All-drop}
 use Rattle.h41_digits.specs.Register.{IsRegister, value_from, value, text, hexadecimal_text, byte_at, set_byte}
+use Rattle.h41_digits.specs.RegisterLaws.{SetByteIsRead, TextTellsValue, ValueIsInjective}
 
 -- the weight of the next place
 pub pow-next : (place : ℕ) → 16 ^ (place + 1) ≡ 16 * 16 ^ place
@@ -99,7 +100,7 @@ same_digits (a ∷ x) (b ∷ y) size p q same =
     let rest = same_digits x y (omega (arith, size)) p.1 q.1 high in
     cc
 
-pub same_register : (places : ℕ) (x y : List ℕ) → IsRegister places x → IsRegister places y → value x ≡ value y → x ≡ y
+pub same_register : ValueIsInjective
 same_register places x y p q same = same_digits x y (p.size ∙ sym q.size) (recursion_from_All _ x p.each) (recursion_from_All _ y q.each) same
 
 -- a register is printed as its number
@@ -111,12 +112,12 @@ text-value (digit ∷ digits) each =
     ap (map (digit_glyph true)) (reverse-append (digit ∷ []) digits) ∙ map-append (digit_glyph true) (reverse digits) (digit ∷ [])
     ∙ ap (λ front. front ++ digit_glyph true digit ∷ []) (text-value digits each.1) ∙ sym (rw (above, own) refl)
 
-pub text-register : (places : ℕ) (digits : List ℕ) → IsRegister places digits → text digits ≡ hexadecimal_text places (value digits)
+pub text-register : TextTellsValue
 text-register places digits register =
     text-value digits (recursion_from_All _ digits register.each) ∙ ap (λ count. hexadecimal_text count (value digits)) register.size
 
 -- a byte that was set is read again
-pub byte_at-set_byte : (digits : List ℕ) (k byte : ℕ) → 2 * k + 1 < length digits → byte_at (set_byte digits k byte) k ≡ byte
+pub byte_at-set_byte : SetByteIsRead
 byte_at-set_byte digits k byte inside =
     let low = set digits (2 * k) (byte % 16) in
     let inside_low : 2 * k + 1 < length low = omega (arith, length-set digits (2 * k) (byte % 16)) in

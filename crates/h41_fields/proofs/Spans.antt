@@ -8,6 +8,7 @@ use Rattle.std.proofs.lemmas.Bool.{cases_lt}
 use Rattle.h41_fields.specs.declared.field.Field.{Field}
 use Rattle.h41_fields.specs.declared.field.Pointer.{Pointer}
 use Rattle.h41_fields.specs.Field.{active_place, is_place, register_places, places, first_place, last_place, from_to}
+use Rattle.h41_fields.specs.FieldLaws.{PlacesAreOrdered}
 
 -- the test passes from lo to hi, and nowhere else
 pub record PassesFromTo (test : ℕ → Bool) (lo hi : ℕ) : Type 0 where
@@ -133,6 +134,6 @@ kept_ordered test first (suc count) =
       | false ↦ kept_ordered test (first + 1) count
     ]
 
-pub places_ordered : (field : Field) (p q : ℕ) (active : Pointer) → first_place field p q active ≤ last_place field p q active
+pub places_ordered : PlacesAreOrdered
 unfolding places register_places first_place last_place
 places_ordered field p q active = kept_ordered (is_place field p q active) 0 14

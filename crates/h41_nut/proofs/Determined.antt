@@ -1,8 +1,7 @@
 -- Why the change that a step makes is determined, where the digits and the carry of a sum and of a difference are.
 use Rattle.std.proofs.Common.{◌≡◌, ℕ, ◌≤◌, Bool, true, false, List, sym, ◌∙◌}
 use Rattle.h41_fields.specs.declared.field.Field.{Field}
-use Rattle.h41_fields.specs.declared.field.Pointer.{Pointer}
-use Rattle.h41_fields.specs.Field.{first_place, last_place}
+use Rattle.h41_fields.specs.FieldLaws.{PlacesAreOrdered}
 use Rattle.h41_arith.specs.DigitRule.{SumInto, DifferenceInto, zeros}
 use Rattle.h41_arith.specs.DigitRuleLaws.{SumIsDetermined, DifferenceIsDetermined}
 use Rattle.h41_words.specs.declared.operation.Operation.{Operation}
@@ -12,11 +11,8 @@ use Rattle.h41_words.specs.declared.rows.Row.TheVariants.{Arithmetic}
 use Rattle.h41_words.specs.WordTable.{row_of}
 use Rattle.h41_nut.specs.Arithmetic.{IntoA, IntoC, Operates}
 use Rattle.h41_nut.specs.Processor.{Processor}
+use Rattle.h41_nut.specs.ProcessorLaws.{MicroIsDetermined}
 use Rattle.h41_nut.specs.WordStep.{Nut, Effect, Micro, word_of}
-
--- what the law of fields says
-abbrev pub Ordered : Type 0
-Ordered = (field : Field) (p q : ℕ) (active : Pointer) → first_place field p q active ≤ last_place field p q active
 
 -- a rule that gives one register and one carry
 abbrev Single : (List ℕ → Bool → Type 0) → Type 0
@@ -32,7 +28,7 @@ same_c Rule s t u single p q =
     let same = single t.c u.c t.carry u.carry p.0 q.0 in
     p.1 ∙ (λ i. record s { c = same.0 i; carry = same.1 i }) ∙ sym q.1
 
-module _ (ordered : Ordered) (sums : SumIsDetermined) (differences : DifferenceIsDetermined) where
+module _ (ordered : PlacesAreOrdered) (sums : SumIsDetermined) (differences : DifferenceIsDetermined) where
   one_sum : (base : ℕ) (into x y : List ℕ) (carry_in : Bool) (lo hi : ℕ) → lo ≤ hi → Single (SumInto base into x y carry_in lo hi)
   one_sum base into x y carry_in lo hi le z w carry other p q = sums base into x y z w carry_in carry other lo hi le p q
 
@@ -62,5 +58,5 @@ module _ (ordered : Ordered) (sums : SumIsDetermined) (differences : DifferenceI
       p.1 ∙ (λ i. record s { processor = same i }) ∙ sym q.1
   same_effect row s t u p q = p ∙ sym q
 
-  pub same_micro : (s t u : Nut) → Micro s t → Micro s u → t ≡ u
+  pub same_micro : MicroIsDetermined
   same_micro s t u p q = same_effect (row_of (word_of s)) s t u p.effect q.effect

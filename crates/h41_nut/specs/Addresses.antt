@@ -1,6 +1,7 @@
 -- Addresses of words: sixteen pages of 4,096 words. Which of them are the system's, and so not held, is this project's
 -- choice.
 use Rattle.std.specs.Prelude.{ℕ, suc, ◌+◌, ◌-◌, ◌/◌, ◌%◌, ℤ, pos, negsuc, Bool, not, ◌&&◌, nat_lt, ◌==◌}
+use Rattle.h41_words.specs.Counts.{word_count}
 
 -- how many addresses there are, and how many words a page has
 abbrev pub address_count : ℕ
@@ -19,7 +20,7 @@ end_of_function = 0x00F0
 
 -- the largest word
 abbrev pub last_word : ℕ
-last_word = 0x3FF
+last_word = word_count - 1
 
 -- the page of an address, and the place of its word there
 abbrev pub page_of : ℕ → ℕ

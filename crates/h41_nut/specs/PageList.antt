@@ -1,6 +1,6 @@
 -- The sixteen pages of the address space: what is plugged at each, when plugging is refused, and what a fetch answers. Which
 -- pages and banks may be plugged, and in which order refusals are asked, are this project's choices.
-use Rattle.std.specs.Prelude.{ℕ, Bool, false, not, ◌&&◌, ◌||◌, List, length, slice_index, slice_index_or, slice_set, replicate, nat_lt, nat_le, ◌==◌, if◌then◌else◌, is_some, Option, Some, None, Result, Ok, Err}
+use Rattle.std.specs.Prelude.{◌≡◌, ◌⊎◌, ℕ, Bool, false, not, ◌&&◌, ◌||◌, List, length, slice_index, slice_index_or, slice_set, replicate, nat_lt, nat_le, ◌==◌, if◌then◌else◌, is_some, Option, Some, None, Result, Ok, Err}
 use Rattle.std.specs.Bool.{then_some}
 use Rattle.std.specs.List.{list_all}
 use Rattle.std.specs.Option.{option_or}
@@ -8,7 +8,7 @@ use Rattle.h41_nut.specs.Addresses.{page_size, last_word, page_of, offset_of, is
 use Rattle.h41_nut.specs.declared.refusal.Refusal.{Refusal}
 use Rattle.h41_nut.specs.declared.refusal.Refusal.TheVariants.{SystemRom, EmptyPage, ReadOnly}
 use Rattle.h41_nut.specs.declared.refusal.PlugRefusal.{PlugRefusal}
-use Rattle.h41_nut.specs.declared.refusal.PlugRefusal.TheVariants.{NoSuchPage, Occupied, BadImage}
+use Rattle.h41_nut.specs.declared.refusal.PlugRefusal.TheVariants.{NoSuchPage, Occupied, BadImage, OutOfMemory}
 
 -- what is plugged at a page: its 4,096 words, and whether microcode may write them
 pub record PageImage : Type 0 where
@@ -38,6 +38,11 @@ plug_refusal pages page bank words =
     option_or (then_some ((nat_lt page 4 || nat_lt 15 page) || not (bank == 1)) NoSuchPage)
     (option_or (then_some (is_some (image_at pages page)) Occupied)
     (then_some (not (is_image words)) BadImage))
+
+-- this is why words are not plugged; memory that was refused comes last
+abbrev pub RefusesPlug : Pages → ℕ → ℕ → List ℕ → PlugRefusal → Type 0
+RefusesPlug pages page bank words refusal =
+    (plug_refusal pages page bank words ≡ Some refusal) ⊎ ((plug_refusal pages page bank words ≡ None) × (refusal ≡ OutOfMemory))
 
 -- the pages with an image at one of them
 abbrev pub plugged : Pages → ℕ → Bool → List ℕ → Pages

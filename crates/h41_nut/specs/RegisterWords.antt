@@ -6,6 +6,7 @@ use Rattle.h41_digits.specs.Register.{byte_at, set_byte}
 use Rattle.h41_words.specs.declared.rows.RegisterTransfer.{RegisterTransfer}
 use Rattle.h41_words.specs.declared.rows.RegisterTransfer.TheVariants.{CToG, GToC, ExchangeCG, CToM, MToC, ExchangeCM, StatusToT, TToStatus, ExchangeStatusT, CToStatus, StatusToC, ExchangeCStatus, CToN, NToC, ExchangeCN}
 use Rattle.h41_ram.specs.RegisterMap.{zeros}
+use Rattle.h41_words.specs.Counts.{word_count}
 use Rattle.h41_nut.specs.declared.base.Base.{Base}
 use Rattle.h41_nut.specs.Jumps.{newest_return, popped, pushed}
 use Rattle.h41_nut.specs.Processor.{Processor}
@@ -28,7 +29,7 @@ address_digits address = address % 16 ∷ address / 16 % 16 ∷ address / 256 % 
 
 -- the word that C holds: the low ten bits of its digits 2 to 0
 abbrev pub word_in_c : Processor → ℕ
-word_in_c s = (slice_index s.c 0 + 16 * slice_index s.c 1 + 256 * slice_index s.c 2) % 1024
+word_in_c s = (slice_index s.c 0 + 16 * slice_index s.c 1 + 256 * slice_index s.c 2) % word_count
 
 -- the address that C holds, in its digits 6 to 3
 abbrev pub address_in_c : Processor → ℕ

@@ -1,11 +1,11 @@
 //! The pages of the address space.
 
-ghost use Rattle.std.specs.Prelude.{◌≡◌, ◌⊎◌, ◌<◌, None, Some, IfOk, IfErr, IfNone, OnOk, OnErr, All, length, IsTrue, nat_le};
+ghost use Rattle.std.specs.Prelude.{◌≡◌, ◌<◌, None, Some, IfOk, IfErr, IfNone, OnOk, OnErr, All, length, IsTrue, nat_le};
 ghost use Rattle.std.specs.List.{list_all};
 ghost use Rattle.std.specs.Result.{result_err};
-ghost use Rattle.h41_nut.specs.Addresses.{page_of, offset_of};
-ghost use Rattle.h41_nut.specs.PageList.{no_pages, is_image, plug_refusal, plugged, fetched, system_refusal, word_or_zero, write_refusal, written};
-ghost use Rattle.h41_nut.specs.declared.refusal.PlugRefusal.TheVariants.{OutOfMemory};
+ghost use Rattle.h41_words.specs.Counts.{word_count};
+ghost use Rattle.h41_nut.specs.Addresses.{offset_of, page_of, page_size};
+ghost use Rattle.h41_nut.specs.PageList.{RefusesPlug, no_pages, is_image, plug_refusal, plugged, fetched, system_refusal, word_or_zero, write_refusal, written};
 
 use crate::addresses::FIRST_ADDRESS;
 use crate::image::{Image, PAGE_WORDS};
@@ -62,12 +62,10 @@ impl Pages {
         writable: bool,
         words: &[u16],
     ) -> Result<(), PlugRefusal>
-        ensures ok { OnOk result ((plug_refusal self.old page bank words.now ≡ None)
-            × (self.new ≡ plugged self.old page writable words.now)) }
+        ensures accepted { OnOk result (plug_refusal self.old page bank words.now ≡ None) }
+        ensures change { OnOk result (self.new ≡ plugged self.old page writable words.now) }
         ensures err { OnErr result (self.new ≡ self.old) }
-        ensures refusal { IfErr result (λ refusal.
-            (plug_refusal self.old page bank words.now ≡ Some refusal)
-            ⊎ ((plug_refusal self.old page bank words.now ≡ None) × (refusal ≡ OutOfMemory))) }
+        ensures refusal { IfErr result (RefusesPlug self.old page bank words.now) }
     {
         if let Some(refusal) = self.plug_refusal(page, bank, words) {
             return Err(refusal);
@@ -81,8 +79,8 @@ impl Pages {
     fn plug_refusal(&self, page: u8, bank: u8, words: &[u16]) -> Option<PlugRefusal>
         ensures refusal { result ≡ plug_refusal self.now page bank words.now }
         ensures page { IfNone result (page < 16) }
-        ensures size { IfNone result (length words.now ≡ 4096) }
-        ensures each { IfNone result (All (λ word. word < 1024) words.now) }
+        ensures size { IfNone result (length words.now ≡ page_size) }
+        ensures each { IfNone result (All (λ word. word < word_count) words.now) }
     {
         if page < FIRST_PAGE || page > LAST_PAGE || bank != 1 {
             Some(PlugRefusal::NoSuchPage)
@@ -151,8 +149,8 @@ impl Pages {
 /// Whether these are the words of a page.
 fn is_image(words: &[u16]) -> bool
     ensures test { result ≡ is_image words.now }
-    ensures image { IsTrue result → (length words.now ≡ 4096)
-        × All (λ word. word < 1024) words.now }
+    ensures size { IsTrue result → length words.now ≡ page_size }
+    ensures each { IsTrue result → All (λ word. word < word_count) words.now }
 {
     words.len() == PAGE_WORDS && all_fit(words)
 }
@@ -160,7 +158,7 @@ fn is_image(words: &[u16]) -> bool
 /// Whether none is above 3FF.
 fn all_fit(words: &[u16]) -> bool
     ensures test { result ≡ list_all (λ word. nat_le word 0x3FF) words.now }
-    ensures each { IsTrue result → All (λ word. word < 1024) words.now }
+    ensures each { IsTrue result → All (λ word. word < word_count) words.now }
 {
     words.iter().all(|word| *word <= 0x3FF)
 }
@@ -176,7 +174,7 @@ fn page_of(address: u16) -> usize
 /// The place of an address in its page.
 fn offset_of(address: u16) -> usize
     ensures offset { result ≡ offset_of address }
-    ensures bound { result < 4096 }
+    ensures bound { result < page_size }
 {
     usize::from(address) % PAGE_WORDS
 }

@@ -9,7 +9,7 @@ use thiserror::Error;
 /// Why a fetch, a write or a step was refused. It changes nothing then.
 #[derive(Clone, Copy, Debug, PartialEq, Eq, Error)]
 pub enum Refusal {
-    /// 6: the word at this address stands for no instruction.
+    /// 6: the word at this address is neither an instruction nor a peripheral's.
     #[error("the word at {0:04X} is undefined")]
     UndefinedWord(u16),
     /// 7: the effect of the word at this address is not held: 3FC and the four ENBANK words.

@@ -4,6 +4,7 @@ use Rattle.std.specs.List.{range_with_len}
 use Rattle.std.proofs.lemmas.List.{ext_get_or}
 use Rattle.std.proofs.lemmas.List.FromFn.{get_or-map-range_with_len, length-map-range_with_len}
 use Rattle.h41_ram.specs.RegisterMap.{RegisterMap, zeros, alpha_of, with_alpha}
+use Rattle.h41_ram.specs.RegisterMapLaws.{AlphaIsRead}
 
 -- the four registers behind a write of all of them
 module _ (status : List (List ℕ)) (m n o p : List ℕ) (size : length status ≡ 16) where
@@ -57,7 +58,7 @@ listed text size =
     ext_get_or 0 (map (λ i. get_or text i 0) (range_with_len 0 24)) text (length-map-range_with_len (λ i. get_or text i 0) 0 24 ∙ sym size)
     (λ i inside. get_or-map-range_with_len (λ i. get_or text i 0) 0 24 i i 0 (omega (arith, length-map-range_with_len (λ i. get_or text i 0) 0 24)) (omega arith))
 
-pub alpha_of-with_alpha : (memory : RegisterMap) (text : List ℕ) → length memory.status ≡ 16 → length text ≡ 24 → alpha_of (with_alpha memory text) ≡ text
+pub alpha_of-with_alpha : AlphaIsRead
 alpha_of-with_alpha memory text size long =
     rw (reads_p memory.status _ _ _ _ size, reads_o memory.status _ _ _ _ size, reads_n memory.status _ _ _ _ size, reads_m memory.status _ _ _ _ size)
     (simp halves (listed text long))

@@ -3,6 +3,7 @@ use Rattle.std.proofs.Common.{◌≡◌, ◌≢◌, ℕ, zero, suc, ◌+◌, ◌
 use Rattle.std.specs.Prelude.{◌==◌}
 use Rattle.std.proofs.lemmas.Bool.{cases_eq}
 use Rattle.h41_ram.specs.RegisterMap.{RegisterMap, digit_with, bit_of, with_bit, d_of, zeros, flag_of, with_flag}
+use Rattle.h41_ram.specs.RegisterMapLaws.{FlagIsRead, OtherFlagsStay}
 
 -- in one digit, a bit that was set is 1
 set_bit : (digit k : ℕ) → k < 4 → (digit - digit / 2 ^ k % 2 * 2 ^ k + 2 ^ k) / 2 ^ k % 2 ≡ 1
@@ -82,14 +83,12 @@ bit_of-with_bit_other d bit other on apart inside = elim (cases_eq (other / 4) (
 d_of-with_flag : (memory : RegisterMap) (flag : ℕ) (on : Bool) → length memory.status ≡ 16 → d_of (with_flag memory flag on) ≡ with_bit (d_of memory) (55 - flag) on
 d_of-with_flag memory flag on size = get_or-set_same memory.status 14 (with_bit (d_of memory) (55 - flag) on) zeros (omega (arith, size))
 
-pub flag_of-with_flag : (memory : RegisterMap) (flag : ℕ) (on : Bool) → length memory.status ≡ 16 → length (d_of memory) ≡ 14 → flag < 56
-    → flag_of (with_flag memory flag on) flag ≡ on
-flag_of-with_flag memory flag on size digits small =
-    ap (λ d. bit_of d (55 - flag)) (d_of-with_flag memory flag on size) ∙ bit_of-with_bit (d_of memory) (55 - flag) on (omega (arith, digits))
+pub flag_of-with_flag : FlagIsRead
+flag_of-with_flag memory flag on has small =
+    ap (λ d. bit_of d (55 - flag)) (d_of-with_flag memory flag on has.status) ∙ bit_of-with_bit (d_of memory) (55 - flag) on (omega (arith, has.digits))
 
-pub flag_of-with_flag_other : (memory : RegisterMap) (flag other : ℕ) (on : Bool) → length memory.status ≡ 16 → length (d_of memory) ≡ 14
-    → flag < 56 → other < 56 → other ≢ flag → flag_of (with_flag memory flag on) other ≡ flag_of memory other
-flag_of-with_flag_other memory flag other on size digits small other_small apart =
+pub flag_of-with_flag_other : OtherFlagsStay
+flag_of-with_flag_other memory flag other on has small other_small apart =
     let bits : 55 - other ≢ 55 - flag = λ equal. apart (omega (arith, equal)) in
-    ap (λ d. bit_of d (55 - other)) (d_of-with_flag memory flag on size)
-    ∙ bit_of-with_bit_other (d_of memory) (55 - flag) (55 - other) on bits (omega (arith, digits))
+    ap (λ d. bit_of d (55 - other)) (d_of-with_flag memory flag on has.status)
+    ∙ bit_of-with_bit_other (d_of memory) (55 - flag) (55 - other) on bits (omega (arith, has.digits))

@@ -1,5 +1,5 @@
 -- The memory of the HP-41: a finite map from the addresses that exist to registers of 14 digits, and what the calculator
--- reads in its status registers. The layout is that of HP's calculator; the size of the start state, what an address that
+-- reads in its status registers. The layout is that of HP's calculator; the start state, what an address that
 -- does not exist reads, and when memory counts as sound are this project's choices.
 use Rattle.std.specs.Prelude.{ℕ, ◌+◌, ◌-◌, ◌*◌, ◌/◌, ◌%◌, ◌^◌, Bool, ◌&&◌, List, [], ◌∷◌, ◌++◌, map, length, slice_index, slice_index_or, slice_set, replicate, drop, nat_lt, nat_le, ◌==◌, if◌then◌else◌}
 use Rattle.h41_digits.specs.Register.{byte_at}
@@ -39,24 +39,43 @@ with_register memory address register =
     else if nat_lt address main_start then memory
     else record memory { main = slice_set memory.main (address - main_start) register }
 
--- the status registers that hold ALPHA, the addresses of the parts of memory, and the flags
+-- the addresses of the status registers that hold ALPHA, the addresses of the parts of memory, and the flags
+abbrev pub m_address : ℕ
+m_address = 0x005
+
+abbrev pub n_address : ℕ
+n_address = 0x006
+
+abbrev pub o_address : ℕ
+o_address = 0x007
+
+abbrev pub p_address : ℕ
+p_address = 0x008
+
+abbrev pub c_address : ℕ
+c_address = 0x00D
+
+abbrev pub d_address : ℕ
+d_address = 0x00E
+
+-- these registers
 abbrev pub m_of : RegisterMap → List ℕ
-m_of memory = register_at memory 0x005
+m_of memory = register_at memory m_address
 
 abbrev pub n_of : RegisterMap → List ℕ
-n_of memory = register_at memory 0x006
+n_of memory = register_at memory n_address
 
 abbrev pub o_of : RegisterMap → List ℕ
-o_of memory = register_at memory 0x007
+o_of memory = register_at memory o_address
 
 abbrev pub p_of : RegisterMap → List ℕ
-p_of memory = register_at memory 0x008
+p_of memory = register_at memory p_address
 
 abbrev pub c_of : RegisterMap → List ℕ
-c_of memory = register_at memory 0x00D
+c_of memory = register_at memory c_address
 
 abbrev pub d_of : RegisterMap → List ℕ
-d_of memory = register_at memory 0x00E
+d_of memory = register_at memory d_address
 
 -- the bit of a register, where bit 0 is the lowest bit of place 0
 abbrev pub bit_of : List ℕ → ℕ → Bool
@@ -75,7 +94,7 @@ abbrev pub flag_of : RegisterMap → ℕ → Bool
 flag_of memory flag = bit_of (d_of memory) (55 - flag)
 
 abbrev pub with_flag : RegisterMap → ℕ → Bool → RegisterMap
-with_flag memory flag on = with_register memory 0x00E (with_bit (d_of memory) (55 - flag) on)
+with_flag memory flag on = with_register memory d_address (with_bit (d_of memory) (55 - flag) on)
 
 -- the seven bytes of a register, the leftmost first
 abbrev pub bytes_of : List ℕ → List ℕ
@@ -97,10 +116,10 @@ seven_from first = first ∷ (first + 1) ∷ (first + 2) ∷ (first + 3) ∷ (fi
 -- the memory with these 24 bytes in ALPHA; the left four bytes of P stay
 abbrev pub with_alpha : RegisterMap → List ℕ → RegisterMap
 with_alpha memory text =
-    let m = with_register memory 0x005 (digits_from text (seven_from 17)) in
-    let n = with_register m 0x006 (digits_from text (seven_from 10)) in
-    let o = with_register n 0x007 (digits_from text (seven_from 3)) in
-    with_register o 0x008 (digits_from text (0 ∷ 1 ∷ 2 ∷ []) ++ drop 6 (p_of memory))
+    let m = with_register memory m_address (digits_from text (seven_from 17)) in
+    let n = with_register m n_address (digits_from text (seven_from 10)) in
+    let o = with_register n o_address (digits_from text (seven_from 3)) in
+    with_register o p_address (digits_from text (0 ∷ 1 ∷ 2 ∷ []) ++ drop 6 (p_of memory))
 
 -- the number of three digits of a register, from a place up
 abbrev pub three_digits : List ℕ → ℕ → ℕ
@@ -115,7 +134,10 @@ end_of memory = three_digits (c_of memory) 0
 abbrev pub curtain_of : RegisterMap → ℕ
 curtain_of memory = three_digits (c_of memory) 3
 
--- the constant 169 by which memory is known to be sound
+-- the constant 169 by which memory is known to be sound, and what stands in its place
+abbrev pub sound_constant : ℕ
+sound_constant = 0x169
+
 abbrev pub constant_of : RegisterMap → ℕ
 constant_of memory = three_digits (c_of memory) 6
 
@@ -128,7 +150,7 @@ is_final_end register =
 -- whether memory is sound: the constant stands, 0C0 ≤ end < curtain ≤ top, and .END. ends the register at the end
 abbrev pub is_sound : RegisterMap → Bool
 is_sound memory =
-    constant_of memory == 0x169
+    constant_of memory == sound_constant
     && (nat_le main_start (end_of memory)
     && nat_lt (end_of memory) (curtain_of memory)
     && nat_le (curtain_of memory) (top_of memory))
@@ -150,7 +172,7 @@ start_curtain registers = main_start + registers - start_size registers
 -- register c at the start: the statistics registers at the curtain + 11, the constant 169, the curtain, the end below it
 abbrev pub start_c : ℕ → List ℕ
 start_c curtain =
-    with_three_places (with_three_places (with_three_places (with_three_places zeros 0 (curtain - 1)) 3 curtain) 6 0x169) 11 (curtain + 11)
+    with_three_places (with_three_places (with_three_places (with_three_places zeros 0 (curtain - 1)) 3 curtain) 6 sound_constant) 11 (curtain + 11)
 
 -- register d at the start is 0000002C048000: flags 26, 28, 29, 37 (of the display digits it makes 4) and 40 (FIX) are set
 abbrev pub start_d : List ℕ

@@ -1,6 +1,7 @@
 //! The words that load, copy and rotate registers, and those that switch.
 
 ghost use Rattle.std.specs.Prelude.{◌≡◌, ◌<◌};
+ghost use Rattle.h41_words.specs.Counts.{word_count};
 ghost use Rattle.h41_nut.specs.Going.{GoesOn, GoesTo, behind_both};
 ghost use Rattle.h41_nut.specs.MemoryWords.{block_address, selecting};
 ghost use Rattle.h41_nut.specs.RegisterWords as spec;
@@ -27,7 +28,7 @@ impl Cpu {
     /// The low ten bits of C's digits 2 to 0.
     pub(crate) fn word_in_c(&self) -> u16
         ensures value { result ≡ spec.word_in_c self.now }
-        ensures bound { result < 1024 }
+        ensures bound { result < word_count }
     {
         (u16::from(self.c.get(0)) + 16 * u16::from(self.c.get(1)) + 256 * u16::from(self.c.get(2)))
             % 1024
@@ -141,7 +142,7 @@ impl Cpu {
 
     /// `RAM SLCT`, `WRIT n`: selects an address of the memory.
     pub(crate) fn select(&mut self, address: u16) -> Result<(), Refusal>
-        requires { address < 1024 }
+        requires { address < word_count }
         ensures { GoesOn (selecting address) self.old self.new result }
     {
         let next = arrival(self.behind())?;
@@ -152,7 +153,7 @@ impl Cpu {
 
     /// `READ n`: selects an address of the memory, whose register goes to C.
     pub(crate) fn select_and_load(&mut self, address: u16, register: Reg) -> Result<(), Refusal>
-        requires { address < 1024 }
+        requires { address < word_count }
         ensures { GoesOn (λ s. selecting address (spec.with_c register s))
             self.old self.new result }
     {
@@ -243,7 +244,7 @@ impl Cpu {
     pub(crate) fn block_address(&self, register: u8) -> u16
         requires { register < 16 }
         ensures value { result ≡ block_address register self.now }
-        ensures bound { result < 1024 }
+        ensures bound { result < word_count }
     {
         self.selected / 16 * 16 + u16::from(register)
     }

@@ -2,4 +2,4 @@ use Rattle.h41_ram.proofs.Flags.{flag_of-with_flag}
 use Rattle.h41_ram.proofs.laws.flag_is_read.Goals as goal
 
 pub returns : goal.returns
-returns c = λ memory flag on has small. flag_of-with_flag memory flag on has.status has.digits small
+returns c = flag_of-with_flag

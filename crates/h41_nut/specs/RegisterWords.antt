@@ -1,4 +1,5 @@
--- The words that load, copy and rotate registers. Those of G are this project's choice where the pointer is at 13.
+-- The words that load, copy and rotate registers. Those of G and of the key
+-- (C=KEY, GOTO KEY, ?KEY, CLRKEY) are this project's choice.
 use Rattle.std.specs.Prelude.{ℕ, Bool, ◌+◌, ◌*◌, ◌/◌, ◌%◌, List, [], ◌∷◌, map, slice_index, slice_set}
 use Rattle.std.specs.Int.RustNames.{bit_and, bit_or}
 use Rattle.std.specs.List.{range_with_len}

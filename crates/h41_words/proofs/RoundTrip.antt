@@ -1,5 +1,5 @@
 -- The word table round trip: a word's row has that word's number, and the row of a row's number is that row.
-use Rattle.std.specs.Prelude.{◌≡◌, ℕ, zero, suc, ◌+◌, ◌<◌, ◌≤◌, ℤ, pos, negsuc, ◌≤ℤ◌, Bool, true, false, not, ◌&&◌, ◌↔◌, List, [], ◌∷◌, map, length, Contains, ◌==◌, refl}
+use Rattle.std.specs.Prelude.{◌≡◌, ℕ, zero, suc, ◌+◌, ◌<◌, ◌≤◌, ℤ, pos, negsuc, ◌≤ℤ◌, Bool, true, false, not, ◌&&◌, List, [], ◌∷◌, map, length, Contains, ◌==◌, refl}
 use Rattle.std.specs.List.{flat_map, range_with_len, list_any, list_all}
 use Rattle.std.proofs.Math.Dec.{leb→le}
 use Rattle.std.proofs.Common.{sym, ◌∙◌, ap, arith, get_or}
@@ -17,7 +17,7 @@ use Rattle.h41_words.specs.declared.rows.RegisterTransfer.TheVariants.{CToG}
 use Rattle.h41_words.specs.declared.rows.Bank.TheVariants.{First, Second, Third, Fourth}
 use Rattle.h41_words.specs.declared.rows.Condition.{Condition}
 use Rattle.h41_words.specs.declared.rows.Condition.TheVariants.{NoCarry, Carry}
-use Rattle.h41_words.specs.WordTable.{fields, field_number, operations, operation_number, displacements, number_of, families, listed_rows, numbered, row_in, row_of, word_table, IsRow}
+use Rattle.h41_words.specs.WordTable.{fields, field_number, operations, operation_number, displacements, number_of, families, listed_rows, numbered, row_in, row_of, word_table, IsRow, WordOfRow, OneWordOfRow}
 use Rattle.h41_words.specs.Unassigned.{unassigned_words}
 use Rattle.h41_words.proofs.Members.{in_flat_map, in_map, in_range, at_member}
 
@@ -166,11 +166,12 @@ pub is_row_of : (row : Row) (word : ℕ) → IsRow row → number_of row ≡ wor
 is_row_of row word valid same = sym (row_of_number row valid) ∙ ap row_of same
 
 -- and a word's row has its number
-pub number_of_row : (word : ℕ) → number_of (row_of word) ≡ word
+pub number_of_row : WordOfRow
 unfolding row_of word_table
-number_of_row word = row_in_number listed_rows word
+number_of_row word inside = row_in_number listed_rows word
 
 -- each row is the row of one word
-pub one_word_of_row : (row : Row) → IsRow row → (word : ℕ) → (row_of word ≡ row) ↔ (word ≡ number_of row)
+pub one_word_of_row : OneWordOfRow
+unfolding row_of word_table
 one_word_of_row row valid word =
-    ((λ same. sym (number_of_row word) ∙ ap number_of same), (λ same. ap row_of same ∙ row_of_number row valid))
+    ((λ same. sym (row_in_number listed_rows word) ∙ ap number_of same), (λ same. ap row_of same ∙ row_of_number row valid))

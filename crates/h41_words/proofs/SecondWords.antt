@@ -5,8 +5,7 @@ use Rattle.h41_words.specs.declared.rows.Condition.{Condition}
 use Rattle.h41_words.specs.declared.rows.Condition.TheVariants.{NoCarry, Carry}
 use Rattle.h41_words.specs.declared.second_word.LongJumpKind.{LongJumpKind}
 use Rattle.h41_words.specs.declared.second_word.LongJumpKind.TheVariants.{Execute, Go}
-use Rattle.h41_words.specs.declared.second_word.SecondWord.{SecondWord}
-use Rattle.h41_words.specs.SecondWord.{second_of, second_number_of, long_jump_number}
+use Rattle.h41_words.specs.SecondWord.{second_of, long_jump_number, SaidByWord, WordOfSecond}
 
 -- the low two bits are one of four
 four : (bits : ℕ) → bits < 4 → (bits ≡ 0) ⊎ (bits ≡ 1) ⊎ (bits ≡ 2) ⊎ (bits ≡ 3)
@@ -16,7 +15,7 @@ four (suc (suc zero)) inside = inr (inr (inl refl))
 four (suc (suc (suc zero))) inside = inr (inr (inr refl))
 four (suc (suc (suc (suc more)))) inside = absurd (omega arith)
 
-pub said_by_word : (word : ℕ) → second_number_of (second_of word) ≡ word
+pub said_by_word : SaidByWord
 said_by_word word =
     let low : word % 4 < 4 = omega arith in
     elim (four (word % 4) low) [
@@ -45,5 +44,5 @@ word_of_parts Carry Go high_byte =
     let high : (high_byte * 4 + 3) / 4 ≡ high_byte = omega arith in
     rw (low, high) refl
 
-pub word_of_second : (second : SecondWord) → second_of (second_number_of second) ≡ second
+pub word_of_second : WordOfSecond
 word_of_second second = word_of_parts second.condition second.kind second.high_byte

@@ -10,6 +10,220 @@ use crate::rows::{Bank, Condition, RegisterTransfer, Row};
 use crate::unassigned::UnassignedWord;
 use h41_fields::{Field, Pointer};
 
+/// The single words, column by column: each number once, beside its row. Both directions are written from this list:
+/// `$write` is the macro that writes one of them, and `$with` what it writes it with.
+macro_rules! single_words {
+    ($write:ident $with:tt) => {
+        $write! { $with Row
+            column_00 {
+                0x000 => Nop,
+                0x040 => WriteRom,
+                0x100 => EnableBank(Bank::First),
+                0x140 => EnableBank(Bank::Third),
+                0x180 => EnableBank(Bank::Second),
+                0x1C0 => EnableBank(Bank::Fourth),
+            }
+            column_18 {
+                0x058 => Transfer(RegisterTransfer::CToG),
+                0x098 => Transfer(RegisterTransfer::GToC),
+                0x0D8 => Transfer(RegisterTransfer::ExchangeCG),
+                0x158 => Transfer(RegisterTransfer::CToM),
+                0x198 => Transfer(RegisterTransfer::MToC),
+                0x1D8 => Transfer(RegisterTransfer::ExchangeCM),
+                0x258 => Transfer(RegisterTransfer::StatusToT),
+                0x298 => Transfer(RegisterTransfer::TToStatus),
+                0x2D8 => Transfer(RegisterTransfer::ExchangeStatusT),
+                0x358 => Transfer(RegisterTransfer::CToStatus),
+                0x398 => Transfer(RegisterTransfer::StatusToC),
+                0x3D8 => Transfer(RegisterTransfer::ExchangeCStatus),
+            }
+            column_20 {
+                0x020 => DropReturn,
+                0x060 => PowerOff,
+                0x0A0 => SelectPointer(Pointer::P),
+                0x0E0 => SelectPointer(Pointer::Q),
+                0x120 => TestPointersEqual,
+                0x160 => TestLowBattery,
+                0x1A0 => ClearRegisters,
+                0x1E0 => GoToAddress,
+                0x220 => ReadKey,
+                0x260 => SetHexadecimal,
+                0x2A0 => SetDecimal,
+                0x2E0 => DisplayOff,
+                0x320 => ToggleDisplay,
+                0x360 => ReturnIf(Condition::Carry),
+                0x3A0 => ReturnIf(Condition::NoCarry),
+                0x3E0 => Return,
+            }
+            column_30 {
+                0x070 => Transfer(RegisterTransfer::CToN),
+                0x0B0 => Transfer(RegisterTransfer::NToC),
+                0x0F0 => Transfer(RegisterTransfer::ExchangeCN),
+                0x130 => LoadImmediate,
+                0x170 => PushAddress,
+                0x1B0 => PopAddress,
+                0x230 => GoToKey,
+                0x270 => SelectRegister,
+                0x2F0 => WriteData,
+                0x330 => FetchWord,
+                0x370 => Or,
+                0x3B0 => And,
+                0x3F0 => SelectPeripheral,
+            }
+            column_38 {
+                0x038 => ReadData,
+            }
+            unmapped {
+                0x3C4 => ClearStatusByte,
+                0x3C8 => ClearKeyFlag,
+                0x3CC => TestKeyFlag,
+                0x3D4 => DecrementPointer,
+                0x3DC => IncrementPointer,
+            }
+        }
+    };
+}
+
+/// The operations of arithmetic words: each number once, beside its operation.
+macro_rules! operations {
+    ($write:ident $with:tt) => {
+        $write! { $with Operation
+            all {
+                0x00 => ClearA,
+                0x01 => ClearB,
+                0x02 => ClearC,
+                0x03 => ExchangeAB,
+                0x04 => AToB,
+                0x05 => ExchangeAC,
+                0x06 => BToC,
+                0x07 => ExchangeBC,
+                0x08 => CToA,
+                0x09 => AddBToA,
+                0x0A => AddCToA,
+                0x0B => IncrementA,
+                0x0C => SubtractBFromA,
+                0x0D => DecrementA,
+                0x0E => SubtractCFromA,
+                0x0F => DoubleC,
+                0x10 => AddAToC,
+                0x11 => IncrementC,
+                0x12 => SubtractCFromAToC,
+                0x13 => DecrementC,
+                0x14 => NegateC,
+                0x15 => ComplementC,
+                0x16 => TestBNonzero,
+                0x17 => TestCNonzero,
+                0x18 => TestALessThanC,
+                0x19 => TestALessThanB,
+                0x1A => TestANonzero,
+                0x1B => TestADiffersFromC,
+                0x1C => ShiftRightA,
+                0x1D => ShiftRightB,
+                0x1E => ShiftRightC,
+                0x1F => ShiftLeftA,
+            }
+        }
+    };
+}
+
+/// The fields of arithmetic words: each number once, beside its field.
+macro_rules! fields {
+    ($write:ident $with:tt) => {
+        $write! { $with Field
+            all {
+                0 => AtPointer,
+                1 => SignAndExponent,
+                2 => ToPointer,
+                3 => All,
+                4 => PToQ,
+                5 => ExponentSign,
+                6 => Mantissa,
+                7 => MantissaSign,
+            }
+        }
+    };
+}
+
+/// The mapped column: each line that means a number, beside that number. Lines 7 and 15 mean none.
+macro_rules! mapped_column {
+    ($write:ident $with:tt) => {
+        $write! { $with
+            0 => 3,
+            1 => 4,
+            2 => 5,
+            3 => 10,
+            4 => 8,
+            5 => 6,
+            6 => 11,
+            8 => 2,
+            9 => 9,
+            10 => 7,
+            11 => 13,
+            12 => 1,
+            13 => 12,
+            14 => 0,
+        }
+    };
+}
+
+/// Writes the match from a number to the name beside it in one part of a list, and what another number gives.
+macro_rules! name_beside {
+    ((all $($with:tt)*) $kind:ident all $part:tt) => { match_number!($kind $part $($with)*) };
+    ((column_00 $($with:tt)*) $kind:ident column_00 $part:tt $($more:tt)*) => { match_number!($kind $part $($with)*) };
+    ((column_18 $($with:tt)*) $kind:ident column_18 $part:tt $($more:tt)*) => { match_number!($kind $part $($with)*) };
+    ((column_20 $($with:tt)*) $kind:ident column_20 $part:tt $($more:tt)*) => { match_number!($kind $part $($with)*) };
+    ((column_30 $($with:tt)*) $kind:ident column_30 $part:tt $($more:tt)*) => { match_number!($kind $part $($with)*) };
+    ((column_38 $($with:tt)*) $kind:ident column_38 $part:tt $($more:tt)*) => { match_number!($kind $part $($with)*) };
+    ((unmapped $($with:tt)*) $kind:ident unmapped $part:tt $($more:tt)*) => { match_number!($kind $part $($with)*) };
+    ($with:tt $kind:ident $other:ident $part:tt $($more:tt)*) => { name_beside!($with $kind $($more)*) };
+}
+
+/// Writes the match of `name_beside` over its part of the list.
+macro_rules! match_number {
+    (
+        $kind:ident { $($number:literal => $name:ident $(($operand:path))?,)* }
+        of $value:expr, else $other:expr
+    ) => {
+        match $value {
+            $($number => $kind::$name $(($operand))?,)*
+            _ => $other,
+        }
+    };
+}
+
+/// Writes the match from each name of a list to the number beside it, and what another name gives.
+macro_rules! number_beside {
+    (
+        (of $value:expr $(, else $other:expr)?) $kind:ident
+        $($part:ident { $($number:literal => $name:ident $(($operand:path))?,)* })*
+    ) => {
+        match $value {
+            $($($kind::$name $(($operand))? => $number,)*)*
+            $(_ => $other,)?
+        }
+    };
+}
+
+/// Writes the match from a line to the number that it means, if any.
+macro_rules! number_of_line {
+    ((of $value:expr) $($line:literal => $meant:literal,)*) => {
+        match $value {
+            $($line => Some($meant),)*
+            _ => None,
+        }
+    };
+}
+
+/// Writes the match from a number that a line means to that line.
+macro_rules! line_of_number {
+    ((of $value:expr) $($line:literal => $meant:literal,)*) => {
+        match $value {
+            $($meant => $line,)*
+            _ => unreachable!(),
+        }
+    };
+}
+
 /// The row of a word.
 pub fn row(word: Word) -> Row
     ensures row { result ≡ spec.row_of word }
@@ -29,40 +243,7 @@ fn operation(number: u16) -> Operation
     requires { number < 32 }
     ensures { spec.operation_number result ≡ number }
 {
-    match number {
-        0x00 => Operation::ClearA,
-        0x01 => Operation::ClearB,
-        0x02 => Operation::ClearC,
-        0x03 => Operation::ExchangeAB,
-        0x04 => Operation::AToB,
-        0x05 => Operation::ExchangeAC,
-        0x06 => Operation::BToC,
-        0x07 => Operation::ExchangeBC,
-        0x08 => Operation::CToA,
-        0x09 => Operation::AddBToA,
-        0x0A => Operation::AddCToA,
-        0x0B => Operation::IncrementA,
-        0x0C => Operation::SubtractBFromA,
-        0x0D => Operation::DecrementA,
-        0x0E => Operation::SubtractCFromA,
-        0x0F => Operation::DoubleC,
-        0x10 => Operation::AddAToC,
-        0x11 => Operation::IncrementC,
-        0x12 => Operation::SubtractCFromAToC,
-        0x13 => Operation::DecrementC,
-        0x14 => Operation::NegateC,
-        0x15 => Operation::ComplementC,
-        0x16 => Operation::TestBNonzero,
-        0x17 => Operation::TestCNonzero,
-        0x18 => Operation::TestALessThanC,
-        0x19 => Operation::TestALessThanB,
-        0x1A => Operation::TestANonzero,
-        0x1B => Operation::TestADiffersFromC,
-        0x1C => Operation::ShiftRightA,
-        0x1D => Operation::ShiftRightB,
-        0x1E => Operation::ShiftRightC,
-        _ => Operation::ShiftLeftA,
-    }
+    operations!(name_beside (all of number, else unreachable!()))
 }
 
 /// The field with this number, 0 to 7.
@@ -70,16 +251,7 @@ fn field(number: u16) -> Field
     requires { number < 8 }
     ensures { spec.field_number result ≡ number }
 {
-    match number {
-        0 => Field::AtPointer,
-        1 => Field::SignAndExponent,
-        2 => Field::ToPointer,
-        3 => Field::All,
-        4 => Field::PToQ,
-        5 => Field::ExponentSign,
-        6 => Field::Mantissa,
-        _ => Field::MantissaSign,
-    }
+    fields!(name_beside (all of number, else unreachable!()))
 }
 
 /// The row of a short jump.
@@ -116,8 +288,7 @@ fn miscellaneous(word: Word) -> Row
         0x20 => column_20(word),
         0x28 => Row::Write(BlockRegister::new(line)),
         0x30 => column_30(word),
-        0x38 if line == 0 => Row::ReadData,
-        0x38 => Row::Read(ReadRegister::new(line)),
+        0x38 => column_38(word),
         0x24 | 0x2C | 0x34 => Row::Constant(UnassignedWord::new(word)),
         _ => match meant_by(line) {
             Some(meant) => mapped(word, meant),
@@ -133,24 +304,7 @@ fn meant_by(line: u8) -> Option<u8>
     ensures bound { IfSome result (λ number. number < place_count) }
     ensures none { IfNone result ((line ≡ 7) ⊎ (line ≡ 15)) }
 {
-    match line {
-        0 => Some(3),
-        1 => Some(4),
-        2 => Some(5),
-        3 => Some(10),
-        4 => Some(8),
-        5 => Some(6),
-        6 => Some(11),
-        7 => None,
-        8 => Some(2),
-        9 => Some(9),
-        10 => Some(7),
-        11 => Some(13),
-        12 => Some(1),
-        13 => Some(12),
-        14 => Some(0),
-        _ => None,
-    }
+    mapped_column!(number_of_line (of line))
 }
 
 /// The row of a word of a mapped column where its line means a number, 0 to 13.
@@ -180,14 +334,7 @@ fn unmapped(word: Word) -> Row
     ensures number { spec.number_of result ≡ word }
     ensures valid { spec.IsRow result }
 {
-    match word.number() {
-        0x3C4 => Row::ClearStatusByte,
-        0x3C8 => Row::ClearKeyFlag,
-        0x3CC => Row::TestKeyFlag,
-        0x3D4 => Row::DecrementPointer,
-        0x3DC => Row::IncrementPointer,
-        _ => Row::Constant(UnassignedWord::new(word)),
-    }
+    single_words!(name_beside (unmapped of word.number(), else Row::Constant(UnassignedWord::new(word))))
 }
 
 /// The row of a word whose low six bits are 00.
@@ -197,15 +344,7 @@ fn column_00(word: Word) -> Row
     ensures number { spec.number_of result ≡ word }
     ensures valid { spec.IsRow result }
 {
-    match word.number() {
-        0x000 => Row::Nop,
-        0x040 => Row::WriteRom,
-        0x100 => Row::EnableBank(Bank::First),
-        0x140 => Row::EnableBank(Bank::Third),
-        0x180 => Row::EnableBank(Bank::Second),
-        0x1C0 => Row::EnableBank(Bank::Fourth),
-        _ => Row::Constant(UnassignedWord::new(word)),
-    }
+    single_words!(name_beside (column_00 of word.number(), else Row::Constant(UnassignedWord::new(word))))
 }
 
 /// The row of a word whose low six bits are 18.
@@ -215,21 +354,7 @@ fn column_18(word: Word) -> Row
     ensures number { spec.number_of result ≡ word }
     ensures valid { spec.IsRow result }
 {
-    match word.number() {
-        0x058 => Row::Transfer(RegisterTransfer::CToG),
-        0x098 => Row::Transfer(RegisterTransfer::GToC),
-        0x0D8 => Row::Transfer(RegisterTransfer::ExchangeCG),
-        0x158 => Row::Transfer(RegisterTransfer::CToM),
-        0x198 => Row::Transfer(RegisterTransfer::MToC),
-        0x1D8 => Row::Transfer(RegisterTransfer::ExchangeCM),
-        0x258 => Row::Transfer(RegisterTransfer::StatusToT),
-        0x298 => Row::Transfer(RegisterTransfer::TToStatus),
-        0x2D8 => Row::Transfer(RegisterTransfer::ExchangeStatusT),
-        0x358 => Row::Transfer(RegisterTransfer::CToStatus),
-        0x398 => Row::Transfer(RegisterTransfer::StatusToC),
-        0x3D8 => Row::Transfer(RegisterTransfer::ExchangeCStatus),
-        _ => Row::Constant(UnassignedWord::new(word)),
-    }
+    single_words!(name_beside (column_18 of word.number(), else Row::Constant(UnassignedWord::new(word))))
 }
 
 /// The row of a word whose low six bits are 20.
@@ -239,24 +364,7 @@ fn column_20(word: Word) -> Row
     ensures number { spec.number_of result ≡ word }
     ensures valid { spec.IsRow result }
 {
-    match word.number() {
-        0x020 => Row::DropReturn,
-        0x060 => Row::PowerOff,
-        0x0A0 => Row::SelectPointer(Pointer::P),
-        0x0E0 => Row::SelectPointer(Pointer::Q),
-        0x120 => Row::TestPointersEqual,
-        0x160 => Row::TestLowBattery,
-        0x1A0 => Row::ClearRegisters,
-        0x1E0 => Row::GoToAddress,
-        0x220 => Row::ReadKey,
-        0x260 => Row::SetHexadecimal,
-        0x2A0 => Row::SetDecimal,
-        0x2E0 => Row::DisplayOff,
-        0x320 => Row::ToggleDisplay,
-        0x360 => Row::ReturnIf(Condition::Carry),
-        0x3A0 => Row::ReturnIf(Condition::NoCarry),
-        _ => Row::Return,
-    }
+    single_words!(name_beside (column_20 of word.number(), else unreachable!()))
 }
 
 /// The row of a word whose low six bits are 30.
@@ -266,22 +374,19 @@ fn column_30(word: Word) -> Row
     ensures number { spec.number_of result ≡ word }
     ensures valid { spec.IsRow result }
 {
-    match word.number() {
-        0x070 => Row::Transfer(RegisterTransfer::CToN),
-        0x0B0 => Row::Transfer(RegisterTransfer::NToC),
-        0x0F0 => Row::Transfer(RegisterTransfer::ExchangeCN),
-        0x130 => Row::LoadImmediate,
-        0x170 => Row::PushAddress,
-        0x1B0 => Row::PopAddress,
-        0x230 => Row::GoToKey,
-        0x270 => Row::SelectRegister,
-        0x2F0 => Row::WriteData,
-        0x330 => Row::FetchWord,
-        0x370 => Row::Or,
-        0x3B0 => Row::And,
-        0x3F0 => Row::SelectPeripheral,
-        _ => Row::Constant(UnassignedWord::new(word)),
-    }
+    single_words!(name_beside (column_30 of word.number(), else Row::Constant(UnassignedWord::new(word))))
+}
+
+/// The row of a word whose low six bits are 38.
+#[tactic(auto, unfolding(crate::specs::WordTable::number_of))]
+fn column_38(word: Word) -> Row
+    requires { word % 64 ≡ 0x38 }
+    ensures number { spec.number_of result ≡ word }
+    ensures valid { spec.IsRow result }
+{
+    let number = word.number();
+    let line = (number / 64) as u8;
+    single_words!(name_beside (column_38 of number, else Row::Read(ReadRegister::new(line))))
 }
 
 /// The word of a row.
@@ -315,46 +420,7 @@ fn number(row: Row) -> u16
         Row::Write(register) => at(register.number(), 0x28),
         Row::Read(register) => at(register.number(), 0x38),
         Row::Constant(unassigned) => unassigned.word().number(),
-        Row::EnableBank(bank) => bank_number(bank),
-        Row::Transfer(transfer) => transfer_number(transfer),
-        Row::SelectPointer(pointer) => match pointer {
-            Pointer::P => 0x0A0,
-            Pointer::Q => 0x0E0,
-        },
-        Row::ReturnIf(condition) => match condition {
-            Condition::Carry => 0x360,
-            Condition::NoCarry => 0x3A0,
-        },
-        Row::Nop => 0x000,
-        Row::WriteRom => 0x040,
-        Row::ClearStatusByte => 0x3C4,
-        Row::ClearKeyFlag => 0x3C8,
-        Row::TestKeyFlag => 0x3CC,
-        Row::DecrementPointer => 0x3D4,
-        Row::IncrementPointer => 0x3DC,
-        Row::ReadData => 0x038,
-        Row::DropReturn => 0x020,
-        Row::PowerOff => 0x060,
-        Row::TestPointersEqual => 0x120,
-        Row::TestLowBattery => 0x160,
-        Row::ClearRegisters => 0x1A0,
-        Row::GoToAddress => 0x1E0,
-        Row::ReadKey => 0x220,
-        Row::SetHexadecimal => 0x260,
-        Row::SetDecimal => 0x2A0,
-        Row::DisplayOff => 0x2E0,
-        Row::ToggleDisplay => 0x320,
-        Row::Return => 0x3E0,
-        Row::LoadImmediate => 0x130,
-        Row::PushAddress => 0x170,
-        Row::PopAddress => 0x1B0,
-        Row::GoToKey => 0x230,
-        Row::SelectRegister => 0x270,
-        Row::WriteData => 0x2F0,
-        Row::FetchWord => 0x330,
-        Row::Or => 0x370,
-        Row::And => 0x3B0,
-        Row::SelectPeripheral => 0x3F0,
+        single => single_words!(number_beside (of single, else unreachable!())),
     }
 }
 
@@ -374,22 +440,7 @@ fn line_of(meant: u8) -> u8
     ensures value { result ≡ spec.mapped_line meant }
     ensures bound { result < 15 }
 {
-    match meant {
-        0 => 14,
-        1 => 12,
-        2 => 8,
-        3 => 0,
-        4 => 1,
-        5 => 2,
-        6 => 5,
-        7 => 10,
-        8 => 4,
-        9 => 9,
-        10 => 3,
-        11 => 6,
-        12 => 13,
-        _ => 11,
-    }
+    mapped_column!(line_of_number (of meant))
 }
 
 /// The bits of a displacement, 0 to 127: those from 64 on stand for the negative ones.
@@ -419,7 +470,7 @@ fn operation_number(operation: Operation) -> u16
     ensures value { result ≡ spec.operation_number operation }
     ensures bound { result < 32 }
 {
-    operation as u16
+    operations!(number_beside (of operation))
 }
 
 /// The number of a field, 0 to 7.
@@ -427,45 +478,7 @@ fn field_number(field: Field) -> u16
     ensures value { result ≡ spec.field_number field }
     ensures bound { result < 8 }
 {
-    field as u16
-}
-
-/// The word that chooses a bank.
-#[tactic(auto, unfolding(crate::specs::WordTable::number_of))]
-fn bank_number(bank: Bank) -> u16
-    ensures value { result ≡ spec.number_of (Row.EnableBank bank) }
-    ensures bound { result < word_count }
-{
-    match bank {
-        Bank::First => 0x100,
-        Bank::Second => 0x180,
-        Bank::Third => 0x140,
-        Bank::Fourth => 0x1C0,
-    }
-}
-
-/// The word of a copy or an exchange.
-fn transfer_number(transfer: RegisterTransfer) -> u16
-    ensures value { result ≡ spec.transfer_number transfer }
-    ensures bound { result < word_count }
-{
-    match transfer {
-        RegisterTransfer::CToG => 0x058,
-        RegisterTransfer::GToC => 0x098,
-        RegisterTransfer::ExchangeCG => 0x0D8,
-        RegisterTransfer::CToM => 0x158,
-        RegisterTransfer::MToC => 0x198,
-        RegisterTransfer::ExchangeCM => 0x1D8,
-        RegisterTransfer::StatusToT => 0x258,
-        RegisterTransfer::TToStatus => 0x298,
-        RegisterTransfer::ExchangeStatusT => 0x2D8,
-        RegisterTransfer::CToStatus => 0x358,
-        RegisterTransfer::StatusToC => 0x398,
-        RegisterTransfer::ExchangeCStatus => 0x3D8,
-        RegisterTransfer::CToN => 0x070,
-        RegisterTransfer::NToC => 0x0B0,
-        RegisterTransfer::ExchangeCN => 0x0F0,
-    }
+    fields!(number_beside (of field))
 }
 
 /// How many words an instruction takes that begins with this word, 1 or 2. A long jump and `LDI` take two.

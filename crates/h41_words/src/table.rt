@@ -482,13 +482,11 @@ fn field_number(field: Field) -> u16
 }
 
 /// How many words an instruction takes that begins with this word, 1 or 2. A long jump and `LDI` take two.
-#[tactic(auto, unfolding(crate::specs::WordTable::length_of))]
 pub fn length(word: Word) -> u16
     ensures { result ≡ spec.length_of word }
 {
-    match word.number() {
-        0x130 => 2,
-        number if number % 4 == 1 => 2,
+    match row(word) {
+        Row::LongJump(_) | Row::LoadImmediate => 2,
         _ => 1,
     }
 }

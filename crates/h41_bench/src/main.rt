@@ -50,7 +50,8 @@ fn run(rt: &HostRuntime, alloc: Global) -> u8
 
 /// Does what these words ask for.
 fn run_words(rt: &HostRuntime, alloc: Global, words: &[String]) -> u8
-    ensures help { asks_help (named (map string_bytes words.now)) ≡ true → (result ≡ 0) ⊎ (result ≡ 3) }
+    ensures help { asks_help (named (map string_bytes words.now)) ≡ true
+        → (result ≡ 0) ⊎ (result ≡ 3) }
     ensures mistake { is_mistake (named (map string_bytes words.now)) ≡ true
         → (result ≡ 2) ⊎ (result ≡ 3) }
     ensures run { IsSome (file_to_run (named (map string_bytes words.now))) → IsStatus result }

@@ -41,8 +41,9 @@ pub fn serve<R: Source, W: Sink, E: Sink>(
     ensures silent { result ≢ 3 → Keeps (E.contents faults.old) (E.contents faults.new) }
 
     // Where something failed, the fault's line is told, if it can be.
-    ensures fault { result ≡ 3 → E.failed faults.new ≡ false → TellsFault (R.remaining reader.old)
-        (R.failed reader.new) (W.contents writer.old) (W.contents writer.new) (W.failed writer.new)
+    ensures fault { result ≡ 3 → E.failed faults.new ≡ false
+        → TellsFault (R.remaining reader.old) (R.failed reader.new)
+        (W.contents writer.old) (W.contents writer.new) (W.failed writer.new)
         (E.contents faults.old) (E.contents faults.new) }
 {
     let ended = match job.task {

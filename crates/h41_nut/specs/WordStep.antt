@@ -1,6 +1,6 @@
 -- One step of the processor: the first refusal there is, or none, and where there is none the change that the word makes.
 -- What the words do is HP's; what is refused, and in which order, is this project's choice.
-use Rattle.std.specs.Prelude.{◌≡◌, ℕ, Bool, true, false, not, ◌==◌, Option, Some, None}
+use Rattle.std.specs.Prelude.{◌≡◌, ℕ, Bool, true, false, not, ◌==◌, Option, Some, None, Result, OnOk, OnErr}
 use Rattle.std.specs.Option.{option_or}
 use Rattle.std.specs.Result.{result_err}
 use Rattle.h41_words.specs.declared.rows.Row.{Row}
@@ -15,7 +15,7 @@ use Rattle.h41_nut.specs.declared.refusal.Refusal.{Refusal}
 use Rattle.h41_nut.specs.declared.refusal.Refusal.TheVariants.{WordNotInProfile, Asleep}
 use Rattle.h41_nut.specs.Going.{behind, behind_both, arrival_refusal, at_address, gone_on}
 use Rattle.h41_nut.specs.Jumps.{newest_return, popped, jump_target, jump_change, short_jump_target, return_target, return_change, key_target}
-use Rattle.h41_nut.specs.MemoryWords.{block_address, selecting_from_c, selecting_in_block, with_selected_in_c, with_register_in_c, with_c_at, with_fetched_word, refusal_to_fetch, refusal_to_write, with_word_written}
+use Rattle.h41_nut.specs.MemoryWords.{selecting_from_c, selecting_in_block, with_selected_in_c, with_register_in_c, with_c_at, with_c_in_block, with_fetched_word, refusal_to_fetch, refusal_to_write, with_word_written}
 use Rattle.h41_nut.specs.PageList.{Pages, fetched, word_or_zero}
 use Rattle.h41_nut.specs.Pointers.{pointer_of, with_pointer, with_pointer_up, with_pointer_down, with_active, is_status_set, with_status, with_status_byte}
 use Rattle.h41_nut.specs.Processor.{Processor}
@@ -120,7 +120,7 @@ registers_after row s = s.processor
 -- the memory behind a word: WRIT DATA writes C to the selected register, WRIT n to register n of the selected block
 abbrev pub ram_after : Row → Nut → RegisterMap
 ram_after WriteData s = with_c_at s.ram s.processor.selected s.processor
-ram_after (Write register) s = with_c_at s.ram (block_address register s.processor) s.processor
+ram_after (Write register) s = with_c_in_block s.ram register s.processor
 ram_after row s = s.ram
 
 -- the pages behind a word: WROM writes the word in C at the address in C
@@ -186,3 +186,20 @@ refused s = option_or (result_err (fetched s.pages s.processor.pc)) (row_refusal
 pub record Micro (s t : Nut) : Type 0 where
   pub accepted : refused s ≡ None
   pub effect : Effect (row_of (word_of s)) s t
+
+-- from s to t with an answer: refused for this reason and then not changed, or with this change
+pub record Answered {T : Type 0} (reason : Option Refusal) (Change : Nut → Nut → Type 0) (result : Result T Refusal) (s t : Nut) : Type 0 where
+  pub refusal : result_err result ≡ reason
+  pub change : OnOk result (Change s t)
+  pub stays : OnErr result (t ≡ s)
+
+-- a step was answered: refused as `refused` says and then without a change, or with the change `Micro`; from the processor,
+-- the memory, the pages and the keyboard before it to those after it
+abbrev pub Stepped : {T : Type 0} → Result T Refusal → Processor → RegisterMap → Pages → Keys → Processor → RegisterMap → Pages → Keys → Type 0
+Stepped result cpu ram pages keys cpu' ram' pages' keys' =
+    Answered (refused (nut_of cpu ram pages keys)) Micro result (nut_of cpu ram pages keys) (nut_of cpu' ram' pages' keys')
+
+-- a row was carried out: refused as `row_refusal` says and then without a change, or with its `Effect`
+abbrev pub Ran : {T : Type 0} → Row → Result T Refusal → Processor → RegisterMap → Pages → Keys → Processor → RegisterMap → Pages → Keys → Type 0
+Ran row result cpu ram pages keys cpu' ram' pages' keys' =
+    Answered (row_refusal row (nut_of cpu ram pages keys)) (Effect row) result (nut_of cpu ram pages keys) (nut_of cpu' ram' pages' keys')

@@ -1,8 +1,6 @@
 //! One step: the word at the processor's address, and what it changes.
 
-ghost use Rattle.std.specs.Prelude.{◌≡◌, OnOk, OnErr};
-ghost use Rattle.std.specs.Result.{result_err};
-ghost use Rattle.h41_nut.specs.WordStep.{nut_of, refused, row_refusal, Effect, Micro};
+ghost use Rattle.h41_nut.specs.WordStep.{Ran, Stepped};
 
 use crate::base::Base;
 use crate::cpu::Cpu;
@@ -29,11 +27,7 @@ pub fn step<const REGS: usize>(
     pages: &mut Pages,
     keys: &mut Keys,
 ) -> Result<(), Refusal>
-    ensures refusal { result_err result ≡ refused (nut_of cpu.old ram.old pages.old keys.old) }
-    ensures change { OnOk result (Micro (nut_of cpu.old ram.old pages.old keys.old)
-        (nut_of cpu.new ram.new pages.new keys.new)) }
-    ensures err { OnErr result (nut_of cpu.new ram.new pages.new keys.new
-        ≡ nut_of cpu.old ram.old pages.old keys.old) }
+    ensures { Stepped result cpu.old ram.old pages.old keys.old cpu.new ram.new pages.new keys.new }
 {
     let word = pages.fetch(cpu.pc())?;
     carry_out(row(word), cpu, ram, pages, keys)
@@ -47,12 +41,7 @@ fn carry_out<const REGS: usize>(
     pages: &mut Pages,
     keys: &mut Keys,
 ) -> Result<(), Refusal>
-    ensures refusal { result_err result
-        ≡ row_refusal row (nut_of cpu.old ram.old pages.old keys.old) }
-    ensures change { OnOk result (Effect row (nut_of cpu.old ram.old pages.old keys.old)
-        (nut_of cpu.new ram.new pages.new keys.new)) }
-    ensures err { OnErr result (nut_of cpu.new ram.new pages.new keys.new
-        ≡ nut_of cpu.old ram.old pages.old keys.old) }
+    ensures { Ran row result cpu.old ram.old pages.old keys.old cpu.new ram.new pages.new keys.new }
 {
     match row {
         Row::Arithmetic(operation, field) => cpu.arithmetic(operation, field),

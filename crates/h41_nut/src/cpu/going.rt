@@ -57,8 +57,7 @@ impl Cpu {
     /// `?NC XQ` and the like: goes to the address of both words, where the carry is as the second word says. `XQ` keeps the
     /// address behind both words.
     pub(crate) fn long_jump(&mut self, low_byte: u8, second: SecondWord) -> Result<(), Refusal>
-        ensures { GoesTo (spec.jump_target low_byte second) (spec.jump_change second)
-            self.old self.new result }
+        ensures { spec.JumpsLong low_byte second self.old self.new result }
     {
         let behind = self.pc.wrapping_add(2);
         if !is_taken(second.condition, self.carry) {
@@ -78,8 +77,7 @@ impl Cpu {
         condition: Condition,
         displacement: Displacement,
     ) -> Result<(), Refusal>
-        ensures { GoesTo (spec.short_jump_target condition displacement) (λ s. s)
-            self.old self.new result }
+        ensures { spec.JumpsShort condition displacement self.old self.new result }
     {
         if is_taken(condition, self.carry) {
             self.go_to(displaced(self.pc, displacement))
@@ -100,8 +98,7 @@ impl Cpu {
 
     /// `?C RTN` and `?NC RTN`: returns where the carry is as the condition says.
     pub(crate) fn return_if(&mut self, condition: Condition) -> Result<(), Refusal>
-        ensures { GoesTo (spec.return_target condition) (spec.return_change condition)
-            self.old self.new result }
+        ensures { spec.ReturnsIf condition self.old self.new result }
     {
         if is_taken(condition, self.carry) {
             self.return_to_newest()

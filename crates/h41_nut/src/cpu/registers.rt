@@ -3,7 +3,7 @@
 ghost use Rattle.std.specs.Prelude.{◌≡◌, ◌<◌};
 ghost use Rattle.h41_words.specs.Counts.{word_count};
 ghost use Rattle.h41_nut.specs.Going.{GoesOn, GoesTo, behind_both};
-ghost use Rattle.h41_nut.specs.MemoryWords.{block_address, selecting};
+ghost use Rattle.h41_nut.specs.MemoryWords.{block_address, selecting, selecting_and_loading};
 ghost use Rattle.h41_nut.specs.RegisterWords as spec;
 
 use crate::base::Base;
@@ -154,8 +154,7 @@ impl Cpu {
     /// `READ n`: selects an address of the memory, whose register goes to C.
     pub(crate) fn select_and_load(&mut self, address: u16, register: Reg) -> Result<(), Refusal>
         requires { address < word_count }
-        ensures { GoesOn (λ s. selecting address (spec.with_c register s))
-            self.old self.new result }
+        ensures { GoesOn (selecting_and_loading address register) self.old self.new result }
     {
         let next = arrival(self.behind())?;
         self.selected = address;

@@ -8,7 +8,7 @@ use Rattle.h41_words.specs.declared.second_word.LongJumpKind.TheVariants.{Execut
 use Rattle.h41_words.specs.declared.second_word.SecondWord.{SecondWord}
 use Rattle.h41_nut.specs.Addresses.{displaced}
 use Rattle.h41_nut.specs.declared.refusal.Refusal.{Refusal}
-use Rattle.h41_nut.specs.Going.{behind, behind_both, GoesTo}
+use Rattle.h41_nut.specs.Going.{next_address, address_after_both, GoesTo}
 use Rattle.h41_nut.specs.Processor.{Processor}
 
 -- whether a jump or return is taken at this carry
@@ -27,32 +27,32 @@ popped s = record s { returns = drop 1 s.returns ++ 0 ∷ [] }
 abbrev pub pushed : ℕ → Processor → Processor
 pushed address s = record s { returns = address ∷ take 3 s.returns }
 
--- whether a long jump keeps the address behind it: XQ does, GO does not
+-- whether a long jump keeps the address after it: XQ does, GO does not
 abbrev pub is_execute : LongJumpKind → Bool
 is_execute Execute = true
 is_execute Go = false
 
--- a long jump goes to the address of both words where it is taken; XQ then keeps the address behind them
+-- a long jump goes to the address of both words where it is taken; XQ then keeps the address after them
 abbrev pub jump_target : ℕ → SecondWord → Processor → ℕ
-jump_target low_byte second s = if is_taken second.condition s.carry then second.high_byte * 256 + low_byte else behind_both s
+jump_target low_byte second s = if is_taken second.condition s.carry then second.high_byte * 256 + low_byte else address_after_both s
 
 abbrev pub jump_change : SecondWord → Processor → Processor
-jump_change second s = if is_taken second.condition s.carry && is_execute second.kind then pushed (behind_both s) s else s
+jump_change second s = if is_taken second.condition s.carry && is_execute second.kind then pushed (address_after_both s) s else s
 
 -- a short jump goes by its displacement from the word's own address, where it is taken
 abbrev pub short_jump_target : Condition → ℤ → Processor → ℕ
-short_jump_target condition displacement s = if is_taken condition s.carry then displaced s.pc displacement else behind s
+short_jump_target condition displacement s = if is_taken condition s.carry then displaced s.pc displacement else next_address s
 
 -- a return goes to the newest return address, which it takes off, where it is taken
 abbrev pub return_target : Condition → Processor → ℕ
-return_target condition s = if is_taken condition s.carry then newest_return s else behind s
+return_target condition s = if is_taken condition s.carry then newest_return s else next_address s
 
 abbrev pub return_change : Condition → Processor → Processor
 return_change condition s = if is_taken condition s.carry then popped s else s
 
 -- GOTO KEY: the next address with the key's code as its low byte
 abbrev pub key_target : ℕ → Processor → ℕ
-key_target key s = behind s / 256 * 256 + key
+key_target key s = next_address s / 256 * 256 + key
 
 -- how the processor goes by a long jump, by a short jump, and by a return on a condition
 abbrev pub JumpsLong : {T : Type 0} → ℕ → SecondWord → Processor → Processor → Result T Refusal → Type 0

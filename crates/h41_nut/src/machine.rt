@@ -20,7 +20,7 @@ mod rom;
 
 /// Carries out the word at the processor's address. It is refused by the first of these, and changes nothing then: the
 /// fetch of the word (8, 9); the word itself (6, 7, 10, 11); the fetch of a second word (8, 9); a read or write of a page
-/// (8, 12); an arrival in pages 0 to 3 other than at 00F0 (8). The order is this project's choice; behind FFFF comes 0000.
+/// (8, 12); an arrival in pages 0 to 3 other than at 00F0 (8). The order is this project's choice; after FFFF comes 0000.
 pub fn step<const REGS: usize>(
     cpu: &mut Cpu,
     ram: &mut Ram<REGS>,
@@ -46,7 +46,7 @@ fn carry_out<const REGS: usize>(
     match row {
         Row::Arithmetic(operation, field) => cpu.arithmetic(operation, field),
         Row::LongJump(low_byte) => {
-            let second = pages.fetch(cpu.behind())?;
+            let second = pages.fetch(cpu.next_address())?;
             cpu.long_jump(low_byte, SecondWord::of(second))
         }
         Row::ShortJump(condition, displacement) => cpu.short_jump(condition, displacement),
@@ -83,7 +83,7 @@ fn carry_out<const REGS: usize>(
         Row::ReturnIf(condition) => cpu.return_if(condition),
         Row::Return => cpu.return_to_newest(),
         Row::LoadImmediate => {
-            let second = pages.fetch(cpu.behind())?;
+            let second = pages.fetch(cpu.next_address())?;
             cpu.load_immediate(second)
         }
         Row::PushAddress => cpu.push_address(),

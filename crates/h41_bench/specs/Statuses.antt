@@ -1,6 +1,8 @@
 -- The statuses that the program ends with, and what they tell.
 use Rattle.std.specs.Prelude.{◌≡◌, ◌≢◌, ◌⊎◌, ℕ, Bool, true, false, List, Option}
 use Rattle.std.specs.Io.KnownBytes.{Appends}
+use Rattle.h41_deck.specs.declared.ends.sink.Sink as sinks
+use Rattle.h41_deck.specs.declared.ends.source.Source as sources
 use Rattle.h41_deck.specs.declared.fault.Fault.{Fault}
 use Rattle.h41_deck.specs.declared.fault.Fault.TheVariants.{ReadFault, WriteFault}
 use Rattle.h41_deck.specs.declared.replies.Outcome.{Outcome}
@@ -31,11 +33,16 @@ fault_line fault = refusal_line (of_fault fault)
 
 -- A fault's line is told. It is a read's where reading failed or the deck was too long, a write's where writing failed, and
 -- any other where neither did.
-pub record TellsFault (known : Option (List ℕ)) (read_failed : Bool) (old new : Option (List ℕ)) (write_failed : Bool)
-    (told_old told_new : Option (List ℕ)) : Type 0 where
+pub record IsTold {R W E : Type 0} (source : sources.Ghosts R) (sink : sinks.Ghosts W) (told : sinks.Ghosts E)
+    (before after : R) (old new : W) (told_old told_new : E) : Type 0 where
   pub fault : Fault
-  pub line : Appends told_old told_new (fault_line fault)
-  pub read : fault ≡ ReadFault → FailedOrTooLong read_failed known old new
-  pub write : fault ≡ WriteFault → write_failed ≡ true
-  pub not_read : fault ≢ ReadFault → read_failed ≡ false
-  pub not_write : fault ≢ WriteFault → write_failed ≡ false
+  pub line : Appends (told.contents told_old) (told.contents told_new) (fault_line fault)
+  pub read : fault ≡ ReadFault → FailedOrTooLong source sink before after old new
+  pub write : fault ≡ WriteFault → sink.failed new ≡ true
+  pub not_read : fault ≢ ReadFault → source.failed after ≡ false
+  pub not_write : fault ≢ WriteFault → sink.failed new ≡ false
+
+-- where something failed, and the end for faults did not, its line is told
+abbrev pub TellsFault : {R W E : Type 0} → ℕ → sources.Ghosts R → sinks.Ghosts W → sinks.Ghosts E → R → R → W → W → E → E → Type 0
+TellsFault status source sink told before after old new told_old told_new =
+    status ≡ 3 → told.failed told_new ≡ false → IsTold source sink told before after old new told_old told_new

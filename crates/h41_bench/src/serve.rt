@@ -41,10 +41,8 @@ pub fn serve<R: Source, W: Sink, E: Sink>(
     ensures silent { result ≢ 3 → Keeps (E.contents faults.old) (E.contents faults.new) }
 
     // Where something failed, the fault's line is told, if it can be.
-    ensures fault { result ≡ 3 → E.failed faults.new ≡ false
-        → TellsFault (R.remaining reader.old) (R.failed reader.new)
-        (W.contents writer.old) (W.contents writer.new) (W.failed writer.new)
-        (E.contents faults.old) (E.contents faults.new) }
+    ensures fault { TellsFault result R.Source W.Sink E.Sink
+        reader.old reader.new writer.old writer.new faults.old faults.new }
 {
     let ended = match job.task {
         Task::Run => run_deck(alloc, reader, writer),

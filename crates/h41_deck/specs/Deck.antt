@@ -1,9 +1,13 @@
 -- A deck: the replies to its commands in turn, and the text that it prints.
-use Rattle.std.specs.Prelude.{◌≡◌, ◌⊎◌, ℕ, ◌<◌, ◌≤◌, Bool, true, false, List, [], ◌∷◌, flat_map, length, take, nat_le, is_some, if◌then◌else◌, Option, IfSome, Result, IfOk}
+use Rattle.std.specs.Prelude.{◌≡◌, ◌⊎◌, ℕ, ◌<◌, ◌≤◌, Bool, true, false, List, [], ◌∷◌, flat_map, length, take, nat_le, is_some, if◌then◌else◌, Option, IfSome, Result, Err, IfOk}
 use Rattle.std.specs.List.{list_any}
 use Rattle.std.specs.Io.KnownBytes.{Appends}
 use Rattle.h41_deck.specs.declared.replies.Outcome.{Outcome}
 use Rattle.h41_deck.specs.declared.replies.Outcome.TheVariants.{Accepted, Refused}
+use Rattle.h41_deck.specs.declared.ends.source.Source as sources
+use Rattle.h41_deck.specs.declared.ends.sink.Sink as sinks
+use Rattle.h41_deck.specs.declared.fault.Fault.{Fault}
+use Rattle.h41_deck.specs.declared.fault.Fault.TheVariants.{ReadFault}
 use Rattle.h41_deck.specs.Calculator.{State, start}
 use Rattle.h41_deck.specs.Items.{Spelled, closed, commands}
 use Rattle.h41_deck.specs.Lines.{ended_lines, lines}
@@ -67,8 +71,13 @@ abbrev pub Prints : {W : Type 0} → Option (List ℕ) → (W → Option (List �
 Prints known contents old new = IfSome known (Gives Deck (contents old) (contents new))
 
 -- why reading ends with a fault: a read failed, or the deck is too long, and its text within the bound is written
-abbrev pub FailedOrTooLong : Bool → Option (List ℕ) → Option (List ℕ) → Option (List ℕ) → Type 0
-FailedOrTooLong failed known old new = (failed ≡ true) ⊎ IfSome known (Gives LongDeck old new)
+abbrev pub FailedOrTooLong : {R W : Type 0} → sources.Ghosts R → sinks.Ghosts W → R → R → W → W → Type 0
+FailedOrTooLong source sink before after old new =
+    (source.failed after ≡ true) ⊎ IfSome (source.remaining before) (Gives LongDeck (sink.contents old) (sink.contents new))
+
+-- where a deck ends with a fault of reading, this is why
+abbrev pub Unread : {A R W : Type 0} → Result A Fault → sources.Ghosts R → sinks.Ghosts W → R → R → W → W → Type 0
+Unread result source sink before after old new = result ≡ Err ReadFault → FailedOrTooLong source sink before after old new
 
 -- what these commands print, and how they end
 pub record Answered (items : List Spelled) (text : List ℕ) (outcome : Outcome) : Type 0 where

@@ -1,7 +1,7 @@
 //! A deck: its commands, answered in turn.
 
 ghost use Rattle.std.specs.Prelude.{◌≡◌, ◌≢◌, Err, IfOk, OnOk, true, false};
-ghost use Rattle.h41_deck.specs.Deck.{AnswersBytes, EndsKnown, FailedOrTooLong, Prints};
+ghost use Rattle.h41_deck.specs.Deck.{AnswersBytes, EndsKnown, Prints, Unread};
 ghost use Rattle.h41_deck.specs.Entries.{AnswersItem};
 
 use crate::bench::Bench;
@@ -41,8 +41,7 @@ pub fn run_deck<R: Source, W: Sink>(
     ensures flushed { OnOk result (W.flushed writer.new ≡ true) }
 
     // A read failed, or the deck is too long, and the text of its commands within the bound is written.
-    ensures read_fault { result ≡ Err Fault.ReadFault → FailedOrTooLong (R.failed reader.new)
-        (R.remaining reader.old) (W.contents writer.old) (W.contents writer.new) }
+    ensures read_fault { Unread result R.Source W.Sink reader.old reader.new writer.old writer.new }
 
     // The marks tell which end failed.
     ensures write_fault { result ≡ Err Fault.WriteFault → W.failed writer.new ≡ true }

@@ -1,4 +1,4 @@
-use Rattle.std.proofs.Common.{◌≡◌, ◌++◌, ◌+◌, ◌%◌, ◌<◌, arith, ap, ◌∙◌}
+use Rattle.std.proofs.Common.{◌≡◌, ◌++◌, arith, ap, ◌∙◌}
 use Rattle.std.specs.String.{string_bytes}
 use Rattle.h41_dis.specs.Spelling.{pieces}
 use Rattle.h41_dis.proofs.Columns.{columns_at, next_line}

@@ -1,4 +1,4 @@
-use Rattle.std.proofs.Common.{◌≡◌, ◌++◌, ◌∷◌, [], arith}
+use Rattle.std.proofs.Common.{arith}
 use Rattle.std.proofs.lemmas.Grind.{common_steps}
 use Rattle.h41_dis.proofs.Decimals.{decimal_one, decimal_two}
 use Rattle.h41_dis.proofs.text.push_decimal.Goals as goal

@@ -1,10 +1,11 @@
--- The text of each instruction as HP's VASM listings have it. Addresses, displacements and the numbers of LDI and CON are
--- hexadecimal and in upper case, the other operands decimal.
-use Rattle.std.specs.Prelude.{ℕ, ◌+◌, ◌*◌, ℤ, pos, negsuc, List, ◌++◌, codes}
+-- The text of each instruction as HP's VASM listings have it: its mnemonic, and an operand behind a blank where it takes one.
+-- Addresses, displacements and the numbers of LDI and CON are hexadecimal and in upper case, the other operands decimal.
+use Rattle.std.specs.Prelude.{ℕ, ◌+◌, ◌*◌, ℤ, pos, negsuc, List, [], ◌++◌, Option, Some, None, codes}
 use Rattle.std.specs.Fmt.{decimal}
 use Rattle.h41_digits.specs.Register.{hexadecimal_text}
 use Rattle.h41_fields.specs.declared.field.Field.{Field}
 use Rattle.h41_fields.specs.declared.field.Field.TheVariants.{AtPointer, SignAndExponent, ToPointer, All, PToQ, ExponentSign, Mantissa, MantissaSign}
+use Rattle.h41_fields.specs.declared.field.Pointer.{Pointer}
 use Rattle.h41_fields.specs.declared.field.Pointer.TheVariants.{P, Q}
 use Rattle.h41_words.specs.declared.operation.Operation.{Operation}
 use Rattle.h41_words.specs.declared.operation.Operation.TheVariants.{ClearA, ClearB, ClearC, ExchangeAB, AToB, ExchangeAC, BToC, ExchangeBC, CToA, AddBToA, AddCToA, IncrementA, SubtractBFromA, DecrementA, SubtractCFromA, DoubleC, AddAToC, IncrementC, SubtractCFromAToC, DecrementC, NegateC, ComplementC, TestBNonzero, TestCNonzero, TestALessThanC, TestALessThanB, TestANonzero, TestADiffersFromC, ShiftRightA, ShiftRightB, ShiftRightC, ShiftLeftA}
@@ -12,11 +13,13 @@ use Rattle.h41_words.specs.declared.rows.Row.{Row}
 use Rattle.h41_words.specs.declared.rows.Row.TheVariants.{Arithmetic, LongJump, ShortJump, ClearStatus, SetStatus, TestStatus, TestPointer, SetPointer, RotateRight, LoadDigit, Write, Read, Constant, And, ClearKeyFlag, ClearRegisters, ClearStatusByte, DecrementPointer, DisplayOff, DropReturn, EnableBank, FetchWord, GoToAddress, GoToKey, IncrementPointer, LoadImmediate, Nop, Or, PopAddress, PowerOff, PushAddress, ReadData, ReadKey, Return, ReturnIf, SelectPeripheral, SelectPointer, SelectRegister, SetDecimal, SetHexadecimal, TestKeyFlag, TestLowBattery, TestPointersEqual, ToggleDisplay, Transfer, WriteData, WriteRom}
 use Rattle.h41_words.specs.declared.rows.RegisterTransfer.{RegisterTransfer}
 use Rattle.h41_words.specs.declared.rows.RegisterTransfer.TheVariants.{CToG, GToC, ExchangeCG, CToM, MToC, ExchangeCM, StatusToT, TToStatus, ExchangeStatusT, CToStatus, StatusToC, ExchangeCStatus, CToN, NToC, ExchangeCN}
+use Rattle.h41_words.specs.declared.rows.Bank.{Bank}
 use Rattle.h41_words.specs.declared.rows.Bank.TheVariants.{First, Second, Third, Fourth}
 use Rattle.h41_words.specs.declared.rows.Condition.{Condition}
 use Rattle.h41_words.specs.declared.rows.Condition.TheVariants.{NoCarry, Carry}
 use Rattle.h41_words.specs.declared.second_word.LongJumpKind.{LongJumpKind}
 use Rattle.h41_words.specs.declared.second_word.LongJumpKind.TheVariants.{Execute, Go}
+use Rattle.h41_words.specs.declared.second_word.SecondWord.{SecondWord}
 use Rattle.h41_words.specs.SecondWord.{second_of}
 use Rattle.h41_words.specs.WordTable.{number_of}
 
@@ -82,6 +85,22 @@ transfer_text CToN = codes "N=C"
 transfer_text NToC = codes "C=N"
 transfer_text ExchangeCN = codes "C<>N"
 
+-- the choice of a bank, and of a pointer
+abbrev pub bank_text : Bank → List ℕ
+bank_text First = codes "ENBANK1"
+bank_text Second = codes "ENBANK2"
+bank_text Third = codes "ENBANK3"
+bank_text Fourth = codes "ENBANK4"
+
+abbrev pub selection_text : Pointer → List ℕ
+selection_text P = codes "SLCT P"
+selection_text Q = codes "SLCT Q"
+
+-- the returns at a carry
+abbrev pub return_text : Condition → List ℕ
+return_text NoCarry = codes "?NC RTN"
+return_text Carry = codes "?C RTN"
+
 -- the four jumps by address
 abbrev pub long_jump_text : Condition → LongJumpKind → List ℕ
 long_jump_text NoCarry Execute = codes "?NC XQ"
@@ -99,69 +118,91 @@ abbrev pub displacement_text : ℤ → List ℕ
 displacement_text (pos words) = codes "+" ++ hexadecimal_text 2 words
 displacement_text (negsuc words) = codes "-" ++ hexadecimal_text 2 (words + 1)
 
--- a word that stands for no instruction, and the first of two words without its second
-abbrev pub constant_text : ℕ → List ℕ
-constant_text number = codes "CON " ++ hexadecimal_text 3 number
+-- the mnemonic of a row of one word: CON where it stands for no instruction, and where it begins one of two words but stands
+-- without its second
+abbrev pub mnemonic : Row → List ℕ
+mnemonic (Arithmetic operation field) = operation_text operation
+mnemonic (LongJump low_byte) = codes "CON"
+mnemonic (ShortJump condition displacement) = short_jump_text condition
+mnemonic (ClearStatus bit) = codes "CLRF"
+mnemonic (SetStatus bit) = codes "SETF"
+mnemonic (TestStatus bit) = codes "?FSET"
+mnemonic (TestPointer place) = codes "?R="
+mnemonic (SetPointer place) = codes "R="
+mnemonic (RotateRight digits) = codes "RCR"
+mnemonic (LoadDigit digit) = codes "LD@R"
+mnemonic (Write register) = codes "WRIT"
+mnemonic (Read register) = codes "READ"
+mnemonic (Constant number) = codes "CON"
+mnemonic LoadImmediate = codes "CON"
+mnemonic Nop = codes "NOP"
+mnemonic WriteRom = codes "WROM"
+mnemonic (EnableBank bank) = bank_text bank
+mnemonic ClearStatusByte = codes "ST=0"
+mnemonic ClearKeyFlag = codes "CLRKEY"
+mnemonic TestKeyFlag = codes "?KEY"
+mnemonic DecrementPointer = codes "R=R-1"
+mnemonic IncrementPointer = codes "R=R+1"
+mnemonic ReadData = codes "READ DATA"
+mnemonic DropReturn = codes "XQ->GO"
+mnemonic PowerOff = codes "POWOFF"
+mnemonic (SelectPointer pointer) = selection_text pointer
+mnemonic TestPointersEqual = codes "?P=Q"
+mnemonic TestLowBattery = codes "?LLD"
+mnemonic ClearRegisters = codes "CLRABC"
+mnemonic GoToAddress = codes "GOTO ADR"
+mnemonic ReadKey = codes "C=KEY"
+mnemonic SetHexadecimal = codes "SETHEX"
+mnemonic SetDecimal = codes "SETDEC"
+mnemonic DisplayOff = codes "DISOFF"
+mnemonic ToggleDisplay = codes "DISTOG"
+mnemonic (ReturnIf condition) = return_text condition
+mnemonic Return = codes "RTN"
+mnemonic PushAddress = codes "PUSH ADR"
+mnemonic PopAddress = codes "POP ADR"
+mnemonic GoToKey = codes "GOTO KEY"
+mnemonic SelectRegister = codes "RAM SLCT"
+mnemonic WriteData = codes "WRIT DATA"
+mnemonic FetchWord = codes "FETCH S&X"
+mnemonic Or = codes "C=C OR A"
+mnemonic And = codes "C=C AND A"
+mnemonic SelectPeripheral = codes "PRPH SLCT"
+mnemonic (Transfer transfer) = transfer_text transfer
+
+-- and its operand: that of CON is the word's own number. A single word has none.
+abbrev pub operand : Row → Option (List ℕ)
+operand (Arithmetic operation field) = Some (field_text field)
+operand (LongJump low_byte) = Some (hexadecimal_text 3 (number_of (LongJump low_byte)))
+operand (ShortJump condition displacement) = Some (displacement_text displacement)
+operand (ClearStatus bit) = Some (decimal bit)
+operand (SetStatus bit) = Some (decimal bit)
+operand (TestStatus bit) = Some (decimal bit)
+operand (TestPointer place) = Some (decimal place)
+operand (SetPointer place) = Some (decimal place)
+operand (RotateRight digits) = Some (decimal digits)
+operand (LoadDigit digit) = Some (decimal digit)
+operand (Write register) = Some (decimal register)
+operand (Read register) = Some (decimal register)
+operand (Constant number) = Some (hexadecimal_text 3 number)
+operand LoadImmediate = Some (hexadecimal_text 3 (number_of LoadImmediate))
+operand single = None
+
+-- what an operand adds to its mnemonic
+abbrev pub behind : Option (List ℕ) → List ℕ
+behind None = []
+behind (Some text) = codes " " ++ text
 
 -- a row of one word
 abbrev pub row_text : Row → List ℕ
-row_text (Arithmetic operation field) = operation_text operation ++ codes " " ++ field_text field
-row_text (LongJump low_byte) = constant_text (number_of (LongJump low_byte))
-row_text (ShortJump condition displacement) = short_jump_text condition ++ codes " " ++ displacement_text displacement
-row_text (ClearStatus bit) = codes "CLRF " ++ decimal bit
-row_text (SetStatus bit) = codes "SETF " ++ decimal bit
-row_text (TestStatus bit) = codes "?FSET " ++ decimal bit
-row_text (TestPointer place) = codes "?R= " ++ decimal place
-row_text (SetPointer place) = codes "R= " ++ decimal place
-row_text (RotateRight digits) = codes "RCR " ++ decimal digits
-row_text (LoadDigit digit) = codes "LD@R " ++ decimal digit
-row_text (Write register) = codes "WRIT " ++ decimal register
-row_text (Read register) = codes "READ " ++ decimal register
-row_text (Constant number) = constant_text number
-row_text LoadImmediate = constant_text (number_of LoadImmediate)
-row_text Nop = codes "NOP"
-row_text WriteRom = codes "WROM"
-row_text (EnableBank First) = codes "ENBANK1"
-row_text (EnableBank Second) = codes "ENBANK2"
-row_text (EnableBank Third) = codes "ENBANK3"
-row_text (EnableBank Fourth) = codes "ENBANK4"
-row_text ClearStatusByte = codes "ST=0"
-row_text ClearKeyFlag = codes "CLRKEY"
-row_text TestKeyFlag = codes "?KEY"
-row_text DecrementPointer = codes "R=R-1"
-row_text IncrementPointer = codes "R=R+1"
-row_text ReadData = codes "READ DATA"
-row_text DropReturn = codes "XQ->GO"
-row_text PowerOff = codes "POWOFF"
-row_text (SelectPointer P) = codes "SLCT P"
-row_text (SelectPointer Q) = codes "SLCT Q"
-row_text TestPointersEqual = codes "?P=Q"
-row_text TestLowBattery = codes "?LLD"
-row_text ClearRegisters = codes "CLRABC"
-row_text GoToAddress = codes "GOTO ADR"
-row_text ReadKey = codes "C=KEY"
-row_text SetHexadecimal = codes "SETHEX"
-row_text SetDecimal = codes "SETDEC"
-row_text DisplayOff = codes "DISOFF"
-row_text ToggleDisplay = codes "DISTOG"
-row_text (ReturnIf Carry) = codes "?C RTN"
-row_text (ReturnIf NoCarry) = codes "?NC RTN"
-row_text Return = codes "RTN"
-row_text PushAddress = codes "PUSH ADR"
-row_text PopAddress = codes "POP ADR"
-row_text GoToKey = codes "GOTO KEY"
-row_text SelectRegister = codes "RAM SLCT"
-row_text WriteData = codes "WRIT DATA"
-row_text FetchWord = codes "FETCH S&X"
-row_text Or = codes "C=C OR A"
-row_text And = codes "C=C AND A"
-row_text SelectPeripheral = codes "PRPH SLCT"
-row_text (Transfer transfer) = transfer_text transfer
+row_text row = mnemonic row ++ behind (operand row)
+
+-- a jump by address, of two words
+abbrev pub address_text : ℕ → SecondWord → List ℕ
+address_text low_byte second =
+    long_jump_text second.condition second.kind ++ codes " " ++ hexadecimal_text 4 (second.high_byte * 256 + low_byte)
 
 -- a row and the word behind it, which only an instruction of two words reads
 abbrev pub instruction_text : Row → ℕ → List ℕ
-instruction_text (LongJump low_byte) second =
-    let said = second_of second in
-    long_jump_text said.condition said.kind ++ codes " " ++ hexadecimal_text 4 (said.high_byte * 256 + low_byte)
+instruction_text (LongJump low_byte) second = address_text low_byte (second_of second)
 instruction_text LoadImmediate second = codes "LDI " ++ hexadecimal_text 3 second
 instruction_text row second = row_text row

@@ -1,0 +1,8 @@
+use Rattle.std.proofs.Common.{◌≡◌, ◌++◌}
+use Rattle.std.specs.String.{string_bytes}
+use Rattle.h41_dis.specs.Spelling.{listing_text}
+use Rattle.h41_dis.proofs.lines.listing.Given as goal
+
+-- what is written and the lines of the words that are left
+abbrev pub invariant-loop-piece : goal.invariant-loop-piece
+invariant-loop-piece l = string_bytes l.text ++ listing_text l.piece-iterator.rest.now l.address ≡ listing_text l.words l.origin

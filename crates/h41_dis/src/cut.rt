@@ -1,0 +1,71 @@
+//! The instructions that words are cut into.
+
+ghost use Rattle.std.specs.Iterator.{YieldsFirst, item_count};
+ghost use Rattle.std.specs.Prelude.{◌≡◌};
+
+use h41_words::{Word, length};
+
+/// An instruction: a word, and the word behind it where it takes two.
+#[derive(Clone, Copy, Debug, PartialEq, Eq)]
+pub struct Piece {
+    /// The word that it begins with.
+    pub first: Word,
+    /// The word behind that, where the instruction takes two and the words do not end before it.
+    pub second: Option<Word>,
+}
+
+impl Piece {
+    ghost use Rattle.h41_dis.specs.Spelling.{piece_length};
+
+    /// How many words it has: 1 or 2.
+    pub fn length(&self) -> u16
+        ensures { result ≡ piece_length self.now }
+    {
+        match self.second {
+            Some(_) => 2,
+            None => 1,
+        }
+    }
+}
+
+/// The instructions that are left of words, one at a time from the front.
+#[derive(Debug, Drop)]
+pub struct Pieces<'a> {
+    /// The words from the next instruction on.
+    pub rest: &'a [Word],
+}
+
+impl<'a> Pieces<'a> {
+    /// All instructions of words.
+    pub fn new(words: &'a [Word]) -> Self
+        ensures { result.rest.now ≡ words.now }
+    {
+        Pieces { rest: words }
+    }
+}
+
+impl<'a> Iterator for Pieces<'a> {
+    ghost use Rattle.h41_dis.specs.Spelling.{pieces};
+
+    type Item = Piece;
+
+    ghost next_gives = { YieldsFirst (λ s. pieces s.rest.now) };
+
+    ghost remaining = { item_count (λ s. pieces s.rest.now) };
+
+    fn next(&mut self) -> Option<Piece> {
+        let (first, behind) = self.rest.split_first()?;
+        self.rest = behind;
+        let mut piece = Piece {
+            first: *first,
+            second: None,
+        };
+        if length(*first) == 2 {
+            if let Some((second, behind)) = behind.split_first() {
+                self.rest = behind;
+                piece.second = Some(*second);
+            }
+        }
+        Some(piece)
+    }
+}

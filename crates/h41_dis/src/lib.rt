@@ -1,0 +1,9 @@
+//! The lister: the text of the HP-41's words, an instruction a line. Mnemonics are those of HP's VASM listings.
+#![tactic(auto)]
+
+mod cut;
+mod lines;
+mod text;
+
+pub use lines::{disassemble, listing};
+pub use text::instruction;

@@ -1,0 +1,140 @@
+//! The text of one instruction.
+
+ghost use Rattle.std.specs.Prelude.{◌≡◌, ◌+◌, ◌*◌, ◌≤◌, ◌<◌, ◌++◌, ℕ, ℤ, true, length};
+ghost use Rattle.std.specs.Fmt.{decimal, digit_glyph};
+ghost use Rattle.arrayvec.specs.ArrayString.{array_string_len};
+ghost use Rattle.h41_digits.specs.Register.{hexadecimal_text};
+ghost use Rattle.h41_words.specs.Mnemonics.{address_text, behind, displacement_text, mnemonic, operand, row_text};
+ghost use Rattle.h41_dis.specs.Spelling.{piece_text};
+
+use crate::text::names::{field_name, long_jump_name, mnemonic};
+use arrayvec::ArrayString;
+use h41_words::{Displacement, Row, SecondWord, Word, row, word};
+
+mod names;
+
+/// The most bytes of an instruction's text.
+const TEXT: usize = 32;
+
+/// The text of an instruction, in upper case: its mnemonic, and its operand where it takes one. `second` is the word behind
+/// the first, which only an instruction of two words reads. `CON hhh` is a word that stands for no instruction, and one that
+/// begins an instruction of two words and has no second.
+pub fn instruction(first: Word, second: Option<Word>) -> ArrayString<TEXT>
+    ensures { result.bytes ≡ piece_text first second }
+{
+    let mut text = ArrayString::new();
+    match (row(first), second) {
+        (Row::LongJump(low_byte), Some(second)) => {
+            push_long_jump(&mut text, low_byte, SecondWord::of(second));
+        }
+        (Row::LoadImmediate, Some(second)) => {
+            text.push_str("LDI ");
+            push_word(&mut text, second);
+        }
+        (row, _) => push_row(&mut text, row),
+    }
+    text
+}
+
+/// Appends a jump by address.
+fn push_long_jump(text: &mut ArrayString<TEXT>, low_byte: u8, second: SecondWord)
+    requires { array_string_len text.old ≡ 0 }
+    ensures { text.new.bytes ≡ text.old.bytes ++ address_text low_byte second }
+{
+    text.push_str(long_jump_name(second.condition, second.kind));
+    text.push(' ');
+    push_byte(text, second.high_byte);
+    push_byte(text, low_byte);
+}
+
+/// Appends a row of one word.
+fn push_row(text: &mut ArrayString<TEXT>, row: Row)
+    requires { array_string_len text.old ≡ 0 }
+    ensures { text.new.bytes ≡ text.old.bytes ++ row_text row }
+{
+    text.push_str(mnemonic(&row));
+    push_operand(text, row);
+}
+
+#[tactic(auto, unfolding(h41_words::specs::WordTable::number_of))]
+/// Appends the operand of a row of one word, behind a blank, where it has one.
+fn push_operand(text: &mut ArrayString<TEXT>, row: Row)
+    requires { array_string_len text.old ≤ 10 }
+    ensures { text.new.bytes ≡ text.old.bytes ++ behind (operand row) }
+{
+    match row {
+        Row::Arithmetic(_, field) => {
+            text.push(' ');
+            text.push_str(field_name(field));
+        }
+        Row::ShortJump(_, displacement) => push_displacement(text, displacement),
+        Row::ClearStatus(bit) | Row::SetStatus(bit) | Row::TestStatus(bit) => {
+            push_decimal(text, bit.number());
+        }
+        Row::TestPointer(place) | Row::SetPointer(place) | Row::RotateRight(place) => {
+            push_decimal(text, place.number());
+        }
+        Row::LoadDigit(digit) => push_decimal(text, digit.number()),
+        Row::Write(register) => push_decimal(text, register.number()),
+        Row::Read(register) => push_decimal(text, register.number()),
+        Row::Constant(_) | Row::LongJump(_) | Row::LoadImmediate => {
+            text.push(' ');
+            push_word(text, word(row));
+        }
+        _ => {}
+    }
+}
+
+/// Appends a blank and a decimal number.
+fn push_decimal(text: &mut ArrayString<TEXT>, number: u8)
+    requires room { array_string_len text.old ≤ 10 }
+    requires small { number < 16 }
+    ensures { text.new.bytes ≡ text.old.bytes ++ behind (Some (decimal number)) }
+{
+    text.push(' ');
+    if number >= 10 {
+        text.push('1');
+    }
+    text.push(glyph(u16::from(number % 10)));
+}
+
+/// Appends a blank and a displacement: its sign and two hexadecimal digits.
+fn push_displacement(text: &mut ArrayString<TEXT>, displacement: Displacement)
+    requires { array_string_len text.old ≤ 10 }
+    ensures { text.new.bytes ≡ text.old.bytes ++ behind (Some (displacement_text displacement)) }
+{
+    let words = displacement.words();
+    text.push(' ');
+    text.push(if words < 0 { '-' } else { '+' });
+    push_byte(text, words.unsigned_abs());
+}
+
+/// Appends the three digits of a word.
+pub(crate) fn push_word<const N: usize>(text: &mut ArrayString<N>, word: Word)
+    requires { array_string_len text.old + 3 ≤ N }
+    ensures { text.new.bytes ≡ text.old.bytes ++ hexadecimal_text 3 word }
+{
+    let number = word.number();
+    text.push(glyph(number / 256));
+    text.push(glyph(number / 16 % 16));
+    text.push(glyph(number % 16));
+}
+
+/// Appends the two digits of a byte.
+pub(crate) fn push_byte<const N: usize>(text: &mut ArrayString<N>, byte: u8)
+    requires { array_string_len text.old + 2 ≤ N }
+    ensures { text.new.bytes ≡ text.old.bytes ++ hexadecimal_text 2 byte }
+{
+    text.push(glyph(u16::from(byte / 16)));
+    text.push(glyph(u16::from(byte % 16)));
+}
+
+/// A hexadecimal digit, in upper case.
+fn glyph(digit: u16) -> char
+    requires { digit < 16 }
+    ensures { result ≡ digit_glyph true digit }
+{
+    char::from_digit(u32::from(digit), 16)
+        .unwrap()
+        .to_ascii_uppercase()
+}

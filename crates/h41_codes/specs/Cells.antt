@@ -1,0 +1,17 @@
+-- A list kept in a fixed number of cells: those behind its end are blank.
+use Rattle.std.specs.Prelude.{◌≡◌, ℕ, ◌-◌, ◌≤◌, List, ◌++◌, take, length, replicate}
+use Rattle.std.proofs.Common.{sym, ◌∙◌, ap, length-take-le, arith}
+
+-- the cells of a list
+abbrev pub filled : {A : Type 0} → A → ℕ → List A → List A
+filled blank most items = items ++ replicate (most - length items) blank
+
+-- the cells behind the first ones are blank
+abbrev pub IsFilled : {A : Type 0} → A → ℕ → ℕ → List A → Type 0
+IsFilled blank most count cells = cells ≡ take count cells ++ replicate (most - count) blank
+
+-- cells whose first ones are a list are that list's cells
+pub filled_again : {A : Type 0} (blank : A) (most count : ℕ) (cells : List A) → count ≤ length cells
+    → IsFilled blank most count cells → filled blank most (take count cells) ≡ cells
+filled_again blank most count cells inside rest =
+    ap (λ size. take count cells ++ replicate (most - size) blank) (length-take-le count cells inside) ∙ sym rest

@@ -1,0 +1,18 @@
+//! The byte codes of HP-41 programs: lines, the bytes that spell them, and the shortest spelling of each. Codes are those
+//! of HP's byte table.
+#![tactic(auto)]
+
+mod characters;
+mod faults;
+mod functions;
+mod line;
+mod numbers;
+mod table;
+
+pub use characters::{Character, Number, Text};
+pub use faults::{BrokenProgram, BufferShort};
+pub use functions::{Branch, Function, NameFunction, ParameterFunction, RegisterFunction};
+pub use line::{Line, Operand};
+pub use numbers::{
+    Distance, EndMarks, EntryNumber, FinalMarks, Link, ModuleNumber, Parameter, ShortLabel, ShortRegister,
+};

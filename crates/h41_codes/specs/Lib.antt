@@ -1,3 +1,4 @@
+pub mod ByteGrammar
 pub mod Cells
 pub mod Codes
 pub mod Counts

@@ -17,8 +17,7 @@ pub struct Text<const MOST: usize> {
 
 impl<const MOST: usize> Model for Text<MOST> {
     ghost use Rattle.std.specs.Prelude.{◌≡◌, ◌≤◌, List, ℕ, take, length};
-    ghost use Rattle.std.proofs.Common.{arith, length-take-le};
-    ghost use Rattle.h41_codes.specs.Cells.{filled, IsFilled, filled_again};
+    ghost use Rattle.h41_codes.specs.Cells.{filled, IsFilled, filled_again, count_again};
 
     ghost Value = { List ℕ };
 
@@ -29,8 +28,8 @@ impl<const MOST: usize> Model for Text<MOST> {
     ghost inverse = { λ characters. record { cells = filled 0 MOST characters; count = length characters } };
 
     ghost inverse_ok = { λ text h i. record {
-      cells = filled_again 0 MOST text.count text.cells (omega (arith, h.0, h.1)) h.2 i;
-      count = length-take-le text.count text.cells (omega (arith, h.0, h.1)) i;
+      cells = filled_again 0 MOST text.count text.cells h.0 h.1 h.2 i;
+      count = count_again MOST text.count text.cells h.0 h.1 i;
     } };
 }
 
@@ -111,8 +110,7 @@ pub struct Number {
 
 impl Model for Number {
     ghost use Rattle.std.specs.Prelude.{◌≡◌, ◌≤◌, List, ℕ, take, length};
-    ghost use Rattle.std.proofs.Common.{arith, length-take-le};
-    ghost use Rattle.h41_codes.specs.Cells.{filled, IsFilled, filled_again};
+    ghost use Rattle.h41_codes.specs.Cells.{filled, IsFilled, filled_again, count_again};
     ghost use Rattle.h41_codes.specs.Counts.{number_most};
     ghost use Rattle.h41_codes.specs.declared.characters.Character.{Character as Sign};
     ghost use Rattle.h41_codes.specs.declared.characters.Character.TheVariants.{Zero};
@@ -126,8 +124,8 @@ impl Model for Number {
     ghost inverse = { λ characters. record { cells = filled Zero number_most characters; count = length characters } };
 
     ghost inverse_ok = { λ number h i. record {
-      cells = filled_again Zero number_most number.count number.cells (omega (arith, h.1, h.2)) h.3 i;
-      count = length-take-le number.count number.cells (omega (arith, h.1, h.2)) i;
+      cells = filled_again Zero number_most number.count number.cells h.1 h.2 h.3 i;
+      count = count_again number_most number.count number.cells h.1 h.2 i;
     } };
 }
 

@@ -3,6 +3,7 @@
 #![tactic(auto)]
 
 mod characters;
+mod encoder;
 mod faults;
 mod functions;
 mod line;
@@ -10,6 +11,7 @@ mod numbers;
 mod table;
 
 pub use characters::{Character, Number, Text};
+pub use encoder::encode;
 pub use faults::{BrokenProgram, BufferShort};
 pub use functions::{Branch, Function, NameFunction, ParameterFunction, RegisterFunction};
 pub use line::{Line, Operand};

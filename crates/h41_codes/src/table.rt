@@ -288,3 +288,34 @@ pub(crate) fn character_code(character: Character) -> u8
 {
     characters!(code_beside (character))
 }
+
+/// The code in front of the name that a function works on.
+pub(crate) fn name_function_code(function: NameFunction) -> u8
+    ensures { result ≡ spec.name_function_code function }
+{
+    match function {
+        NameFunction::GoToName => 0x1D,
+        NameFunction::ExecuteName => 0x1E,
+        NameFunction::Wordless => 0x1F,
+    }
+}
+
+/// The code of `RCL 00` or `STO 00` in one byte.
+pub(crate) fn register_function_code(function: RegisterFunction) -> u8
+    ensures { result ≡ spec.register_function_code function }
+{
+    match function {
+        RegisterFunction::RecallRegister => 0x20,
+        RegisterFunction::StoreRegister => 0x30,
+    }
+}
+
+/// The code of `GTO` or `XEQ` in three bytes, without a distance.
+pub(crate) fn branch_code(branch: Branch) -> u8
+    ensures { result ≡ spec.branch_code branch }
+{
+    match branch {
+        Branch::GoTo => 0xD0,
+        Branch::Execute => 0xE0,
+    }
+}

@@ -1,2 +1,6 @@
+pub mod Beginnings
+pub mod Broken
 pub mod Filling
+pub mod Intervals
+pub mod Reading
 pub mod Tables

@@ -1,4 +1,6 @@
 pub mod ByteGrammar
+pub mod Canon
 pub mod Cells
 pub mod Codes
 pub mod Counts
+pub mod Heads

@@ -2,7 +2,9 @@
 //! of HP's byte table.
 #![tactic(auto)]
 
+mod canonical;
 mod characters;
+mod decoder;
 mod encoder;
 mod faults;
 mod functions;
@@ -11,6 +13,8 @@ mod numbers;
 mod table;
 
 pub use characters::{Character, Number, Text};
+pub use canonical::canon;
+pub use decoder::decode;
 pub use encoder::encode;
 pub use faults::{BrokenProgram, BufferShort};
 pub use functions::{Branch, Function, NameFunction, ParameterFunction, RegisterFunction};

@@ -30,16 +30,21 @@ one_line bytes line other count size first second =
     let same : line ≡ other = sym (line_of bytes line count first) ∙ line_of bytes other size second in
     (same, sym (length_of bytes line count first) ∙ ap (λ l. length (spelling l)) same ∙ length_of bytes other size second)
 
+same_answer : {E : Type 0} (line other : Line) (count size : ℕ) → line ≡ other → count ≡ size
+    → let answer : Line → ℕ → Result (Line × ℕ) E = λ l n. Ok (l, n) in answer line count ≡ answer other size
+same_answer line other count size first second = λ i. Ok (first i, second i)
+
 -- what a reader answers is the line that the bytes begin with
 pub answers_line : {E : Type 0} (bytes : List ℕ) (result : Result (Line × ℕ) E) → IfOk result (λ found. Begins bytes found.0 found.1)
     → OnErr result (BeginsNoLine bytes) → (line : Line) (count : ℕ) → (result ≡ Ok (line, count)) ↔ Begins bytes line count
 answers_line {E} bytes (Ok found) begins broken line count =
     ((λ same. let first : found.0 ≡ line = cc in let second : found.1 ≡ count = cc in
       subst (λ (n : ℕ). Begins bytes line n) second (subst (λ (l : Line). Begins bytes l found.1) first begins)),
-     (λ other. let one = one_line bytes found.0 line found.1 count begins other in
-      ap (λ l. Ok {E = E} (l, found.1)) one.0 ∙ ap (λ n. Ok {E = E} (line, n)) one.1))
+     (λ other.
+      let one = one_line bytes found.0 line found.1 count begins other in
+      same_answer found.0 line found.1 count one.0 one.1))
 answers_line {E} bytes (Err fault) begins broken line count =
-    ((λ same. absurd (cc same)), (λ other. absurd (broken line count other.spells)))
+    ((λ same. cc), (λ other. absurd (broken line count other.spells)))
 
 -- bytes in front of which a line stands begin with it
 pub begins_by : (bytes : List ℕ) (line : Line) (count : ℕ) → count ≤ length bytes → IsLine line → spelling line ≡ take count bytes

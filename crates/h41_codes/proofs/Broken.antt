@@ -1,5 +1,6 @@
 -- What bytes must have for a line of the kind of their first byte to stand in front.
 use Rattle.std.proofs.Common.{◌≡◌, ℕ, suc, ◌+◌, ◌-◌, ◌/◌, ◌%◌, ◌<◌, ◌≤◌, Bool, true, List, [], ◌∷◌, ◌++◌, map, length, take, drop, get_or, ◌⊎◌, inl, inr, refl, sym, ◌∙◌, ap, subst, arith, length-append}
+use Rattle.std.proofs.lemmas.Bool.Decides.{leb_tells}
 use Rattle.h41_codes.specs.declared.functions.ParameterFunction.{ParameterFunction}
 use Rattle.h41_codes.specs.declared.functions.ParameterFunction.TheVariants.{Recall}
 use Rattle.h41_codes.specs.declared.functions.NameFunction.{NameFunction}
@@ -131,3 +132,36 @@ pub named_broken : (bytes : List ℕ) → LacksText (drop 1 bytes) → NamedFits
 named_broken [] lacks fits = omega (arith, fits.0)
 named_broken (first ∷ bytes) lacks fits =
     elim lacks [ inl none ↦ omega (arith, fits.0, ap length none) | inr (inl low) ↦ omega (arith, fits.1, low) | inr (inr cut) ↦ omega (arith, fits.2, cut) ]
+
+-- which of two numbers is the lower
+order : (a b : ℕ) → (a < b) ⊎ (b ≤ a)
+order a b = elim (leb_tells b a) [ inl low ↦ inr low.1 | inr high ↦ inl high.1 ]
+
+-- lines of two bytes that are cut
+pub broken_from_90 : (bytes : List ℕ) → 0x90 ≤ byte bytes 0 → byte bytes 0 < 0xAF → length bytes < 2 → BeginsNoLine bytes
+broken_from_90 bytes from below cut =
+    elim (order (byte bytes 0) 0xA0) [
+      | inl below_a0 ↦ broken_at 6 0x90 0xA0 bytes refl from below_a0 (λ need. omega arith)
+      | inr from_a0 ↦
+          elim (order (byte bytes 0) 0xA8) [
+            | inl below_a8 ↦ broken_at 7 0xA0 0xA8 bytes refl from_a0 below_a8 (λ need. omega arith)
+            | inr from_a8 ↦
+                elim (order (byte bytes 0) 0xAE) [
+                  | inl below_ae ↦ broken_at 8 0xA8 0xAE bytes refl from_a8 below_ae (λ need. omega arith)
+                  | inr from_ae ↦ broken_at 9 0xAE 0xAF bytes refl from_ae below (λ need. omega arith)
+                ]
+          ]
+    ]
+
+pub broken_from_b1 : (bytes : List ℕ) → 0xB1 ≤ byte bytes 0 → byte bytes 0 < 0xC0 → length bytes < 2 → BeginsNoLine bytes
+broken_from_b1 bytes from below cut = broken_at 11 0xB1 0xC0 bytes refl from below (λ need. omega arith)
+
+pub broken_from_ce : (bytes : List ℕ) → 0xCE ≤ byte bytes 0 → byte bytes 0 < 0xD0 → length bytes < 2 → BeginsNoLine bytes
+broken_from_ce bytes from below cut = broken_at 13 0xCE 0xD0 bytes refl from below (λ need. omega arith)
+
+-- a cut line of three bytes, and the bytes of no kind
+pub broken_from_d0 : (bytes : List ℕ) → 0xD0 ≤ byte bytes 0 → byte bytes 0 < 0xF0 → length bytes < 3 → BeginsNoLine bytes
+broken_from_d0 bytes from below cut = broken_at 14 0xD0 0xF0 bytes refl from below (λ need. omega arith)
+
+pub broken_af_b0 : (bytes : List ℕ) → 0xAF ≤ byte bytes 0 → byte bytes 0 < 0xB1 → BeginsNoLine bytes
+broken_af_b0 bytes from below = broken_at 10 0xAF 0xB1 bytes refl from below (λ need. need)

@@ -1,4 +1,5 @@
 pub mod ByteGrammar
+pub mod ByteLaws
 pub mod Canon
 pub mod Cells
 pub mod Codes

@@ -8,6 +8,7 @@ mod decoder;
 mod encoder;
 mod faults;
 mod functions;
+pub mod laws;
 mod line;
 mod numbers;
 mod table;

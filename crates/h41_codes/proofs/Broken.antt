@@ -8,6 +8,7 @@ use Rattle.h41_codes.specs.declared.functions.NameFunction.TheVariants.{GoToName
 use Rattle.h41_codes.specs.declared.line.Line.{Line}
 use Rattle.h41_codes.specs.declared.line.Line.TheVariants.{Null, LocalLabel, Number, Named, Register, Plain, WithOperand, Module, BranchIndirect, ShortGoTo, GlobalLabel, End, FinalEnd, BranchTo, Text}
 use Rattle.h41_codes.specs.Codes.{parameter_function_code, character_code, name_function_code}
+use Rattle.h41_codes.specs.Heads.{IsTwoBytes}
 use Rattle.h41_codes.specs.ByteGrammar.{spelling, mark_bits, IsLine, Spells, BeginsNoLine}
 use Rattle.h41_codes.proofs.Beginnings.{parted}
 use Rattle.h41_codes.proofs.Intervals.{edges, kind, is_interval, kind_at}
@@ -138,7 +139,7 @@ order : (a b : ℕ) → (a < b) ⊎ (b ≤ a)
 order a b = elim (leb_tells b a) [ inl low ↦ inr low.1 | inr high ↦ inl high.1 ]
 
 -- lines of two bytes that are cut
-pub broken_from_90 : (bytes : List ℕ) → 0x90 ≤ byte bytes 0 → byte bytes 0 < 0xAF → length bytes < 2 → BeginsNoLine bytes
+broken_from_90 : (bytes : List ℕ) → 0x90 ≤ byte bytes 0 → byte bytes 0 < 0xAF → length bytes < 2 → BeginsNoLine bytes
 broken_from_90 bytes from below cut =
     elim (order (byte bytes 0) 0xA0) [
       | inl below_a0 ↦ broken_at 6 0x90 0xA0 bytes refl from below_a0 (λ need. omega arith)
@@ -153,15 +154,17 @@ broken_from_90 bytes from below cut =
           ]
     ]
 
-pub broken_from_b1 : (bytes : List ℕ) → 0xB1 ≤ byte bytes 0 → byte bytes 0 < 0xC0 → length bytes < 2 → BeginsNoLine bytes
-broken_from_b1 bytes from below cut = broken_at 11 0xB1 0xC0 bytes refl from below (λ need. omega arith)
-
-pub broken_from_ce : (bytes : List ℕ) → 0xCE ≤ byte bytes 0 → byte bytes 0 < 0xD0 → length bytes < 2 → BeginsNoLine bytes
-broken_from_ce bytes from below cut = broken_at 13 0xCE 0xD0 bytes refl from below (λ need. omega arith)
+pub broken_pair : (bytes : List ℕ) → IsTwoBytes (byte bytes 0) → length bytes < 2 → BeginsNoLine bytes
+broken_pair bytes first cut =
+    elim first [
+      | inl at ↦ broken_from_90 bytes at.0 at.1 cut
+      | inr (inl at) ↦ broken_at 11 0xB1 0xC0 bytes refl at.0 at.1 (λ need. omega arith)
+      | inr (inr at) ↦ broken_at 13 0xCE 0xD0 bytes refl at.0 at.1 (λ need. omega arith)
+    ]
 
 -- a cut line of three bytes, and the bytes of no kind
-pub broken_from_d0 : (bytes : List ℕ) → 0xD0 ≤ byte bytes 0 → byte bytes 0 < 0xF0 → length bytes < 3 → BeginsNoLine bytes
-broken_from_d0 bytes from below cut = broken_at 14 0xD0 0xF0 bytes refl from below (λ need. omega arith)
+pub broken_triple : (bytes : List ℕ) → 0xD0 ≤ byte bytes 0 → byte bytes 0 < 0xF0 → length bytes < 3 → BeginsNoLine bytes
+broken_triple bytes from below cut = broken_at 14 0xD0 0xF0 bytes refl from below (λ need. omega arith)
 
 pub broken_af_b0 : (bytes : List ℕ) → 0xAF ≤ byte bytes 0 → byte bytes 0 < 0xB1 → BeginsNoLine bytes
 broken_af_b0 bytes from below = broken_at 10 0xAF 0xB1 bytes refl from below (λ need. need)

@@ -40,21 +40,9 @@ fn front(bytes: &[u8]) -> Result<(Line, usize), BrokenProgram>
         0x00..=0x0F | 0x20..=0x8F => Ok((one_byte(first), 1)),
         0x10..=0x1C => Ok(number(bytes)),
         0x1D..=0x1F => named(bytes),
-        0x90..=0xAE | 0xB1..=0xBF | 0xCE | 0xCF => {
-            if bytes.len() < 2 {
-                Err(BrokenProgram)
-            } else {
-                Ok((two_bytes(first, bytes[1]), 2))
-            }
-        }
+        0x90..=0xAE | 0xB1..=0xBF | 0xCE | 0xCF => pair(bytes),
         0xC0..=0xCD => linked(bytes),
-        0xD0..=0xEF => {
-            if bytes.len() < 3 {
-                Err(BrokenProgram)
-            } else {
-                Ok((branch(first, bytes[1], bytes[2]), 3))
-            }
-        }
+        0xD0..=0xEF => triple(bytes),
         0xF0..=0xFF => text(bytes),
         0xAF | 0xB0 => Err(BrokenProgram),
     }
@@ -73,6 +61,32 @@ fn one_byte(first: u8) -> Line
         0x30..=0x3F => Line::Register(RegisterFunction::StoreRegister, ShortRegister::new(first - 0x30)),
         _ => Line::Plain(function(first)),
     }
+}
+
+/// The line of two bytes that bytes begin with.
+fn pair(bytes: &[u8]) -> Result<(Line, usize), BrokenProgram>
+    requires some { 0 < length bytes.now }
+    requires first { IsTwoBytes (slice_index bytes.now 0) }
+    ensures line { IfOk result (λ found. Begins bytes.now found.0 found.1) }
+    ensures broken { OnErr result (BeginsNoLine bytes.now) }
+{
+    if bytes.len() < 2 {
+        return Err(BrokenProgram);
+    }
+    Ok((two_bytes(bytes[0], bytes[1]), 2))
+}
+
+/// The GTO or XEQ of three bytes that bytes begin with.
+fn triple(bytes: &[u8]) -> Result<(Line, usize), BrokenProgram>
+    requires some { 0 < length bytes.now }
+    requires first { IsIn 0xD0 0xF0 (slice_index bytes.now 0) }
+    ensures line { IfOk result (λ found. Begins bytes.now found.0 found.1) }
+    ensures broken { OnErr result (BeginsNoLine bytes.now) }
+{
+    if bytes.len() < 3 {
+        return Err(BrokenProgram);
+    }
+    Ok((branch(bytes[0], bytes[1], bytes[2]), 3))
 }
 
 /// The line of two bytes.

@@ -1,5 +1,5 @@
 -- Bytes begin with one line at most, and how a line at the front is shown.
-use Rattle.std.proofs.Common.{◌≡◌, ℕ, suc, zero, ◌+◌, ◌-◌, ◌*◌, ◌/◌, ◌%◌, ◌<◌, ◌≤◌, ◌↔◌, set, add-one, List, [], ◌∷◌, ◌++◌, map, length, take, drop, get_or, refl, sym, ◌∙◌, ap, subst, arith, Result, Ok, Err, IfOk, OnErr, IsErr, length-append, length-take-le, take-append-drop}
+use Rattle.std.proofs.Common.{◌≡◌, ℕ, suc, zero, ◌+◌, ◌-◌, ◌*◌, ◌<◌, ◌≤◌, ◌↔◌, set, add-one, List, [], ◌∷◌, ◌++◌, map, length, take, drop, get_or, refl, sym, ◌∙◌, ap, subst, arith, Result, Ok, Err, IfOk, OnErr, IsErr, length-append, length-take-le, take-append-drop}
 use Rattle.std.proofs.lemmas.Bool.{false≢true}
 use Rattle.std.proofs.lemmas.List.{take_at}
 use Rattle.std.proofs.Math.Seq.{drop-append_seam, take-suc, take-suc-set}
@@ -37,12 +37,13 @@ same_answer line other count size first second = λ i. Ok (first i, second i)
 -- what a reader answers is the line that the bytes begin with
 pub answers_line : {E : Type 0} (bytes : List ℕ) (result : Result (Line × ℕ) E) → IfOk result (λ found. Begins bytes found.0 found.1)
     → OnErr result (BeginsNoLine bytes) → (line : Line) (count : ℕ) → (result ≡ Ok (line, count)) ↔ Begins bytes line count
-answers_line {E} bytes (Ok found) begins broken line count =
-    ((λ same. let first : found.0 ≡ line = cc in let second : found.1 ≡ count = cc in
+answers_line {E} bytes (Ok found) begins broken line count = (
+  (λ same. let first : found.0 ≡ line = cc in let second : found.1 ≡ count = cc in
       subst (λ (n : ℕ). Begins bytes line n) second (subst (λ (l : Line). Begins bytes l found.1) first begins)),
-     (λ other.
+  (λ other.
       let one = one_line bytes found.0 line found.1 count begins other in
-      same_answer found.0 line found.1 count one.0 one.1))
+      same_answer found.0 line found.1 count one.0 one.1),
+)
 answers_line {E} bytes (Err fault) begins broken line count =
     ((λ same. cc), (λ other. absurd (broken line count other.spells)))
 
@@ -55,10 +56,10 @@ begins_by bytes line count inside valid same whole =
 -- a line's bytes, whatever follows
 pub begins_spelled : (line : Line) (rest : List ℕ) → IsLine line → IsWhole line rest → Begins (spelling line ++ rest) line (length (spelling line))
 begins_spelled line rest valid whole = record {
-    inside = omega (arith, length-append (spelling line) rest);
-    spells = record { valid = valid; same = take_at (spelling line) rest (length (spelling line)) refl };
-    whole = subst (λ (bytes : List ℕ). IsWhole line bytes) (sym (drop-append_seam (spelling line) rest)) whole;
-  }
+  inside = omega (arith, length-append (spelling line) rest);
+  spells = record { valid = valid; same = take_at (spelling line) rest (length (spelling line)) refl };
+  whole = subst (λ (bytes : List ℕ). IsWhole line bytes) (sym (drop-append_seam (spelling line) rest)) whole;
+}
 
 -- the first bytes
 pub take_one : (bytes : List ℕ) → 0 < length bytes → take 1 bytes ≡ get_or bytes 0 0 ∷ []

@@ -1,15 +1,13 @@
 -- What bytes must have for a line of the kind of their first byte to stand in front.
-use Rattle.std.proofs.Common.{◌≡◌, ℕ, suc, ◌+◌, ◌-◌, ◌/◌, ◌%◌, ◌<◌, ◌≤◌, Bool, true, List, [], ◌∷◌, ◌++◌, map, length, take, drop, get_or, ◌⊎◌, inl, inr, refl, sym, ◌∙◌, ap, subst, arith, length-append}
+use Rattle.std.proofs.Common.{◌≡◌, ℕ, ◌+◌, ◌/◌, ◌<◌, ◌≤◌, true, List, [], ◌∷◌, ◌++◌, length, drop, get_or, ◌⊎◌, inl, inr, refl, sym, ap, subst, arith, length-append}
 use Rattle.std.proofs.lemmas.Bool.Decides.{leb_tells}
 use Rattle.h41_codes.specs.declared.functions.ParameterFunction.{ParameterFunction}
 use Rattle.h41_codes.specs.declared.functions.ParameterFunction.TheVariants.{Recall}
-use Rattle.h41_codes.specs.declared.functions.NameFunction.{NameFunction}
-use Rattle.h41_codes.specs.declared.functions.NameFunction.TheVariants.{GoToName}
 use Rattle.h41_codes.specs.declared.line.Line.{Line}
 use Rattle.h41_codes.specs.declared.line.Line.TheVariants.{Null, LocalLabel, Number, Named, Register, Plain, WithOperand, Module, BranchIndirect, ShortGoTo, GlobalLabel, End, FinalEnd, BranchTo, Text}
-use Rattle.h41_codes.specs.Codes.{parameter_function_code, character_code, name_function_code}
+use Rattle.h41_codes.specs.Codes.{parameter_function_code}
 use Rattle.h41_codes.specs.Heads.{IsTwoBytes}
-use Rattle.h41_codes.specs.ByteGrammar.{spelling, mark_bits, IsLine, Spells, BeginsNoLine}
+use Rattle.h41_codes.specs.ByteGrammar.{spelling, IsLine, BeginsNoLine}
 use Rattle.h41_codes.proofs.Beginnings.{parted}
 use Rattle.h41_codes.proofs.Intervals.{edges, kind, is_interval, kind_at}
 use Rattle.h41_codes.proofs.Reading.{byte, name_function_range, branch_range, register_range}

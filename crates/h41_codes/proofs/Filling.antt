@@ -1,8 +1,8 @@
 -- Cells that are filled one after another.
-use Rattle.std.proofs.Common.{◌≡◌, ℕ, suc, ◌+◌, ◌-◌, ◌<◌, ◌≤◌, List, [], ◌∷◌, ◌++◌, take, length, get_or, set, replicate, refl, sym, ◌∙◌, ap, subst, append_assoc, add-one, length-take-le, arith}
+use Rattle.std.proofs.Common.{◌≡◌, ℕ, suc, ◌+◌, ◌-◌, ◌<◌, ◌≤◌, List, [], ◌∷◌, ◌++◌, take, length, get_or, set, replicate, sym, ◌∙◌, ap, append_assoc, add-one, length-take-le, arith}
 use Rattle.std.proofs.Math.Seq.{take-suc, set-append_seam}
 use Rattle.std.proofs.lemmas.List.{take_at, take_all, length-append, length-replicate}
-use Rattle.h41_codes.specs.Cells.{filled, IsFilled}
+use Rattle.h41_codes.specs.Cells.{IsFilled}
 
 -- cells of which the first n are those of a list
 abbrev pub filling : {A : Type 0} → A → ℕ → List A → ℕ → List A
@@ -32,7 +32,8 @@ fill_all blank most items room =
     let blanks = replicate (most - n) blank in
     let whole : take n items ≡ items = take_all n items (omega arith) in
     let size : length (take n items) ≡ n = ap length whole in
-    let front : take n (take n items ++ blanks) ≡ take n items = take_at (take n items) blanks n size in
-    (front ∙ whole,
-     length-append (take n items) blanks ∙ omega (arith, size, length-replicate (most - n) blank),
-     ap (λ xs. xs ++ blanks) (sym front))
+    let front : take n (take n items ++ blanks) ≡ take n items = take_at (take n items) blanks n size in (
+      front ∙ whole,
+      length-append (take n items) blanks ∙ omega (arith, size, length-replicate (most - n) blank),
+      ap (λ xs. xs ++ blanks) (sym front),
+    )

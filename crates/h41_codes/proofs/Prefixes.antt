@@ -1,16 +1,15 @@
 -- Laws of the byte grammar, and of the shortest spelling.
-use Rattle.std.proofs.Common.{◌≡◌, ℕ, ◌<◌, ◌≤◌, Bool, true, false, List, [], ◌∷◌, ◌++◌, length, nat_lt, cond, refl, sym, ◌∙◌, ap, subst, arith}
-use Rattle.std.proofs.lemmas.Bool.{cond_both, cond-true, cond-false, ltb-true}
+use Rattle.std.proofs.Common.{◌≡◌, ℕ, ◌<◌, ◌≤◌, List, [], ◌++◌, length, nat_lt, refl, sym, ◌∙◌, ap, arith}
+use Rattle.std.proofs.lemmas.Bool.{cond_both, cond-false, ltb-true}
 use Rattle.std.proofs.lemmas.List.{append_cancel_left, append-nil}
 use Rattle.h41_codes.specs.declared.functions.Branch.{Branch}
 use Rattle.h41_codes.specs.declared.functions.Branch.TheVariants.{GoTo, Execute}
 use Rattle.h41_codes.specs.declared.functions.ParameterFunction.{ParameterFunction}
 use Rattle.h41_codes.specs.declared.functions.ParameterFunction.TheVariants.{Recall, Store, Label}
-use Rattle.h41_codes.specs.declared.functions.RegisterFunction.TheVariants.{RecallRegister, StoreRegister}
 use Rattle.h41_codes.specs.declared.line.Operand.{Operand}
-use Rattle.h41_codes.specs.declared.line.Operand.TheVariants.{Direct, Indirect}
+use Rattle.h41_codes.specs.declared.line.Operand.TheVariants.{Direct}
 use Rattle.h41_codes.specs.declared.line.Line.{Line}
-use Rattle.h41_codes.specs.declared.line.Line.TheVariants.{Null, LocalLabel, Number, Register, WithOperand, ShortGoTo, GlobalLabel, End, FinalEnd, BranchTo}
+use Rattle.h41_codes.specs.declared.line.Line.TheVariants.{Null, Number, WithOperand, ShortGoTo, GlobalLabel, End, FinalEnd, BranchTo}
 use Rattle.h41_codes.specs.ByteGrammar.{spelling, IsLine, IsWhole}
 use Rattle.h41_codes.specs.ByteLaws.{IsNumber, NoPrefix, CanonicalIsLine, CanonicalIsShortest, CanonicalOnce}
 use Rattle.h41_codes.specs.Canon.{canonical, shortest_function, shortest_branch}

@@ -1,5 +1,5 @@
 -- Bytes that spell a line say which: reading them by their first byte gives the line again, whatever follows.
-use Rattle.std.proofs.Common.{◌≡◌, ℕ, zero, suc, ◌+◌, ◌-◌, ◌*◌, ◌/◌, ◌%◌, ◌<◌, ◌≤◌, Bool, true, false, ◌&&◌, ◌==◌, List, [], ◌∷◌, ◌++◌, map, length, take, drop, get_or, leb, if◌then◌else◌, refl, sym, ◌∙◌, ap, subst, arith, inl, inr}
+use Rattle.std.proofs.Common.{◌≡◌, ℕ, zero, suc, ◌+◌, ◌-◌, ◌*◌, ◌/◌, ◌%◌, ◌<◌, ◌≤◌, Bool, true, false, ◌&&◌, ◌==◌, List, [], ◌∷◌, ◌++◌, map, length, take, drop, get_or, leb, if◌then◌else◌, refl, ◌∙◌, ap, arith, inl, inr}
 use Rattle.std.proofs.lemmas.Bool.{le-leb, lt-leb, cond-true, cond-false, eq-eqb, ne_eqb}
 use Rattle.std.proofs.lemmas.Bool.Decides.{leb_tells}
 use Rattle.std.proofs.lemmas.List.{take_at}
@@ -17,8 +17,8 @@ use Rattle.h41_codes.specs.declared.line.Operand.{Operand}
 use Rattle.h41_codes.specs.declared.line.Operand.TheVariants.{Direct, Indirect}
 use Rattle.h41_codes.specs.declared.line.Line.{Line}
 use Rattle.h41_codes.specs.declared.line.Line.TheVariants.{Null, LocalLabel, Number, Named, Register, Plain, WithOperand, Module, BranchIndirect, ShortGoTo, GlobalLabel, End, FinalEnd, BranchTo, Text}
-use Rattle.h41_codes.specs.Codes.{function_code, parameter_function_code, register_function_code, name_function_code, character_code, branch_code}
-use Rattle.h41_codes.specs.ByteGrammar.{spelling, text_bytes, operand_byte, indirect_byte, mark_bits, label_byte, IsLine, IsOperand, IsWhole, GoesOn}
+use Rattle.h41_codes.specs.Codes.{parameter_function_code, register_function_code, name_function_code, character_code, branch_code}
+use Rattle.h41_codes.specs.ByteGrammar.{spelling, operand_byte, indirect_byte, mark_bits, label_byte, IsLine, IsOperand, IsWhole, GoesOn}
 use Rattle.h41_codes.proofs.Intervals.{edges, kind, is_interval, kind_at}
 use Rattle.h41_codes.proofs.Tables.{function_at, function_again, function_range, parameter_function_at, parameter_function_again, character_at, character_again, character_range}
 

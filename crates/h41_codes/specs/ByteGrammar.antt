@@ -1,6 +1,5 @@
 -- The byte grammar: which bytes spell which line, family after family of HP's byte table.
-use Rattle.std.specs.Prelude.{◌≡◌, ℕ, ◌+◌, ◌*◌, ◌/◌, ◌%◌, ◌<◌, ◌≤◌, Bool, List, [], ◌∷◌, ◌++◌, map, length, take, drop, if◌then◌else◌, All}
-use Rattle.h41_codes.specs.declared.characters.Character.{Character}
+use Rattle.std.specs.Prelude.{◌≡◌, ℕ, ◌+◌, ◌*◌, ◌/◌, ◌%◌, ◌<◌, ◌≤◌, Bool, List, [], ◌∷◌, map, length, take, drop, if◌then◌else◌}
 use Rattle.h41_codes.specs.declared.functions.Branch.{Branch}
 use Rattle.h41_codes.specs.declared.functions.Branch.TheVariants.{GoTo, Execute}
 use Rattle.h41_codes.specs.declared.line.Operand.{Operand}

@@ -1,5 +1,5 @@
 -- Which first bytes lines of one and of two bytes have.
-use Rattle.std.specs.Prelude.{◌≡◌, ℕ, ◌<◌, ◌≤◌, ◌⊎◌}
+use Rattle.std.specs.Prelude.{ℕ, ◌<◌, ◌≤◌, ◌⊎◌}
 
 -- a number from the first on and below the second
 abbrev pub IsIn : ℕ → ℕ → ℕ → Type 0

@@ -51,7 +51,9 @@ fn short_direct(function: ParameterFunction, parameter: Parameter) -> Line
         ParameterFunction::Store if number < SHORT_REGISTERS => {
             Line::Register(RegisterFunction::StoreRegister, ShortRegister::new(number))
         }
-        ParameterFunction::Label if number < SHORT_LABELS => Line::LocalLabel(ShortLabel::new(number)),
+        ParameterFunction::Label if number < SHORT_LABELS => Line::LocalLabel(ShortLabel::new(
+            number,
+        )),
         _ => Line::WithOperand(function, Operand::Direct(parameter)),
     }
 }

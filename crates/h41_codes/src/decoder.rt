@@ -11,7 +11,8 @@ use crate::faults::BrokenProgram;
 use crate::functions::{Branch, NameFunction, RegisterFunction};
 use crate::line::{Line, Operand};
 use crate::numbers::{
-    Distance, EndMarks, EntryNumber, FinalMarks, Link, ModuleNumber, Parameter, ShortLabel, ShortRegister,
+    Distance, EndMarks, EntryNumber, FinalMarks, Link, ModuleNumber, Parameter, ShortLabel,
+    ShortRegister,
 };
 use crate::table::{character, function, parameter_function};
 
@@ -57,8 +58,14 @@ fn one_byte(first: u8) -> Line
     match first {
         0x00 => Line::Null,
         0x01..=0x0F => Line::LocalLabel(ShortLabel::new(first - 0x01)),
-        0x20..=0x2F => Line::Register(RegisterFunction::RecallRegister, ShortRegister::new(first - 0x20)),
-        0x30..=0x3F => Line::Register(RegisterFunction::StoreRegister, ShortRegister::new(first - 0x30)),
+        0x20..=0x2F => Line::Register(
+            RegisterFunction::RecallRegister,
+            ShortRegister::new(first - 0x20),
+        ),
+        0x30..=0x3F => Line::Register(
+            RegisterFunction::StoreRegister,
+            ShortRegister::new(first - 0x30),
+        ),
         _ => Line::Plain(function(first)),
     }
 }
@@ -145,7 +152,12 @@ fn branch(first: u8, second: u8, third: u8) -> Line
         Branch::Execute
     };
     let distance = Distance::new(u16::from(first % 16) * 256 + u16::from(second));
-    Line::BranchTo(branch, distance, third >= 0x80, Parameter::new(third % 0x80))
+    Line::BranchTo(
+        branch,
+        distance,
+        third >= 0x80,
+        Parameter::new(third % 0x80),
+    )
 }
 
 /// The number that bytes begin with, and how many characters it has.

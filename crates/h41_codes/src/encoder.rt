@@ -13,7 +13,8 @@ use crate::functions::Branch;
 use crate::line::{Line, Operand};
 use crate::numbers::{Distance, EntryNumber, ModuleNumber, Parameter};
 use crate::table::{
-    branch_code, character_code, function_code, name_function_code, parameter_function_code, register_function_code,
+    branch_code, character_code, function_code, name_function_code, parameter_function_code,
+    register_function_code,
 };
 use arrayvec::ArrayVec;
 
@@ -48,10 +49,18 @@ fn bytes_of(line: Line) -> Bytes
         Line::Null => one(0x00),
         Line::LocalLabel(label) => one(0x01 + label.number()),
         Line::Number(number) => number_bytes(number.characters()),
-        Line::Named(function, name) => with_text(one(name_function_code(function)), name.characters()),
-        Line::Register(function, register) => one(register_function_code(function) + register.number()),
+        Line::Named(function, name) => with_text(
+            one(name_function_code(function)),
+            name.characters(),
+        ),
+        Line::Register(function, register) => one(
+            register_function_code(function) + register.number(),
+        ),
         Line::Plain(function) => one(function_code(function)),
-        Line::WithOperand(function, operand) => two(parameter_function_code(function), operand_byte(operand)),
+        Line::WithOperand(function, operand) => two(
+            parameter_function_code(function),
+            operand_byte(operand),
+        ),
         Line::Module(number, entry) => module_bytes(number, entry),
         Line::BranchIndirect(branch, register) => two(0xAE, indirect_byte(branch, register)),
         Line::ShortGoTo(label, distance) => two(0xB1 + label.number(), distance),
@@ -82,7 +91,11 @@ fn branch_bytes(branch: Branch, distance: Distance, backwards: bool, label: Para
     let bits = distance.number();
     let number = label.number();
     let last = if backwards { 0x80 + number } else { number };
-    three(branch_code(branch) + (bits / 256) as u8, (bits % 256) as u8, last)
+    three(
+        branch_code(branch) + (bits / 256) as u8,
+        (bits % 256) as u8,
+        last,
+    )
 }
 
 /// One byte.

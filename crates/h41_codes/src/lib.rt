@@ -13,13 +13,14 @@ mod line;
 mod numbers;
 mod table;
 
-pub use characters::{Character, Number, Text};
 pub use canonical::canon;
+pub use characters::{Character, Number, Text};
 pub use decoder::decode;
 pub use encoder::encode;
 pub use faults::{BrokenProgram, BufferShort};
 pub use functions::{Branch, Function, NameFunction, ParameterFunction, RegisterFunction};
 pub use line::{Line, Operand};
 pub use numbers::{
-    Distance, EndMarks, EntryNumber, FinalMarks, Link, ModuleNumber, Parameter, ShortLabel, ShortRegister,
+    Distance, EndMarks, EntryNumber, FinalMarks, Link, ModuleNumber, Parameter, ShortLabel,
+    ShortRegister,
 };

@@ -2,7 +2,8 @@
 use crate::characters::{Number, Text};
 use crate::functions::{Branch, Function, NameFunction, ParameterFunction, RegisterFunction};
 use crate::numbers::{
-    Distance, EndMarks, EntryNumber, FinalMarks, Link, ModuleNumber, Parameter, ShortLabel, ShortRegister,
+    Distance, EndMarks, EntryNumber, FinalMarks, Link, ModuleNumber, Parameter, ShortLabel,
+    ShortRegister,
 };
 
 /// What a function works on: its parameter itself, or the one whose number a register holds.

@@ -255,7 +255,7 @@ fn function_from_80(code: u8) -> Function
 pub(crate) fn function_code(function: Function) -> u8
     ensures { result ≡ spec.function_code function }
 {
-    functions!(code_beside (function))
+    functions!(code_beside(function))
 }
 
 /// The function with a parameter of a code, 90 to 9F, A8 to AD, CE or CF.
@@ -270,7 +270,7 @@ pub(crate) fn parameter_function(code: u8) -> ParameterFunction
 pub(crate) fn parameter_function_code(function: ParameterFunction) -> u8
     ensures { result ≡ spec.parameter_function_code function }
 {
-    parameter_functions!(code_beside (function))
+    parameter_functions!(code_beside(function))
 }
 
 /// The character of a number of a code, 10 to 1C.
@@ -286,7 +286,7 @@ pub(crate) fn character(code: u8) -> Character
 pub(crate) fn character_code(character: Character) -> u8
     ensures { result ≡ spec.character_code character }
 {
-    characters!(code_beside (character))
+    characters!(code_beside(character))
 }
 
 /// The code in front of the name that a function works on.

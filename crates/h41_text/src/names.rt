@@ -139,7 +139,7 @@ pub(crate) fn function_name(function: Function) -> &'static str
     ensures text { result.now ≡ spec.function_name function }
     ensures bound { length result.now ≤ 6 }
 {
-    functions!(text_beside (function))
+    functions!(text_beside(function))
 }
 
 /// The name of a function with a parameter, up to 6 characters.
@@ -147,7 +147,7 @@ pub(crate) fn parameter_function_name(function: ParameterFunction) -> &'static s
     ensures text { result.now ≡ spec.parameter_function_name function }
     ensures bound { length result.now ≤ 6 }
 {
-    parameter_functions!(text_beside (function))
+    parameter_functions!(text_beside(function))
 }
 
 /// The name of a function on one of the first registers.

@@ -8,8 +8,8 @@ ghost use Rattle.h41_text.specs.LineText.{line_text, two_digits, ◌&◌, quoted
 ghost use Rattle.h41_text.specs.LineText as spec;
 
 use crate::names::{
-    branch_name, character_text, function_name, high_parameter, name_function_name, parameter_function_name,
-    register_function_name,
+    branch_name, character_text, function_name, high_parameter, name_function_name,
+    parameter_function_name, register_function_name,
 };
 use arrayvec::ArrayString;
 use h41_codes::{Character, EntryNumber, Line, ModuleNumber, Operand};
@@ -33,7 +33,10 @@ pub fn write_line(line: Line) -> ArrayString<64>
             numbered(register_function_name(function), register.number())
         }
         Line::Plain(function) => alone(function_name(function)),
-        Line::WithOperand(function, operand) => with_operand(parameter_function_name(function), operand),
+        Line::WithOperand(function, operand) => with_operand(
+            parameter_function_name(function),
+            operand,
+        ),
         Line::Module(number, entry) => module(number, entry),
         Line::BranchIndirect(branch, register) => {
             with_operand(branch_name(branch), Operand::Indirect(register))
@@ -42,7 +45,10 @@ pub fn write_line(line: Line) -> ArrayString<64>
         Line::GlobalLabel(_, _, name) => named("LBL", name.characters()),
         Line::End(_, _) => alone("END"),
         Line::FinalEnd(_, _) => alone(".END."),
-        Line::BranchTo(branch, _, _, label) => with_operand(branch_name(branch), Operand::Direct(label)),
+        Line::BranchTo(branch, _, _, label) => with_operand(
+            branch_name(branch),
+            Operand::Direct(label),
+        ),
         Line::Text(text) => alpha(text.characters()),
     }
 }
@@ -219,5 +225,9 @@ fn glyph(digit: u8) -> u8
     ensures value { result ≡ digit_glyph true digit }
     ensures ascii { result < 128 }
 {
-    if digit < 10 { b'0' + digit } else { b'A' + digit - 10 }
+    if digit < 10 {
+        b'0' + digit
+    } else {
+        b'A' + digit - 10
+    }
 }

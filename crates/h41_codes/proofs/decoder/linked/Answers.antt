@@ -12,11 +12,11 @@ pub returns-then-end-lt4-clause-broken : goal.returns-then-end-lt4-clause-broken
 returns-then-end-lt4-clause-broken c =
     broken_at 12 0xC0 0xCE c.args.bytes.now refl c.requires.first.0 c.requires.first.1
     (λ fits.
-      let label = fits.1 (omega arith) in
-      elim c.then-end-lt4.branch [
-        | then-end-lt4-via-then-end-lt4 w ↦ omega (arith, label.0)
-        | then-end-lt4-via-else-end-lt4+then-end-bytes w ↦ omega (arith, label.1)
-      ])
+    let label = fits.1 (omega arith) in
+    elim c.then-end-lt4.branch [
+      | then-end-lt4-via-then-end-lt4 w ↦ omega (arith, label.0)
+      | then-end-lt4-via-else-end-lt4+then-end-bytes w ↦ omega (arith, label.1)
+    ])
 
 pub returns-clause-line : goal.returns-clause-line
 returns-clause-line c =

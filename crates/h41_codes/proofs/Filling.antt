@@ -1,0 +1,39 @@
+-- Cells that are filled one after another.
+use Rattle.std.proofs.Common.{◌≡◌, ℕ, suc, ◌+◌, ◌-◌, ◌<◌, ◌≤◌, List, [], ◌∷◌, ◌++◌, take, length, get_or, set, replicate, sym, ◌∙◌, ap, append_assoc, add-one, length-take-le, arith}
+use Rattle.std.proofs.Math.Seq.{take-suc, set-append_seam}
+use Rattle.std.proofs.lemmas.List.{take_at, take_all, length-append, length-replicate}
+use Rattle.h41_codes.specs.Cells.{IsFilled}
+
+-- cells of which the first n are those of a list
+abbrev pub filling : {A : Type 0} → A → ℕ → List A → ℕ → List A
+filling blank most items n = take n items ++ replicate (most - n) blank
+
+-- the next one written
+pub fill_next : {A : Type 0} (blank other : A) (most : ℕ) (items : List A) (n : ℕ) → n < length items → length items ≤ most
+    → set (filling blank most items n) n (get_or items n other) ≡ filling blank most items (n + 1)
+fill_next {A} blank other most items n inside room =
+    let x = get_or items n other in
+    let size : length (take n items) ≡ n = length-take-le n items (omega arith) in
+    let more : most - n ≡ suc (most - (n + 1)) = omega arith in
+    let rest = replicate (most - (n + 1)) blank in
+    ap (λ k. set (take n items ++ replicate k blank) n x) more
+    ∙ ap (λ k. set (take n items ++ blank ∷ rest) k x) (sym size)
+    ∙ set-append_seam (take n items) blank rest x
+    ∙ sym (append_assoc (take n items) (x ∷ []) rest)
+    ∙ ap (λ front. front ++ rest) (sym (take-suc items n other inside) ∙ ap (λ k. take k items) (sym (add-one n)))
+
+-- all of them written
+pub fill_all : {A : Type 0} (blank : A) (most : ℕ) (items : List A) → length items ≤ most
+    → (take (length items) (filling blank most items (length items)) ≡ items)
+    × (length (filling blank most items (length items)) ≡ most)
+    × IsFilled blank most (length items) (filling blank most items (length items))
+fill_all blank most items room =
+    let n = length items in
+    let blanks = replicate (most - n) blank in
+    let whole : take n items ≡ items = take_all n items (omega arith) in
+    let size : length (take n items) ≡ n = ap length whole in
+    let front : take n (take n items ++ blanks) ≡ take n items = take_at (take n items) blanks n size in (
+      front ∙ whole,
+      length-append (take n items) blanks ∙ omega (arith, size, length-replicate (most - n) blank),
+      ap (λ xs. xs ++ blanks) (sym front),
+    )

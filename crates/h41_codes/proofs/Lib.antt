@@ -1,0 +1,7 @@
+pub mod Beginnings
+pub mod Broken
+pub mod Filling
+pub mod Intervals
+pub mod Prefixes
+pub mod Reading
+pub mod Tables

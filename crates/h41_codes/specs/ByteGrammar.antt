@@ -1,0 +1,121 @@
+-- The byte grammar: which bytes spell which line, family after family of HP's byte table.
+use Rattle.std.specs.Prelude.{◌≡◌, ℕ, ◌+◌, ◌*◌, ◌/◌, ◌%◌, ◌<◌, ◌≤◌, Bool, List, [], ◌∷◌, map, length, take, drop, if◌then◌else◌}
+use Rattle.h41_codes.specs.declared.functions.Branch.{Branch}
+use Rattle.h41_codes.specs.declared.functions.Branch.TheVariants.{GoTo, Execute}
+use Rattle.h41_codes.specs.declared.line.Operand.{Operand}
+use Rattle.h41_codes.specs.declared.line.Operand.TheVariants.{Direct, Indirect}
+use Rattle.h41_codes.specs.declared.line.Line.{Line}
+use Rattle.h41_codes.specs.declared.line.Line.TheVariants.{Null, LocalLabel, Number, Named, Register, Plain, WithOperand, Module, BranchIndirect, ShortGoTo, GlobalLabel, End, FinalEnd, BranchTo, Text}
+use Rattle.h41_codes.specs.Codes.{function_code, parameter_function_code, register_function_code, name_function_code, character_code, branch_code}
+use Rattle.h41_codes.specs.Counts.{parameter_count, short_label_count, short_register_count, module_count, entry_count, distance_count, link_count, end_mark_count, final_mark_count, text_most, name_most, number_most}
+
+-- a text: F0 to FF, whose low four bits count its characters, and these
+abbrev pub text_bytes : List ℕ → List ℕ
+text_bytes characters = (0xF0 + length characters) ∷ characters
+
+-- the byte of an operand: the parameter, and bit 7 where it is indirect
+abbrev pub operand_byte : Operand → ℕ
+operand_byte (Direct parameter) = parameter
+operand_byte (Indirect parameter) = 0x80 + parameter
+
+-- the byte of the register that holds a label: bit 7 where it is executed
+abbrev pub indirect_byte : Branch → ℕ → ℕ
+indirect_byte GoTo register = register
+indirect_byte Execute register = 0x80 + register
+
+-- the first two bytes of a global label, an END and .END.: C0 to CD with the link
+abbrev pub link_high : ℕ → ℕ
+link_high link = 0xC0 + link / 256
+
+abbrev pub link_low : ℕ → ℕ
+link_low link = link % 256
+
+-- the marks of an END: bits 7 and 6, and bits 4 to 0
+abbrev pub mark_bits : ℕ → ℕ
+mark_bits marks = marks / 32 * 64 + marks % 32
+
+-- the last byte of a branch: the label, and bit 7 where it leads backwards
+abbrev pub label_byte : Bool → ℕ → ℕ
+label_byte backwards label = if backwards then 0x80 + label else label
+
+-- the bytes of a line
+abbrev pub spelling : Line → List ℕ
+-- 00: the null
+spelling Null = 0x00 ∷ []
+-- 01 to 0F: LBL 00 to LBL 14
+spelling (LocalLabel label) = (0x01 + label) ∷ []
+-- 10 to 1C, one to 16 of them: a number
+spelling (Number characters) = map character_code characters
+-- 1D, 1E, 1F and a text: GTO, XEQ and W of a name
+spelling (Named function name) = name_function_code function ∷ text_bytes name
+-- 20 to 2F: RCL 00 to RCL 15; 30 to 3F: STO 00 to STO 15
+spelling (Register function register) = (register_function_code function + register) ∷ []
+-- 40 to 8F: functions of one byte
+spelling (Plain function) = function_code function ∷ []
+-- 90 to 9F, A8 to AD, CE and CF, and an operand: functions with a parameter
+spelling (WithOperand function operand) = parameter_function_code function ∷ operand_byte operand ∷ []
+-- A0 to A7 and a byte: XROM, five bits for the module and six for its function
+spelling (Module number entry) = (0xA0 + number / 4) ∷ (number % 4 * 64 + entry) ∷ []
+-- AE and a register: GTO IND, or XEQ IND where bit 7 is set
+spelling (BranchIndirect branch register) = 0xAE ∷ indirect_byte branch register ∷ []
+-- B1 to BF and a byte for the distance: GTO 00 to GTO 14
+spelling (ShortGoTo label distance) = (0xB1 + label) ∷ distance ∷ []
+-- C0 to CD, the link, and F1 to FF: LBL of a name. F0 plus one more than the name has characters, the key, the name
+spelling (GlobalLabel link key name) = link_high link ∷ link_low link ∷ (0xF1 + length name) ∷ key ∷ name
+-- C0 to CD, the link, and a byte below F0: END, or .END. where bit 5 is set
+spelling (End link marks) = link_high link ∷ link_low link ∷ mark_bits marks ∷ []
+spelling (FinalEnd link marks) = link_high link ∷ link_low link ∷ (0x20 + mark_bits marks) ∷ []
+-- D0 to DF and E0 to EF, the distance, and the label: GTO and XEQ
+spelling (BranchTo branch distance backwards label) = (branch_code branch + distance / 256) ∷ (distance % 256) ∷ label_byte backwards label ∷ []
+-- F0 to FF and the characters: a text
+spelling (Text characters) = text_bytes characters
+
+-- what the parts of a line are: numbers in their ranges, bytes, and lists that are not too long
+abbrev pub IsText : ℕ → List ℕ → Type 0
+IsText most characters = length characters ≤ most
+
+abbrev pub IsOperand : Operand → Type 0
+IsOperand (Direct parameter) = parameter < parameter_count
+IsOperand (Indirect parameter) = parameter < parameter_count
+
+abbrev pub IsLine : Line → Type 0
+IsLine Null = Unit {0}
+IsLine (LocalLabel label) = label < short_label_count
+IsLine (Number characters) = (1 ≤ length characters) × (length characters ≤ number_most)
+IsLine (Named function name) = IsText text_most name
+IsLine (Register function register) = register < short_register_count
+IsLine (Plain function) = Unit {0}
+IsLine (WithOperand function operand) = IsOperand operand
+IsLine (Module number entry) = (number < module_count) × (entry < entry_count)
+IsLine (BranchIndirect branch register) = register < parameter_count
+IsLine (ShortGoTo label distance) = (label < short_label_count) × (distance < 256)
+IsLine (GlobalLabel link key name) = (link < link_count) × (key < 256) × IsText name_most name
+IsLine (End link marks) = (link < link_count) × (marks < end_mark_count)
+IsLine (FinalEnd link marks) = (link < link_count) × (marks < final_mark_count)
+IsLine (BranchTo branch distance backwards label) = (distance < distance_count) × (label < parameter_count)
+IsLine (Text characters) = IsText text_most characters
+
+-- bytes spell a line
+pub record Spells (bytes : List ℕ) (line : Line) : Type 0 where
+  pub valid : IsLine line
+  pub same : bytes ≡ spelling line
+
+-- a number may go on in these bytes: the first is 10 to 1C
+abbrev pub GoesOn : List ℕ → Type 0
+GoesOn [] = ⊥
+GoesOn (byte ∷ bytes) = (0x10 ≤ byte) × (byte ≤ 0x1C)
+
+-- a line in front of other bytes is whole: a number has 16 characters where it may go on
+abbrev pub IsWhole : Line → List ℕ → Type 0
+IsWhole (Number characters) rest = GoesOn rest → length characters ≡ number_most
+IsWhole line rest = Unit {0}
+
+-- bytes begin with a line of so many bytes, whole
+pub record Begins (bytes : List ℕ) (line : Line) (count : ℕ) : Type 0 where
+  pub inside : count ≤ length bytes
+  pub spells : Spells (take count bytes) line
+  pub whole : IsWhole line (drop count bytes)
+
+-- bytes begin with no line, however many of them are taken
+abbrev pub BeginsNoLine : List ℕ → Type 0
+BeginsNoLine bytes = (line : Line) (count : ℕ) → Spells (take count bytes) line → ⊥

@@ -1,0 +1,34 @@
+-- Laws of the byte grammar, and of the shortest spelling.
+use Rattle.std.specs.Prelude.{◌≡◌, ℕ, ◌≤◌, List, [], ◌++◌, length}
+use Rattle.h41_codes.specs.declared.line.Line.{Line}
+use Rattle.h41_codes.specs.declared.line.Line.TheVariants.{Number}
+use Rattle.h41_codes.specs.ByteGrammar.{spelling, IsLine, IsWhole, Begins}
+use Rattle.h41_codes.specs.Canon.{canonical}
+
+-- a line's bytes begin with it, whatever follows; a number of fewer than 16 bytes where no number goes on
+abbrev pub ByteRoundTrip : Type 0
+ByteRoundTrip = (line : Line) (rest : List ℕ) → IsLine line → IsWhole line rest → Begins (spelling line ++ rest) line (length (spelling line))
+
+-- bytes begin with one line at most
+abbrev pub OneLine : Type 0
+OneLine = (bytes : List ℕ) (line other : Line) (count size : ℕ) → Begins bytes line count → Begins bytes other size → (line ≡ other) × (count ≡ size)
+
+-- numbers, of which one can begin another
+abbrev pub IsNumber : Line → Type 0
+IsNumber (Number characters) = Unit {0}
+IsNumber line = ⊥
+
+-- no other line's bytes begin with those of a line
+abbrev pub NoPrefix : Type 0
+NoPrefix = (line other : Line) (rest : List ℕ) → IsLine line → IsLine other → (IsNumber line → ⊥) → spelling other ≡ spelling line ++ rest
+    → (other ≡ line) × (rest ≡ [])
+
+-- the canonical line is a line, of no more bytes, and its own canonical line
+abbrev pub CanonicalIsLine : Type 0
+CanonicalIsLine = (line : Line) → IsLine line → IsLine (canonical line)
+
+abbrev pub CanonicalIsShortest : Type 0
+CanonicalIsShortest = (line : Line) → length (spelling (canonical line)) ≤ length (spelling line)
+
+abbrev pub CanonicalOnce : Type 0
+CanonicalOnce = (line : Line) → canonical (canonical line) ≡ canonical line

@@ -1,0 +1,22 @@
+-- A list kept in a fixed number of cells: those behind its end are blank.
+use Rattle.std.specs.Prelude.{◌≡◌, ℕ, ◌-◌, ◌≤◌, List, ◌++◌, take, length, replicate}
+use Rattle.std.proofs.Common.{sym, ◌∙◌, ap, subst, length-take-le}
+
+-- the cells of a list
+abbrev pub filled : {A : Type 0} → A → ℕ → List A → List A
+filled blank most items = items ++ replicate (most - length items) blank
+
+-- the cells behind the first ones are blank
+abbrev pub IsFilled : {A : Type 0} → A → ℕ → ℕ → List A → Type 0
+IsFilled blank most count cells = cells ≡ take count cells ++ replicate (most - count) blank
+
+-- there are as many first cells as are counted
+pub count_again : {A : Type 0} (most count : ℕ) (cells : List A) → count ≤ most → length cells ≡ most → length (take count cells) ≡ count
+count_again most count cells inside size =
+    length-take-le count cells (subst (λ (n : ℕ). count ≤ n) (sym size) inside)
+
+-- cells whose first ones are a list are that list's cells
+pub filled_again : {A : Type 0} (blank : A) (most count : ℕ) (cells : List A) → count ≤ most → length cells ≡ most
+    → IsFilled blank most count cells → filled blank most (take count cells) ≡ cells
+filled_again blank most count cells inside size rest =
+    ap (λ n. take count cells ++ replicate (most - n) blank) (count_again most count cells inside size) ∙ sym rest

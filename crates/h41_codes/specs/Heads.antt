@@ -1,0 +1,14 @@
+-- Which first bytes lines of one and of two bytes have.
+use Rattle.std.specs.Prelude.{ℕ, ◌<◌, ◌≤◌, ◌⊎◌}
+
+-- a number from the first on and below the second
+abbrev pub IsIn : ℕ → ℕ → ℕ → Type 0
+IsIn low high number = (low ≤ number) × (number < high)
+
+-- the null, LBL 00 to 14, RCL and STO 00 to 15 and the functions without a parameter
+abbrev pub IsOneByte : ℕ → Type 0
+IsOneByte first = (first < 0x10) ⊎ IsIn 0x20 0x90 first
+
+-- functions with an operand, XROM, GTO IND and XEQ IND, GTO 00 to 14
+abbrev pub IsTwoBytes : ℕ → Type 0
+IsTwoBytes first = IsIn 0x90 0xAF first ⊎ IsIn 0xB1 0xC0 first ⊎ IsIn 0xCE 0xD0 first

@@ -1,0 +1,169 @@
+//! The characters of texts and of numbers.
+ghost use Rattle.std.specs.Prelude.{◌≡◌, ◌≤◌, ◌↔◌, length, IsSome, IfSome};
+ghost use Rattle.h41_codes.specs.Counts.{number_most};
+ghost use Rattle.h41_codes.specs.declared.characters.Character.{Character as Sign};
+
+use std::marker::Model;
+
+/// The most characters of a number.
+const NUMBER_MOST: usize = 16;
+
+/// A text of at most `MOST` characters, each a byte.
+#[derive(Clone, Copy, Debug, PartialEq, Eq)]
+pub struct Text<const MOST: usize> {
+    cells: [u8; MOST],
+    count: usize,
+}
+
+impl<const MOST: usize> Model for Text<MOST> {
+    ghost use Rattle.std.specs.Prelude.{◌≡◌, ◌≤◌, List, ℕ, take, length};
+    ghost use Rattle.h41_codes.specs.Cells.{filled, IsFilled, filled_again, count_again};
+
+    ghost Value = { List ℕ };
+
+    ghost view = { λ text. take text.count text.cells };
+
+    ghost invariant = { λ text. (text.count ≤ MOST) × (length text.cells ≡ MOST) × IsFilled 0 MOST text.count text.cells };
+
+    ghost inverse = { λ characters. record { cells = filled 0 MOST characters; count = length characters } };
+
+    ghost inverse_ok = { λ text h i. record {
+      cells = filled_again 0 MOST text.count text.cells h.0 h.1 h.2 i;
+      count = count_again MOST text.count text.cells h.0 h.1 i;
+    } };
+}
+
+impl<const MOST: usize> Text<MOST> {
+    /// The text of these characters, or nothing where there are more than `MOST`.
+    pub fn new(characters: &[u8]) -> Option<Self>
+        ensures fits { IsSome result ↔ (length characters.now ≤ MOST) }
+        ensures value { IfSome result (λ text. text ≡ characters.now) }
+    {
+        if characters.len() <= MOST {
+            Some(Self::of(characters))
+        } else {
+            None
+        }
+    }
+
+    /// The text of these characters, of which there are at most `MOST`.
+    pub(crate) fn of(characters: &[u8]) -> Self
+        requires { length characters.now ≤ MOST }
+        ensures { result ≡ characters.now }
+    {
+        let mut cells = [0; MOST];
+        for (index, character) in characters.iter().enumerate() {
+            cells[index] = *character;
+        }
+        Text {
+            cells,
+            count: characters.len(),
+        }
+    }
+
+    /// Its characters.
+    pub fn characters(&self) -> &[u8]
+        ensures value { result.now ≡ self.now }
+        ensures bound { length self.now ≤ MOST }
+    {
+        &self.cells[..self.count]
+    }
+}
+
+/// A character of a number.
+#[derive(Clone, Copy, Debug, PartialEq, Eq)]
+pub enum Character {
+    /// `0`.
+    Zero,
+    /// `1`.
+    One,
+    /// `2`.
+    Two,
+    /// `3`.
+    Three,
+    /// `4`.
+    Four,
+    /// `5`.
+    Five,
+    /// `6`.
+    Six,
+    /// `7`.
+    Seven,
+    /// `8`.
+    Eight,
+    /// `9`.
+    Nine,
+    /// `.`, the radix mark.
+    Point,
+    /// `E`, in front of the exponent.
+    Exponent,
+    /// `-`, the sign of mantissa or exponent.
+    Minus,
+}
+
+/// A number as it is written: 1 to 16 characters, in any order.
+#[derive(Clone, Copy, Debug, PartialEq, Eq)]
+pub struct Number {
+    cells: [Character; NUMBER_MOST],
+    count: usize,
+}
+
+impl Model for Number {
+    ghost use Rattle.std.specs.Prelude.{◌≡◌, ◌≤◌, List, ℕ, take, length};
+    ghost use Rattle.h41_codes.specs.Cells.{filled, IsFilled, filled_again, count_again};
+    ghost use Rattle.h41_codes.specs.Counts.{number_most};
+    ghost use Rattle.h41_codes.specs.declared.characters.Character.{Character as Sign};
+    ghost use Rattle.h41_codes.specs.declared.characters.Character.TheVariants.{Zero};
+
+    ghost Value = { List Sign };
+
+    ghost view = { λ number. take number.count number.cells };
+
+    ghost invariant = { λ number. (1 ≤ number.count) × (number.count ≤ number_most) × (length number.cells ≡ number_most) × IsFilled Zero number_most number.count number.cells };
+
+    ghost inverse = { λ characters. record { cells = filled Zero number_most characters; count = length characters } };
+
+    ghost inverse_ok = { λ number h i. record {
+      cells = filled_again Zero number_most number.count number.cells h.1 h.2 h.3 i;
+      count = count_again number_most number.count number.cells h.1 h.2 i;
+    } };
+}
+
+impl Number {
+    /// The number of these characters, or nothing where there is none or more than 16.
+    pub fn new(characters: &[Character]) -> Option<Self>
+        ensures fits { IsSome result ↔ ((1 ≤ length characters.now) × (length characters.now ≤ number_most)) }
+        ensures value { IfSome result (λ number. number ≡ characters.now) }
+    {
+        if !characters.is_empty() && characters.len() <= NUMBER_MOST {
+            Some(Self::of(characters))
+        } else {
+            None
+        }
+    }
+
+    /// The number of these characters, of which there are 1 to 16.
+    pub(crate) fn of(characters: &[Character]) -> Self
+        requires low { 1 ≤ length characters.now }
+        requires high { length characters.now ≤ number_most }
+        ensures { result ≡ characters.now }
+    {
+        let mut cells = [Character::Zero; NUMBER_MOST];
+        for (index, character) in characters.iter().enumerate() {
+            cells[index] = *character;
+        }
+        Number {
+            cells,
+            count: characters.len(),
+        }
+    }
+
+    /// Its characters, 1 to 16.
+    pub fn characters(&self) -> &[Character]
+        ensures value { result.now ≡ self.now }
+        ensures low { 1 ≤ length self.now }
+        ensures high { length self.now ≤ number_most }
+    {
+        &self.cells[..self.count]
+    }
+}

@@ -1,0 +1,288 @@
+//! From bytes to the line that they begin with.
+ghost use Rattle.std.specs.Prelude.{◌≡◌, ℕ, ◌+◌, ◌*◌, ◌<◌, ◌≤◌, ◌↔◌, ◌⊎◌, [], ◌∷◌, map, length, take, drop, slice_index, IfOk, OnErr, IfSome, IfNone, IsErr, Ok};
+ghost use Rattle.h41_codes.specs.declared.line.Line.{Line as AnyLine};
+ghost use Rattle.h41_codes.specs.ByteGrammar.{spelling, text_bytes, IsLine, Spells, Begins, BeginsNoLine, operand_byte};
+ghost use Rattle.h41_codes.specs.ByteGrammar as grammar;
+ghost use Rattle.h41_codes.specs.Codes as code;
+ghost use Rattle.h41_codes.specs.Heads.{IsOneByte, IsTwoBytes, IsIn};
+
+use crate::characters::{Character, Number, Text};
+use crate::faults::BrokenProgram;
+use crate::functions::{Branch, NameFunction, RegisterFunction};
+use crate::line::{Line, Operand};
+use crate::numbers::{
+    Distance, EndMarks, EntryNumber, FinalMarks, Link, ModuleNumber, Parameter, ShortLabel,
+    ShortRegister,
+};
+use crate::table::{character, function, parameter_function};
+
+/// The most characters of a number.
+const NUMBER_MOST: usize = 16;
+
+/// Reads the line that bytes begin with, and answers how many bytes it takes. Other bytes may follow. A number takes as
+/// many as it can, up to 16.
+pub fn decode(bytes: &[u8]) -> Result<(Line, usize), BrokenProgram>
+    ensures line { (line : AnyLine) (count : ℕ) → (result ≡ Ok (line, count)) ↔ Begins bytes.now line count }
+    ensures broken { IsErr result ↔ BeginsNoLine bytes.now }
+{
+    front(bytes)
+}
+
+/// Reads the line that bytes begin with, by their first byte.
+fn front(bytes: &[u8]) -> Result<(Line, usize), BrokenProgram>
+    ensures line { IfOk result (λ found. Begins bytes.now found.0 found.1) }
+    ensures broken { OnErr result (BeginsNoLine bytes.now) }
+{
+    if bytes.is_empty() {
+        return Err(BrokenProgram);
+    }
+    let first = bytes[0];
+    match first {
+        0x00..=0x0F | 0x20..=0x8F => Ok((one_byte(first), 1)),
+        0x10..=0x1C => Ok(number(bytes)),
+        0x1D..=0x1F => named(bytes),
+        0x90..=0xAE | 0xB1..=0xBF | 0xCE | 0xCF => pair(bytes),
+        0xC0..=0xCD => linked(bytes),
+        0xD0..=0xEF => triple(bytes),
+        0xF0..=0xFF => text(bytes),
+        0xAF | 0xB0 => Err(BrokenProgram),
+    }
+}
+
+/// The line of one byte.
+fn one_byte(first: u8) -> Line
+    requires { IsOneByte first }
+    ensures spelled { spelling result ≡ first ∷ [] }
+    ensures valid { IsLine result }
+{
+    match first {
+        0x00 => Line::Null,
+        0x01..=0x0F => Line::LocalLabel(ShortLabel::new(first - 0x01)),
+        0x20..=0x2F => Line::Register(
+            RegisterFunction::RecallRegister,
+            ShortRegister::new(first - 0x20),
+        ),
+        0x30..=0x3F => Line::Register(
+            RegisterFunction::StoreRegister,
+            ShortRegister::new(first - 0x30),
+        ),
+        _ => Line::Plain(function(first)),
+    }
+}
+
+/// The line of two bytes that bytes begin with.
+fn pair(bytes: &[u8]) -> Result<(Line, usize), BrokenProgram>
+    requires some { 0 < length bytes.now }
+    requires first { IsTwoBytes (slice_index bytes.now 0) }
+    ensures line { IfOk result (λ found. Begins bytes.now found.0 found.1) }
+    ensures broken { OnErr result (BeginsNoLine bytes.now) }
+{
+    if bytes.len() < 2 {
+        return Err(BrokenProgram);
+    }
+    Ok((two_bytes(bytes[0], bytes[1]), 2))
+}
+
+/// The GTO or XEQ of three bytes that bytes begin with.
+fn triple(bytes: &[u8]) -> Result<(Line, usize), BrokenProgram>
+    requires some { 0 < length bytes.now }
+    requires first { IsIn 0xD0 0xF0 (slice_index bytes.now 0) }
+    ensures line { IfOk result (λ found. Begins bytes.now found.0 found.1) }
+    ensures broken { OnErr result (BeginsNoLine bytes.now) }
+{
+    if bytes.len() < 3 {
+        return Err(BrokenProgram);
+    }
+    Ok((branch(bytes[0], bytes[1], bytes[2]), 3))
+}
+
+/// The line of two bytes.
+fn two_bytes(first: u8, second: u8) -> Line
+    requires { IsTwoBytes first }
+    ensures spelled { spelling result ≡ first ∷ second ∷ [] }
+    ensures valid { IsLine result }
+{
+    match first {
+        0xA0..=0xA7 => Line::Module(
+            ModuleNumber::new((first - 0xA0) * 4 + second / 64),
+            EntryNumber::new(second % 64),
+        ),
+        0xAE => indirect_branch(second),
+        0xB1..=0xBF => Line::ShortGoTo(ShortLabel::new(first - 0xB1), second),
+        _ => Line::WithOperand(parameter_function(first), operand(second)),
+    }
+}
+
+/// The operand of a byte.
+fn operand(byte: u8) -> Operand
+    ensures spelled { operand_byte result ≡ byte }
+    ensures valid { grammar.IsOperand result }
+{
+    let parameter = Parameter::new(byte % 0x80);
+    if byte < 0x80 {
+        Operand::Direct(parameter)
+    } else {
+        Operand::Indirect(parameter)
+    }
+}
+
+/// The GTO IND or XEQ IND of a second byte.
+fn indirect_branch(second: u8) -> Line
+    ensures spelled { spelling result ≡ 0xAE ∷ second ∷ [] }
+    ensures valid { IsLine result }
+{
+    let register = Parameter::new(second % 0x80);
+    let branch = if second < 0x80 {
+        Branch::GoTo
+    } else {
+        Branch::Execute
+    };
+    Line::BranchIndirect(branch, register)
+}
+
+/// The GTO or XEQ of three bytes.
+fn branch(first: u8, second: u8, third: u8) -> Line
+    requires { IsIn 0xD0 0xF0 first }
+    ensures spelled { spelling result ≡ first ∷ second ∷ third ∷ [] }
+    ensures valid { IsLine result }
+{
+    let branch = if first < 0xE0 {
+        Branch::GoTo
+    } else {
+        Branch::Execute
+    };
+    let distance = Distance::new(u16::from(first % 16) * 256 + u16::from(second));
+    Line::BranchTo(
+        branch,
+        distance,
+        third >= 0x80,
+        Parameter::new(third % 0x80),
+    )
+}
+
+/// The number that bytes begin with, and how many characters it has.
+fn number(bytes: &[u8]) -> (Line, usize)
+    requires some { 0 < length bytes.now }
+    requires first { IsIn 0x10 0x1D (slice_index bytes.now 0) }
+    ensures { Begins bytes.now result.0 result.1 }
+{
+    let count = number_length(bytes);
+    let mut characters = [Character::Zero; NUMBER_MOST];
+    for index in 0..count {
+        characters[index] = character(bytes[index]);
+    }
+    (Line::Number(Number::of(&characters[..count])), count)
+}
+
+/// How many bytes of a number stand at the front, up to 16.
+fn number_length(bytes: &[u8]) -> usize
+    ensures most { result ≤ 16 }
+    ensures inside { result ≤ length bytes.now }
+    ensures each { (k : ℕ) → k < result → IsIn 0x10 0x1D (slice_index bytes.now k) }
+    ensures whole { result < length bytes.now → IsIn 0x10 0x1D (slice_index bytes.now result) → result ≡ 16 }
+{
+    for (count, byte) in bytes.iter().enumerate() {
+        if count == NUMBER_MOST || *byte < 0x10 || *byte > 0x1C {
+            return count;
+        }
+    }
+    bytes.len()
+}
+
+/// The text at the front, F0 to FF and so many characters, or nothing where it is not whole.
+fn text_at(bytes: &[u8]) -> Option<Text<15>>
+    ensures text { IfSome result (λ text. take (1 + length text) bytes.now ≡ text_bytes text) }
+    ensures inside { IfSome result (λ text. 1 + length text ≤ length bytes.now) }
+    ensures most { IfSome result (λ text. length text ≤ 15) }
+    ensures none { IfNone result ((bytes.now ≡ []) ⊎ (slice_index bytes.now 0 < 0xF0) ⊎ (length bytes.now + 0xF0 ≤ slice_index bytes.now 0)) }
+{
+    if bytes.is_empty() || bytes[0] < 0xF0 {
+        return None;
+    }
+    let end = 1 + usize::from(bytes[0] - 0xF0);
+    if end > bytes.len() {
+        return None;
+    }
+    Some(Text::of(&bytes[1..end]))
+}
+
+/// The GTO, XEQ or W of a name that bytes begin with.
+fn named(bytes: &[u8]) -> Result<(Line, usize), BrokenProgram>
+    requires some { 0 < length bytes.now }
+    requires first { IsIn 0x1D 0x20 (slice_index bytes.now 0) }
+    ensures line { IfOk result (λ found. Begins bytes.now found.0 found.1) }
+    ensures broken { OnErr result (BeginsNoLine bytes.now) }
+{
+    match text_at(&bytes[1..]) {
+        Some(name) => {
+            let count = 2 + name.characters().len();
+            Ok((Line::Named(name_function(bytes[0]), name), count))
+        }
+        None => Err(BrokenProgram),
+    }
+}
+
+/// What a line does with a name, by its first byte, 1D to 1F.
+fn name_function(first: u8) -> NameFunction
+    requires { IsIn 0x1D 0x20 first }
+    ensures { code.name_function_code result ≡ first }
+{
+    match first {
+        0x1D => NameFunction::GoToName,
+        0x1E => NameFunction::ExecuteName,
+        _ => NameFunction::Wordless,
+    }
+}
+
+/// The text that bytes begin with.
+fn text(bytes: &[u8]) -> Result<(Line, usize), BrokenProgram>
+    requires some { 0 < length bytes.now }
+    requires first { IsIn 0xF0 0x100 (slice_index bytes.now 0) }
+    ensures line { IfOk result (λ found. Begins bytes.now found.0 found.1) }
+    ensures broken { OnErr result (BeginsNoLine bytes.now) }
+{
+    match text_at(bytes) {
+        Some(characters) => {
+            let count = 1 + characters.characters().len();
+            Ok((Line::Text(characters), count))
+        }
+        None => Err(BrokenProgram),
+    }
+}
+
+/// The global label, END or .END. that bytes begin with.
+fn linked(bytes: &[u8]) -> Result<(Line, usize), BrokenProgram>
+    requires some { 0 < length bytes.now }
+    requires first { IsIn 0xC0 0xCE (slice_index bytes.now 0) }
+    ensures line { IfOk result (λ found. Begins bytes.now found.0 found.1) }
+    ensures broken { OnErr result (BeginsNoLine bytes.now) }
+{
+    if bytes.len() < 3 {
+        return Err(BrokenProgram);
+    }
+    let link = Link::new(u16::from(bytes[0] - 0xC0) * 256 + u16::from(bytes[1]));
+    let third = bytes[2];
+    if third < 0xF0 {
+        return Ok((end(link, third), 3));
+    }
+    let end = 3 + usize::from(third - 0xF0);
+    if end < 4 || end > bytes.len() {
+        return Err(BrokenProgram);
+    }
+    let name = Text::of(&bytes[4..end]);
+    Ok((Line::GlobalLabel(link, bytes[3], name), end))
+}
+
+/// The END or .END. of a link and a third byte.
+fn end(link: Link, third: u8) -> Line
+    requires { third < 0xF0 }
+    ensures spelled { spelling result ≡ grammar.link_high link ∷ grammar.link_low link ∷ third ∷ [] }
+    ensures valid { IsLine result }
+{
+    let marks = third / 64 * 32 + third % 32;
+    if third / 32 % 2 == 0 {
+        Line::End(link, EndMarks::new(marks))
+    } else {
+        Line::FinalEnd(link, FinalMarks::new(marks))
+    }
+}

@@ -1,0 +1,22 @@
+//! Laws of lines and their bytes: each is the contract of a function with nothing to do.
+
+ghost use Rattle.h41_codes.specs.ByteLaws.{ByteRoundTrip, OneLine, NoPrefix, CanonicalIsLine, CanonicalIsShortest, CanonicalOnce};
+
+/// The byte round trip: the bytes of a line begin with that line, whatever follows them, and with no other. A number of
+/// fewer than 16 characters is read again where no character of a number follows.
+pub fn byte_round_trip()
+    ensures again { ByteRoundTrip }
+    ensures one { OneLine }
+{}
+
+/// No line's bytes begin with those of another, but for two numbers.
+pub fn no_prefix()
+    ensures { NoPrefix }
+{}
+
+/// The canonical line takes no more bytes than the line, and is its own canonical line.
+pub fn canonical_is_shortest()
+    ensures line { CanonicalIsLine }
+    ensures shortest { CanonicalIsShortest }
+    ensures once { CanonicalOnce }
+{}

@@ -1,0 +1,26 @@
+//! The byte codes of HP-41 programs: lines, the bytes that spell them, and the shortest spelling of each. Codes are those
+//! of HP's byte table.
+#![tactic(auto)]
+
+mod canonical;
+mod characters;
+mod decoder;
+mod encoder;
+mod faults;
+mod functions;
+pub mod laws;
+mod line;
+mod numbers;
+mod table;
+
+pub use canonical::canon;
+pub use characters::{Character, Number, Text};
+pub use decoder::decode;
+pub use encoder::encode;
+pub use faults::{BrokenProgram, BufferShort};
+pub use functions::{Branch, Function, NameFunction, ParameterFunction, RegisterFunction};
+pub use line::{Line, Operand};
+pub use numbers::{
+    Distance, EndMarks, EntryNumber, FinalMarks, Link, ModuleNumber, Parameter, ShortLabel,
+    ShortRegister,
+};

@@ -1,0 +1,79 @@
+-- The text of a line.
+use Rattle.std.specs.Prelude.{◌≡◌, ℕ, ◌+◌, ◌*◌, ◌/◌, ◌%◌, ◌<◌, ◌≤◌, Bool, true, false, ◌&&◌, ◌||◌, ◌==◌, not, nat_lt, nat_le, List, [], ◌∷◌, ◌++◌, map, slice_index_or, if◌then◌else◌, codes}
+use Rattle.std.specs.List.{flat_map}
+use Rattle.std.specs.Fmt.{digit_glyph}
+use Rattle.h41_codes.specs.declared.line.Operand.{Operand}
+use Rattle.h41_codes.specs.declared.line.Operand.TheVariants.{Direct, Indirect}
+use Rattle.h41_codes.specs.declared.line.Line.{Line}
+use Rattle.h41_codes.specs.declared.line.Line.TheVariants.{Null, LocalLabel, Number, Named, Register, Plain, WithOperand, Module, BranchIndirect, ShortGoTo, GlobalLabel, End, FinalEnd, BranchTo, Text}
+use Rattle.h41_codes.specs.declared.characters.Character.{Character}
+use Rattle.h41_codes.specs.declared.characters.Character.TheVariants.{Zero, Minus}
+use Rattle.h41_text.specs.Names.{function_name, parameter_function_name, register_function_name, name_function_name, branch_name, character_text}
+
+-- two decimal digits
+abbrev pub two_digits : ℕ → List ℕ
+two_digits number = (48 + number / 10) ∷ (48 + number % 10) ∷ []
+
+-- the names of the parameters from 100 on: two numbers, the labels A to J, the stack and the registers behind it, the labels a to e
+abbrev pub high_parameters : List (List ℕ)
+high_parameters =
+    codes "100" ∷ codes "101"
+    ∷ codes "A" ∷ codes "B" ∷ codes "C" ∷ codes "D" ∷ codes "E" ∷ codes "F" ∷ codes "G" ∷ codes "H" ∷ codes "I" ∷ codes "J"
+    ∷ codes "T" ∷ codes "Z" ∷ codes "Y" ∷ codes "X" ∷ codes "L"
+    ∷ codes "M" ∷ codes "N" ∷ codes "O" ∷ codes "P" ∷ codes "Q" ∷ codes "append"
+    ∷ codes "a" ∷ codes "b" ∷ codes "c" ∷ codes "d" ∷ codes "e"
+    ∷ []
+
+-- the text of a parameter: 00 to 99, else its name
+abbrev pub parameter_text : ℕ → List ℕ
+parameter_text number = if nat_lt number 100 then two_digits number else slice_index_or high_parameters (number - 100) []
+
+-- a character of a text: itself from 20 to 7E, but for " and \, else \ and two hexadecimal digits in upper case
+abbrev pub is_plain : ℕ → Bool
+is_plain character = nat_le 0x20 character && nat_le character 0x7E && not (character == 0x22) && not (character == 0x5C)
+
+abbrev pub character_quoted : ℕ → List ℕ
+character_quoted character =
+    if is_plain character then character ∷ [] else 0x5C ∷ digit_glyph true (character / 16) ∷ digit_glyph true (character % 16) ∷ []
+
+-- a text in its quotes
+abbrev pub quoted : List ℕ → List ℕ
+quoted characters = 0x22 ∷ (flat_map character_quoted characters ++ 0x22 ∷ [])
+
+-- a text for ALPHA; one that begins with the append sign has > in front of the rest
+abbrev pub text_line : List ℕ → List ℕ
+text_line [] = quoted []
+text_line (first ∷ rest) = if first == 0x7F then 0x3E ∷ quoted rest else quoted (first ∷ rest)
+
+-- a number's characters, and NEG for a lone minus
+abbrev pub number_text : List Character → List ℕ
+number_text (Minus ∷ []) = codes "NEG"
+number_text characters = map character_text characters
+
+-- an operand: the parameter, with IND in front where it is indirect
+abbrev pub operand_text : Operand → List ℕ
+operand_text (Direct parameter) = parameter_text parameter
+operand_text (Indirect parameter) = codes "IND " ++ parameter_text parameter
+
+-- a name, a blank and what follows
+infixr 10 ◌&◌
+abbrev pub ◌&◌ : List ℕ → List ℕ → List ℕ
+name & operand = name ++ 0x20 ∷ operand
+
+-- the text of each line; two spellings of a line have one text, and the null has none
+abbrev pub line_text : Line → List ℕ
+line_text Null = []
+line_text (LocalLabel label) = codes "LBL" & two_digits label
+line_text (Number characters) = number_text characters
+line_text (Named function name) = name_function_name function & quoted name
+line_text (Register function register) = register_function_name function & two_digits register
+line_text (Plain function) = function_name function
+line_text (WithOperand function operand) = parameter_function_name function & operand_text operand
+line_text (Module number entry) = codes "XROM" & (two_digits number ++ 0x2C ∷ two_digits entry)
+line_text (BranchIndirect branch register) = branch_name branch & operand_text (Indirect register)
+line_text (ShortGoTo label distance) = codes "GTO" & two_digits label
+line_text (GlobalLabel link key name) = codes "LBL" & quoted name
+line_text (End link marks) = codes "END"
+line_text (FinalEnd link marks) = codes ".END."
+line_text (BranchTo branch distance backwards label) = branch_name branch & parameter_text label
+line_text (Text characters) = text_line characters

@@ -1,0 +1,246 @@
+//! The names of functions, as a listing shows them. Each stands once, in a list of which macros write the look-ups.
+ghost use Rattle.std.specs.Prelude.{◌≡◌, ◌+◌, ◌-◌, ◌<◌, ◌≤◌, length, slice_index_or, []};
+ghost use Rattle.h41_text.specs.LineText.{high_parameters};
+ghost use Rattle.h41_text.specs.Names as spec;
+
+use h41_codes::{Branch, Character, Function, NameFunction, ParameterFunction, RegisterFunction};
+
+/// Functions without a parameter. `$write` is the macro that writes a look-up, and `$with` what it writes it with.
+macro_rules! functions {
+    ($write:ident $with:tt) => {
+        $write! { $with Function
+            Add => "+",
+            Subtract => "-",
+            Multiply => "*",
+            Divide => "/",
+            TestXLessThanY => "X<Y?",
+            TestXGreaterThanY => "X>Y?",
+            TestXAtMostY => "X<=Y?",
+            AddStatistics => "S+",
+            SubtractStatistics => "S-",
+            AddHours => "HMS+",
+            SubtractHours => "HMS-",
+            Modulo => "MOD",
+            Percent => "%",
+            PercentChange => "%CH",
+            PolarToRectangular => "P-R",
+            RectangularToPolar => "R-P",
+            NaturalLogarithm => "LN",
+            Square => "X^2",
+            SquareRoot => "SQRT",
+            Power => "Y^X",
+            ChangeSign => "CHS",
+            Exponential => "E^X",
+            CommonLogarithm => "LOG",
+            PowerOfTen => "10^X",
+            ExponentialLessOne => "E^X-1",
+            Sine => "SIN",
+            Cosine => "COS",
+            Tangent => "TAN",
+            ArcSine => "ASIN",
+            ArcCosine => "ACOS",
+            ArcTangent => "ATAN",
+            OctalToDecimal => "DEC",
+            Reciprocal => "1/X",
+            AbsoluteValue => "ABS",
+            Factorial => "FACT",
+            TestXNotZero => "X#0?",
+            TestXPositive => "X>0?",
+            LogarithmOfOneMore => "LN1+X",
+            TestXNegative => "X<0?",
+            TestXZero => "X=0?",
+            IntegerPart => "INT",
+            FractionPart => "FRC",
+            DegreesToRadians => "D-R",
+            RadiansToDegrees => "R-D",
+            DecimalToHours => "HMS",
+            HoursToDecimal => "HR",
+            Round => "RND",
+            DecimalToOctal => "OCT",
+            ClearStatistics => "CLS",
+            ExchangeXY => "X<>Y",
+            Pi => "PI",
+            ClearStack => "CLST",
+            RollUp => "R^",
+            RollDown => "RDN",
+            LastX => "LASTX",
+            ClearX => "CLX",
+            TestXEqualsY => "X=Y?",
+            TestXDiffersFromY => "X#Y?",
+            Signum => "SIGN",
+            TestXAtMostZero => "X<=0?",
+            Mean => "MEAN",
+            StandardDeviation => "SDEV",
+            ViewAlpha => "AVIEW",
+            ClearDisplay => "CLD",
+            Degrees => "DEG",
+            Radians => "RAD",
+            Grads => "GRAD",
+            Enter => "ENTER^",
+            Stop => "STOP",
+            Return => "RTN",
+            Beep => "BEEP",
+            ClearAlpha => "CLA",
+            ShiftAlpha => "ASHF",
+            Pause => "PSE",
+            ClearRegisters => "CLRG",
+            AlphaOff => "AOFF",
+            AlphaOn => "AON",
+            TurnOff => "OFF",
+            Prompt => "PROMPT",
+            Advance => "ADV",
+        }
+    };
+}
+
+/// Functions with a parameter.
+macro_rules! parameter_functions {
+    ($write:ident $with:tt) => {
+        $write! { $with ParameterFunction
+            Recall => "RCL",
+            Store => "STO",
+            StoreAdd => "ST+",
+            StoreSubtract => "ST-",
+            StoreMultiply => "ST*",
+            StoreDivide => "ST/",
+            IncrementSkip => "ISG",
+            DecrementSkip => "DSE",
+            View => "VIEW",
+            StatisticsRegisters => "SREG",
+            StoreAlpha => "ASTO",
+            RecallAlpha => "ARCL",
+            Fixed => "FIX",
+            Scientific => "SCI",
+            Engineering => "ENG",
+            Tone => "TONE",
+            SetFlag => "SF",
+            ClearFlag => "CF",
+            TestSetAndClear => "FS?C",
+            TestClearAndClear => "FC?C",
+            TestSet => "FS?",
+            TestClear => "FC?",
+            Exchange => "X<>",
+            Label => "LBL",
+        }
+    };
+}
+
+/// Writes the match from each name of a list to its text.
+macro_rules! text_beside {
+    (($value:expr) $kind:ident $($name:ident => $text:literal,)*) => {
+        match $value {
+            $($kind::$name => $text,)*
+        }
+    };
+}
+
+/// The name of a function without a parameter, up to 6 characters.
+pub(crate) fn function_name(function: Function) -> &'static str
+    ensures text { result.now ≡ spec.function_name function }
+    ensures bound { length result.now ≤ 6 }
+{
+    functions!(text_beside(function))
+}
+
+/// The name of a function with a parameter, up to 6 characters.
+pub(crate) fn parameter_function_name(function: ParameterFunction) -> &'static str
+    ensures text { result.now ≡ spec.parameter_function_name function }
+    ensures bound { length result.now ≤ 6 }
+{
+    parameter_functions!(text_beside(function))
+}
+
+/// The name of a function on one of the first registers.
+pub(crate) fn register_function_name(function: RegisterFunction) -> &'static str
+    ensures text { result.now ≡ spec.register_function_name function }
+    ensures bound { length result.now ≤ 6 }
+{
+    match function {
+        RegisterFunction::RecallRegister => "RCL",
+        RegisterFunction::StoreRegister => "STO",
+    }
+}
+
+/// The name of a function on a name.
+pub(crate) fn name_function_name(function: NameFunction) -> &'static str
+    ensures text { result.now ≡ spec.name_function_name function }
+    ensures bound { length result.now ≤ 6 }
+{
+    match function {
+        NameFunction::GoToName => "GTO",
+        NameFunction::ExecuteName => "XEQ",
+        NameFunction::Wordless => "W",
+    }
+}
+
+/// The name of going or executing.
+pub(crate) fn branch_name(branch: Branch) -> &'static str
+    ensures text { result.now ≡ spec.branch_name branch }
+    ensures bound { length result.now ≤ 6 }
+{
+    match branch {
+        Branch::GoTo => "GTO",
+        Branch::Execute => "XEQ",
+    }
+}
+
+/// A character of a number.
+pub(crate) fn character_text(character: Character) -> u8
+    ensures text { result ≡ spec.character_text character }
+    ensures bound { result < 128 }
+{
+    match character {
+        Character::Zero => b'0',
+        Character::One => b'1',
+        Character::Two => b'2',
+        Character::Three => b'3',
+        Character::Four => b'4',
+        Character::Five => b'5',
+        Character::Six => b'6',
+        Character::Seven => b'7',
+        Character::Eight => b'8',
+        Character::Nine => b'9',
+        Character::Point => b'.',
+        Character::Exponent => b'E',
+        Character::Minus => b'-',
+    }
+}
+
+/// The name of a parameter from 100 on.
+pub(crate) fn high_parameter(number: u8) -> &'static str
+    requires low { 100 ≤ number }
+    requires high { number < 128 }
+    ensures text { result.now ≡ slice_index_or high_parameters (number - 100) [] }
+    ensures bound { length result.now ≤ 6 }
+{
+    match number {
+        100 => "100",
+        101 => "101",
+        102 => "A",
+        103 => "B",
+        104 => "C",
+        105 => "D",
+        106 => "E",
+        107 => "F",
+        108 => "G",
+        109 => "H",
+        110 => "I",
+        111 => "J",
+        112 => "T",
+        113 => "Z",
+        114 => "Y",
+        115 => "X",
+        116 => "L",
+        117 => "M",
+        118 => "N",
+        119 => "O",
+        120 => "P",
+        121 => "Q",
+        122 => "append",
+        123 => "a",
+        124 => "b",
+        125 => "c",
+        126 => "d",
+        _ => "e",
+    }
+}

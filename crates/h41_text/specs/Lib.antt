@@ -1,2 +1,3 @@
 pub mod LineText
 pub mod Names
+pub mod TextLaws

@@ -1,5 +1,5 @@
 -- The text of a line.
-use Rattle.std.specs.Prelude.{◌≡◌, ℕ, ◌+◌, ◌*◌, ◌/◌, ◌%◌, ◌<◌, ◌≤◌, Bool, true, false, ◌&&◌, ◌||◌, ◌==◌, not, nat_lt, nat_le, List, [], ◌∷◌, ◌++◌, map, slice_index_or, if◌then◌else◌, codes}
+use Rattle.std.specs.Prelude.{ℕ, ◌+◌, ◌-◌, ◌/◌, ◌%◌, Bool, true, ◌&&◌, ◌==◌, not, nat_lt, nat_le, List, [], ◌∷◌, ◌++◌, map, slice_index_or, if◌then◌else◌, codes}
 use Rattle.std.specs.List.{flat_map}
 use Rattle.std.specs.Fmt.{digit_glyph}
 use Rattle.h41_codes.specs.declared.line.Operand.{Operand}
@@ -7,7 +7,7 @@ use Rattle.h41_codes.specs.declared.line.Operand.TheVariants.{Direct, Indirect}
 use Rattle.h41_codes.specs.declared.line.Line.{Line}
 use Rattle.h41_codes.specs.declared.line.Line.TheVariants.{Null, LocalLabel, Number, Named, Register, Plain, WithOperand, Module, BranchIndirect, ShortGoTo, GlobalLabel, End, FinalEnd, BranchTo, Text}
 use Rattle.h41_codes.specs.declared.characters.Character.{Character}
-use Rattle.h41_codes.specs.declared.characters.Character.TheVariants.{Zero, Minus}
+use Rattle.h41_codes.specs.declared.characters.Character.TheVariants.{Minus}
 use Rattle.h41_text.specs.Names.{function_name, parameter_function_name, register_function_name, name_function_name, branch_name, character_text}
 
 -- two decimal digits

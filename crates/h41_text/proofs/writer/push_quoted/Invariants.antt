@@ -1,4 +1,4 @@
-use Rattle.std.proofs.Common.{◌≡◌, ◌+◌, ◌*◌, ◌≤◌, ◌∷◌, ◌++◌, take, length}
+use Rattle.std.proofs.Common.{◌≡◌, ◌+◌, ◌*◌, ◌≤◌, ◌++◌, take, length}
 use Rattle.std.specs.List.{flat_map}
 use Rattle.h41_text.specs.LineText.{character_quoted}
 use Rattle.h41_text.proofs.writer.push_quoted.Given as goal

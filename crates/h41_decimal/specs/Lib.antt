@@ -1,0 +1,6 @@
+pub mod Units
+pub mod NearestDecimal
+pub mod Operations
+pub mod Holding
+pub mod Laws
+pub mod Cut

@@ -1,0 +1,16 @@
+//! Ten-digit decimals of the HP-41, whose results are the exact ones rounded to ten digits, halves away from zero.
+#![tactic(auto)]
+
+pub mod fault;
+pub mod laws;
+pub mod parts;
+pub mod places;
+mod rounding;
+pub mod ten;
+
+
+
+pub use fault::Fault;
+pub use parts::{Exponent, Mantissa, Sign};
+pub use places::Places;
+pub use ten::Ten;

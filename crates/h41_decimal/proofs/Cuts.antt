@@ -7,7 +7,7 @@ use Rattle.std.proofs.lemmas.Bool.{cases_lt}
 use Rattle.h41_decimal.specs.NearestDecimal.{Exact, Fraction, RootOf, IsBelow, IsAtLeast, IsNear, IsTenDigits, IsBounded, IsRounded}
 use Rattle.h41_decimal.specs.Cut.{IsAtMost, IsCut, IsCutFarEnough, origin}
 use Rattle.h41_decimal.specs.declared.fault.Fault.{Fault}
-use Rattle.h41_decimal.specs.declared.parts.Sign.{Sign}
+use Rattle.h41_decimal.specs.declared.sign.Sign.{Sign}
 use Rattle.h41_decimal.specs.declared.ten.Ten.{Ten}
 use Rattle.h41_decimal.specs.declared.ten.Ten.TheVariants.{Zero}
 use Rattle.h41_decimal.proofs.Nearest.{near_at, ten_pow_pos, below_more, at_least_less}

@@ -1,2 +1,5 @@
 pub mod Nearest
 pub mod Cuts
+pub mod Exact
+pub mod Signed
+pub mod Differences

@@ -2,9 +2,9 @@
 use Rattle.std.specs.Prelude.{ℕ, zero, suc, ◌+◌, ◌-◌, ◌*◌, ◌^◌, Bool, true, ◌&&◌, ◌||◌, not, List, [], ◌∷◌, map, slice_index, Option, Some, None, nat_le, ◌==◌, if◌then◌else◌, ℤ, pos}
 use Rattle.std.specs.List.{list_all}
 use Rattle.h41_digits.specs.Register.{byte_at}
-use Rattle.h41_decimal.specs.Units.{signed}
-use Rattle.h41_decimal.specs.declared.parts.Sign.{Sign}
-use Rattle.h41_decimal.specs.declared.parts.Sign.TheVariants.{Plus, Minus}
+use Rattle.h41_decimal.specs.Signs.{signed}
+use Rattle.h41_decimal.specs.declared.sign.Sign.{Sign}
+use Rattle.h41_decimal.specs.declared.sign.Sign.TheVariants.{Plus, Minus}
 
 -- what a register holds
 pub data Holding : Type 0 where

@@ -1,3 +1,4 @@
+pub mod Signs
 pub mod Units
 pub mod NearestDecimal
 pub mod Operations

@@ -1,10 +1,11 @@
 -- The nearest decimal of ten digits, halves away from zero, by comparisons of whole numbers alone.
 use Rattle.std.specs.Prelude.{◌≡◌, ℕ, ◌+◌, ◌*◌, ◌^◌, ◌<◌, ◌≤◌, ◌==◌, nat_le, MatchBool, IsOkAnd, Ok, Err, Result, ℤ, pos, negsuc, unsigned_abs}
-use Rattle.h41_decimal.specs.Units.{one, signed, sign_of, units}
+use Rattle.h41_decimal.specs.Signs.{signed, sign_of}
+use Rattle.h41_decimal.specs.Units.{one, size_of, units}
 use Rattle.h41_decimal.specs.declared.fault.Fault.{Fault}
 use Rattle.h41_decimal.specs.declared.fault.Fault.TheVariants.{Data, Range}
-use Rattle.h41_decimal.specs.declared.parts.Sign.{Sign}
-use Rattle.h41_decimal.specs.declared.parts.Sign.TheVariants.{Plus}
+use Rattle.h41_decimal.specs.declared.sign.Sign.{Sign}
+use Rattle.h41_decimal.specs.declared.sign.Sign.TheVariants.{Plus}
 use Rattle.h41_decimal.specs.declared.ten.Ten.{Ten}
 use Rattle.h41_decimal.specs.declared.ten.Ten.TheVariants.{Zero}
 
@@ -53,7 +54,7 @@ abbrev pub IsBounded : Sign → ℕ → ℤ → Result Ten Fault → Type 0
 IsBounded sign digits (negsuc steps) answer = answer ≡ Ok Zero
 IsBounded sign digits (pos steps) answer =
     MatchBool (nat_le steps 198)
-      (IsOkAnd answer (λ number. units number ≡ signed sign (digits * 10 ^ steps)))
+      (IsOkAnd answer (λ number. units number ≡ signed sign (size_of digits steps)))
       (answer ≡ Err Range)
 
 -- the answer for an exact size above zero and a sign: its nearest decimal, whatever the exponent, within the bounds

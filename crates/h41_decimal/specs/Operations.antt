@@ -1,6 +1,7 @@
 -- The exact values that the operations round.
 use Rattle.std.specs.Prelude.{◌≡◌, ℕ, ◌+◌, ◌-◌, ◌*◌, ◌^◌, ◌<◌, ◌≤◌, ◌==◌, MatchBool, Ok, Err, Result, ℤ, pos, negsuc, ◌+ℤ◌, ◌-ℤ◌, ◌*ℤ◌, ◌<ℤ◌, ◌≤ℤ◌, unsigned_abs}
-use Rattle.h41_decimal.specs.Units.{one, signed, sign_of, units}
+use Rattle.h41_decimal.specs.Signs.{signed, sign_of}
+use Rattle.h41_decimal.specs.Units.{one, size_of, units}
 use Rattle.h41_decimal.specs.NearestDecimal.{Nearest}
 use Rattle.h41_decimal.specs.declared.fault.Fault.{Fault}
 use Rattle.h41_decimal.specs.declared.fault.Fault.TheVariants.{Data}
@@ -32,7 +33,7 @@ NearestModulo y x answer =
 abbrev pub step_of : Places → Ten → ℕ
 step_of (Decimals count) number = 10 ^ (108 - count)
 step_of (Digits count) Zero = 1
-step_of (Digits count) (Nonzero sign mantissa exponent) = 10 ^ (exponent.above_least + (10 - count))
+step_of (Digits count) (Nonzero sign x) = 10 ^ (x.exponent.above_least + (10 - count))
 
 -- the answer for a number rounded to a whole count of steps, the nearest, a half going away from zero
 pub record RoundsTo (step : ℕ) (number : ℤ) (answer : Result Ten Fault) : Type 0 where

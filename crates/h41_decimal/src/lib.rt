@@ -6,11 +6,14 @@ pub mod laws;
 pub mod parts;
 pub mod places;
 mod rounding;
+pub mod sign;
+mod sizes;
 pub mod ten;
 
 
 
 pub use fault::Fault;
-pub use parts::{Exponent, Mantissa, Sign};
+pub use parts::{Exponent, Mantissa, Size};
 pub use places::Places;
+pub use sign::Sign;
 pub use ten::Ten;

@@ -1,15 +1,6 @@
-//! The parts of a decimal that is not zero: its sign, its ten digits and its exponent.
+//! The parts of a decimal that is not zero, beside its sign: its ten digits and its exponent.
 
 ghost use Rattle.std.specs.Prelude.{◌≡◌, ◌^◌, ◌<◌, ◌≤◌, ◌↔◌, ℤ, pos, ◌+ℤ◌, ◌-ℤ◌, ◌≤ℤ◌, IsSome, IfSome};
-
-/// The sign of a number that is not zero.
-#[derive(Clone, Copy, Debug, PartialEq, Eq)]
-pub enum Sign {
-    /// The number is above zero.
-    Plus,
-    /// The number is below zero.
-    Minus,
-}
 
 /// Ten decimal digits, the first of them not zero: 1,000,000,000 to 9,999,999,999. The radix mark is after the first.
 #[derive(Clone, Copy, Debug, PartialEq, Eq)]
@@ -34,5 +25,30 @@ impl Exponent {
         ensures { result ≡ pos self.above_least -ℤ pos 99 }
     {
         i16::from(self.above_least) - 99
+    }
+}
+
+/// A size above zero: ten digits and an exponent.
+#[derive(Clone, Copy, Debug, PartialEq, Eq)]
+pub struct Size {
+    /// The digits.
+    pub mantissa: Mantissa,
+    /// The exponent.
+    pub exponent: Exponent,
+}
+
+impl Size {
+    /// The digits, as a number from which others are computed.
+    pub fn digits(self) -> u128
+        ensures { result ≡ self.mantissa.digits }
+    {
+        u128::from(self.mantissa.digits)
+    }
+
+    /// The exponent, counted from -99: 0 to 198.
+    pub fn steps(self) -> u32
+        ensures { result ≡ self.exponent.above_least }
+    {
+        u32::from(self.exponent.above_least)
     }
 }

@@ -5,7 +5,8 @@ ghost use Rattle.h41_decimal.specs.NearestDecimal.{IsBounded};
 ghost use Rattle.h41_decimal.specs.Cut.{RoundsElevenDigits, RoundsWhole};
 
 use crate::fault::Fault;
-use crate::parts::{Exponent, Mantissa, Sign};
+use crate::parts::{Exponent, Mantissa, Size};
+use crate::sign::Sign;
 use crate::ten::Ten;
 
 /// The scale that stands for one unit. Scales count powers of ten, so that those below a unit can be counted too.
@@ -57,7 +58,7 @@ fn bounded(sign: Sign, mantissa: Mantissa, scale: u32) -> Result<Ten, Fault>
     let exponent = Exponent {
         above_least: above_least as u8,
     };
-    Ok(Ten::Nonzero(sign, mantissa, exponent))
+    Ok(Ten::Nonzero(sign, Size { mantissa, exponent }))
 }
 
 /// The nearest decimal of a size that was cut to eleven digits, which stand at a scale.

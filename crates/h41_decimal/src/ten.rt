@@ -1,13 +1,143 @@
 //! Decimals, and what is computed with them.
 
-use crate::parts::{Exponent, Mantissa, Sign};
+ghost use Rattle.std.specs.Prelude.{◌≡◌, ◌*◌, ◌≤◌, pos, ◌+ℤ◌, ◌-ℤ◌, ◌*ℤ◌, neg_ℤ};
+ghost use Rattle.std.specs.Ordering.{int_cmp, nat_cmp};
+ghost use Rattle.h41_decimal.specs.Signs.{signed};
+ghost use Rattle.h41_decimal.specs.Units.{one, size, units};
+ghost use Rattle.h41_decimal.specs.NearestDecimal.{Nearest, NearestRoot};
+ghost use Rattle.h41_decimal.specs.Operations.{NearestQuotient, NearestModulo, RoundsTo, step_of};
 
-/// A number of the calculator: zero, or ten digits, an exponent and a sign.
+use crate::fault::Fault;
+use crate::parts::Size;
+use crate::sign::Sign;
+use crate::sizes;
+use std::cmp::Ordering;
+
+/// A number of the calculator: zero, or a sign, ten digits and an exponent.
 #[derive(Clone, Copy, Debug, PartialEq, Eq)]
 pub enum Ten {
     /// Zero, which has no sign.
     Zero,
-    /// The mantissa has its radix mark after the first digit.
-    Nonzero(Sign, Mantissa, Exponent),
+    /// Another number.
+    Nonzero(Sign, Size),
 }
 
+impl Ten {
+    /// The same size with the other sign.
+    pub fn negated(self) -> Self
+        ensures { units result ≡ neg_ℤ (units self) }
+    {
+        match self {
+            Ten::Zero => Ten::Zero,
+            Ten::Nonzero(sign, x) => Ten::Nonzero(sign.opposite(), x),
+        }
+    }
+
+    /// The sum, rounded. Its only fault is Range.
+    pub fn add(self, other: Self) -> Result<Self, Fault>
+        ensures { Nearest (units self +ℤ units other) 1 result }
+    {
+        match (self, other) {
+            (Ten::Zero, _) => Ok(other),
+            (_, Ten::Zero) => Ok(self),
+            (Ten::Nonzero(x_sign, x), Ten::Nonzero(y_sign, y)) => add_signed(x_sign, x, y_sign, y),
+        }
+    }
+
+    /// The difference, rounded. Its only fault is Range.
+    pub fn sub(self, other: Self) -> Result<Self, Fault>
+        ensures { Nearest (units self -ℤ units other) 1 result }
+    {
+        self.add(other.negated())
+    }
+
+    /// The product, rounded. Its only fault is Range.
+    pub fn mul(self, other: Self) -> Result<Self, Fault>
+        ensures { Nearest (units self *ℤ units other) one result }
+    {
+        match (self, other) {
+            (Ten::Nonzero(x_sign, x), Ten::Nonzero(y_sign, y)) => {
+                sizes::multiply(x_sign.times(y_sign), x, y)
+            }
+            _ => Ok(Ten::Zero),
+        }
+    }
+
+    /// So many percent of a number: a hundredth of the product, rounded. Its only fault is Range.
+    pub fn percent(self, of: Self) -> Result<Self, Fault>
+        ensures { Nearest (units self *ℤ units of) (100 * one) result }
+    {
+        match (self, of) {
+            (Ten::Nonzero(x_sign, x), Ten::Nonzero(y_sign, y)) => {
+                sizes::percent(x_sign.times(y_sign), x, y)
+            }
+            _ => Ok(Ten::Zero),
+        }
+    }
+
+    /// The quotient, rounded. Its faults are Data for a zero divisor, and Range.
+    pub fn div(self, other: Self) -> Result<Self, Fault>
+        ensures { NearestQuotient (units self) (units other) result }
+    {
+        match (self, other) {
+            (_, Ten::Zero) => Err(Fault::Data),
+            (Ten::Zero, _) => Ok(Ten::Zero),
+            (Ten::Nonzero(x_sign, x), Ten::Nonzero(y_sign, y)) => {
+                sizes::divide(x_sign.times(y_sign), x, y)
+            }
+        }
+    }
+
+    /// The square root, rounded. Its only fault is Data, for a negative number.
+    pub fn sqrt(self) -> Result<Self, Fault>
+        ensures { NearestRoot (units self) result }
+    {
+        match self {
+            Ten::Zero => Ok(Ten::Zero),
+            Ten::Nonzero(Sign::Plus, x) => sizes::root(x),
+            Ten::Nonzero(Sign::Minus, _) => Err(Fault::Data),
+        }
+    }
+
+    /// Which of two numbers is greater.
+    pub fn cmp(self, other: Self) -> Ordering
+        ensures { result ≡ int_cmp (units self) (units other) }
+    {
+        match (self, other) {
+            (Ten::Zero, Ten::Zero) => Ordering::Equal,
+            (Ten::Zero, Ten::Nonzero(Sign::Plus, _)) | (Ten::Nonzero(Sign::Minus, _), Ten::Zero) => {
+                Ordering::Less
+            }
+            (Ten::Zero, Ten::Nonzero(Sign::Minus, _)) | (Ten::Nonzero(Sign::Plus, _), Ten::Zero) => {
+                Ordering::Greater
+            }
+            (Ten::Nonzero(Sign::Minus, _), Ten::Nonzero(Sign::Plus, _)) => Ordering::Less,
+            (Ten::Nonzero(Sign::Plus, _), Ten::Nonzero(Sign::Minus, _)) => Ordering::Greater,
+            (Ten::Nonzero(Sign::Plus, x), Ten::Nonzero(Sign::Plus, y)) => sizes::compare(x, y),
+            (Ten::Nonzero(Sign::Minus, x), Ten::Nonzero(Sign::Minus, y)) => sizes::compare(y, x),
+        }
+    }
+}
+
+/// The sum of two sizes with signs.
+fn add_signed(x_sign: Sign, x: Size, y_sign: Sign, y: Size) -> Result<Ten, Fault>
+    ensures { Nearest (signed x_sign (size x) +ℤ signed y_sign (size y)) 1 result }
+{
+    if x.exponent.above_least < y.exponent.above_least {
+        add_smaller(y_sign, y, x_sign, x)
+    } else {
+        add_smaller(x_sign, x, y_sign, y)
+    }
+}
+
+/// The sum of two sizes with signs, the first of which has no lower exponent than the second.
+fn add_smaller(x_sign: Sign, x: Size, y_sign: Sign, y: Size) -> Result<Ten, Fault>
+    requires { y.exponent.above_least ≤ x.exponent.above_least }
+    ensures { Nearest (signed x_sign (size x) +ℤ signed y_sign (size y)) 1 result }
+{
+    if x_sign == y_sign {
+        sizes::add(x_sign, x, y)
+    } else {
+        sizes::subtract(x_sign, x, y)
+    }
+}

@@ -3,3 +3,4 @@ pub mod Cuts
 pub mod Exact
 pub mod Signed
 pub mod Differences
+pub mod Tens

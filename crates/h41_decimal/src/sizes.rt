@@ -1,7 +1,7 @@
 //! Operations on sizes, which are decimals without a sign.
 
-ghost use Rattle.std.specs.Prelude.{◌≡◌, ◌+◌, ◌*◌, ◌^◌, ◌<◌, ◌≤◌, ◌-ℤ◌};
-ghost use Rattle.std.specs.Ordering.{nat_cmp};
+ghost use Rattle.std.specs.Prelude.{◌≡◌, ◌+◌, ◌*◌, ◌^◌, ◌<◌, ◌≤◌, pos, ◌-ℤ◌};
+ghost use Rattle.std.specs.Ordering.{int_cmp};
 ghost use Rattle.h41_decimal.specs.Signs.{signed};
 ghost use Rattle.h41_decimal.specs.Units.{one, size};
 ghost use Rattle.h41_decimal.specs.NearestDecimal.{IsRounded, Nearest, Fraction, RootOf};
@@ -88,9 +88,17 @@ pub fn subtract(sign: Sign, x: Size, y: Size) -> Result<Ten, Fault>
 
 /// Which of two sizes is greater: the one with the higher exponent, else the one with the higher digits.
 pub fn compare(x: Size, y: Size) -> Ordering
-    ensures { result ≡ nat_cmp (size x) (size y) }
+    ensures { result ≡ int_cmp (pos (size x)) (pos (size y)) }
 {
-    x.steps()
-        .cmp(&y.steps())
-        .then(x.mantissa.digits.cmp(&y.mantissa.digits))
+    if x.exponent.above_least < y.exponent.above_least {
+        Ordering::Less
+    } else if y.exponent.above_least < x.exponent.above_least {
+        Ordering::Greater
+    } else if x.mantissa.digits < y.mantissa.digits {
+        Ordering::Less
+    } else if y.mantissa.digits < x.mantissa.digits {
+        Ordering::Greater
+    } else {
+        Ordering::Equal
+    }
 }

@@ -94,8 +94,10 @@ impl Ten {
     {
         match self {
             Ten::Zero => Ok(Ten::Zero),
-            Ten::Nonzero(Sign::Plus, x) => sizes::root(x),
-            Ten::Nonzero(Sign::Minus, _) => Err(Fault::Data),
+            Ten::Nonzero(sign, x) => match sign {
+                Sign::Plus => sizes::root(x),
+                Sign::Minus => Err(Fault::Data),
+            },
         }
     }
 
@@ -105,17 +107,42 @@ impl Ten {
     {
         match (self, other) {
             (Ten::Zero, Ten::Zero) => Ordering::Equal,
-            (Ten::Zero, Ten::Nonzero(Sign::Plus, _)) | (Ten::Nonzero(Sign::Minus, _), Ten::Zero) => {
-                Ordering::Less
-            }
-            (Ten::Zero, Ten::Nonzero(Sign::Minus, _)) | (Ten::Nonzero(Sign::Plus, _), Ten::Zero) => {
-                Ordering::Greater
-            }
-            (Ten::Nonzero(Sign::Minus, _), Ten::Nonzero(Sign::Plus, _)) => Ordering::Less,
-            (Ten::Nonzero(Sign::Plus, _), Ten::Nonzero(Sign::Minus, _)) => Ordering::Greater,
-            (Ten::Nonzero(Sign::Plus, x), Ten::Nonzero(Sign::Plus, y)) => sizes::compare(x, y),
-            (Ten::Nonzero(Sign::Minus, x), Ten::Nonzero(Sign::Minus, y)) => sizes::compare(y, x),
+            (Ten::Zero, Ten::Nonzero(sign, x)) => zero_against(sign, x),
+            (Ten::Nonzero(sign, x), Ten::Zero) => against_zero(sign, x),
+            (Ten::Nonzero(x_sign, x), Ten::Nonzero(y_sign, y)) => compare_signed(x_sign, x, y_sign, y),
         }
+    }
+}
+
+/// Which of zero and a size with a sign is greater.
+fn zero_against(sign: Sign, x: Size) -> Ordering
+    ensures { result ≡ int_cmp (pos 0) (signed sign (size x)) }
+{
+    match sign {
+        Sign::Plus => Ordering::Less,
+        Sign::Minus => Ordering::Greater,
+    }
+}
+
+/// Which of a size with a sign and zero is greater.
+fn against_zero(sign: Sign, x: Size) -> Ordering
+    ensures { result ≡ int_cmp (signed sign (size x)) (pos 0) }
+{
+    match sign {
+        Sign::Plus => Ordering::Greater,
+        Sign::Minus => Ordering::Less,
+    }
+}
+
+/// Which of two sizes with signs is greater.
+fn compare_signed(x_sign: Sign, x: Size, y_sign: Sign, y: Size) -> Ordering
+    ensures { result ≡ int_cmp (signed x_sign (size x)) (signed y_sign (size y)) }
+{
+    match (x_sign, y_sign) {
+        (Sign::Plus, Sign::Plus) => sizes::compare(x, y),
+        (Sign::Plus, Sign::Minus) => Ordering::Greater,
+        (Sign::Minus, Sign::Plus) => Ordering::Less,
+        (Sign::Minus, Sign::Minus) => sizes::compare(y, x),
     }
 }
 

@@ -4,3 +4,5 @@ pub mod Exact
 pub mod Signed
 pub mod Differences
 pub mod Tens
+pub mod Steps
+pub mod Registers

@@ -1,8 +1,9 @@
 -- What a register of 14 digits holds: a number, ALPHA data, or neither.
-use Rattle.std.specs.Prelude.{ℕ, zero, suc, ◌+◌, ◌-◌, ◌*◌, ◌^◌, Bool, true, ◌&&◌, ◌||◌, not, List, [], ◌∷◌, map, slice_index, Option, Some, None, nat_le, ◌==◌, if◌then◌else◌, ℤ, pos}
-use Rattle.std.specs.List.{list_all}
+use Rattle.std.specs.Prelude.{ℕ, zero, suc, ◌+◌, ◌-◌, ◌*◌, ◌^◌, ◌&&◌, List, [], ◌∷◌, map, slice_index, Option, Some, None, nat_le, nat_lt, ◌==◌, if◌then◌else◌, ℤ, pos}
+use Rattle.std.specs.Option.{option_map}
 use Rattle.h41_digits.specs.Register.{byte_at}
 use Rattle.h41_decimal.specs.Signs.{signed}
+use Rattle.h41_decimal.specs.Units.{size_of}
 use Rattle.h41_decimal.specs.declared.sign.Sign.{Sign}
 use Rattle.h41_decimal.specs.declared.sign.Sign.TheVariants.{Plus, Minus}
 
@@ -15,50 +16,42 @@ pub data Holding : Type 0 where
   -- neither
   Other : Holding
 
--- the number whose decimal digits these are, the lowest at a place, so many of them
-abbrev pub number_from : List ℕ → ℕ → ℕ → ℕ
-number_from register place zero = 0
-number_from register place (suc count) = slice_index register place + 10 * number_from register (place + 1) count
-
--- whether so many digits, from a place up, are 0 to 9
-abbrev pub is_decimal : List ℕ → ℕ → ℕ → Bool
-is_decimal register place zero = true
-is_decimal register place (suc count) = nat_le (slice_index register place) 9 && is_decimal register (place + 1) count
-
--- the ten digits of the mantissa, places 3 to 12
-abbrev pub mantissa_of : List ℕ → ℕ
-mantissa_of register = number_from register 3 10
-
--- the three digits of the exponent, places 0 to 2: 0 to 99, or 1000 less the size of a negative one, 901 to 999
-abbrev pub exponent_of : List ℕ → ℕ
-exponent_of register = number_from register 0 3
-
--- the exponent counted from -99
-abbrev pub exponent_steps : ℕ → ℕ
-exponent_steps exponent = if nat_le exponent 99 then exponent + 99 else exponent - 901
+-- the number whose decimal digits stand from a place up, so many of them, or nothing where one is above 9
+abbrev pub decimal_in : List ℕ → ℕ → ℕ → Option ℕ
+decimal_in register place zero = Some 0
+decimal_in register place (suc count) =
+    if nat_le (slice_index register place) 9
+    then option_map (λ rest. slice_index register place + 10 * rest) (decimal_in register (place + 1) count)
+    else None
 
 -- the sign, in place 13: 0, or 9 for a negative number
-abbrev pub sign_digit : List ℕ → ℕ
-sign_digit register = slice_index register 13
+abbrev pub sign_in : ℕ → Option Sign
+sign_in digit = if digit == 0 then Some Plus else if digit == 9 then Some Minus else None
 
-abbrev pub register_sign : List ℕ → Sign
-register_sign register = if sign_digit register == 0 then Plus else Minus
+-- The exponent, three digits, counted from -99: 0 to 99 are themselves, and 901 to 999 stand for -99 to -1, as 1000 less the
+-- size.
+abbrev pub steps_in : ℕ → Option ℕ
+steps_in exponent =
+    if nat_le exponent 99 then Some (exponent + 99)
+    else if nat_le 901 exponent then Some (exponent - 901)
+    else None
 
--- zero is fourteen zeros
-abbrev pub is_zero : List ℕ → Bool
-is_zero register = list_all (λ digit. digit == 0) register
+-- what ten digits are worth with a sign and an exponent: the first of them is not zero
+abbrev pub digits_worth : ℕ → Option Sign → Option ℕ → Option ℤ
+digits_worth mantissa (Some sign) (Some steps) =
+    if nat_lt mantissa (10 ^ 9) then None else Some (signed sign (size_of mantissa steps))
+digits_worth mantissa _ _ = None
 
--- another number has decimal digits alone, 0 or 9 for its sign, a first digit that is not zero, and an exponent from -99 to 99
-abbrev pub is_number : List ℕ → Bool
-is_number register =
-    is_decimal register 0 13
-    && (sign_digit register == 0 || sign_digit register == 9)
-    && nat_le 1 (slice_index register 12)
-    && (nat_le (exponent_of register) 99 || nat_le 901 (exponent_of register))
+-- what the parts of a register are worth: zero is all zeros
+abbrev pub parts_worth : Option ℕ → Option ℕ → ℕ → Option ℤ
+parts_worth (Some mantissa) (Some exponent) sign =
+    if mantissa == 0 && exponent == 0 && sign == 0 then Some (pos 0)
+    else digits_worth mantissa (sign_in sign) (steps_in exponent)
+parts_worth _ _ sign = None
 
--- and what it is worth, in units
-abbrev pub worth : List ℕ → ℤ
-worth register = signed (register_sign register) (mantissa_of register * 10 ^ exponent_steps (exponent_of register))
+-- what the number in a register is worth, where there is one: the mantissa stands in places 3 to 12, the exponent in 0 to 2
+abbrev pub number_in : List ℕ → Option ℤ
+number_in register = parts_worth (decimal_in register 3 10) (decimal_in register 0 3) (slice_index register 13)
 
 -- bytes without the leading ones that are zero
 abbrev pub after_nulls : List ℕ → List ℕ
@@ -66,19 +59,20 @@ after_nulls [] = []
 after_nulls (byte ∷ bytes) = if byte == 0 then after_nulls bytes else byte ∷ bytes
 
 -- ALPHA data has 1 in place 13, and up to six bytes at the right, in places 11 to 0; place 12 is not looked at
-abbrev pub text_of : List ℕ → List ℕ
-text_of register = after_nulls (map (byte_at register) (5 ∷ 4 ∷ 3 ∷ 2 ∷ 1 ∷ 0 ∷ []))
+abbrev pub text_in : List ℕ → List ℕ
+text_in register = after_nulls (map (byte_at register) (5 ∷ 4 ∷ 3 ∷ 2 ∷ 1 ∷ 0 ∷ []))
+
+-- a number where there is one, else ALPHA data where place 13 has 1
+abbrev pub holding : Option ℤ → List ℕ → Holding
+holding (Some value) register = Number value
+holding None register = if slice_index register 13 == 1 then Text (text_in register) else Other
 
 -- what a register holds
 abbrev pub holding_of : List ℕ → Holding
-holding_of register =
-    if is_zero register then Number (pos 0)
-    else if is_number register then Number (worth register)
-    else if sign_digit register == 1 then Text (text_of register)
-    else Other
+holding_of register = holding (number_in register) register
 
--- what the number that a register holds is worth, where it holds one
-abbrev pub number_in : Holding → Option ℤ
-number_in (Number value) = Some value
-number_in (Text bytes) = None
-number_in Other = None
+-- what a number that is held is worth
+abbrev pub worth : Holding → Option ℤ
+worth (Number value) = Some value
+worth (Text bytes) = None
+worth Other = None

@@ -5,6 +5,7 @@ pub mod fault;
 pub mod laws;
 pub mod parts;
 pub mod places;
+mod register;
 mod rounding;
 pub mod sign;
 mod sizes;

@@ -5,6 +5,7 @@ ghost use Rattle.std.specs.Ordering.{int_cmp};
 ghost use Rattle.h41_decimal.specs.Signs.{signed};
 ghost use Rattle.h41_decimal.specs.Units.{one, size};
 ghost use Rattle.h41_decimal.specs.NearestDecimal.{IsRounded, Nearest, Fraction, RootOf};
+ghost use Rattle.h41_decimal.specs.Operations.{RoundsTo};
 
 use crate::fault::Fault;
 use crate::parts::Size;
@@ -101,4 +102,24 @@ pub fn compare(x: Size, y: Size) -> Ordering
     } else {
         Ordering::Equal
     }
+}
+
+/// A size rounded to a whole count of steps of a place, which is ten to a power of units.
+pub fn round_at(sign: Sign, x: Size, place: u32) -> Result<Ten, Fault>
+    requires { place < 300 }
+    ensures { RoundsTo (10 ^ place) (signed sign (size x)) result }
+{
+    if place <= x.steps() {
+        return Ok(Ten::Nonzero(sign, x));
+    }
+    let dropped = place - x.steps();
+    if dropped > 10 {
+        return Ok(Ten::Zero);
+    }
+    let step = power_of_ten(dropped);
+    let steps = (x.digits() + step / 2) / step;
+    if steps == 0 {
+        return Ok(Ten::Zero);
+    }
+    round_whole(sign, steps, place + UNIT_SCALE)
 }

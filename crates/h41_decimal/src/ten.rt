@@ -9,6 +9,7 @@ ghost use Rattle.h41_decimal.specs.Operations.{NearestQuotient, NearestModulo, R
 
 use crate::fault::Fault;
 use crate::parts::Size;
+use crate::places::Places;
 use crate::sign::Sign;
 use crate::sizes;
 use std::cmp::Ordering;
@@ -97,6 +98,21 @@ impl Ten {
             Ten::Nonzero(sign, x) => match sign {
                 Sign::Plus => sizes::root(x),
                 Sign::Minus => Err(Fault::Data),
+            },
+        }
+    }
+
+    /// The number rounded to so many decimals or digits, halves away from zero. Its only fault is Range.
+    pub fn round_to(self, places: Places) -> Result<Self, Fault>
+        ensures { RoundsTo (step_of places self) (units self) result }
+    {
+        match self {
+            Ten::Zero => Ok(Ten::Zero),
+            Ten::Nonzero(sign, x) => match places {
+                Places::Decimals(count) => sizes::round_at(sign, x, 108u32.saturating_sub(u32::from(count))),
+                Places::Digits(count) => {
+                    sizes::round_at(sign, x, x.steps() + 10u32.saturating_sub(u32::from(count)))
+                }
             },
         }
     }

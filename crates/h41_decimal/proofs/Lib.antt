@@ -6,3 +6,4 @@ pub mod Differences
 pub mod Tens
 pub mod Steps
 pub mod Registers
+pub mod Determined

@@ -1,23 +1,27 @@
 -- What follows from the definitions alone.
-use Rattle.std.specs.Prelude.{◌≡◌, ℕ, ◌<◌, ◌*◌, Ok, Result, ℤ, pos, ◌*ℤ◌}
-use Rattle.h41_decimal.specs.Units.{one, units}
+use Rattle.std.specs.Prelude.{◌≡◌, ℕ, ◌<◌, Ok, Err, Result, ℤ, pos, ◌*ℤ◌}
+use Rattle.h41_decimal.specs.Units.{units}
 use Rattle.h41_decimal.specs.NearestDecimal.{Nearest, NearestRoot}
 use Rattle.h41_decimal.specs.declared.fault.Fault.{Fault}
 use Rattle.h41_decimal.specs.declared.ten.Ten.{Ten}
 
--- two decimals that are worth as much are the same
-abbrev pub UnitsAreInjective : Type 0
-UnitsAreInjective = (x y : Ten) → units x ≡ units y → x ≡ y
+-- what an answer is worth
+abbrev pub answer_worth : Result Ten Fault → Result ℤ Fault
+answer_worth (Ok number) = Ok (units number)
+answer_worth (Err fault) = Err fault
 
 -- the nearest decimal of a fraction is determined
 abbrev pub NearestIsDetermined : Type 0
 NearestIsDetermined =
-    (above : ℤ) (below : ℕ) (x y : Result Ten Fault) → 0 < below → Nearest above below x → Nearest above below y → x ≡ y
+    (above : ℤ) (below : ℕ) (x y : Result Ten Fault) → Nearest above below x → Nearest above below y
+    → answer_worth x ≡ answer_worth y
 
 -- and so is that of a root
 abbrev pub NearestRootIsDetermined : Type 0
-NearestRootIsDetermined = (number : ℤ) (x y : Result Ten Fault) → NearestRoot number x → NearestRoot number y → x ≡ y
+NearestRootIsDetermined =
+    (number : ℤ) (x y : Result Ten Fault) → NearestRoot number x → NearestRoot number y
+    → answer_worth x ≡ answer_worth y
 
 -- a value that is a decimal already is answered as it is
 abbrev pub DecimalIsItsNearest : Type 0
-DecimalIsItsNearest = (number : Ten) (below : ℕ) → 0 < below → Nearest (units number *ℤ pos below) below (Ok number)
+DecimalIsItsNearest = (number : Ten) → Nearest (units number) 1 (Ok number)

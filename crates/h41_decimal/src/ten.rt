@@ -4,14 +4,18 @@ ghost use Rattle.std.specs.Prelude.{◌≡◌, ◌*◌, ◌≤◌, pos, ◌+ℤ�
 ghost use Rattle.std.specs.Ordering.{int_cmp, nat_cmp};
 ghost use Rattle.h41_decimal.specs.Signs.{signed};
 ghost use Rattle.h41_decimal.specs.Units.{one, size, units};
+ghost use Rattle.std.specs.Option.{option_map};
+ghost use Rattle.h41_decimal.specs.Holding.{holding_of, worth, Number};
 ghost use Rattle.h41_decimal.specs.NearestDecimal.{Nearest, NearestRoot};
 ghost use Rattle.h41_decimal.specs.Operations.{NearestQuotient, NearestModulo, RoundsTo, step_of};
 
 use crate::fault::Fault;
 use crate::parts::Size;
 use crate::places::Places;
+use crate::register;
 use crate::sign::Sign;
 use crate::sizes;
+use h41_digits::Reg;
 use std::cmp::Ordering;
 
 /// A number of the calculator: zero, or a sign, ten digits and an exponent.
@@ -32,6 +36,20 @@ impl Ten {
             Ten::Zero => Ten::Zero,
             Ten::Nonzero(sign, x) => Ten::Nonzero(sign.opposite(), x),
         }
+    }
+
+    /// The number that a register holds, or nothing where it holds none.
+    pub fn from_reg(register: Reg) -> Option<Self>
+        ensures { option_map units result ≡ worth (holding_of register) }
+    {
+        register::read(register)
+    }
+
+    /// The register that holds the number.
+    pub fn to_reg(self) -> Reg
+        ensures { holding_of result ≡ Number (units self) }
+    {
+        register::write(self)
     }
 
     /// The sum, rounded. Its only fault is Range.

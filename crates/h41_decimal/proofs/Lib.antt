@@ -7,3 +7,4 @@ pub mod Tens
 pub mod Steps
 pub mod Registers
 pub mod Determined
+pub mod Floors

@@ -115,7 +115,7 @@ quotient_rounds_to_zero sign x place dropped p k places some p_is k_is none =
   quotient_rounds sign x place dropped p k (Ok Zero) places some p_is k_is
     (nearest_of_zero (signed sign (k * 10 ^ place)) 1 (Ok Zero) (signed-zero sign (k * 10 ^ place) e) refl)
 
-at_unit_scale : (k place : ℕ) → (k * 10 ^ place) * 10 ^ 128 ≡ (k * 10 ^ (place + 128)) * 1
+pub at_unit_scale : (k place : ℕ) → (k * 10 ^ place) * 10 ^ 128 ≡ (k * 10 ^ (place + 128)) * 1
 at_unit_scale k place = let p = ap (λ t. k * t) (pow-add 10 place 128) in omega (arith, p)
 
 -- and another, rounded to ten digits

@@ -96,7 +96,7 @@ quotient_by z t y answer nearest =
   not_zero (answer ≡ Err Data) _ (unsigned_abs (signed t (size y))) some
     (subst (λ n. Nearest (z *ℤ signed t (size y) *ℤ pos one) (n * n) answer) (sym e) nearest)
 
-product_with_plus : (s : Sign) → product_of s Plus ≡ s
+pub product_with_plus : (s : Sign) → product_of s Plus ≡ s
 product_with_plus Plus = refl
 product_with_plus Minus = refl
 

@@ -22,12 +22,15 @@ abbrev pub IsFloor : ℤ → ℤ → ℤ → Type 0
 IsFloor whole y (pos x) = ((whole *ℤ pos x) ≤ℤ y) × (y <ℤ ((whole +ℤ pos 1) *ℤ pos x))
 IsFloor whole y (negsuc x) = (y ≤ℤ (whole *ℤ negsuc x)) × (((whole +ℤ pos 1) *ℤ negsuc x) <ℤ y)
 
--- y - x * floor(y / x), and y where x is zero
+-- the answer for y - x * floor(y / x)
+pub record RoundsRest (y x : ℤ) (answer : Result Ten Fault) : Type 0 where
+  pub whole : ℤ
+  pub floor : IsFloor whole y x
+  pub rest : Nearest (y -ℤ x *ℤ whole) 1 answer
+
+-- and y where x is zero
 abbrev pub NearestModulo : Ten → Ten → Result Ten Fault → Type 0
-NearestModulo y x answer =
-    MatchBool (unsigned_abs (units x) == 0)
-      (answer ≡ Ok y)
-      ((whole : ℤ) × IsFloor whole (units y) (units x) × Nearest (units y -ℤ units x *ℤ whole) 1 answer)
+NearestModulo y x answer = MatchBool (unsigned_abs (units x) == 0) (answer ≡ Ok y) (RoundsRest (units y) (units x) answer)
 
 -- what one step of the last place is worth, in units, of which there are 10^108 in 1: so many decimals, or so many digits
 abbrev pub step_of : Places → Ten → ℕ

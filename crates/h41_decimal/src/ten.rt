@@ -10,6 +10,7 @@ ghost use Rattle.h41_decimal.specs.NearestDecimal.{Nearest, NearestRoot};
 ghost use Rattle.h41_decimal.specs.Operations.{NearestQuotient, NearestModulo, RoundsTo, step_of};
 
 use crate::fault::Fault;
+use crate::modulo;
 use crate::parts::Size;
 use crate::places::Places;
 use crate::register;
@@ -117,6 +118,18 @@ impl Ten {
                 Sign::Plus => sizes::root(x),
                 Sign::Minus => Err(Fault::Data),
             },
+        }
+    }
+
+    /// The number modulo a divisor, rounded: `self - divisor * floor(self / divisor)`, which has the divisor's sign, and the
+    /// number itself where the divisor is zero. Its only fault is Range.
+    pub fn modulo(self, divisor: Self) -> Result<Self, Fault>
+        ensures { NearestModulo self divisor result }
+    {
+        match (self, divisor) {
+            (_, Ten::Zero) => Ok(self),
+            (Ten::Zero, _) => Ok(Ten::Zero),
+            (Ten::Nonzero(y_sign, y), Ten::Nonzero(x_sign, x)) => modulo::modulo(y_sign, y, x_sign, x),
         }
     }
 

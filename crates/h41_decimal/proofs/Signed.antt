@@ -1,11 +1,11 @@
 -- Sizes with signs.
-use Rattle.std.proofs.Common.{◌≡◌, ℕ, zero, suc, ◌+◌, ◌-◌, ◌*◌, ◌^◌, ◌<◌, ◌≤◌, sym, ◌∙◌, ap, refl, subst, arith, rules, Result, Ok, Bool, true, false, MatchBool}
+use Rattle.std.proofs.Common.{◌≡◌, ℕ, zero, suc, ◌+◌, ◌*◌, ◌<◌, sym, ◌∙◌, refl, subst, arith, Result, Ok, Bool, false, MatchBool}
 use Rattle.std.proofs.lemmas.Bool.Decides.{nat_tests}
-use Rattle.std.specs.Prelude.{ℤ, pos, negsuc, neg_ℤ, ◌+ℤ◌, ◌-ℤ◌, ◌*ℤ◌, unsigned_abs, ◌==◌}
+use Rattle.std.specs.Prelude.{ℤ, pos, negsuc, neg_ℤ, ◌+ℤ◌, ◌-ℤ◌, ◌*ℤ◌, ◌==◌}
 use Rattle.std.proofs.lemmas.Int.{ints}
-use Rattle.std.proofs.Math.IntN.{pos-*ℤ-pos, pos-*ℤ-negsuc, negsuc-*ℤ-pos, negsuc-*ℤ-negsuc, *ℤ-zero, zero-*ℤ, neg_ℤ-neg_ℤ}
-use Rattle.h41_decimal.specs.Signs.{signed, sign_of, opposite_of, product_of}
-use Rattle.h41_decimal.specs.NearestDecimal.{Exact, Fraction, RootOf, IsRounded, Nearest}
+use Rattle.std.proofs.Math.IntN.{pos-*ℤ-pos, pos-*ℤ-negsuc, negsuc-*ℤ-pos, negsuc-*ℤ-negsuc, *ℤ-zero, zero-*ℤ}
+use Rattle.h41_decimal.specs.Signs.{signed, opposite_of, product_of}
+use Rattle.h41_decimal.specs.NearestDecimal.{Fraction, IsRounded, Nearest}
 use Rattle.h41_decimal.specs.declared.fault.Fault.{Fault}
 use Rattle.h41_decimal.specs.declared.sign.Sign.{Sign}
 use Rattle.h41_decimal.specs.declared.sign.Sign.TheVariants.{Plus, Minus}
@@ -15,19 +15,19 @@ use Rattle.h41_decimal.specs.declared.ten.Ten.TheVariants.{Zero}
 -- what holds of a size that is not zero
 pub not_zero : (A B : Type 0) (n : ℕ) → 0 < n → B → MatchBool (n == 0) A B
 not_zero A B n n_pos b =
-  let f : (n == 0) ≡ false = grind (arith, nat_tests) in
-  let P : Bool → Type 0 = λ t. MatchBool t A B in
-  subst P (sym f) b
+    let f : (n == 0) ≡ false = grind (arith, nat_tests) in
+    let P : Bool → Type 0 = λ t. MatchBool t A B in
+    subst P (sym f) b
 
 -- the nearest decimal of a size with a sign
 pub nearest_of : (z : ℤ) (d : ℕ) (sign : Sign) (n : ℕ) (answer : Result Ten Fault) → z ≡ signed sign n → 0 < n → IsRounded sign (Fraction n d) answer → Nearest z d answer
 nearest_of z d sign zero answer e n_pos rounded = absurd (omega arith)
 nearest_of z d Plus (suc n) answer e n_pos rounded =
-  let P : ℤ → Type 0 = λ t. Nearest t d answer in
-  subst P (sym e) (not_zero (answer ≡ Ok Zero) (IsRounded Plus (Fraction (suc n) d) answer) (suc n) n_pos rounded)
+    let P : ℤ → Type 0 = λ t. Nearest t d answer in
+    subst P (sym e) (not_zero (answer ≡ Ok Zero) (IsRounded Plus (Fraction (suc n) d) answer) (suc n) n_pos rounded)
 nearest_of z d Minus (suc n) answer e n_pos rounded =
-  let P : ℤ → Type 0 = λ t. Nearest t d answer in
-  subst P (sym e) (not_zero (answer ≡ Ok Zero) (IsRounded Minus (Fraction (suc n) d) answer) (suc n) n_pos rounded)
+    let P : ℤ → Type 0 = λ t. Nearest t d answer in
+    subst P (sym e) (not_zero (answer ≡ Ok Zero) (IsRounded Minus (Fraction (suc n) d) answer) (suc n) n_pos rounded)
 
 -- the nearest decimal of zero
 pub nearest_of_zero : (z : ℤ) (d : ℕ) (answer : Result Ten Fault) → z ≡ pos 0 → answer ≡ Ok Zero → Nearest z d answer

@@ -34,11 +34,11 @@ pub record IsTenDigits (digits : ℕ) : Type 0 where
 -- brought over the bar of r and s, the product of their powers below.
 pub record IsNear (exact : Exact) (digits up down : ℕ) : Type 0 where
   pub larger : (others a b : ℕ) → IsTenDigits others
-    → digits * (10 ^ up * 10 ^ b) < others * (10 ^ a * 10 ^ down)
-    → IsBelow exact (digits * (10 ^ up * 10 ^ b) + others * (10 ^ a * 10 ^ down)) (2 * (10 ^ down * 10 ^ b))
+      → digits * (10 ^ up * 10 ^ b) < others * (10 ^ a * 10 ^ down)
+      → IsBelow exact (digits * (10 ^ up * 10 ^ b) + others * (10 ^ a * 10 ^ down)) (2 * (10 ^ down * 10 ^ b))
   pub smaller : (others a b : ℕ) → IsTenDigits others
-    → others * (10 ^ a * 10 ^ down) < digits * (10 ^ up * 10 ^ b)
-    → IsAtLeast exact (digits * (10 ^ up * 10 ^ b) + others * (10 ^ a * 10 ^ down)) (2 * (10 ^ down * 10 ^ b))
+      → others * (10 ^ a * 10 ^ down) < digits * (10 ^ up * 10 ^ b)
+      → IsAtLeast exact (digits * (10 ^ up * 10 ^ b) + others * (10 ^ a * 10 ^ down)) (2 * (10 ^ down * 10 ^ b))
 
 -- an exponent counted from -99: the power of ten above the bar, and the one below it
 abbrev pub up_of : ℤ → ℕ
@@ -54,8 +54,8 @@ abbrev pub IsBounded : Sign → ℕ → ℤ → Result Ten Fault → Type 0
 IsBounded sign digits (negsuc steps) answer = answer ≡ Ok Zero
 IsBounded sign digits (pos steps) answer =
     MatchBool (nat_le steps 198)
-      (IsOkAnd answer (λ number. units number ≡ signed sign (size_of digits steps)))
-      (answer ≡ Err Range)
+    (IsOkAnd answer (λ number. units number ≡ signed sign (size_of digits steps)))
+    (answer ≡ Err Range)
 
 -- the answer for an exact size above zero and a sign: its nearest decimal, whatever the exponent, within the bounds
 pub record IsRounded (sign : Sign) (exact : Exact) (answer : Result Ten Fault) : Type 0 where
@@ -69,8 +69,8 @@ pub record IsRounded (sign : Sign) (exact : Exact) (answer : Result Ten Fault) :
 abbrev pub Nearest : ℤ → ℕ → Result Ten Fault → Type 0
 Nearest above below answer =
     MatchBool (unsigned_abs above == 0)
-      (answer ≡ Ok Zero)
-      (IsRounded (sign_of above) (Fraction (unsigned_abs above) below) answer)
+    (answer ≡ Ok Zero)
+    (IsRounded (sign_of above) (Fraction (unsigned_abs above) below) answer)
 
 -- the answer for the square root of a number of units: of a negative one there is none
 abbrev pub NearestRoot : ℤ → Result Ten Fault → Type 0

@@ -1,7 +1,7 @@
 -- The exact values that the operations round.
 use Rattle.std.specs.Prelude.{◌≡◌, ℕ, ◌+◌, ◌-◌, ◌*◌, ◌^◌, ◌<◌, ◌≤◌, ◌==◌, MatchBool, Ok, Err, Result, ℤ, pos, negsuc, ◌+ℤ◌, ◌-ℤ◌, ◌*ℤ◌, ◌<ℤ◌, ◌≤ℤ◌, unsigned_abs}
 use Rattle.h41_decimal.specs.Signs.{signed, sign_of}
-use Rattle.h41_decimal.specs.Units.{one, size_of, units}
+use Rattle.h41_decimal.specs.Units.{one, units}
 use Rattle.h41_decimal.specs.NearestDecimal.{Nearest}
 use Rattle.h41_decimal.specs.declared.fault.Fault.{Fault}
 use Rattle.h41_decimal.specs.declared.fault.Fault.TheVariants.{Data}
@@ -14,8 +14,8 @@ use Rattle.h41_decimal.specs.declared.ten.Ten.TheVariants.{Zero, Nonzero}
 abbrev pub NearestQuotient : ℤ → ℤ → Result Ten Fault → Type 0
 NearestQuotient x y answer =
     MatchBool (unsigned_abs y == 0)
-      (answer ≡ Err Data)
-      (Nearest (x *ℤ y *ℤ pos one) (unsigned_abs y * unsigned_abs y) answer)
+    (answer ≡ Err Data)
+    (Nearest (x *ℤ y *ℤ pos one) (unsigned_abs y * unsigned_abs y) answer)
 
 -- the greatest whole number not above y / x, by cross products: a negative x turns them round
 abbrev pub IsFloor : ℤ → ℤ → ℤ → Type 0

@@ -3,6 +3,7 @@
 
 pub mod fault;
 pub mod laws;
+mod modulo;
 pub mod parts;
 pub mod places;
 mod register;
@@ -11,10 +12,11 @@ pub mod sign;
 mod sizes;
 pub mod ten;
 
-
-
 pub use fault::Fault;
 pub use parts::{Exponent, Mantissa, Size};
 pub use places::Places;
 pub use sign::Sign;
 pub use ten::Ten;
+
+#[cfg(test)]
+mod tests;

@@ -7,7 +7,7 @@ ghost use Rattle.h41_decimal.specs.Operations.{RoundsRest};
 
 use crate::fault::Fault;
 use crate::parts::Size;
-use crate::rounding::{power_of_ten, round_whole, UNIT_SCALE};
+use crate::rounding::{UNIT_SCALE, power_of_ten, round_whole};
 use crate::sign::Sign;
 use crate::sizes;
 use crate::ten::Ten;

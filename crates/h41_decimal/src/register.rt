@@ -15,7 +15,10 @@ use h41_digits::Reg;
 pub fn read(register: Reg) -> Option<Ten>
     ensures { option_map units result ≡ worth (holding_of register) }
 {
-    match (decimal_digits(register, 3, 10), decimal_digits(register, 0, 3)) {
+    match (
+        decimal_digits(register, 3, 10),
+        decimal_digits(register, 0, 3),
+    ) {
         (Some(mantissa), Some(exponent)) => number(mantissa, exponent, register.get(13)),
         _ => None,
     }

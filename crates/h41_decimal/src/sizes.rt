@@ -9,7 +9,7 @@ ghost use Rattle.h41_decimal.specs.Operations.{RoundsTo};
 
 use crate::fault::Fault;
 use crate::parts::Size;
-use crate::rounding::{power_of_ten, round_whole, UNIT_SCALE};
+use crate::rounding::{UNIT_SCALE, power_of_ten, round_whole};
 use crate::sign::Sign;
 use crate::ten::Ten;
 use std::cmp::Ordering;

@@ -10,12 +10,10 @@ ghost use Rattle.h41_decimal.specs.NearestDecimal.{Nearest, NearestRoot};
 ghost use Rattle.h41_decimal.specs.Operations.{NearestQuotient, NearestModulo, RoundsTo, step_of};
 
 use crate::fault::Fault;
-use crate::modulo;
 use crate::parts::Size;
 use crate::places::Places;
-use crate::register;
 use crate::sign::Sign;
-use crate::sizes;
+use crate::{modulo, register, sizes};
 use h41_digits::Reg;
 use std::cmp::Ordering;
 
@@ -129,7 +127,9 @@ impl Ten {
         match (self, divisor) {
             (_, Ten::Zero) => Ok(self),
             (Ten::Zero, _) => Ok(Ten::Zero),
-            (Ten::Nonzero(y_sign, y), Ten::Nonzero(x_sign, x)) => modulo::modulo(y_sign, y, x_sign, x),
+            (Ten::Nonzero(y_sign, y), Ten::Nonzero(x_sign, x)) => modulo::modulo(
+                y_sign, y, x_sign, x,
+            ),
         }
     }
 
@@ -140,7 +140,11 @@ impl Ten {
         match self {
             Ten::Zero => Ok(Ten::Zero),
             Ten::Nonzero(sign, x) => match places {
-                Places::Decimals(count) => sizes::round_at(sign, x, 108u32.saturating_sub(u32::from(count))),
+                Places::Decimals(count) => sizes::round_at(
+                    sign,
+                    x,
+                    108u32.saturating_sub(u32::from(count)),
+                ),
                 Places::Digits(count) => {
                     sizes::round_at(sign, x, x.steps() + 10u32.saturating_sub(u32::from(count)))
                 }
@@ -156,7 +160,9 @@ impl Ten {
             (Ten::Zero, Ten::Zero) => Ordering::Equal,
             (Ten::Zero, Ten::Nonzero(sign, x)) => zero_against(sign, x),
             (Ten::Nonzero(sign, x), Ten::Zero) => against_zero(sign, x),
-            (Ten::Nonzero(x_sign, x), Ten::Nonzero(y_sign, y)) => compare_signed(x_sign, x, y_sign, y),
+            (Ten::Nonzero(x_sign, x), Ten::Nonzero(y_sign, y)) => compare_signed(
+                x_sign, x, y_sign, y,
+            ),
         }
     }
 }

@@ -1,4 +1,4 @@
-use Rattle.std.proofs.Common.{◌+◌, ◌-◌, ◌^◌, ◌<◌, ◌≤◌}
+use Rattle.std.proofs.Common.{◌-◌, ◌^◌, ◌<◌, ◌≤◌}
 use Rattle.h41_decimal.proofs.rounding.digit_count.Given as goal
 
 abbrev pub invariant-loop-high : goal.invariant-loop-high

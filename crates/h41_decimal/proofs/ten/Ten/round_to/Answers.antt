@@ -1,5 +1,4 @@
-use Rattle.std.proofs.Common.{◌≡◌, ℕ, ◌+◌, ◌-◌, ◌*◌, ◌/◌, ◌^◌, ◌<◌, ◌≤◌, ap, ◌∙◌, sym, refl, subst, arith, rules, Ok}
-use Rattle.std.specs.Prelude.{ℤ, pos}
+use Rattle.std.proofs.Common.{◌-◌, ◌<◌, sym, subst, arith, Ok}
 use Rattle.h41_decimal.specs.Units.{units}
 use Rattle.h41_decimal.specs.Operations.{RoundsTo, step_of}
 use Rattle.h41_decimal.specs.declared.places.Places.{Places}
@@ -16,5 +15,5 @@ step_pos (Digits count) = omega arith
 
 pub returns-in-Zero : goal.returns-in-Zero
 returns-in-Zero c =
-  let P : Ten → Type 0 = λ t. RoundsTo (step_of c.args.places t) (units t) (Ok Zero) in
-  subst P (sym c.in-Zero.is) (zero_rounds (step_of c.args.places Zero) (step_pos c.args.places))
+    let P : Ten → Type 0 = λ t. RoundsTo (step_of c.args.places t) (units t) (Ok Zero) in
+    subst P (sym c.in-Zero.is) (zero_rounds (step_of c.args.places Zero) (step_pos c.args.places))

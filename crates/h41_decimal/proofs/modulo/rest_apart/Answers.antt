@@ -1,0 +1,58 @@
+use Rattle.std.proofs.Common.{◌≡◌, ℕ, ◌+◌, ◌-◌, ◌*◌, ◌/◌, ◌%◌, ◌^◌, ◌<◌, ◌≤◌, ap, ◌∙◌, sym, subst, arith}
+use Rattle.std.proofs.Math.Nat.{mul-pos, zero-mul}
+use Rattle.h41_decimal.specs.Signs.{signed}
+use Rattle.h41_decimal.specs.Units.{size}
+use Rattle.h41_decimal.proofs.Nearest.{ten_pow_pos}
+use Rattle.h41_decimal.proofs.Signed.{signed-sub}
+use Rattle.h41_decimal.proofs.Tens.{size_pos, lower_exponent, nearest_along}
+use Rattle.h41_decimal.proofs.Floors.{rest_of_apart, rest_of_apart_none, sizes_divide, rest_rounds_at}
+use Rattle.h41_decimal.specs.NearestDecimal.{Nearest}
+use Rattle.h41_decimal.proofs.modulo.rest_apart.Goals as goal
+
+pub returns-then-y-x : goal.returns-then-y-x
+returns-then-y-x c =
+    let x = c.args.x in
+    let y = c.args.y in
+    let less = lower_exponent y.mantissa.digits x.mantissa.digits y.exponent.above_least x.exponent.above_least y.mantissa.below x.mantissa.at_least c.if-y-x.true in
+    rest_of_apart c.args.sign (size y) (size x) 0 (size y) _ (omega arith) (size_pos y) less
+    (nearest_along (signed c.args.sign (size x - size y)) _ 1 _ (sym (signed-sub c.args.sign (size x) (size y) (size x - size y) (omega arith))) c.subtract.ensures)
+
+pub returns-then-rest-eq0 : goal.returns-then-rest-eq0
+returns-then-rest-eq0 c =
+    let x = c.args.x in
+    let y = c.args.y in
+    let m = x.mantissa.digits in
+    let n = y.mantissa.digits in
+    let s = x.exponent.above_least in
+    let t = y.exponent.above_least in
+    let m_size : 10 ^ 9 ≤ m = x.mantissa.at_least in
+    let r : c.remainder-rest.result ≡ n * 10 ^ (t - s) % m = cc in
+    let d = sizes_divide n m t s c.remainder-rest.result (omega arith) (omega arith) r in
+    let none : c.remainder-rest.result * 10 ^ s ≡ 0 = ap (λ k. k * 10 ^ s) c.if-rest-eq0.true ∙ zero-mul (10 ^ s) in
+    let e : size y ≡ (n * 10 ^ (t - s) / m) * size x + c.remainder-rest.result * 10 ^ s = d.0 in
+    rest_of_apart_none c.args.sign (size y) (size x) (n * 10 ^ (t - s) / m) (omega arith) (size_pos y) (size_pos x)
+
+-- what the divisor has more than the remainder
+lacking : (m k r p : ℕ) → k + r ≡ m → k * p ≡ m * p - r * p
+lacking m k r p e = let f : (k + r) * p ≡ m * p = ap (λ t. t * p) e in omega arith
+
+pub returns : goal.returns
+returns c =
+    let x = c.args.x in
+    let y = c.args.y in
+    let m = x.mantissa.digits in
+    let n = y.mantissa.digits in
+    let s = x.exponent.above_least in
+    let t = y.exponent.above_least in
+    let m_size : 10 ^ 9 ≤ m = x.mantissa.at_least in
+    let r : c.remainder-rest.result ≡ n * 10 ^ (t - s) % m = cc in
+    let d = sizes_divide n m t s c.remainder-rest.result (omega arith) (omega arith) r in
+    let least = c.if-rest-eq0.false in
+    let some : 0 < c.remainder-rest.result = omega arith in
+    let less : c.remainder-rest.result < m = d.1 in
+    let k : (c.digits-3.result - c.remainder-rest.result) + c.remainder-rest.result ≡ m = omega arith in
+    let l = lacking m (c.digits-3.result - c.remainder-rest.result) c.remainder-rest.result (10 ^ s) k in
+    let k_pos : 0 < c.digits-3.result - c.remainder-rest.result = omega arith in
+    let P : ℕ → Type 0 = λ u. Nearest (signed c.args.sign u) 1 c.round_whole.result in
+    rest_of_apart c.args.sign (size y) (size x) (n * 10 ^ (t - s) / m) (c.remainder-rest.result * 10 ^ s) _ d.0 (mul-pos some (ten_pow_pos s)) d.2
+    (subst P l (rest_rounds_at c.args.sign (c.digits-3.result - c.remainder-rest.result) s _ _ k_pos (omega arith) c.round_whole.ensures))

@@ -1,0 +1,30 @@
+//! Laws of decimals: each is the contract of a function with next to nothing to do.
+
+ghost use Rattle.std.specs.Prelude.{◌≡◌, Some};
+ghost use Rattle.std.specs.Option.{option_map};
+ghost use Rattle.h41_decimal.specs.Laws.{NearestIsDetermined, NearestRootIsDetermined, DecimalIsItsNearest};
+ghost use Rattle.h41_decimal.specs.Units.{units};
+
+use crate::ten::Ten;
+
+/// The nearest decimal of a fraction is determined.
+pub fn nearest_is_determined()
+    ensures { NearestIsDetermined }
+{}
+
+/// The nearest decimal of a square root is determined.
+pub fn nearest_root_is_determined()
+    ensures { NearestRootIsDetermined }
+{}
+
+/// A value that is a decimal already is answered as it is.
+pub fn decimal_is_its_nearest()
+    ensures { DecimalIsItsNearest }
+{}
+
+/// A decimal that is written to a register is read again.
+pub fn decimal_round_trip(number: Ten) -> Option<Ten>
+    ensures { option_map units result ≡ Some (units number) }
+{
+    Ten::from_reg(number.to_reg())
+}

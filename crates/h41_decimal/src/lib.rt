@@ -1,0 +1,22 @@
+//! Ten-digit decimals of the HP-41, whose results are the exact ones rounded to ten digits, halves away from zero.
+#![tactic(auto)]
+
+pub mod fault;
+pub mod laws;
+mod modulo;
+pub mod parts;
+pub mod places;
+mod register;
+mod rounding;
+pub mod sign;
+mod sizes;
+pub mod ten;
+
+pub use fault::Fault;
+pub use parts::{Exponent, Mantissa, Size};
+pub use places::Places;
+pub use sign::Sign;
+pub use ten::Ten;
+
+#[cfg(test)]
+mod tests;

@@ -1,0 +1,69 @@
+//! What a division to a whole number leaves.
+
+ghost use Rattle.std.specs.Prelude.{◌≡◌, ◌+◌, ◌*◌, ◌%◌, ◌^◌, ◌<◌, ◌≤◌};
+ghost use Rattle.h41_decimal.specs.Signs.{signed, opposite_of};
+ghost use Rattle.h41_decimal.specs.Units.{size};
+ghost use Rattle.h41_decimal.specs.Operations.{RoundsRest};
+
+use crate::fault::Fault;
+use crate::parts::Size;
+use crate::rounding::{UNIT_SCALE, power_of_ten, round_whole};
+use crate::sign::Sign;
+use crate::sizes;
+use crate::ten::Ten;
+
+/// The greatest power of ten with which a number of ten digits is multiplied at once.
+const AT_ONCE: u32 = 28;
+
+/// What is left of a size with a sign by another.
+pub fn modulo(y_sign: Sign, y: Size, x_sign: Sign, x: Size) -> Result<Ten, Fault>
+    ensures { RoundsRest (signed y_sign (size y)) (signed x_sign (size x)) result }
+{
+    if x_sign == y_sign {
+        rest_same(x_sign, y, x)
+    } else {
+        rest_apart(x_sign, y, x)
+    }
+}
+
+/// What is left where both have one sign: the remainder of the sizes.
+fn rest_same(sign: Sign, y: Size, x: Size) -> Result<Ten, Fault>
+    ensures { RoundsRest (signed sign (size y)) (signed sign (size x)) result }
+{
+    if y.exponent.above_least < x.exponent.above_least {
+        return Ok(Ten::Nonzero(sign, y));
+    }
+    let rest = remainder(y.digits(), y.steps() - x.steps(), x.digits());
+    if rest == 0 {
+        return Ok(Ten::Zero);
+    }
+    round_whole(sign, rest, x.steps() + UNIT_SCALE)
+}
+
+/// What is left where the divisor has this sign and the dividend the other: what the remainder of the sizes lacks of the
+/// divisor, or nothing.
+fn rest_apart(sign: Sign, y: Size, x: Size) -> Result<Ten, Fault>
+    ensures { RoundsRest (signed (opposite_of sign) (size y)) (signed sign (size x)) result }
+{
+    if y.exponent.above_least < x.exponent.above_least {
+        return sizes::subtract(sign, x, y);
+    }
+    let rest = remainder(y.digits(), y.steps() - x.steps(), x.digits());
+    if rest == 0 {
+        return Ok(Ten::Zero);
+    }
+    round_whole(sign, x.digits() - rest, x.steps() + UNIT_SCALE)
+}
+
+/// The remainder of a number times ten to a power by ten digits.
+fn remainder(number: u128, power: u32, divisor: u128) -> u128
+    requires some { 0 < divisor }
+    requires divisor { divisor < 10 ^ 10 }
+    ensures { result ≡ number * 10 ^ power % divisor }
+{
+    if power == 0 {
+        return number % divisor;
+    }
+    let step = power.min(AT_ONCE);
+    remainder(number % divisor * power_of_ten(step), power - step, divisor)
+}

@@ -1,0 +1,54 @@
+//! The parts of a decimal that is not zero, beside its sign: its ten digits and its exponent.
+
+ghost use Rattle.std.specs.Prelude.{◌≡◌, ◌^◌, ◌<◌, ◌≤◌, ◌↔◌, ℤ, pos, ◌+ℤ◌, ◌-ℤ◌, ◌≤ℤ◌, IsSome, IfSome};
+
+/// Ten decimal digits, the first of them not zero: 1,000,000,000 to 9,999,999,999. The radix mark is after the first.
+#[derive(Clone, Copy, Debug, PartialEq, Eq)]
+pub struct Mantissa {
+    /// The digits as a whole number.
+    pub digits: u64,
+    pub ghost at_least: { 10 ^ 9 ≤ digits },
+    pub ghost below: { digits < 10 ^ 10 },
+}
+
+/// A power of ten, from -99 to 99.
+#[derive(Clone, Copy, Debug, PartialEq, Eq)]
+pub struct Exponent {
+    /// How far it is above -99: 0 to 198.
+    pub above_least: u8,
+    pub ghost in_range: { above_least ≤ 198 },
+}
+
+impl Exponent {
+    /// The exponent as a number, -99 to 99.
+    pub fn power(self) -> i16
+        ensures { result ≡ pos self.above_least -ℤ pos 99 }
+    {
+        i16::from(self.above_least) - 99
+    }
+}
+
+/// A size above zero: ten digits and an exponent.
+#[derive(Clone, Copy, Debug, PartialEq, Eq)]
+pub struct Size {
+    /// The digits.
+    pub mantissa: Mantissa,
+    /// The exponent.
+    pub exponent: Exponent,
+}
+
+impl Size {
+    /// The digits, as a number from which others are computed.
+    pub fn digits(self) -> u128
+        ensures { result ≡ self.mantissa.digits }
+    {
+        u128::from(self.mantissa.digits)
+    }
+
+    /// The exponent, counted from -99: 0 to 198.
+    pub fn steps(self) -> u32
+        ensures { result ≡ self.exponent.above_least }
+    {
+        u32::from(self.exponent.above_least)
+    }
+}

@@ -1,0 +1,35 @@
+//! The sign of a number.
+
+ghost use Rattle.std.specs.Prelude.{◌≡◌};
+ghost use Rattle.h41_decimal.specs.Signs.{opposite_of, product_of};
+
+/// The sign of a number that is not zero.
+#[derive(Clone, Copy, Debug, PartialEq, Eq)]
+pub enum Sign {
+    /// The number is above zero.
+    Plus,
+    /// The number is below zero.
+    Minus,
+}
+
+impl Sign {
+    /// The other sign.
+    pub fn opposite(self) -> Self
+        ensures { result ≡ opposite_of self }
+    {
+        match self {
+            Sign::Plus => Sign::Minus,
+            Sign::Minus => Sign::Plus,
+        }
+    }
+
+    /// The sign of a product or a quotient.
+    pub fn times(self, other: Self) -> Self
+        ensures { result ≡ product_of self other }
+    {
+        match self {
+            Sign::Plus => other,
+            Sign::Minus => other.opposite(),
+        }
+    }
+}

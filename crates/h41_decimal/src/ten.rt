@@ -1,0 +1,223 @@
+//! Decimals, and what is computed with them.
+
+ghost use Rattle.std.specs.Prelude.{◌≡◌, ◌*◌, ◌≤◌, pos, ◌+ℤ◌, ◌-ℤ◌, ◌*ℤ◌, neg_ℤ};
+ghost use Rattle.std.specs.Ordering.{int_cmp, nat_cmp};
+ghost use Rattle.h41_decimal.specs.Signs.{signed};
+ghost use Rattle.h41_decimal.specs.Units.{one, size, units};
+ghost use Rattle.std.specs.Option.{option_map};
+ghost use Rattle.h41_decimal.specs.Holding.{holding_of, worth, Number};
+ghost use Rattle.h41_decimal.specs.NearestDecimal.{Nearest, NearestRoot};
+ghost use Rattle.h41_decimal.specs.Operations.{NearestQuotient, NearestModulo, RoundsTo, step_of};
+
+use crate::fault::Fault;
+use crate::parts::Size;
+use crate::places::Places;
+use crate::sign::Sign;
+use crate::{modulo, register, sizes};
+use h41_digits::Reg;
+use std::cmp::Ordering;
+
+/// A number of the calculator: zero, or a sign, ten digits and an exponent.
+#[derive(Clone, Copy, Debug, PartialEq, Eq)]
+pub enum Ten {
+    /// Zero, which has no sign.
+    Zero,
+    /// Another number.
+    Nonzero(Sign, Size),
+}
+
+impl Ten {
+    /// The same size with the other sign.
+    pub fn negated(self) -> Self
+        ensures { units result ≡ neg_ℤ (units self) }
+    {
+        match self {
+            Ten::Zero => Ten::Zero,
+            Ten::Nonzero(sign, x) => Ten::Nonzero(sign.opposite(), x),
+        }
+    }
+
+    /// The number that a register holds, or nothing where it holds none.
+    pub fn from_reg(register: Reg) -> Option<Self>
+        ensures { option_map units result ≡ worth (holding_of register) }
+    {
+        register::read(register)
+    }
+
+    /// The register that holds the number.
+    pub fn to_reg(self) -> Reg
+        ensures { holding_of result ≡ Number (units self) }
+    {
+        register::write(self)
+    }
+
+    /// The sum, rounded. Its only fault is Range.
+    pub fn add(self, other: Self) -> Result<Self, Fault>
+        ensures { Nearest (units self +ℤ units other) 1 result }
+    {
+        match (self, other) {
+            (Ten::Zero, _) => Ok(other),
+            (_, Ten::Zero) => Ok(self),
+            (Ten::Nonzero(x_sign, x), Ten::Nonzero(y_sign, y)) => add_signed(x_sign, x, y_sign, y),
+        }
+    }
+
+    /// The difference, rounded. Its only fault is Range.
+    pub fn sub(self, other: Self) -> Result<Self, Fault>
+        ensures { Nearest (units self -ℤ units other) 1 result }
+    {
+        self.add(other.negated())
+    }
+
+    /// The product, rounded. Its only fault is Range.
+    pub fn mul(self, other: Self) -> Result<Self, Fault>
+        ensures { Nearest (units self *ℤ units other) one result }
+    {
+        match (self, other) {
+            (Ten::Nonzero(x_sign, x), Ten::Nonzero(y_sign, y)) => {
+                sizes::multiply(x_sign.times(y_sign), x, y)
+            }
+            _ => Ok(Ten::Zero),
+        }
+    }
+
+    /// So many percent of a number: a hundredth of the product, rounded. Its only fault is Range.
+    pub fn percent(self, of: Self) -> Result<Self, Fault>
+        ensures { Nearest (units self *ℤ units of) (100 * one) result }
+    {
+        match (self, of) {
+            (Ten::Nonzero(x_sign, x), Ten::Nonzero(y_sign, y)) => {
+                sizes::percent(x_sign.times(y_sign), x, y)
+            }
+            _ => Ok(Ten::Zero),
+        }
+    }
+
+    /// The quotient, rounded. Its faults are Data for a zero divisor, and Range.
+    pub fn div(self, other: Self) -> Result<Self, Fault>
+        ensures { NearestQuotient (units self) (units other) result }
+    {
+        match (self, other) {
+            (_, Ten::Zero) => Err(Fault::Data),
+            (Ten::Zero, _) => Ok(Ten::Zero),
+            (Ten::Nonzero(x_sign, x), Ten::Nonzero(y_sign, y)) => {
+                sizes::divide(x_sign.times(y_sign), x, y)
+            }
+        }
+    }
+
+    /// The square root, rounded. Its only fault is Data, for a negative number.
+    pub fn sqrt(self) -> Result<Self, Fault>
+        ensures { NearestRoot (units self) result }
+    {
+        match self {
+            Ten::Zero => Ok(Ten::Zero),
+            Ten::Nonzero(sign, x) => match sign {
+                Sign::Plus => sizes::root(x),
+                Sign::Minus => Err(Fault::Data),
+            },
+        }
+    }
+
+    /// The number modulo a divisor, rounded: `self - divisor * floor(self / divisor)`, which has the divisor's sign, and the
+    /// number itself where the divisor is zero. Its only fault is Range.
+    pub fn modulo(self, divisor: Self) -> Result<Self, Fault>
+        ensures { NearestModulo self divisor result }
+    {
+        match (self, divisor) {
+            (_, Ten::Zero) => Ok(self),
+            (Ten::Zero, _) => Ok(Ten::Zero),
+            (Ten::Nonzero(y_sign, y), Ten::Nonzero(x_sign, x)) => modulo::modulo(
+                y_sign, y, x_sign, x,
+            ),
+        }
+    }
+
+    /// The number rounded to so many decimals or digits, halves away from zero. Its only fault is Range.
+    pub fn round_to(self, places: Places) -> Result<Self, Fault>
+        ensures { RoundsTo (step_of places self) (units self) result }
+    {
+        match self {
+            Ten::Zero => Ok(Ten::Zero),
+            Ten::Nonzero(sign, x) => match places {
+                Places::Decimals(count) => sizes::round_at(
+                    sign,
+                    x,
+                    108u32.saturating_sub(u32::from(count)),
+                ),
+                Places::Digits(count) => {
+                    sizes::round_at(sign, x, x.steps() + 10u32.saturating_sub(u32::from(count)))
+                }
+            },
+        }
+    }
+
+    /// Which of two numbers is greater.
+    pub fn cmp(self, other: Self) -> Ordering
+        ensures { result ≡ int_cmp (units self) (units other) }
+    {
+        match (self, other) {
+            (Ten::Zero, Ten::Zero) => Ordering::Equal,
+            (Ten::Zero, Ten::Nonzero(sign, x)) => zero_against(sign, x),
+            (Ten::Nonzero(sign, x), Ten::Zero) => against_zero(sign, x),
+            (Ten::Nonzero(x_sign, x), Ten::Nonzero(y_sign, y)) => compare_signed(
+                x_sign, x, y_sign, y,
+            ),
+        }
+    }
+}
+
+/// Which of zero and a size with a sign is greater.
+fn zero_against(sign: Sign, x: Size) -> Ordering
+    ensures { result ≡ int_cmp (pos 0) (signed sign (size x)) }
+{
+    match sign {
+        Sign::Plus => Ordering::Less,
+        Sign::Minus => Ordering::Greater,
+    }
+}
+
+/// Which of a size with a sign and zero is greater.
+fn against_zero(sign: Sign, x: Size) -> Ordering
+    ensures { result ≡ int_cmp (signed sign (size x)) (pos 0) }
+{
+    match sign {
+        Sign::Plus => Ordering::Greater,
+        Sign::Minus => Ordering::Less,
+    }
+}
+
+/// Which of two sizes with signs is greater.
+fn compare_signed(x_sign: Sign, x: Size, y_sign: Sign, y: Size) -> Ordering
+    ensures { result ≡ int_cmp (signed x_sign (size x)) (signed y_sign (size y)) }
+{
+    match (x_sign, y_sign) {
+        (Sign::Plus, Sign::Plus) => sizes::compare(x, y),
+        (Sign::Plus, Sign::Minus) => Ordering::Greater,
+        (Sign::Minus, Sign::Plus) => Ordering::Less,
+        (Sign::Minus, Sign::Minus) => sizes::compare(y, x),
+    }
+}
+
+/// The sum of two sizes with signs.
+fn add_signed(x_sign: Sign, x: Size, y_sign: Sign, y: Size) -> Result<Ten, Fault>
+    ensures { Nearest (signed x_sign (size x) +ℤ signed y_sign (size y)) 1 result }
+{
+    if x.exponent.above_least < y.exponent.above_least {
+        add_smaller(y_sign, y, x_sign, x)
+    } else {
+        add_smaller(x_sign, x, y_sign, y)
+    }
+}
+
+/// The sum of two sizes with signs, the first of which has no lower exponent than the second.
+fn add_smaller(x_sign: Sign, x: Size, y_sign: Sign, y: Size) -> Result<Ten, Fault>
+    requires { y.exponent.above_least ≤ x.exponent.above_least }
+    ensures { Nearest (signed x_sign (size x) +ℤ signed y_sign (size y)) 1 result }
+{
+    if x_sign == y_sign {
+        sizes::add(x_sign, x, y)
+    } else {
+        sizes::subtract(x_sign, x, y)
+    }
+}

@@ -10,7 +10,7 @@ use Rattle.h41_fields.specs.declared.field.Pointer.TheVariants.{P, Q}
 use Rattle.h41_words.specs.declared.operation.Operation.{Operation}
 use Rattle.h41_words.specs.declared.operation.Operation.TheVariants.{ClearA, ClearB, ClearC, ExchangeAB, AToB, ExchangeAC, BToC, ExchangeBC, CToA, AddBToA, AddCToA, IncrementA, SubtractBFromA, DecrementA, SubtractCFromA, DoubleC, AddAToC, IncrementC, SubtractCFromAToC, DecrementC, NegateC, ComplementC, TestBNonzero, TestCNonzero, TestALessThanC, TestALessThanB, TestANonzero, TestADiffersFromC, ShiftRightA, ShiftRightB, ShiftRightC, ShiftLeftA}
 use Rattle.h41_words.specs.declared.rows.Row.{Row}
-use Rattle.h41_words.specs.declared.rows.Row.TheVariants.{Arithmetic, LongJump, ShortJump, ClearStatus, SetStatus, TestStatus, TestPointer, SetPointer, RotateRight, LoadDigit, Write, Read, Constant, And, ClearKeyFlag, ClearRegisters, ClearStatusByte, DecrementPointer, DisplayOff, DropReturn, EnableBank, FetchWord, GoToAddress, GoToKey, IncrementPointer, LoadImmediate, Nop, Or, PopAddress, PowerOff, PushAddress, ReadData, ReadKey, Return, ReturnIf, SelectPeripheral, SelectPointer, SelectRegister, SetDecimal, SetHexadecimal, TestKeyFlag, TestLowBattery, TestPointersEqual, ToggleDisplay, Transfer, WriteData, WriteRom}
+use Rattle.h41_words.specs.declared.rows.Row.TheVariants as rows
 use Rattle.h41_words.specs.declared.rows.RegisterTransfer.{RegisterTransfer}
 use Rattle.h41_words.specs.declared.rows.RegisterTransfer.TheVariants.{CToG, GToC, ExchangeCG, CToM, MToC, ExchangeCM, StatusToT, TToStatus, ExchangeStatusT, CToStatus, StatusToC, ExchangeCStatus, CToN, NToC, ExchangeCN}
 use Rattle.h41_words.specs.declared.rows.Bank.{Bank}
@@ -121,70 +121,70 @@ displacement_text (negsuc words) = codes "-" ++ hexadecimal_text 2 (words + 1)
 -- the mnemonic of a row of one word: CON where it stands for no instruction, and where it begins one of two words but stands
 -- without its second
 abbrev pub mnemonic : Row → List ℕ
-mnemonic (Arithmetic operation field) = operation_text operation
-mnemonic (LongJump low_byte) = codes "CON"
-mnemonic (ShortJump condition displacement) = short_jump_text condition
-mnemonic (ClearStatus bit) = codes "CLRF"
-mnemonic (SetStatus bit) = codes "SETF"
-mnemonic (TestStatus bit) = codes "?FSET"
-mnemonic (TestPointer place) = codes "?R="
-mnemonic (SetPointer place) = codes "R="
-mnemonic (RotateRight digits) = codes "RCR"
-mnemonic (LoadDigit digit) = codes "LD@R"
-mnemonic (Write register) = codes "WRIT"
-mnemonic (Read register) = codes "READ"
-mnemonic (Constant number) = codes "CON"
-mnemonic LoadImmediate = codes "CON"
-mnemonic Nop = codes "NOP"
-mnemonic WriteRom = codes "WROM"
-mnemonic (EnableBank bank) = bank_text bank
-mnemonic ClearStatusByte = codes "ST=0"
-mnemonic ClearKeyFlag = codes "CLRKEY"
-mnemonic TestKeyFlag = codes "?KEY"
-mnemonic DecrementPointer = codes "R=R-1"
-mnemonic IncrementPointer = codes "R=R+1"
-mnemonic ReadData = codes "READ DATA"
-mnemonic DropReturn = codes "XQ->GO"
-mnemonic PowerOff = codes "POWOFF"
-mnemonic (SelectPointer pointer) = selection_text pointer
-mnemonic TestPointersEqual = codes "?P=Q"
-mnemonic TestLowBattery = codes "?LLD"
-mnemonic ClearRegisters = codes "CLRABC"
-mnemonic GoToAddress = codes "GOTO ADR"
-mnemonic ReadKey = codes "C=KEY"
-mnemonic SetHexadecimal = codes "SETHEX"
-mnemonic SetDecimal = codes "SETDEC"
-mnemonic DisplayOff = codes "DISOFF"
-mnemonic ToggleDisplay = codes "DISTOG"
-mnemonic (ReturnIf condition) = return_text condition
-mnemonic Return = codes "RTN"
-mnemonic PushAddress = codes "PUSH ADR"
-mnemonic PopAddress = codes "POP ADR"
-mnemonic GoToKey = codes "GOTO KEY"
-mnemonic SelectRegister = codes "RAM SLCT"
-mnemonic WriteData = codes "WRIT DATA"
-mnemonic FetchWord = codes "FETCH S&X"
-mnemonic Or = codes "C=C OR A"
-mnemonic And = codes "C=C AND A"
-mnemonic SelectPeripheral = codes "PRPH SLCT"
-mnemonic (Transfer transfer) = transfer_text transfer
+mnemonic (rows.Arithmetic operation field) = operation_text operation
+mnemonic (rows.LongJump low_byte) = codes "CON"
+mnemonic (rows.ShortJump condition displacement) = short_jump_text condition
+mnemonic (rows.ClearStatus bit) = codes "CLRF"
+mnemonic (rows.SetStatus bit) = codes "SETF"
+mnemonic (rows.TestStatus bit) = codes "?FSET"
+mnemonic (rows.TestPointer place) = codes "?R="
+mnemonic (rows.SetPointer place) = codes "R="
+mnemonic (rows.RotateRight digits) = codes "RCR"
+mnemonic (rows.LoadDigit digit) = codes "LD@R"
+mnemonic (rows.Write register) = codes "WRIT"
+mnemonic (rows.Read register) = codes "READ"
+mnemonic (rows.Constant number) = codes "CON"
+mnemonic rows.LoadImmediate = codes "CON"
+mnemonic rows.Nop = codes "NOP"
+mnemonic rows.WriteRom = codes "WROM"
+mnemonic (rows.EnableBank bank) = bank_text bank
+mnemonic rows.ClearStatusByte = codes "ST=0"
+mnemonic rows.ClearKeyFlag = codes "CLRKEY"
+mnemonic rows.TestKeyFlag = codes "?KEY"
+mnemonic rows.DecrementPointer = codes "R=R-1"
+mnemonic rows.IncrementPointer = codes "R=R+1"
+mnemonic rows.ReadData = codes "READ DATA"
+mnemonic rows.DropReturn = codes "XQ->GO"
+mnemonic rows.PowerOff = codes "POWOFF"
+mnemonic (rows.SelectPointer pointer) = selection_text pointer
+mnemonic rows.TestPointersEqual = codes "?P=Q"
+mnemonic rows.TestLowBattery = codes "?LLD"
+mnemonic rows.ClearRegisters = codes "CLRABC"
+mnemonic rows.GoToAddress = codes "GOTO ADR"
+mnemonic rows.ReadKey = codes "C=KEY"
+mnemonic rows.SetHexadecimal = codes "SETHEX"
+mnemonic rows.SetDecimal = codes "SETDEC"
+mnemonic rows.DisplayOff = codes "DISOFF"
+mnemonic rows.ToggleDisplay = codes "DISTOG"
+mnemonic (rows.ReturnIf condition) = return_text condition
+mnemonic rows.Return = codes "RTN"
+mnemonic rows.PushAddress = codes "PUSH ADR"
+mnemonic rows.PopAddress = codes "POP ADR"
+mnemonic rows.GoToKey = codes "GOTO KEY"
+mnemonic rows.SelectRegister = codes "RAM SLCT"
+mnemonic rows.WriteData = codes "WRIT DATA"
+mnemonic rows.FetchWord = codes "FETCH S&X"
+mnemonic rows.Or = codes "C=C OR A"
+mnemonic rows.And = codes "C=C AND A"
+mnemonic rows.SelectPeripheral = codes "PRPH SLCT"
+mnemonic (rows.Transfer transfer) = transfer_text transfer
 
 -- and its operand: that of CON is the word's own number. A single word has none.
 abbrev pub operand : Row → Option (List ℕ)
-operand (Arithmetic operation field) = Some (field_text field)
-operand (LongJump low_byte) = Some (hexadecimal_text 3 (number_of (LongJump low_byte)))
-operand (ShortJump condition displacement) = Some (displacement_text displacement)
-operand (ClearStatus bit) = Some (decimal bit)
-operand (SetStatus bit) = Some (decimal bit)
-operand (TestStatus bit) = Some (decimal bit)
-operand (TestPointer place) = Some (decimal place)
-operand (SetPointer place) = Some (decimal place)
-operand (RotateRight digits) = Some (decimal digits)
-operand (LoadDigit digit) = Some (decimal digit)
-operand (Write register) = Some (decimal register)
-operand (Read register) = Some (decimal register)
-operand (Constant number) = Some (hexadecimal_text 3 number)
-operand LoadImmediate = Some (hexadecimal_text 3 (number_of LoadImmediate))
+operand (rows.Arithmetic operation field) = Some (field_text field)
+operand (rows.LongJump low_byte) = Some (hexadecimal_text 3 (number_of (rows.LongJump low_byte)))
+operand (rows.ShortJump condition displacement) = Some (displacement_text displacement)
+operand (rows.ClearStatus bit) = Some (decimal bit)
+operand (rows.SetStatus bit) = Some (decimal bit)
+operand (rows.TestStatus bit) = Some (decimal bit)
+operand (rows.TestPointer place) = Some (decimal place)
+operand (rows.SetPointer place) = Some (decimal place)
+operand (rows.RotateRight digits) = Some (decimal digits)
+operand (rows.LoadDigit digit) = Some (decimal digit)
+operand (rows.Write register) = Some (decimal register)
+operand (rows.Read register) = Some (decimal register)
+operand (rows.Constant number) = Some (hexadecimal_text 3 number)
+operand rows.LoadImmediate = Some (hexadecimal_text 3 (number_of rows.LoadImmediate))
 operand single = None
 
 -- what an operand adds to its mnemonic
@@ -203,6 +203,6 @@ address_text low_byte second =
 
 -- a row and the word behind it, which only an instruction of two words reads
 abbrev pub instruction_text : Row → ℕ → List ℕ
-instruction_text (LongJump low_byte) second = address_text low_byte (second_of second)
-instruction_text LoadImmediate second = codes "LDI " ++ hexadecimal_text 3 second
+instruction_text (rows.LongJump low_byte) second = address_text low_byte (second_of second)
+instruction_text rows.LoadImmediate second = codes "LDI " ++ hexadecimal_text 3 second
 instruction_text row second = row_text row

@@ -6,7 +6,7 @@ use Rattle.h41_codes.specs.declared.functions.ParameterFunction.TheVariants.{Rec
 use Rattle.h41_codes.specs.declared.line.Line.{Line}
 use Rattle.h41_codes.specs.declared.line.Line.TheVariants.{Null, LocalLabel, Number, Named, Register, Plain, WithOperand, Module, BranchIndirect, ShortGoTo, GlobalLabel, End, FinalEnd, BranchTo, Text}
 use Rattle.h41_codes.specs.Codes.{parameter_function_code}
-use Rattle.h41_codes.specs.Heads.{IsTwoBytes}
+use Rattle.h41_codes.specs.Heads.{IsTwoBytes, LacksText}
 use Rattle.h41_codes.specs.ByteGrammar.{spelling, IsLine, BeginsNoLine}
 use Rattle.h41_codes.proofs.Beginnings.{parted}
 use Rattle.h41_codes.proofs.Intervals.{edges, kind, is_interval, kind_at}
@@ -120,9 +120,6 @@ broken_empty bytes empty line count spelled =
     omega (arith, some_bytes line spelled.valid, ap length same, length-append (spelling line) (drop count bytes))
 
 -- what a text at the front lacks
-abbrev pub LacksText : List ℕ → Type 0
-LacksText bytes = (bytes ≡ []) ⊎ (get_or bytes 0 0 < 0xF0) ⊎ (length bytes + 0xF0 ≤ get_or bytes 0 0)
-
 pub text_broken : (bytes : List ℕ) → 0 < length bytes → 0xF0 ≤ byte bytes 0 → LacksText bytes → TextFits bytes → ⊥
 text_broken bytes some from lacks fits =
     elim lacks [ inl none ↦ omega (arith, ap length none) | inr (inl low) ↦ omega arith | inr (inr cut) ↦ omega arith ]

@@ -1,5 +1,5 @@
 -- The byte grammar: which bytes spell which line, family after family of HP's byte table.
-use Rattle.std.specs.Prelude.{◌≡◌, ℕ, ◌+◌, ◌*◌, ◌/◌, ◌%◌, ◌<◌, ◌≤◌, Bool, List, [], ◌∷◌, map, length, take, drop, if◌then◌else◌}
+use Rattle.std.specs.Prelude.{◌≡◌, ℕ, ◌+◌, ◌*◌, ◌/◌, ◌%◌, ◌<◌, ◌≤◌, Bool, List, [], ◌∷◌, map, length, take, drop, if◌then◌else◌, ◌++◌, ◌↔◌, Result, Ok}
 use Rattle.h41_codes.specs.declared.functions.Branch.{Branch}
 use Rattle.h41_codes.specs.declared.functions.Branch.TheVariants.{GoTo, Execute}
 use Rattle.h41_codes.specs.declared.line.Operand.{Operand}
@@ -119,3 +119,11 @@ pub record Begins (bytes : List ℕ) (line : Line) (count : ℕ) : Type 0 where
 -- bytes begin with no line, however many of them are taken
 abbrev pub BeginsNoLine : List ℕ → Type 0
 BeginsNoLine bytes = (line : Line) (count : ℕ) → Spells (take count bytes) line → ⊥
+
+-- an answer is a line and a count just where the bytes begin with that line, of so many bytes
+abbrev pub AnswersLine : {E : Type 0} → Result (Line × ℕ) E → List ℕ → Type 0
+AnswersLine result bytes = (line : Line) (count : ℕ) → (result ≡ Ok (line, count)) ↔ Begins bytes line count
+
+-- bytes over whose front a line's are written
+abbrev pub written_over : Line → List ℕ → List ℕ
+written_over line bytes = spelling line ++ drop (length (spelling line)) bytes

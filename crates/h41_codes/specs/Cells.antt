@@ -1,5 +1,6 @@
 -- A list kept in a fixed number of cells: those behind its end are blank.
 use Rattle.std.specs.Prelude.{◌≡◌, ℕ, ◌-◌, ◌≤◌, List, ◌++◌, take, length, replicate}
+use Rattle.h41_codes.specs.Counts.{number_most}
 use Rattle.std.proofs.Common.{sym, ◌∙◌, ap, subst, length-take-le}
 
 -- the cells of a list
@@ -9,6 +10,14 @@ filled blank most items = items ++ replicate (most - length items) blank
 -- the cells behind the first ones are blank
 abbrev pub IsFilled : {A : Type 0} → A → ℕ → ℕ → List A → Type 0
 IsFilled blank most count cells = cells ≡ take count cells ++ replicate (most - count) blank
+
+-- how many characters a number has: 1 to 16
+abbrev pub IsNumberOf : {A : Type 0} → List A → Type 0
+IsNumberOf characters = (1 ≤ length characters) × (length characters ≤ number_most)
+
+-- a list in so many cells: it is not longer, and the rest is blank
+abbrev pub Keeps : {A : Type 0} → A → ℕ → ℕ → List A → Type 0
+Keeps blank most count cells = (count ≤ most) × (length cells ≡ most) × IsFilled blank most count cells
 
 -- there are as many first cells as are counted
 pub count_again : {A : Type 0} (most count : ℕ) (cells : List A) → count ≤ most → length cells ≡ most → length (take count cells) ≡ count

@@ -1,5 +1,5 @@
 -- Which first bytes lines of one and of two bytes have.
-use Rattle.std.specs.Prelude.{ℕ, ◌<◌, ◌≤◌, ◌⊎◌}
+use Rattle.std.specs.Prelude.{ℕ, ◌<◌, ◌≤◌, ◌⊎◌, ◌≡◌, ◌+◌, List, [], length, slice_index}
 
 -- a number from the first on and below the second
 abbrev pub IsIn : ℕ → ℕ → ℕ → Type 0
@@ -12,3 +12,12 @@ IsOneByte first = (first < 0x10) ⊎ IsIn 0x20 0x90 first
 -- functions with an operand, XROM, GTO IND and XEQ IND, GTO 00 to 14
 abbrev pub IsTwoBytes : ℕ → Type 0
 IsTwoBytes first = IsIn 0x90 0xAF first ⊎ IsIn 0xB1 0xC0 first ⊎ IsIn 0xCE 0xD0 first
+
+-- bytes without a whole text in front: none, one below F0, or fewer than it counts
+abbrev pub LacksText : List ℕ → Type 0
+LacksText bytes =
+    (bytes ≡ []) ⊎ (slice_index bytes 0 < 0xF0) ⊎ (length bytes + 0xF0 ≤ slice_index bytes 0)
+
+-- so many characters of a number are all: no further one follows, or there are 16
+abbrev pub IsWholeRun : List ℕ → ℕ → Type 0
+IsWholeRun bytes count = count < length bytes → IsIn 0x10 0x1D (slice_index bytes count) → count ≡ 16

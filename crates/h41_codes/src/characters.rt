@@ -1,6 +1,7 @@
 //! The characters of texts and of numbers.
 ghost use Rattle.std.specs.Prelude.{◌≡◌, ◌≤◌, ◌↔◌, length, IsSome, IfSome};
 ghost use Rattle.h41_codes.specs.Counts.{number_most};
+ghost use Rattle.h41_codes.specs.Cells.{IsNumberOf};
 ghost use Rattle.h41_codes.specs.declared.characters.Character.{Character as Sign};
 
 use std::marker::Model;
@@ -17,13 +18,13 @@ pub struct Text<const MOST: usize> {
 
 impl<const MOST: usize> Model for Text<MOST> {
     ghost use Rattle.std.specs.Prelude.{◌≡◌, ◌≤◌, List, ℕ, take, length};
-    ghost use Rattle.h41_codes.specs.Cells.{filled, IsFilled, filled_again, count_again};
+    ghost use Rattle.h41_codes.specs.Cells.{filled, Keeps, filled_again, count_again};
 
     ghost Value = { List ℕ };
 
     ghost view = { λ text. take text.count text.cells };
 
-    ghost invariant = { λ text. (text.count ≤ MOST) × (length text.cells ≡ MOST) × IsFilled 0 MOST text.count text.cells };
+    ghost invariant = { λ text. Keeps 0 MOST text.count text.cells };
 
     ghost inverse = { λ characters. record { cells = filled 0 MOST characters; count = length characters } };
 
@@ -110,7 +111,7 @@ pub struct Number {
 
 impl Model for Number {
     ghost use Rattle.std.specs.Prelude.{◌≡◌, ◌≤◌, List, ℕ, take, length};
-    ghost use Rattle.h41_codes.specs.Cells.{filled, IsFilled, filled_again, count_again};
+    ghost use Rattle.h41_codes.specs.Cells.{filled, Keeps, filled_again, count_again};
     ghost use Rattle.h41_codes.specs.Counts.{number_most};
     ghost use Rattle.h41_codes.specs.declared.characters.Character.{Character as Sign};
     ghost use Rattle.h41_codes.specs.declared.characters.Character.TheVariants.{Zero};
@@ -119,20 +120,20 @@ impl Model for Number {
 
     ghost view = { λ number. take number.count number.cells };
 
-    ghost invariant = { λ number. (1 ≤ number.count) × (number.count ≤ number_most) × (length number.cells ≡ number_most) × IsFilled Zero number_most number.count number.cells };
+    ghost invariant = { λ number. (1 ≤ number.count) × Keeps Zero number_most number.count number.cells };
 
     ghost inverse = { λ characters. record { cells = filled Zero number_most characters; count = length characters } };
 
     ghost inverse_ok = { λ number h i. record {
-      cells = filled_again Zero number_most number.count number.cells h.1 h.2 h.3 i;
-      count = count_again number_most number.count number.cells h.1 h.2 i;
+      cells = filled_again Zero number_most number.count number.cells h.1.0 h.1.1 h.1.2 i;
+      count = count_again number_most number.count number.cells h.1.0 h.1.1 i;
     } };
 }
 
 impl Number {
     /// The number of these characters, or nothing where there is none or more than 16.
     pub fn new(characters: &[Character]) -> Option<Self>
-        ensures fits { IsSome result ↔ ((1 ≤ length characters.now) × (length characters.now ≤ number_most)) }
+        ensures fits { IsSome result ↔ IsNumberOf characters.now }
         ensures value { IfSome result (λ number. number ≡ characters.now) }
     {
         if !characters.is_empty() && characters.len() <= NUMBER_MOST {

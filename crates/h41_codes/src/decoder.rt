@@ -1,10 +1,9 @@
 //! From bytes to the line that they begin with.
 ghost use Rattle.std.specs.Prelude.{◌≡◌, ℕ, ◌+◌, ◌*◌, ◌<◌, ◌≤◌, ◌↔◌, ◌⊎◌, [], ◌∷◌, map, length, take, drop, slice_index, IfOk, OnErr, IfSome, IfNone, IsErr, Ok};
-ghost use Rattle.h41_codes.specs.declared.line.Line.{Line as AnyLine};
-ghost use Rattle.h41_codes.specs.ByteGrammar.{spelling, text_bytes, IsLine, Spells, Begins, BeginsNoLine, operand_byte};
+ghost use Rattle.h41_codes.specs.ByteGrammar.{spelling, text_bytes, IsLine, Spells, Begins, BeginsNoLine, operand_byte, AnswersLine, link_high, link_low};
 ghost use Rattle.h41_codes.specs.ByteGrammar as grammar;
 ghost use Rattle.h41_codes.specs.Codes as code;
-ghost use Rattle.h41_codes.specs.Heads.{IsOneByte, IsTwoBytes, IsIn};
+ghost use Rattle.h41_codes.specs.Heads.{IsOneByte, IsTwoBytes, IsIn, LacksText, IsWholeRun};
 
 use crate::characters::{Character, Number, Text};
 use crate::faults::BrokenProgram;
@@ -22,7 +21,7 @@ const NUMBER_MOST: usize = 16;
 /// Reads the line that bytes begin with, and answers how many bytes it takes. Other bytes may follow. A number takes as
 /// many as it can, up to 16.
 pub fn decode(bytes: &[u8]) -> Result<(Line, usize), BrokenProgram>
-    ensures line { (line : AnyLine) (count : ℕ) → (result ≡ Ok (line, count)) ↔ Begins bytes.now line count }
+    ensures line { AnswersLine result bytes.now }
     ensures broken { IsErr result ↔ BeginsNoLine bytes.now }
 {
     front(bytes)
@@ -179,7 +178,7 @@ fn number_length(bytes: &[u8]) -> usize
     ensures most { result ≤ 16 }
     ensures inside { result ≤ length bytes.now }
     ensures each { (k : ℕ) → k < result → IsIn 0x10 0x1D (slice_index bytes.now k) }
-    ensures whole { result < length bytes.now → IsIn 0x10 0x1D (slice_index bytes.now result) → result ≡ 16 }
+    ensures whole { IsWholeRun bytes.now result }
 {
     for (count, byte) in bytes.iter().enumerate() {
         if count == NUMBER_MOST || *byte < 0x10 || *byte > 0x1C {
@@ -194,7 +193,7 @@ fn text_at(bytes: &[u8]) -> Option<Text<15>>
     ensures text { IfSome result (λ text. take (1 + length text) bytes.now ≡ text_bytes text) }
     ensures inside { IfSome result (λ text. 1 + length text ≤ length bytes.now) }
     ensures most { IfSome result (λ text. length text ≤ 15) }
-    ensures none { IfNone result ((bytes.now ≡ []) ⊎ (slice_index bytes.now 0 < 0xF0) ⊎ (length bytes.now + 0xF0 ≤ slice_index bytes.now 0)) }
+    ensures none { IfNone result (LacksText bytes.now) }
 {
     if bytes.is_empty() || bytes[0] < 0xF0 {
         return None;
@@ -276,7 +275,7 @@ fn linked(bytes: &[u8]) -> Result<(Line, usize), BrokenProgram>
 /// The END or .END. of a link and a third byte.
 fn end(link: Link, third: u8) -> Line
     requires { third < 0xF0 }
-    ensures spelled { spelling result ≡ grammar.link_high link ∷ grammar.link_low link ∷ third ∷ [] }
+    ensures spelled { spelling result ≡ link_high link ∷ link_low link ∷ third ∷ [] }
     ensures valid { IsLine result }
 {
     let marks = third / 64 * 32 + third % 32;

@@ -1,7 +1,7 @@
 //! From a line to its bytes.
 ghost use Rattle.std.specs.Prelude.{◌≡◌, ◌+◌, ◌*◌, ◌<◌, ◌≤◌, ◌↔◌, [], ◌∷◌, ◌++◌, map, length, drop, IfOk, OnOk, OnErr, IsErr};
 ghost use Rattle.arrayvec.specs.ArrayVec.{array_vec_len};
-ghost use Rattle.h41_codes.specs.ByteGrammar.{spelling, text_bytes, link_high, link_low};
+ghost use Rattle.h41_codes.specs.ByteGrammar.{spelling, text_bytes, link_high, link_low, written_over};
 ghost use Rattle.h41_codes.specs.ByteGrammar as grammar;
 ghost use Rattle.h41_codes.specs.Codes as code;
 ghost use Rattle.h41_codes.specs.declared.line.Line.TheVariants as line;
@@ -28,7 +28,7 @@ type Bytes = ArrayVec<u8, MOST>;
 /// all of it where the line does not fit.
 pub fn encode(line: Line, out: &mut [u8]) -> Result<usize, BufferShort>
     ensures length { IfOk result (λ count. count ≡ length (spelling line)) }
-    ensures written { OnOk result (out.new ≡ spelling line ++ drop (length (spelling line)) out.old) }
+    ensures written { OnOk result (out.new ≡ written_over line out.old) }
     ensures short { IsErr result ↔ (length out.old < length (spelling line)) }
     ensures unchanged { OnErr result (out.new ≡ out.old) }
 {
@@ -162,7 +162,7 @@ fn number_bytes(characters: &[Character]) -> Bytes
 fn global_label_bytes(link: u16, key: u8, name: &[u8]) -> Bytes
     requires link { link < link_count }
     requires name { length name.now ≤ 14 }
-    ensures { result.items ≡ link_high link ∷ link_low link ∷ (0xF1 + length name.now) ∷ key ∷ name.now }
+    ensures { result.items ≡ spelling (line.GlobalLabel link key name.now) }
 {
     let mut front = link_bytes(link, 0xF1 + name.len() as u8);
     front.push(key);

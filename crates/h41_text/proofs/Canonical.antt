@@ -1,5 +1,5 @@
 -- The canonical line has the text of the line.
-use Rattle.std.proofs.Common.{◌≡◌, ℕ, ◌<◌, List, ◌++◌, ◌∷◌, nat_lt, true, false, codes, refl, sym, ap, arith}
+use Rattle.std.proofs.Common.{◌≡◌, ℕ, ◌<◌, nat_lt, true, false, codes, refl, sym, ap, arith}
 use Rattle.std.proofs.lemmas.Bool.{cond_both, cond-true, ltb-true, lt-ltb}
 use Rattle.h41_codes.specs.declared.functions.Branch.{Branch}
 use Rattle.h41_codes.specs.declared.functions.Branch.TheVariants.{GoTo, Execute}
@@ -7,7 +7,6 @@ use Rattle.h41_codes.specs.declared.functions.ParameterFunction.{ParameterFuncti
 use Rattle.h41_codes.specs.declared.functions.ParameterFunction.TheVariants.{Recall, Store, Label}
 use Rattle.h41_codes.specs.declared.line.Operand.{Operand}
 use Rattle.h41_codes.specs.declared.line.Operand.TheVariants.{Direct}
-use Rattle.h41_codes.specs.declared.line.Line.{Line}
 use Rattle.h41_codes.specs.declared.line.Line.TheVariants.{Null, WithOperand, BranchTo}
 use Rattle.h41_codes.specs.Canon.{shortest_function, shortest_branch}
 use Rattle.h41_text.specs.LineText.{line_text, two_digits, parameter_text, ◌&◌}

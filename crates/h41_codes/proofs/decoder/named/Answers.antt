@@ -1,6 +1,7 @@
 use Rattle.std.proofs.Common.{◌≡◌, ℕ, ◌-◌, List, length, take, drop, refl, subst, arith}
 use Rattle.std.proofs.lemmas.List.{take_all, length-drop}
-use Rattle.h41_codes.proofs.Broken.{LacksText, broken_at, named_broken}
+use Rattle.h41_codes.specs.Heads.{LacksText}
+use Rattle.h41_codes.proofs.Broken.{broken_at, named_broken}
 use Rattle.h41_codes.proofs.decoder.named.Goals as goal
 
 pub returns-in-None-clause-broken : goal.returns-in-None-clause-broken

@@ -8,3 +8,4 @@ pub mod Steps
 pub mod Registers
 pub mod Determined
 pub mod Floors
+pub mod Same

@@ -20,7 +20,7 @@ use Rattle.h41_decimal.proofs.Exact.{exact_fraction}
 use Rattle.h41_decimal.proofs.Signed.{nearest_of, nearest_of_zero, signed-zero}
 use Rattle.h41_decimal.proofs.Tens.{size_pos, unsigned_abs-signed, own_nearest}
 
-sign_of-signed : (sign : Sign) (n : ℕ) → 0 < n → sign_of (signed sign n) ≡ sign
+pub sign_of-signed : (sign : Sign) (n : ℕ) → 0 < n → sign_of (signed sign n) ≡ sign
 sign_of-signed Plus n h = refl
 sign_of-signed Minus zero h = absurd (omega arith)
 sign_of-signed Minus (suc n) h = refl

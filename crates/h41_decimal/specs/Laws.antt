@@ -1,26 +1,23 @@
 -- What follows from the definitions alone.
-use Rattle.std.specs.Prelude.{◌≡◌, ℕ, Ok, Err, Result, ℤ}
+use Rattle.std.specs.Prelude.{◌≡◌, ℕ, Ok, Result, ℤ}
 use Rattle.h41_decimal.specs.Units.{units}
 use Rattle.h41_decimal.specs.NearestDecimal.{Nearest, NearestRoot}
 use Rattle.h41_decimal.specs.declared.fault.Fault.{Fault}
 use Rattle.h41_decimal.specs.declared.ten.Ten.{Ten}
 
--- what an answer is worth
-abbrev pub answer_worth : Result Ten Fault → Result ℤ Fault
-answer_worth (Ok number) = Ok (units number)
-answer_worth (Err fault) = Err fault
+-- two decimals that are worth the same are the same
+abbrev pub UnitsAreInjective : Type 0
+UnitsAreInjective = (x y : Ten) → units x ≡ units y → x ≡ y
 
 -- the nearest decimal of a fraction is determined
 abbrev pub NearestIsDetermined : Type 0
 NearestIsDetermined =
-    (above : ℤ) (below : ℕ) (x y : Result Ten Fault) → Nearest above below x → Nearest above below y
-    → answer_worth x ≡ answer_worth y
+    (above : ℤ) (below : ℕ) (x y : Result Ten Fault) → Nearest above below x → Nearest above below y → x ≡ y
 
 -- and so is that of a root
 abbrev pub NearestRootIsDetermined : Type 0
 NearestRootIsDetermined =
-    (number : ℤ) (x y : Result Ten Fault) → NearestRoot number x → NearestRoot number y
-    → answer_worth x ≡ answer_worth y
+    (number : ℤ) (x y : Result Ten Fault) → NearestRoot number x → NearestRoot number y → x ≡ y
 
 -- a value that is a decimal already is answered as it is
 abbrev pub DecimalIsItsNearest : Type 0

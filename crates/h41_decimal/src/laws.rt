@@ -1,11 +1,14 @@
 //! Laws of decimals: each is the contract of a function with next to nothing to do.
 
 ghost use Rattle.std.specs.Prelude.{◌≡◌, Some};
-ghost use Rattle.std.specs.Option.{option_map};
-ghost use Rattle.h41_decimal.specs.Laws.{NearestIsDetermined, NearestRootIsDetermined, DecimalIsItsNearest};
-ghost use Rattle.h41_decimal.specs.Units.{units};
+ghost use Rattle.h41_decimal.specs.Laws.{UnitsAreInjective, NearestIsDetermined, NearestRootIsDetermined, DecimalIsItsNearest};
 
 use crate::ten::Ten;
+
+/// Two decimals that are worth the same are the same.
+pub fn units_are_injective()
+    ensures { UnitsAreInjective }
+{}
 
 /// The nearest decimal of a fraction is determined.
 pub fn nearest_is_determined()
@@ -24,7 +27,7 @@ pub fn decimal_is_its_nearest()
 
 /// A decimal that is written to a register is read again.
 pub fn decimal_round_trip(number: Ten) -> Option<Ten>
-    ensures { option_map units result ≡ Some (units number) }
+    ensures { result ≡ Some number }
 {
     Ten::from_reg(number.to_reg())
 }

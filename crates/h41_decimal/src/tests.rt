@@ -406,9 +406,18 @@ fn rounded_and_compared(rt: HostRuntime) -> Result<(), Fail> {
         assert_eq!(rt; answer(operand(x)?.round_to(places)), Ok(expected));
     }
     let large = operand(0x0_9999999999_099)?;
-    assert_eq!(rt; answer(large.round_to(Places::Digits(3))), Err(Fault::Range));
+    assert_eq!(rt;
+        answer(large.round_to(Places::Digits(3))),
+        Err(Fault::Range)
+    );
     assert_eq!(rt; large.cmp(large.negated()), Ordering::Greater);
-    for register in [0x1_0000000000_000, 0x0_0000000001_000, 0x0_1000000000_100, 0x9_0000000000_000, 0x0_A000000000_000] {
+    for register in [
+        0x1_0000000000_000,
+        0x0_0000000001_000,
+        0x0_1000000000_100,
+        0x9_0000000000_000,
+        0x0_A000000000_000,
+    ] {
         assert_eq!(rt; Ten::from_reg(Reg::holding(register)), None);
     }
     Ok(())

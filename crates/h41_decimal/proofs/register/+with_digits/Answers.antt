@@ -14,7 +14,7 @@ with_digits-requires t c =
 
 pub returns-clause-written : goal.returns-clause-written
 returns-clause-written t c =
-    let size : length c.args.register ≡ 14 = c.with-first.ensures.register.0.size in
+    let size : length c.args.register ≡ 14 = c.with-first.ensures.from.size in
     let lt : c.args.place < length c.args.register = omega arith in
     let set : slice_index (slice_set c.args.register c.args.place (c.args.number % 10)) c.args.place ≡ c.args.number % 10 = rw get_or-set_same in
     let digit : slice_index c.with-first.result c.args.place ≡ c.args.number % 10 = ap (λ r. slice_index r c.args.place) c.with-first.ensures.changed ∙ set in

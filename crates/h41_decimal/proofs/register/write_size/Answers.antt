@@ -8,7 +8,7 @@ use Rattle.h41_decimal.proofs.register.write_size.Goals as goal
 pub returns : goal.returns
 returns c =
     let x = c.args.x in
-    let size : length c.zero.result ≡ 14 = c.with-signed.ensures.register.0.size in
+    let size : length c.zero.result ≡ 14 = c.with-signed.ensures.from.size in
     let lt : 13 < length c.zero.result = omega arith in
     let set : slice_index (slice_set c.zero.result 13 c.sign_digit.result) 13 ≡ c.sign_digit.result = rw get_or-set_same in
     let s : slice_index c.with-signed.result 13 ≡ c.sign_digit.result = ap (λ r. slice_index r 13) c.with-signed.ensures.changed ∙ set in

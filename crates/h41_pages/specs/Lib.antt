@@ -1,0 +1,4 @@
+pub mod Addresses
+pub mod PageMap
+pub mod Images
+pub mod FunctionTables

@@ -37,8 +37,11 @@ abbrev pub entry_offset : List ℕ → ℕ → ℕ
 entry_offset words entry = first_word words entry % 16 * 256 + second_word words entry % 256
 
 -- the words before an offset of a page, the nearest first, of which the eleven nearest can hold a name
+abbrev pub word_before : List ℕ → ℕ → ℕ → ℕ
+word_before words offset distance = slice_index words (offset - 1 - distance)
+
 abbrev pub words_before : List ℕ → ℕ → List ℕ
-words_before words offset = map (λ distance. slice_index words (offset - 1 - distance)) (range_with_len 0 (min offset 11))
+words_before words offset = map (word_before words offset) (range_with_len 0 (min offset 11))
 
 -- a character's word has in its low six bits the character's code, ASCII 20 to 5F, modulo 64
 abbrev pub character : ℕ → ℕ
@@ -84,8 +87,11 @@ functions pages = flat_map (functions_at pages) all_pages
 abbrev pub is_named : List ℕ → Function → Bool
 is_named name function = option_map_or (λ own. bytes_eq own name) function.name false
 
+abbrev pub numbers_of : Function → ℕ × ℕ
+numbers_of function = (function.number, function.entry)
+
 abbrev pub found_in : List ℕ → List Function → Option (ℕ × ℕ)
-found_in name functions = option_map (λ function. (function.number, function.entry)) (find (is_named name) functions)
+found_in name functions = option_map numbers_of (find (is_named name) functions)
 
 abbrev pub found : PageMap → List ℕ → Option (ℕ × ℕ)
 found pages name = found_in name (functions pages)

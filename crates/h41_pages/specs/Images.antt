@@ -26,13 +26,25 @@ image_size = 2 * page_size
 abbrev pub word_from : List ℕ → ℕ → ℕ
 word_from bytes place = slice_index bytes place * 256 + slice_index bytes (place + 1)
 
--- the words of an image of these bytes: the word at an offset stands at twice its place
-unfoldable pub words_in : List ℕ → List ℕ
-words_in bytes = map (λ offset. word_from bytes (2 * offset)) (range_with_len 0 page_size)
+-- the word at an offset stands at twice its place
+abbrev pub word_in_bytes : List ℕ → ℕ → ℕ
+word_in_bytes bytes offset = word_from bytes (2 * offset)
+
+-- so many words that bytes spell from the first on
+unfoldable pub first_words : List ℕ → ℕ → List ℕ
+first_words bytes count = map (word_in_bytes bytes) (range_with_len 0 count)
+
+-- the words of an image of these bytes
+abbrev pub words_in : List ℕ → List ℕ
+words_in bytes = first_words bytes page_size
+
+-- whether a number is a word's: up to 3FF
+abbrev pub is_word : ℕ → Bool
+is_word number = nat_le number last_word
 
 -- whether bytes are those of an image: 8,192 of them, and no word above 3FF
 abbrev pub all_fit : List ℕ → Bool
-all_fit bytes = list_all (λ word. nat_le word last_word) (words_in bytes)
+all_fit bytes = list_all is_word (words_in bytes)
 
 abbrev pub is_image_bytes : List ℕ → Bool
 is_image_bytes bytes = length bytes == image_size && all_fit bytes

@@ -112,11 +112,20 @@ impl Pages {
     {
         let mut functions = Vec::new(alloc);
         for page in 0..PAGES {
-            if let Some(image) = self.image(page, Bank::First) {
-                image.add_functions(&mut functions)?;
-            }
+            self.add_functions_at(page, &mut functions)?;
         }
         Ok(functions)
+    }
+
+    /// Adds the functions of a page to a list.
+    fn add_functions_at(&self, page: usize, functions: &mut Vec<Function>) -> Result<(), AllocError>
+        requires { page < 16 }
+        ensures { IfOk result (λ _. functions.new.items ≡ functions.old.items ++ spec.functions_at self.now page) }
+    {
+        match self.image(page, Bank::First) {
+            None => Ok(()),
+            Some(image) => image.add_functions(functions),
+        }
     }
 }
 
@@ -181,7 +190,8 @@ impl Image {
         ensures { result ≡ spec.spelled (spec.words_before self.now.words offset) }
     {
         let mut name = Name::new();
-        for distance in 0..offset.min(NAME_LENGTH) {
+        let count = offset.min(NAME_LENGTH);
+        for distance in 0..count {
             let word = self.word(offset - 1 - distance);
             name.push(character(word));
             if is_last(word) {
@@ -231,7 +241,8 @@ impl Image {
     fn find(&self, name: &[u8]) -> Option<(u8, u8)>
         ensures { result ≡ spec.found_in name.now (spec.functions_of self.now.words) }
     {
-        for entry in 0..self.entry_count() {
+        let count = self.entry_count();
+        for entry in 0..count {
             if self.is_named(entry, name) {
                 return Some((self.number() as u8, entry as u8));
             }
@@ -243,7 +254,8 @@ impl Image {
     fn add_functions(&self, functions: &mut Vec<Function>) -> Result<(), AllocError>
         ensures { IfOk result (λ _. functions.new.items ≡ functions.old.items ++ spec.functions_of self.now.words) }
     {
-        for entry in 0..self.entry_count() {
+        let count = self.entry_count();
+        for entry in 0..count {
             functions.push(self.function(entry))?;
         }
         Ok(())

@@ -48,6 +48,13 @@ impl Image {
         })
     }
 
+    /// Its words.
+    pub fn words(&self) -> &[Word]
+        ensures { result.now ≡ self.now.words }
+    {
+        self.words.as_slice()
+    }
+
     /// The word at an offset.
     pub fn word(&self, offset: usize) -> Word
         requires { offset < page_size }

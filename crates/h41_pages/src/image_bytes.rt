@@ -92,12 +92,19 @@ impl Image {
     fn bytes(&self, alloc: Global) -> Result<Vec<u8>, AllocError>
         ensures { IfOk result (λ bytes. bytes.items ≡ spec.image_bytes self.now.words) }
     {
-        let mut bytes = Vec::with_capacity(alloc, IMAGE_BYTES)?;
-        for offset in 0..PAGE_WORDS {
-            bytes.extend_from_slice(&word_bytes(self.word(offset)))?;
-        }
-        Ok(bytes)
+        bytes_of(alloc, self.words())
     }
+}
+
+/// The bytes of words.
+fn bytes_of(alloc: Global, words: &[Word]) -> Result<Vec<u8>, AllocError>
+    ensures { IfOk result (λ bytes. bytes.items ≡ spec.image_bytes words.now) }
+{
+    let mut bytes = Vec::with_capacity(alloc, IMAGE_BYTES)?;
+    for word in words {
+        bytes.extend_from_slice(&word_bytes(*word))?;
+    }
+    Ok(bytes)
 }
 
 /// The two bytes of a word.

@@ -2,3 +2,4 @@ pub mod Addresses
 pub mod PageMap
 pub mod Images
 pub mod FunctionTables
+pub mod PageLaws

@@ -6,6 +6,7 @@ mod addresses;
 mod functions;
 mod image;
 mod image_bytes;
+pub mod laws;
 mod name;
 mod pages;
 mod refusal;

@@ -1,7 +1,6 @@
 -- The words of an image and their bytes, one word at a time.
-use Rattle.std.proofs.Common.{◌≡◌, ℕ, ◌+◌, ◌*◌, ◌<◌, List, [], ◌∷◌, ◌++◌, length, take, get_or, arith, refl, ap, sym, ◌∙◌, map}
-use Rattle.std.specs.List.{flat_map, range_with_len}
-use Rattle.std.proofs.lemmas.Grind.{take_at_read, flat_map-append, common_steps}
+use Rattle.std.proofs.Common.{◌≡◌, ℕ, ◌+◌, ◌<◌, List, [], ◌∷◌, ◌++◌, length, take, get_or, ap, ◌∙◌, map}
+use Rattle.std.proofs.lemmas.Grind.{take_at_read, flat_map-append}
 use Rattle.h41_pages.specs.Images.{word_bytes, image_bytes, word_in_bytes, first_words}
 use Rattle.h41_pages.proofs.Ranges.{up_to, up_to-zero}
 

@@ -1,9 +1,9 @@
 -- A change at one page, seen at it and at others.
-use Rattle.std.proofs.Common.{◌≡◌, ◌≢◌, ℕ, ◌+◌, ◌*◌, ◌/◌, ◌%◌, ◌<◌, ◌≤◌, Bool, true, false, List, [], Option, Some, None, Ok, Err, if◌then◌else◌, length, arith, refl, ap, sym, ◌∙◌, get_or-set_other, get_or-set_same, slice_set, slice_index_or, is_some}
+use Rattle.std.proofs.Common.{◌≡◌, ◌≢◌, ℕ, ◌<◌, ◌≤◌, false, List, [], Option, None, Err, if◌then◌else◌, length, arith, refl, ap, ◌∙◌, get_or-set_other, get_or-set_same, slice_set, slice_index_or}
 use Rattle.h41_words.specs.declared.rows.Bank.{Bank}
 use Rattle.h41_words.specs.declared.rows.Bank.TheVariants.{First, Second, Third, Fourth}
 use Rattle.h41_pages.specs.Addresses.{page_of, is_system}
-use Rattle.h41_pages.specs.Addresses.{page_size, offset_of, first_page, last_page}
+use Rattle.h41_pages.specs.Addresses.{page_size, offset_of, first_page}
 use Rattle.h41_pages.specs.PageLaws.{address_in}
 use Rattle.h41_pages.specs.PageMap.{PageMap, PageImage, banks_at, chosen_at, chosen_image, bank_place, fetched, word_in}
 use Rattle.h41_pages.specs.declared.refusal.FetchRefusal.TheVariants.{SystemRom}

@@ -1,7 +1,6 @@
 -- Numbers in a row that a loop takes one at a time: what is left of a list, a search or a test behind the one taken.
-use Rattle.std.proofs.Common.{◌≡◌, ℕ, zero, suc, ◌+◌, ◌-◌, ◌<◌, ◌≤◌, Bool, true, false, List, [], ◌∷◌, ◌++◌, Option, Some, None, cond, arith, refl, ap, sym, ◌∙◌, map}
-use Rattle.std.specs.List.{range_with_len, find, flat_map, list_all}
-use Rattle.h41_pages.specs.Addresses.{page_count}
+use Rattle.std.proofs.Common.{◌≡◌, ℕ, suc, ◌+◌, ◌-◌, ◌<◌, ◌≤◌, Bool, true, false, List, [], ◌∷◌, ◌++◌, Some, None, cond, arith, ap, ◌∙◌, map}
+use Rattle.std.specs.List.{range_with_len, find, flat_map}
 use Rattle.h41_pages.specs.FunctionTables.{all_pages}
 
 -- the numbers from one up to another, without that

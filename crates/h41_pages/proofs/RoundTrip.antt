@@ -1,7 +1,7 @@
 -- The words of an image's bytes.
-use Rattle.std.proofs.Common.{◌≡◌, ℕ, zero, suc, ◌+◌, ◌*◌, ◌/◌, ◌%◌, List, [], ◌∷◌, ◌++◌, length, arith, refl, ap, sym, ◌∙◌, map, slice_index}
+use Rattle.std.proofs.Common.{◌≡◌, ℕ, zero, suc, ◌+◌, ◌*◌, ◌/◌, ◌%◌, List, [], ◌∷◌, length, arith, refl, ap, ◌∙◌, map, slice_index}
 use Rattle.std.specs.List.{range_with_len}
-use Rattle.h41_pages.specs.Images.{word_bytes, image_bytes, word_in_bytes, first_words}
+use Rattle.h41_pages.specs.Images.{image_bytes, word_in_bytes, first_words}
 
 -- one list behind a word
 cons_with : {X : Type 0} {x y : X} {xs ys : List X} → x ≡ y → xs ≡ ys → x ∷ xs ≡ y ∷ ys

@@ -1,5 +1,5 @@
 -- Images as bytes: two bytes a word, the high byte first, the words in the order of their offsets.
-use Rattle.std.specs.Prelude.{◌≡◌, ◌⊎◌, ℕ, ◌+◌, ◌*◌, ◌/◌, ◌%◌, Bool, not, ◌&&◌, List, [], ◌∷◌, ◌++◌, map, length, slice_index, is_none, nat_le, ◌==◌, Option, Some, None, IfSome}
+use Rattle.std.specs.Prelude.{◌≡◌, ◌⊎◌, ℕ, ◌+◌, ◌*◌, ◌/◌, ◌%◌, Bool, not, ◌&&◌, List, [], ◌∷◌, map, length, slice_index, is_none, nat_le, ◌==◌, Option, Some, None, IfSome}
 use Rattle.std.specs.Bool.{then_some}
 use Rattle.std.specs.List.{flat_map, list_all, range_with_len}
 use Rattle.std.specs.Option.{option_or}

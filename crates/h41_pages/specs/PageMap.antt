@@ -1,7 +1,7 @@
 -- The pages of the address space: a finite map from page, bank and offset to words, the banks whose words microcode may
 -- write, and the bank that is chosen at each page; when plugging, unplugging, reading and writing are refused, and what
 -- they change. Which pages and banks are held, and in which order refusals are asked, are this project's choices.
-use Rattle.std.specs.Prelude.{◌≡◌, ◌⊎◌, ℕ, ◌+◌, ◌*◌, Bool, false, not, ◌&&◌, List, [], ◌∷◌, length, slice_index, slice_index_or, slice_set, replicate, nat_le, ◌==◌, if◌then◌else◌, is_some, Option, Some, None, Result, Ok, Err, option_map}
+use Rattle.std.specs.Prelude.{◌≡◌, ◌⊎◌, ℕ, Bool, false, not, ◌&&◌, List, [], length, slice_index, slice_index_or, slice_set, replicate, nat_le, ◌==◌, if◌then◌else◌, is_some, Option, Some, None, Result, Ok, Err, option_map}
 use Rattle.std.specs.Bool.{then_some}
 use Rattle.std.specs.List.{list_all, list_any}
 use Rattle.std.specs.Option.{option_or, option_map_or}

@@ -74,6 +74,7 @@ impl Pages {
     /// The bytes of the image at a page and bank. Refused, in this order: 1 where the page is not 4 to F or the bank is not 1
     /// (this project's choice), 3 where it is not plugged, 21 where memory is refused.
     pub fn image_write(&self, alloc: Global, page: u8, bank: u8) -> Result<Vec<u8>, ImageRefusal>
+        ensures accepted { OnOk result (spec.image_refusal self.now page bank ≡ None) }
         ensures bytes { IfOk result (λ bytes. spec.IsImageAt self.now page bank bytes.items) }
         ensures refusal { IfErr result (spec.RefusesImage self.now page bank) }
     {

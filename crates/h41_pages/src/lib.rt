@@ -17,3 +17,6 @@ pub use image_bytes::image_read;
 pub use name::Name;
 pub use pages::Pages;
 pub use refusal::{FetchRefusal, ImageRefusal, PlugRefusal, ReadOnly, ReadRefusal, UnplugRefusal};
+
+#[cfg(test)]
+mod tests;

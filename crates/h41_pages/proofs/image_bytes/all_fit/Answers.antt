@@ -1,8 +1,8 @@
-use Rattle.std.proofs.Common.{◌≡◌, ◌*◌, ◌+◌, ◌<◌, ◌≤◌, ℕ, List, Bool, true, false, ◌&&◌, map, arith, refl, ap, sym, ◌∙◌}
+use Rattle.std.proofs.Common.{◌≡◌, ◌+◌, ◌<◌, ℕ, List, true, false, ◌&&◌, map, arith, ap, sym, ◌∙◌}
 use Rattle.std.specs.List.{list_all}
 use Rattle.std.proofs.lemmas.Grind.{common_steps}
 use Rattle.h41_pages.specs.Addresses.{page_size}
-use Rattle.h41_pages.specs.Images.{all_fit, is_word, word_in_bytes}
+use Rattle.h41_pages.specs.Images.{is_word, word_in_bytes}
 use Rattle.h41_pages.proofs.ImageWords.{first_words_made}
 use Rattle.h41_pages.proofs.Ranges.{up_to, map-step, map-none}
 use Rattle.h41_pages.proofs.image_bytes.all_fit.Goals as goal

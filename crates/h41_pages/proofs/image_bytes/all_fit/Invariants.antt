@@ -1,4 +1,4 @@
-use Rattle.std.proofs.Common.{◌≡◌, ℕ, map}
+use Rattle.std.proofs.Common.{◌≡◌, map}
 use Rattle.std.specs.List.{list_all}
 use Rattle.h41_pages.specs.Addresses.{page_size}
 use Rattle.h41_pages.specs.Images.{all_fit, is_word, word_in_bytes}

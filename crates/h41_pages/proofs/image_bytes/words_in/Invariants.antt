@@ -1,4 +1,4 @@
-use Rattle.std.proofs.Common.{◌≡◌, ℕ}
+use Rattle.std.proofs.Common.{◌≡◌}
 use Rattle.h41_pages.specs.Images.{first_words}
 use Rattle.h41_pages.proofs.image_bytes.words_in.Given as goal
 

@@ -1,8 +1,8 @@
-use Rattle.std.proofs.Common.{◌≡◌, ◌*◌, ℕ, List, length, true, arith, ap, sym, ◌∙◌}
+use Rattle.std.proofs.Common.{◌≡◌, ℕ, List, length, true, arith, ap, sym, ◌∙◌}
 use Rattle.std.proofs.lemmas.Grind.{common_steps}
 use Rattle.h41_pages.specs.Addresses.{page_size}
 use Rattle.h41_pages.specs.PageMap.{is_image}
-use Rattle.h41_pages.specs.Images.{image_bytes, first_words, words_in, is_word, all_fit}
+use Rattle.h41_pages.specs.Images.{image_bytes, first_words, words_in}
 use Rattle.h41_pages.proofs.RoundTrip.{read_back, bytes_count}
 use Rattle.h41_pages.proofs.laws.image_round_trip.Goals as goal
 

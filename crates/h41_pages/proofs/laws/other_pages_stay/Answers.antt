@@ -1,7 +1,7 @@
 use Rattle.std.proofs.Common.{◌≡◌, ◌≢◌, ℕ, refl, true, false, is_some, if◌then◌else◌, slice_set}
 use Rattle.h41_words.specs.declared.rows.Bank.{Bank}
 use Rattle.h41_pages.specs.Addresses.{page_of}
-use Rattle.h41_pages.specs.PageMap.{PageMap, image_at, plugged, unplugged, with_chosen, written, fetched}
+use Rattle.h41_pages.specs.PageMap.{PageMap, image_at, plugged, unplugged, written, fetched}
 use Rattle.h41_pages.proofs.OtherPages.{same_fetch, other_banks, other_chosen}
 use Rattle.h41_pages.proofs.laws.other_pages_stay.Goals as goal
 

@@ -1,4 +1,4 @@
-use Rattle.std.proofs.Common.{◌≡◌, ℕ, map, ◌++◌}
+use Rattle.std.proofs.Common.{◌≡◌, map, ◌++◌}
 use Rattle.std.specs.List.{range_with_len}
 use Rattle.h41_pages.specs.FunctionTables.{function_in}
 use Rattle.h41_pages.proofs.image.Image.add_functions.Given as goal

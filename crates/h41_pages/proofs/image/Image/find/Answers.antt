@@ -1,4 +1,4 @@
-use Rattle.std.proofs.Common.{◌≡◌, ◌<◌, ◌≤◌, ◌+◌, ℕ, List, Bool, true, false, map, Some, arith, ap, sym, ◌∙◌}
+use Rattle.std.proofs.Common.{◌≡◌, ◌<◌, ◌≤◌, ◌+◌, ℕ, List, true, false, map, Some, arith, ap, sym, ◌∙◌}
 use Rattle.h41_pages.specs.FunctionTables.{found_in, function_in, numbers_of, is_named, entry_count}
 use Rattle.h41_pages.proofs.Ranges.{up_to, up_to-zero, map-step, map-none}
 use Rattle.h41_pages.proofs.Searches.{found_later, found_first}
@@ -35,7 +35,7 @@ pub returns-then-is_named : goal.returns-then-is_named
 returns-then-is_named c =
     let below : c.loop-entry.entry < entry_count c.args.self.now.words = omega (arith, c.entry_count-count.ensures.count, c.loop-entry-test.true) in
     let found = c.loop-entry.invariant
-      ∙ here c.args.self.now.words c.args.name.now c.loop-entry.entry below (sym c.is_named.ensures ∙ c.if-is_named.true) in
+    ∙ here c.args.self.now.words c.args.name.now c.loop-entry.entry below (sym c.is_named.ensures ∙ c.if-is_named.true) in
     ap (λ number. Some (number, c.loop-entry.entry)) c.number.ensures ∙ sym found
 
 pub returns : goal.returns

@@ -1,4 +1,4 @@
-use Rattle.std.proofs.Common.{◌≡◌, ℕ, map}
+use Rattle.std.proofs.Common.{◌≡◌, map}
 use Rattle.h41_pages.specs.FunctionTables.{found_in, function_in, functions_of, entry_count}
 use Rattle.h41_pages.proofs.Ranges.{up_to}
 use Rattle.h41_pages.proofs.image.Image.find.Given as goal

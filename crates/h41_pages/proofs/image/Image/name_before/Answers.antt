@@ -1,6 +1,6 @@
-use Rattle.std.proofs.Common.{◌≡◌, ◌<◌, ◌≤◌, ◌+◌, ◌-◌, ℕ, List, Option, Some, None, Bool, false, true, [], ◌∷◌, ◌++◌, length, min, map, arith, ap, sym, ◌∙◌, append_assoc}
+use Rattle.std.proofs.Common.{◌≡◌, ◌<◌, ◌≤◌, ◌+◌, ℕ, List, Some, false, true, [], ◌∷◌, ◌++◌, length, min, map, arith, ap, sym, ◌∙◌}
 use Rattle.std.proofs.lemmas.Grind.{common_steps}
-use Rattle.h41_pages.specs.FunctionTables.{spelled, word_before, words_before, character, is_last}
+use Rattle.h41_pages.specs.FunctionTables.{spelled, word_before, character, is_last}
 use Rattle.h41_pages.proofs.Names.{going_on, name_begins, name_goes_on, name_ends}
 use Rattle.h41_pages.proofs.Ranges.{up_to, up_to-zero, map-step, map-none}
 use Rattle.h41_pages.proofs.image.Image.name_before.Goals as goal
@@ -17,8 +17,8 @@ loop-distance-init c =
     record {
       length = ap length none;
       name = ap (λ places. spelled (map (word_before words offset) places)) (up_to-zero (min offset 11))
-        ∙ name_begins (map (word_before words offset) (up_to 0 (min offset 11)))
-        ∙ ap (λ name. going_on name (map (word_before words offset) (up_to 0 (min offset 11)))) (sym none);
+          ∙ name_begins (map (word_before words offset) (up_to 0 (min offset 11)))
+          ∙ ap (λ name. going_on name (map (word_before words offset) (up_to 0 (min offset 11)))) (sym none);
     }
 
 -- one more character, which is not the last
@@ -45,7 +45,7 @@ returns-then-is_last c =
     let word : c.word-word.result ≡ word_before words offset distance = c.word-word.ensures in
     let passes : is_last (word_before words offset distance) ≡ true = ap is_last (sym word) ∙ sym c.is_last.ensures ∙ c.if-is_last.true in
     let made : c.push.new.self ≡ name ++ character (word_before words offset distance) ∷ [] =
-      c.push.ensures ∙ ap (λ next. name ++ next ∷ []) (c.character.ensures ∙ ap character word) in
+    c.push.ensures ∙ ap (λ next. name ++ next ∷ []) (c.character.ensures ∙ ap character word) in
     ap Some made ∙ sym (c.loop-distance.invariant.name ∙ last words name offset distance below passes)
 
 pub loop-distance-preserved : goal.loop-distance-preserved
@@ -58,11 +58,11 @@ loop-distance-preserved c =
     let word : c.word-word.result ≡ word_before words offset distance = c.word-word.ensures in
     let fails : is_last (word_before words offset distance) ≡ false = ap is_last (sym word) ∙ sym c.is_last.ensures ∙ c.if-is_last.false in
     let made : c.push.new.self ≡ name ++ character (word_before words offset distance) ∷ [] =
-      c.push.ensures ∙ ap (λ next. name ++ next ∷ []) (c.character.ensures ∙ ap character word) in
+    c.push.ensures ∙ ap (λ next. name ++ next ∷ []) (c.character.ensures ∙ ap character word) in
     record {
       length = grind (arith, common_steps, c.push.ensures, c.loop-distance.invariant.length);
       name = c.loop-distance.invariant.name ∙ later words name offset distance below fails
-        ∙ ap (λ name. going_on name (rest_of words offset (distance + 1))) (sym made);
+          ∙ ap (λ name. going_on name (rest_of words offset (distance + 1))) (sym made);
     }
 
 pub returns : goal.returns

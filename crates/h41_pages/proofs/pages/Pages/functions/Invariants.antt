@@ -1,4 +1,4 @@
-use Rattle.std.proofs.Common.{◌≡◌, ℕ, ◌++◌}
+use Rattle.std.proofs.Common.{◌≡◌, ◌++◌}
 use Rattle.std.specs.List.{flat_map}
 use Rattle.h41_pages.specs.FunctionTables.{functions, functions_at}
 use Rattle.h41_pages.proofs.Ranges.{up_to}

@@ -1,4 +1,4 @@
-use Rattle.std.proofs.Common.{◌≡◌, ap, sym, ◌∙◌}
+use Rattle.std.proofs.Common.{ap, sym, ◌∙◌}
 use Rattle.std.specs.List.{find}
 use Rattle.h41_pages.proofs.Ranges.{pages_up_to, find-skips, find-takes, find-ends}
 use Rattle.h41_pages.proofs.pages.Pages.page_numbered.Goals as goal

@@ -1,4 +1,4 @@
-use Rattle.std.proofs.Common.{◌≡◌, ℕ}
+use Rattle.std.proofs.Common.{◌≡◌}
 use Rattle.std.specs.List.{find}
 use Rattle.h41_pages.specs.FunctionTables.{page_numbered, is_numbered, first_image}
 use Rattle.h41_pages.proofs.Ranges.{up_to}

@@ -5,8 +5,8 @@ use Rattle.std.specs.Prelude.{◌≡◌, ℕ, ◌+◌, ◌-◌, ◌*◌, ◌%◌
 use Rattle.std.specs.List.{list_any}
 use Rattle.h41_digits.specs.Register.{IsRegister}
 use Rattle.h41_fields.specs.Field.{from_to}
-use Rattle.h41_arith.specs.declared.sums.Operation.{Operation}
-use Rattle.h41_arith.specs.declared.sums.Operation.TheVariants.{Add, Subtract}
+use Rattle.h41_arith.specs.declared.sums.DigitOperation.{DigitOperation}
+use Rattle.h41_arith.specs.declared.sums.DigitOperation.TheVariants.{Add, Subtract}
 
 -- one place of a sum: z and the carry out, from x, y and the carry in
 abbrev pub SumDigit : ℕ → ℕ → ℕ → ℕ → ℕ → ℕ → Type 0
@@ -22,11 +22,11 @@ DifferenceDigit base x y borrow_in z borrow_out =
     ⊎ ((x < y + borrow_in) × (z ≡ (x + base + 16 - (y + borrow_in)) % 16) × (borrow_out ≡ 1))
 
 -- the rule of one place, by what is done there
-abbrev pub rule_of : Operation → ℕ → ℕ → ℕ → ℕ → ℕ → ℕ → Type 0
+abbrev pub rule_of : DigitOperation → ℕ → ℕ → ℕ → ℕ → ℕ → ℕ → Type 0
 rule_of Add base = SumDigit base
 rule_of Subtract base = DifferenceDigit base
 
--- There is a list of carries, the carry in (0 or 1) at place lo and the carry out behind place hi, by which the rule of
+-- There is a list of carries, the carry in (0 or 1) at place lo and the carry out after place hi, by which the rule of
 -- one place holds at each place from lo to hi. So each of these carries is 0 or 1.
 pub record HasCarries (rule : ℕ → ℕ → ℕ → ℕ → ℕ → Type 0) (x y : List ℕ) (carry_in lo hi : ℕ) (z : List ℕ) (carry_out : ℕ) : Type 0 where
   pub bit : carry_in ≤ 1
@@ -51,6 +51,10 @@ base_of decimal = if decimal then 10 else 16
 abbrev pub carry_digit : Bool → ℕ
 carry_digit carry = if carry then 1 else 0
 
+-- one place by a rule, with carries that are there or not
+abbrev pub HasDigit : (ℕ → ℕ → ℕ → ℕ → ℕ → Type 0) → ℕ → ℕ → Bool → ℕ → Bool → Type 0
+HasDigit rule x y carry_in z carry_out = rule x y (carry_digit carry_in) z (carry_digit carry_out)
+
 -- a register of zeros
 abbrev pub zeros : List ℕ
 zeros = replicate 14 0
@@ -74,6 +78,10 @@ SumInto base into x y carry_in lo hi z carry_out = HasResult (SumDigit base) int
 -- the register z is `into` with x - y - borrow in, in the places from lo to hi
 abbrev pub DifferenceInto : ℕ → List ℕ → List ℕ → List ℕ → Bool → ℕ → ℕ → List ℕ → Bool → Type 0
 DifferenceInto base into x y borrow_in lo hi z borrow_out = HasResult (DifferenceDigit base) into x y borrow_in lo hi z borrow_out
+
+-- the register z is `into` with the sum or the difference of x and y, by what is done, in the places from lo to hi
+abbrev pub RuleInto : DigitOperation → ℕ → List ℕ → List ℕ → List ℕ → Bool → ℕ → ℕ → List ℕ → Bool → Type 0
+RuleInto operation base into x y carry_in lo hi z carry_out = HasResult (rule_of operation base) into x y carry_in lo hi z carry_out
 
 -- the register with these digits at the places from lo to hi, and elsewhere with those of `into`
 unfoldable pub replaced : List ℕ → ℕ → ℕ → (ℕ → ℕ) → List ℕ

@@ -3,7 +3,7 @@
 ghost use Rattle.std.specs.Prelude.{◌≡◌};
 ghost use Rattle.h41_arith.specs.DigitRule.{is_less, is_different, is_nonzero};
 
-use crate::sums::Operation;
+use crate::sums::DigitOperation;
 use h41_digits::Reg;
 use h41_fields::Span;
 
@@ -11,7 +11,9 @@ use h41_fields::Span;
 pub fn less(x: Reg, y: Reg, span: Span) -> bool
     ensures { result ≡ is_less x y span.lo span.hi }
 {
-    Operation::Subtract.over_span(16, x, x, y, false, span).1
+    DigitOperation::Subtract
+        .over_span(16, x, x, y, false, span)
+        .1
 }
 
 /// Whether `x` and `y` have different digits in the span.

@@ -2,33 +2,32 @@
 
 ghost use Rattle.std.specs.Prelude.{◌≡◌, ◌<◌, ◌⊎◌, true, false};
 ghost use Rattle.h41_digits.specs.Register.{IsRegister};
-ghost use Rattle.h41_arith.specs.DigitRule.{SumDigit, DifferenceDigit, SumInto, DifferenceInto, HasResult, rule_of, base_of, carry_digit, zeros};
+ghost use Rattle.h41_arith.specs.DigitRule.{SumDigit, DifferenceDigit, HasDigit, SumInto, DifferenceInto, RuleInto, rule_of, base_of, zeros};
 
 use h41_digits::Reg;
 use h41_fields::Span;
 
 /// What is done with the digits of two registers.
 #[derive(Clone, Copy)]
-pub enum Operation {
+pub enum DigitOperation {
     /// A sum with its carry.
     Add,
     /// A difference with its borrow.
     Subtract,
 }
 
-impl Operation {
+impl DigitOperation {
     /// One place: the digit, and whether there is a carry or borrow out.
     fn digit(self, base: u8, x: u8, y: u8, carry_in: bool) -> (u8, bool)
         requires is_base { (base ≡ 10) ⊎ (base ≡ 16) }
         requires x_is_digit { x < 16 }
         requires y_is_digit { y < 16 }
-        ensures rule { rule_of self base x y (carry_digit carry_in)
-            result.0 (carry_digit result.1) }
+        ensures rule { HasDigit (rule_of self base) x y carry_in result.0 result.1 }
         ensures is_digit { result.0 < 16 }
     {
         match self {
-            Operation::Add => sum_digit(base, x, y, carry_in),
-            Operation::Subtract => difference_digit(base, x, y, carry_in),
+            DigitOperation::Add => sum_digit(base, x, y, carry_in),
+            DigitOperation::Subtract => difference_digit(base, x, y, carry_in),
         }
     }
 
@@ -43,9 +42,9 @@ impl Operation {
         span: Span,
     ) -> (Reg, bool)
         requires { (base ≡ 10) ⊎ (base ≡ 16) }
-        ensures result { HasResult (rule_of self base) into x y carry_in span.lo span.hi
-            result.0 result.1 }
-        ensures operands { IsRegister 14 x × IsRegister 14 y }
+        ensures result { RuleInto self base into x y carry_in span.lo span.hi result.0 result.1 }
+        ensures first { IsRegister 14 x }
+        ensures second { IsRegister 14 y }
     {
         let mut digits = into;
         let mut carry = carry_in;
@@ -63,7 +62,7 @@ fn sum_digit(base: u8, x: u8, y: u8, carry_in: bool) -> (u8, bool)
     requires is_base { (base ≡ 10) ⊎ (base ≡ 16) }
     requires x_is_digit { x < 16 }
     requires y_is_digit { y < 16 }
-    ensures rule { SumDigit base x y (carry_digit carry_in) result.0 (carry_digit result.1) }
+    ensures rule { HasDigit (SumDigit base) x y carry_in result.0 result.1 }
     ensures is_digit { result.0 < 16 }
 {
     let sum = x + y + u8::from(carry_in);
@@ -79,8 +78,7 @@ fn difference_digit(base: u8, x: u8, y: u8, borrow_in: bool) -> (u8, bool)
     requires is_base { (base ≡ 10) ⊎ (base ≡ 16) }
     requires x_is_digit { x < 16 }
     requires y_is_digit { y < 16 }
-    ensures rule { DifferenceDigit base x y (carry_digit borrow_in)
-        result.0 (carry_digit result.1) }
+    ensures rule { HasDigit (DifferenceDigit base) x y borrow_in result.0 result.1 }
     ensures is_digit { result.0 < 16 }
 {
     let taken = y + u8::from(borrow_in);
@@ -103,7 +101,7 @@ fn base<const DEC: bool>() -> u8
 pub fn add<const DEC: bool>(into: Reg, x: Reg, y: Reg, carry_in: bool, span: Span) -> (Reg, bool)
     ensures { SumInto (base_of DEC) into x y carry_in span.lo span.hi result.0 result.1 }
 {
-    Operation::Add.over_span(base::<DEC>(), into, x, y, carry_in, span)
+    DigitOperation::Add.over_span(base::<DEC>(), into, x, y, carry_in, span)
 }
 
 /// `into` with `x` - `y` - the borrow in, in the span, and the borrow out of the span's top digit. The base is 10 where
@@ -111,7 +109,7 @@ pub fn add<const DEC: bool>(into: Reg, x: Reg, y: Reg, carry_in: bool, span: Spa
 pub fn sub<const DEC: bool>(into: Reg, x: Reg, y: Reg, borrow_in: bool, span: Span) -> (Reg, bool)
     ensures { DifferenceInto (base_of DEC) into x y borrow_in span.lo span.hi result.0 result.1 }
 {
-    Operation::Subtract.over_span(base::<DEC>(), into, x, y, borrow_in, span)
+    DigitOperation::Subtract.over_span(base::<DEC>(), into, x, y, borrow_in, span)
 }
 
 /// `into` with `x` + 1 in the span, and the carry.

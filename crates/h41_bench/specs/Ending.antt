@@ -1,5 +1,7 @@
 -- What the words of a command line are answered with: a job, or how the program ends.
-use Rattle.std.specs.Prelude.{◌≡◌, ◌⊎◌, ℕ, List, string_bytes, Result, MatchResult}
+use Rattle.std.specs.Prelude.{◌≡◌, ◌≢◌, ◌⊎◌, ℕ, List, string_bytes, Result, MatchResult, IsErrAnd}
+use Rattle.clap.specs.declared.error.kind.ErrorKind.{ErrorKind}
+use Rattle.clap.specs.declared.error.kind.ErrorKind.TheVariants as kinds
 use Rattle.h41_bench.specs.declared.arguments.Ending.{Ending}
 use Rattle.h41_bench.specs.declared.arguments.Ending.TheVariants as endings
 use Rattle.h41_bench.specs.declared.arguments.Job.{Job}
@@ -20,6 +22,15 @@ text_of endings.OutOfMemory = heading OutOfMemory
 -- the status, where memory did not run out
 abbrev pub EndsWith : ℕ → Ending → Type 0
 EndsWith status ending = (status_of ending ≡ status) ⊎ (ending ≡ endings.OutOfMemory)
+
+-- an error of this kind is neither help nor the version
+pub record IsNoHelp (kind : ErrorKind) : Type 0 where
+  pub no_help : kind ≢ kinds.DisplayHelp
+  pub no_version : kind ≢ kinds.DisplayVersion
+
+-- no job, and this status
+abbrev pub EndsAtOnce : ℕ → Result Job Ending → Type 0
+EndsAtOnce status result = IsErrAnd result (EndsWith status)
 
 -- a job over this file, where memory did not run out
 abbrev pub AsksToRun : Result Job Ending → List ℕ → Type 0

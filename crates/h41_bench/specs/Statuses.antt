@@ -12,6 +12,10 @@ use Rattle.h41_deck.specs.Refusals.{of_fault, refusal_line}
 abbrev pub IsStatus : ℕ → Type 0
 IsStatus status = (status ≡ 0) ⊎ ((status ≡ 1) ⊎ (status ≡ 3))
 
+-- this status, or 3 where memory or an end failed
+abbrev pub IsOrFailed : ℕ → ℕ → Type 0
+IsOrFailed status result = (result ≡ status) ⊎ (result ≡ 3)
+
 -- the status that tells how a deck ended
 abbrev pub status_of_outcome : Outcome → ℕ
 status_of_outcome Accepted = 0
@@ -21,12 +25,16 @@ status_of_outcome Refused = 1
 abbrev pub EndsDeck : ℕ → List ℕ → Type 0
 EndsDeck status deck = (outcome : Outcome) × DeckEnds deck outcome × (status ≡ status_of_outcome outcome)
 
+-- the line that tells a fault
+abbrev pub fault_line : Fault → List ℕ
+fault_line fault = refusal_line (of_fault fault)
+
 -- A fault's line is told. It is a read's where reading failed or the deck was too long, a write's where writing failed, and
 -- any other where neither did.
 pub record TellsFault (known : Option (List ℕ)) (read_failed : Bool) (old new : Option (List ℕ)) (write_failed : Bool)
     (told_old told_new : Option (List ℕ)) : Type 0 where
   pub fault : Fault
-  pub line : Appends told_old told_new (refusal_line (of_fault fault))
+  pub line : Appends told_old told_new (fault_line fault)
   pub read : fault ≡ ReadFault → FailedOrTooLong read_failed known old new
   pub write : fault ≡ WriteFault → write_failed ≡ true
   pub not_read : fault ≢ ReadFault → read_failed ≡ false

@@ -1,11 +1,11 @@
 //! Reads the command line.
 
-ghost use Rattle.std.specs.Prelude.{◌≡◌, ◌≢◌, true, codes, map, Some, IfOk, IfSome, IfNone, IsErr, IsErrAnd, IsSome, IsSomeAnd};
+ghost use Rattle.std.specs.Prelude.{◌≡◌, true, codes, map, Some, IfOk, IfSome, IfNone, IsErr, IsSome, IsSomeAnd};
 ghost use Rattle.clap.specs.Words.{FailsBy, HasMatchesOf, app_of, fault_of, kind_of, subcommand_rows_of};
 ghost use Rattle.clap.specs.declared.error.kind.ErrorKind.TheVariants as kind;
 ghost use Rattle.h41_bench.specs.BenchCommand.{bench_app, command_in, file_in};
 ghost use Rattle.h41_bench.specs.CommandLine.{asks_help, file_to_run, is_mistake};
-ghost use Rattle.h41_bench.specs.Ending.{AsksToRun, EndsWith, status_of, text_of};
+ghost use Rattle.h41_bench.specs.Ending.{AsksToRun, EndsAtOnce, EndsWith, IsNoHelp, status_of, text_of};
 
 use clap::error::ErrorKind;
 use clap::{Arg, ArgAction, ArgMatches, Command, Error};
@@ -137,8 +137,7 @@ fn job_of<'a>(matches: &ArgMatches<'a>) -> Job<'a>
 fn make_ending(alloc: Global, error: Error) -> Ending
     ensures memory { kind_of error ≡ kind.OutOfMemory → result ≡ Ending.OutOfMemory }
     ensures help { kind_of error ≡ kind.DisplayHelp → EndsWith 0 result }
-    ensures mistake { kind_of error ≢ kind.DisplayHelp → kind_of error ≢ kind.DisplayVersion
-        → EndsWith 2 result }
+    ensures mistake { IsNoHelp (kind_of error) → EndsWith 2 result }
 {
     if error.kind() == ErrorKind::OutOfMemory {
         return Ending::OutOfMemory;
@@ -159,9 +158,8 @@ fn make_ending(alloc: Global, error: Error) -> Ending
 pub fn read_words<'a>(alloc: Global, words: &'a [&'a str]) -> Result<Job<'a>, Ending>
     ensures run { IfSome (file_to_run (map (λ w. w.now) words.now)) (AsksToRun result) }
     ensures no_run { IfNone (file_to_run (map (λ w. w.now) words.now)) (IsErr result) }
-    ensures help { asks_help (map (λ w. w.now) words.now) ≡ true → IsErrAnd result (EndsWith 0) }
-    ensures mistake { is_mistake (map (λ w. w.now) words.now) ≡ true
-        → IsErrAnd result (EndsWith 2) }
+    ensures help { asks_help (map (λ w. w.now) words.now) ≡ true → EndsAtOnce 0 result }
+    ensures mistake { is_mistake (map (λ w. w.now) words.now) ≡ true → EndsAtOnce 2 result }
 {
     match matched(alloc, words) {
         Ok(matches) => Ok(job_of(&matches)),

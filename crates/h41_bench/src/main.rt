@@ -6,10 +6,10 @@ mod serve;
 #[cfg(test)]
 mod tests;
 
-ghost use Rattle.std.specs.Prelude.{◌≡◌, ◌≢◌, ◌⊎◌, ◌∷◌, ◌≤◌, true, IfOk, IfSome, IsSome, codes, drop, map, string_bytes};
+ghost use Rattle.std.specs.Prelude.{◌≡◌, ◌≢◌, ◌∷◌, ◌≤◌, true, IfOk, IfSome, IsSome, codes, drop, map, string_bytes};
 ghost use Rattle.h41_bench.specs.CommandLine.{asks_help, file_to_run, is_mistake, named};
 ghost use Rattle.h41_bench.specs.Ending.{status_of};
-ghost use Rattle.h41_bench.specs.Statuses.{EndsDeck, IsStatus};
+ghost use Rattle.h41_bench.specs.Statuses.{EndsDeck, IsOrFailed, IsStatus};
 
 use crate::arguments::{Ending, Job, read_words};
 use crate::serve::{FAILED, serve};
@@ -50,10 +50,8 @@ fn run(rt: &HostRuntime, alloc: Global) -> u8
 
 /// Does what these words ask for.
 fn run_words(rt: &HostRuntime, alloc: Global, words: &[String]) -> u8
-    ensures help { asks_help (named (map string_bytes words.now)) ≡ true
-        → (result ≡ 0) ⊎ (result ≡ 3) }
-    ensures mistake { is_mistake (named (map string_bytes words.now)) ≡ true
-        → (result ≡ 2) ⊎ (result ≡ 3) }
+    ensures help { asks_help (named (map string_bytes words.now)) ≡ true → IsOrFailed 0 result }
+    ensures mistake { is_mistake (named (map string_bytes words.now)) ≡ true → IsOrFailed 2 result }
     ensures run { IsSome (file_to_run (named (map string_bytes words.now))) → IsStatus result }
     ensures bound { result ≤ 3 }
 {
@@ -68,8 +66,7 @@ fn run_words(rt: &HostRuntime, alloc: Global, words: &[String]) -> u8
 
 /// The words with the program's own name for the first, under whatever name it was started.
 fn named(alloc: Global, words: &[String]) -> Result<Vec<&str>, AllocError>
-    ensures { IfOk result (λ words_named. map (λ word. word.now) words_named.items
-        ≡ named (map string_bytes words.now)) }
+    ensures { IfOk result (λ all. map (λ w. w.now) all.items ≡ named (map string_bytes words.now)) }
 {
     let mut named = Vec::new(alloc);
     named.push(NAME)?;
@@ -83,7 +80,7 @@ fn named(alloc: Global, words: &[String]) -> Result<Vec<&str>, AllocError>
 
 /// Prints what there is to say in place of a job.
 fn end(rt: &HostRuntime, ending: &Ending) -> u8
-    ensures { (result ≡ status_of ending.now) ⊎ (result ≡ 3) }
+    ensures { IsOrFailed (status_of ending.now) result }
 {
     let text = ending.text();
     let printed = match ending {

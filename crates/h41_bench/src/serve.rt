@@ -1,10 +1,10 @@
 //! Does a job from one end to another, and tells how it went by a status.
 
-ghost use Rattle.std.specs.Prelude.{◌≡◌, ◌≢◌, ◌++◌, true, false, codes, OnOk, OnErr, IfSome};
-ghost use Rattle.std.specs.Io.KnownBytes.{Appends, Keeps};
-ghost use Rattle.h41_deck.specs.Deck.{Deck, Prints};
-ghost use Rattle.h41_deck.specs.Refusals.{of_fault, refusal_line};
-ghost use Rattle.h41_bench.specs.Statuses.{EndsDeck, IsStatus, TellsFault};
+ghost use Rattle.std.specs.Prelude.{◌≡◌, ◌≢◌, true, false, OnOk, OnErr, IfSome};
+ghost use Rattle.std.specs.Io.KnownBytes.{Keeps};
+ghost use Rattle.h41_deck.specs.Deck.{Prints};
+ghost use Rattle.h41_deck.specs.Ends.{Appended};
+ghost use Rattle.h41_bench.specs.Statuses.{EndsDeck, IsStatus, TellsFault, fault_line};
 
 use crate::arguments::{Job, Task};
 use h41_deck::{Fault, Outcome, Sink, Source, WriteFault, flush, run_deck, write_whole};
@@ -35,8 +35,8 @@ pub fn serve<R: Source, W: Sink, E: Sink>(
     ensures status { IsStatus result }
 
     // Where nothing failed, the deck's text was written, the status tells how the deck ended, and no fault is told.
-    ensures deck { result ≢ 3 → IfSome (R.remaining reader.old)
-        (Prints Deck (W.contents writer.old) (W.contents writer.new)) }
+    ensures deck { result ≢ 3 → Prints (R.remaining reader.old) W.contents writer.old writer.new }
+    ensures flushed { result ≢ 3 → W.flushed writer.new ≡ true }
     ensures outcome { result ≢ 3 → IfSome (R.remaining reader.old) (EndsDeck result) }
     ensures silent { result ≢ 3 → Keeps (E.contents faults.old) (E.contents faults.new) }
 
@@ -62,8 +62,8 @@ pub fn serve<R: Source, W: Sink, E: Sink>(
 /// Writes a fault's line.
 fn report<E: Sink>(fault: Fault, faults: &mut E) -> Result<(), WriteFault>
     requires { E.failed faults.old ≡ false }
-    ensures line { OnOk result
-        (Appends (E.contents faults.old) (E.contents faults.new) (refusal_line (of_fault fault))) }
+    ensures line { OnOk result (Appended E.contents faults.old faults.new (fault_line fault)) }
+    ensures flushed { OnOk result (E.flushed faults.new ≡ true) }
     ensures mark { OnErr result (E.failed faults.new ≡ true) }
 {
     write_whole(faults, fault.refusal().line().as_str().as_bytes())?;

@@ -8,7 +8,7 @@ use Rattle.std.proofs.lemmas.Grind.{flat_map-append}
 use Rattle.h41_deck.specs.declared.replies.Outcome.{Outcome}
 use Rattle.h41_deck.specs.declared.replies.Outcome.TheVariants.{Accepted, Refused}
 use Rattle.h41_deck.specs.Calculator.{State, start}
-use Rattle.h41_deck.specs.Deck.{Answered, Answers, AnswersItems, answered_items, outcome_and, outcome_of}
+use Rattle.h41_deck.specs.Deck.{Answers, AnswersItems, answered_items, outcome_and, outcome_of}
 use Rattle.h41_deck.specs.Items.{Spelled, is_open, closed}
 use Rattle.h41_deck.specs.Replies.{Answer, Replies, outcome_in, printed}
 

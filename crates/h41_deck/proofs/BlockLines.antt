@@ -6,7 +6,7 @@ use Rattle.std.proofs.lemmas.Grind.{common_steps}
 use Rattle.std.proofs.lemmas.List.{drop_all}
 use Rattle.std.proofs.lemmas.List.Folds.{list_any-append}
 use Rattle.h41_deck.specs.declared.commands.BlockKind.{BlockKind}
-use Rattle.h41_deck.specs.Blocks.{HasTaken, TakenBlock, Takes}
+use Rattle.h41_deck.specs.Blocks.{TakenBlock, Takes}
 use Rattle.h41_deck.specs.Entries.{IsTaken}
 use Rattle.h41_deck.specs.Lines.{is_end}
 

@@ -1,5 +1,5 @@
 -- How a command that was carried out is answered.
-use Rattle.std.proofs.Common.{◌≡◌, ℕ, Bool, List, [], Option, Some, None, Result, Ok, Err, OnOk, OnErr, IfOk, refl, sym, ap, subst, append-nil, ◌∙◌}
+use Rattle.std.proofs.Common.{◌≡◌, ℕ, Bool, List, Option, Some, None, Result, Ok, Err, OnOk, OnErr, IfOk, refl, sym, ap, subst, append-nil}
 use Rattle.std.specs.Result.{result_err}
 use Rattle.std.specs.Io.KnownBytes.{Appends}
 use Rattle.h41_deck.specs.declared.commands.BlockKind.{BlockKind}
@@ -7,15 +7,15 @@ use Rattle.h41_deck.specs.declared.commands.Command.{Command}
 use Rattle.h41_deck.specs.declared.commands.Command.TheVariants.{Plug, Call, Step, Show}
 use Rattle.h41_deck.specs.declared.commands.View.{View}
 use Rattle.h41_deck.specs.declared.fault.CommandFault.{CommandFault}
+use Rattle.h41_deck.specs.declared.fault.CommandFault.TheVariants.{OutOfMemory, WriteFault}
 use Rattle.h41_deck.specs.declared.refusal.Refusal.{Refusal}
 use Rattle.h41_deck.specs.declared.replies.Outcome.{Outcome}
 use Rattle.h41_deck.specs.declared.replies.Outcome.TheVariants.{Accepted}
-use Rattle.h41_deck.specs.Blocks.{filled}
-use Rattle.h41_deck.specs.Calculator.{State, Steps, call_refusal, called, page_refusal, with_page}
+use Rattle.h41_deck.specs.Calculator.{State, Steps, call_refusal, called}
 use Rattle.h41_deck.specs.Ends.{AppendsPart}
 use Rattle.h41_deck.specs.Items.{Spelled, with_values}
 use Rattle.h41_deck.specs.Views.{view_text}
-use Rattle.h41_deck.specs.Replies.{Answer, ChangesUnless, ItemReply, Replies, RepliesInPart, Reply, ending_line, ends_by, outcome_in, printed, says, unless}
+use Rattle.h41_deck.specs.Replies.{Answer, ChangesUnless, ItemReply, Leaves, Replies, RepliesInPart, Reply, Tells, block_refusal, ending_line, ends_by, outcome_in, says, with_block}
 
 -- a block that is refused is answered by its refusal
 pub refused_reply : (values : Result (List ℕ) Refusal) (command : Command) (refusal : Refusal) (s : State) → Some refusal ≡ result_err values
@@ -53,10 +53,10 @@ part_by item s t old new refusal reply written = record { answer = ends_by refus
 -- each command's reply
 pub plug_reply : (values : Result (List ℕ) Refusal) (command : Command) (kind : BlockKind) (page : ℕ) (writable : Bool) (words : List ℕ)
     (ended : Result (Unit {0}) Refusal) (s t : State) → command ≡ Plug kind page writable → values ≡ Ok words
-    → result_err ended ≡ page_refusal s page (filled words) → t ≡ unless (result_err ended) (with_page page writable (filled words) s) s
+    → result_err ended ≡ block_refusal s page words → t ≡ with_block page writable words s
     → ItemReply (with_values values command) s t (ends_by (result_err ended))
 plug_reply values command kind page writable words ended s t spelt said refusal change =
-    rw (spelt, said) (change ∙ ap (λ why. unless why (with_page page writable (filled words) s) s) refusal, ap ends_by refusal)
+    rw (spelt, said) (change, ap ends_by refusal)
 
 pub call_reply : (values : Result (List ℕ) Refusal) (command : Command) (address : ℕ) (ended : Result (Unit {0}) Refusal) (s t : State)
     → command ≡ Call address → None ≡ result_err values → result_err ended ≡ call_refusal s address → OnOk ended (t ≡ called address s)
@@ -75,21 +75,18 @@ pub show_reply : (values : Result (List ℕ) Refusal) (command : Command) (view 
 show_reply values command view s spelt good =
     given_reply values command s s (says (view_text view s)) good (λ given said. rw spelt (refl, refl))
 
-pub shows : (values : Result (List ℕ) Refusal) (command : Command) (view : View) (s : State) (old new : Option (List ℕ))
+pub shows : {W : Type 0} (values : Result (List ℕ) Refusal) (command : Command) (view : View) (s : State) (contents : W → Option (List ℕ)) (old new : W)
     (result : Result Outcome CommandFault) → command ≡ Show view → None ≡ result_err values → IfOk result (λ outcome. outcome ≡ Accepted)
-    → OnOk result (Appends old new (view_text view s)) → IfOk result (Replies (with_values values command) s s old new)
-shows values command view s old new (Err fault) spelt good outcome written = tt
-shows values command view s old new (Ok done) spelt good outcome written = record {
+    → Tells result contents old new (view_text view s) → Leaves result (with_values values command) s s contents old new
+shows values command view s contents old new (Err OutOfMemory) spelt good outcome written = written
+shows values command view s contents old new (Err WriteFault) spelt good outcome written = record {
   answer = says (view_text view s);
   reply = show_reply values command view s spelt good;
-  written = subst (Appends old new) (sym (append-nil (view_text view s))) written;
-  outcome_is = outcome;
+  written = subst (AppendsPart (contents old) (contents new)) (sym (append-nil (view_text view s))) written;
 }
-
-pub shows_in_part : (values : Result (List ℕ) Refusal) (command : Command) (view : View) (s : State) (old new : Option (List ℕ))
-    → command ≡ Show view → None ≡ result_err values → AppendsPart old new (view_text view s) → RepliesInPart (with_values values command) s s old new
-shows_in_part values command view s old new spelt good written = record {
+shows values command view s contents old new (Ok done) spelt good outcome written = record {
   answer = says (view_text view s);
   reply = show_reply values command view s spelt good;
-  written = subst (AppendsPart old new) (sym (append-nil (view_text view s))) written;
+  written = subst (Appends (contents old) (contents new)) (sym (append-nil (view_text view s))) written;
+  outcome_is = outcome;
 }

@@ -6,10 +6,9 @@ use Rattle.h41_deck.specs.declared.calculator.Mode.{Mode}
 use Rattle.h41_deck.specs.declared.calculator.Mode.TheVariants as modes
 use Rattle.h41_deck.specs.declared.commands.Command.{Command}
 use Rattle.h41_deck.specs.declared.commands.Command.TheVariants as commands
-use Rattle.h41_deck.specs.declared.replies.Outcome.{Outcome}
 use Rattle.h41_deck.specs.declared.refusal.Refusal.{Refusal}
 use Rattle.h41_deck.specs.Calculator.{State, start, StepIn, Step, Steps, step_refusal, mode_at}
-use Rattle.h41_deck.specs.Deck.{Answers, Deck, DeckDeterminesOutcome, DeckDeterminesText, DeckEnds, LongDeck, LongDeckDeterminesText, outcome_of}
+use Rattle.h41_deck.specs.Deck.{Answers, DeckDeterminesOutcome, DeckDeterminesText, LongDeckDeterminesText, outcome_of}
 use Rattle.h41_deck.specs.Items.{Spelled}
 use Rattle.h41_deck.specs.Replies.{Answer, Reply, ItemReply, printed}
 

@@ -1,7 +1,6 @@
 -- The numbers of flags, one after the other.
-use Rattle.std.proofs.Common.{◌≡◌, ℕ, zero, suc, ◌+◌, ◌*◌, ◌<◌, ◌≤◌, Bool, true, false, List, [], ◌∷◌, ◌++◌, map, filter, length, refl, sym, ap, ◌∙◌, arith, append_assoc, add-one, length-append, cond, not, append-nil}
+use Rattle.std.proofs.Common.{◌≡◌, ℕ, zero, suc, ◌+◌, Bool, true, false, List, [], ◌∷◌, ◌++◌, map, filter, length, refl, sym, ap, ◌∙◌, arith, append_assoc, cond, append-nil}
 use Rattle.std.specs.List.{join_with_byte, range_with_len}
-use Rattle.std.proofs.lemmas.List.{map-append}
 use Rattle.std.proofs.lemmas.List.Elements.{filter-append}
 use Rattle.h41_ram.specs.RegisterMap.{RegisterMap, flag_of}
 use Rattle.h41_deck.specs.Views.{flags_below, two_digits}

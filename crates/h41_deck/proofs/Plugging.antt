@@ -1,5 +1,5 @@
 -- What plugging a page answers, in the words of a deck.
-use Rattle.std.proofs.Common.{◌≡◌, ◌⊎◌, ℕ, List, Some, None, inl, inr, sym, ap, ◌∙◌}
+use Rattle.std.proofs.Common.{◌≡◌, ℕ, List, Some, None, inl, inr, sym, ap, ◌∙◌}
 use Rattle.std.specs.Prelude.{option_map}
 use Rattle.h41_nut.specs.PageList.{plug_refusal}
 use Rattle.h41_nut.specs.declared.refusal.PlugRefusal.{PlugRefusal}

@@ -1,5 +1,5 @@
 -- The calculator: its mode, a call, and single steps. All of it is this project's choice, but for what the words do.
-use Rattle.std.specs.Prelude.{◌≡◌, ◌⊎◌, ℕ, zero, suc, Bool, true, false, not, nat_lt, ◌==◌, if◌then◌else◌, Option, Some, None, List, option_map, MatchOption}
+use Rattle.std.specs.Prelude.{◌≡◌, ℕ, zero, suc, Bool, true, false, not, nat_lt, ◌==◌, if◌then◌else◌, Option, Some, None, List, option_map, MatchOption}
 use Rattle.std.specs.Bool.{then_some}
 use Rattle.std.specs.Option.{option_or}
 use Rattle.h41_nut.specs.declared.refusal.Refusal as nut
@@ -71,6 +71,10 @@ page_refusal s page words = option_map of_plug (plug_refusal s.nut.pages page bl
 -- this is why words are not plugged; memory that was refused comes last
 abbrev pub RefusesPage : State → ℕ → ℕ → List ℕ → plug.PlugRefusal → Type 0
 RefusesPage s page bank words refusal = RefusesPlug s.nut.pages page bank words refusal
+
+-- they are not refused
+abbrev pub TakesPage : State → ℕ → ℕ → List ℕ → Type 0
+TakesPage s page bank words = plug_refusal s.nut.pages page bank words ≡ None
 
 -- the words plugged there
 abbrev pub with_page : ℕ → Bool → List ℕ → State → State

@@ -1,6 +1,6 @@
 -- The commands that the words of a line spell: 50 BadCommand where they spell none, and else 51 BadNumber where a number is
 -- wrong. The language is this project's own.
-use Rattle.std.specs.Prelude.{ℕ, Bool, true, false, List, [], ◌∷◌, if◌then◌else◌, Option, Some, None, Result, Ok, Err, codes, bytes_eq}
+use Rattle.std.specs.Prelude.{ℕ, Bool, true, false, List, [], ◌∷◌, if◌then◌else◌, Option, Some, None, is_some, Result, Ok, Err, codes, bytes_eq}
 use Rattle.h41_deck.specs.declared.commands.Command.{Command}
 use Rattle.h41_deck.specs.declared.commands.Command.TheVariants.{Plug, Call, Step, Show}
 use Rattle.h41_deck.specs.declared.commands.BlockKind.{BlockKind}
@@ -20,11 +20,15 @@ and_then (Err refusal) next = Err refusal
 abbrev pub most_steps : ℕ
 most_steps = 9999999
 
+-- a block that fills the page of this number
+abbrev pub plug_at : BlockKind → List ℕ → Bool → Result Command Refusal
+plug_at kind page writable = and_then (hexadecimal 1 page) (λ page. Ok (Plug kind page writable))
+
 -- words P [rw]: a block that fills a page, which microcode may write with rw
 abbrev pub plug_command : BlockKind → List (List ℕ) → Result Command Refusal
-plug_command kind (page ∷ []) = and_then (hexadecimal 1 page) (λ page. Ok (Plug kind page false))
+plug_command kind (page ∷ []) = plug_at kind page false
 plug_command kind (page ∷ option ∷ []) =
-    if bytes_eq option (codes "rw") then and_then (hexadecimal 1 page) (λ page. Ok (Plug kind page true)) else Err BadCommand
+    if bytes_eq option (codes "rw") then plug_at kind page true else Err BadCommand
 plug_command kind operands = Err BadCommand
 
 -- call hhhh
@@ -56,20 +60,35 @@ view_of operands = Err BadCommand
 abbrev pub show_command : List (List ℕ) → Result Command Refusal
 show_command operands = and_then (view_of operands) (λ view. Ok (Show view))
 
--- the command of a line, by its first word
-abbrev pub parsed : List (List ℕ) → Result Command Refusal
-parsed [] = Err BadCommand
-parsed (name ∷ operands) =
-    if bytes_eq name (codes "words") then plug_command Words operands
-    else (if bytes_eq name (codes "call") then call_command operands
+-- the kind of the block that a line opens by its first word
+abbrev pub kind_of_word : List ℕ → Option BlockKind
+kind_of_word name = if bytes_eq name (codes "words") then Some Words else None
+
+-- the command of a line that opens a block
+abbrev pub opening_command : BlockKind → List (List ℕ) → Result Command Refusal
+opening_command Words operands = plug_command Words operands
+
+-- the command of a line that opens none, by its first word
+abbrev pub plain_command : List ℕ → List (List ℕ) → Result Command Refusal
+plain_command name operands =
+    if bytes_eq name (codes "call") then call_command operands
     else (if bytes_eq name (codes "step") then step_command operands
     else (if bytes_eq name (codes "show") then show_command operands
-    else Err BadCommand)))
+    else Err BadCommand))
 
--- a line whose first word is a block's opens a block, whatever follows
+-- the command of a line
+abbrev pub command_by : Option BlockKind → List ℕ → List (List ℕ) → Result Command Refusal
+command_by (Some kind) name operands = opening_command kind operands
+command_by None name operands = plain_command name operands
+
+abbrev pub parsed : List (List ℕ) → Result Command Refusal
+parsed [] = Err BadCommand
+parsed (name ∷ operands) = command_by (kind_of_word name) name operands
+
+-- a line opens a block by its first word, whatever follows
 abbrev pub is_opening : List (List ℕ) → Bool
 is_opening [] = false
-is_opening (name ∷ operands) = bytes_eq name (codes "words")
+is_opening (name ∷ operands) = is_some (kind_of_word name)
 
 -- the kind of a command's block, where it has one
 abbrev pub kind_of : Command → Option BlockKind

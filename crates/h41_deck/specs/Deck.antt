@@ -1,5 +1,5 @@
 -- A deck: the replies to its commands in turn, and the text that it prints.
-use Rattle.std.specs.Prelude.{◌≡◌, ◌⊎◌, ℕ, ◌<◌, ◌≤◌, Bool, true, false, List, [], ◌∷◌, flat_map, length, take, is_some, if◌then◌else◌, Option, IfSome}
+use Rattle.std.specs.Prelude.{◌≡◌, ◌⊎◌, ℕ, ◌<◌, ◌≤◌, Bool, true, false, List, [], ◌∷◌, flat_map, length, take, nat_le, is_some, if◌then◌else◌, Option, IfSome, Result, IfOk}
 use Rattle.std.specs.List.{list_any}
 use Rattle.std.specs.Io.KnownBytes.{Appends}
 use Rattle.h41_deck.specs.declared.replies.Outcome.{Outcome}
@@ -46,13 +46,29 @@ outcome_of answers = if list_any (λ answer. is_some answer.refusal) answers the
 abbrev pub DeckEnds : List ℕ → Outcome → Type 0
 DeckEnds deck outcome = (answers : List Answer) × AnswersDeck deck answers × (outcome ≡ outcome_of answers)
 
--- what is written is a text that the deck prints, by one of the two definitions
-abbrev pub Prints : (List ℕ → List ℕ → Type 0) → Option (List ℕ) → Option (List ℕ) → List ℕ → Type 0
-Prints text_of old new deck = (text : List ℕ) × text_of deck text × Appends old new text
+-- where the deck is known, it ends so
+abbrev pub EndsKnown : Option (List ℕ) → Outcome → Type 0
+EndsKnown known outcome = IfSome known (λ deck. DeckEnds deck outcome)
+
+-- where the input is known, these are its bytes within the bound
+abbrev pub IsFront : Option (List ℕ) → List ℕ → Type 0
+IsFront known bytes = IfSome known (λ deck. bytes ≡ take most_bytes deck)
+
+-- and this says whether they are all
+abbrev pub SaysWhole : Option (List ℕ) → Bool → Type 0
+SaysWhole known is_whole = IfSome known (λ deck. is_whole ≡ nat_le (length deck) most_bytes)
+
+-- what is written is a text that the deck has, by one of the two definitions
+abbrev pub Gives : (List ℕ → List ℕ → Type 0) → Option (List ℕ) → Option (List ℕ) → List ℕ → Type 0
+Gives text_of old new deck = (text : List ℕ) × text_of deck text × Appends old new text
+
+-- where the deck is known, its text is written
+abbrev pub Prints : {W : Type 0} → Option (List ℕ) → (W → Option (List ℕ)) → W → W → Type 0
+Prints known contents old new = IfSome known (Gives Deck (contents old) (contents new))
 
 -- why reading ends with a fault: a read failed, or the deck is too long, and its text within the bound is written
 abbrev pub FailedOrTooLong : Bool → Option (List ℕ) → Option (List ℕ) → Option (List ℕ) → Type 0
-FailedOrTooLong failed known old new = (failed ≡ true) ⊎ IfSome known (Prints LongDeck old new)
+FailedOrTooLong failed known old new = (failed ≡ true) ⊎ IfSome known (Gives LongDeck old new)
 
 -- what these commands print, and how they end
 pub record Answered (items : List Spelled) (text : List ℕ) (outcome : Outcome) : Type 0 where
@@ -69,6 +85,11 @@ answered_items false items = closed items
 -- their text is written
 abbrev pub AnswersItems : List Spelled → Option (List ℕ) → Option (List ℕ) → Outcome → Type 0
 AnswersItems items old new outcome = (text : List ℕ) × Answered items text outcome × Appends old new text
+
+-- where all are answered, those of these bytes are
+abbrev pub AnswersBytes : {E W : Type 0} → Result Outcome E → Bool → List ℕ → (W → Option (List ℕ)) → W → W → Type 0
+AnswersBytes result is_whole bytes contents old new =
+    IfOk result (AnswersItems (answered_items is_whole (commands (lines bytes))) (contents old) (contents new))
 
 -- how a deck ends that goes on with one more command
 abbrev pub outcome_and : Outcome → Outcome → Outcome

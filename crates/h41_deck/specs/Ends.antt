@@ -1,4 +1,4 @@
--- What the mark of a sink says of one write, the inner ends of the two wrappers, and a write that was cut.
+-- What the mark of a sink says of one write, the inner ends of the two wrappers, and what calls leave written.
 use Rattle.std.specs.Prelude.{◌==◌, ◌&&◌, ◌<◌, ℕ, Bool, true, not, List, length, take, Option, Result, Ok, Err}
 use Rattle.std.specs.Io.KnownBytes.{Appends}
 use Rattle.h41_deck.specs.declared.ends.source.FromRead.{FromRead}
@@ -25,6 +25,19 @@ writer_of s = s.writer
 abbrev pub write_failed : {W : Type 0} → ToWrite W → Bool
 write_failed s = s.has_failed
 
+-- whether a `ToWrite` was flushed after its last write
+abbrev pub write_flushed : {W : Type 0} → ToWrite W → Bool
+write_flushed s = s.is_flushed
+
+-- the text is written
+abbrev pub Appended : {W : Type 0} → (W → Option (List ℕ)) → W → W → List ℕ → Type 0
+Appended contents old new text = Appends (contents old) (contents new) text
+
 -- a front of the text is written, and not all of it
 abbrev pub AppendsPart : Option (List ℕ) → Option (List ℕ) → List ℕ → Type 0
 AppendsPart old new text = (count : ℕ) × (count < length text) × Appends old new (take count text)
+
+-- what a call leaves that writes a text: all of it, or where the writing fails a front
+abbrev pub Writes : {A E W : Type 0} → Result A E → (W → Option (List ℕ)) → W → W → List ℕ → Type 0
+Writes (Ok done) contents old new text = Appends (contents old) (contents new) text
+Writes (Err fault) contents old new text = AppendsPart (contents old) (contents new) text

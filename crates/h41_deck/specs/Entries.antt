@@ -1,20 +1,37 @@
 -- What the code's items say, in the words of a deck.
-use Rattle.std.specs.Prelude.{◌≡◌, ℕ, List, [], ◌∷◌, Option, Some, None, Err}
+use Rattle.std.specs.Prelude.{◌≡◌, ℕ, ◌<◌, List, [], ◌∷◌, length, Option, Some, None, OnSome, Result, Err, IfOk}
 use Rattle.h41_deck.specs.declared.deck.item.Item.{Item}
 use Rattle.h41_deck.specs.declared.deck.item.Item.TheVariants.{Given, Refused}
 use Rattle.h41_deck.specs.declared.commands.BlockKind.{BlockKind}
+use Rattle.h41_deck.specs.declared.lines.Lines.{Lines}
+use Rattle.h41_deck.specs.declared.replies.Outcome.{Outcome}
 use Rattle.h41_deck.specs.Blocks.{HasTaken, TakenBlock, judgement}
+use Rattle.h41_deck.specs.Calculator.{State}
 use Rattle.h41_deck.specs.Items.{Spelled, commands, with_values}
+use Rattle.h41_deck.specs.Lines.{lines}
+use Rattle.h41_deck.specs.Replies.{Replies}
 
 -- what an item's lines spell
 abbrev pub given : Item → Spelled
 given (Given read) = with_values (judgement read.block) read.command
 given (Refused refusal) = Err refusal
 
+-- the lines that are left of a deck
+abbrev pub left : Lines → List (List ℕ)
+left rest = lines rest.rest.now
+
 -- this is the first item of some lines, and the others are those of the lines that are left
 abbrev pub NextOf : List (List ℕ) → List (List ℕ) → Option Item → Type 0
 NextOf lines left None = commands lines ≡ []
 NextOf lines left (Some item) = commands lines ≡ given item ∷ commands left
+
+-- where there is one, fewer lines are left
+abbrev pub TakesSome : List (List ℕ) → List (List ℕ) → Option Item → Type 0
+TakesSome lines left next = OnSome next (length left < length lines)
+
+-- where an item was answered, its reply is written
+abbrev pub AnswersItem : {E W : Type 0} → Result Outcome E → Item → State → State → (W → Option (List ℕ)) → W → W → Type 0
+AnswersItem result item s t contents old new = IfOk result (Replies (given item) s t (contents old) (contents new))
 
 -- where there is a block, it is of this kind, and these are the lines that it has taken
 pub record IsTaken (kind : Option BlockKind) (lines : List (List ℕ)) (block : TakenBlock) : Type 0 where

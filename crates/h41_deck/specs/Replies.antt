@@ -1,15 +1,18 @@
 -- What each command does to the calculator, and what it prints. The language is this project's own.
-use Rattle.std.specs.Prelude.{◌≡◌, ℕ, Bool, true, false, List, [], ◌++◌, Option, Some, None, Ok, Err}
-use Rattle.std.specs.Io.KnownBytes.{Appends}
+use Rattle.std.specs.Prelude.{◌≡◌, ℕ, Bool, true, false, List, [], ◌++◌, Option, Some, None, Result, Ok, Err}
+use Rattle.std.specs.Io.KnownBytes.{Appends, Keeps}
+use Rattle.std.specs.Result.{result_err}
 use Rattle.h41_deck.specs.declared.commands.Command.{Command}
 use Rattle.h41_deck.specs.declared.commands.Command.TheVariants.{Plug, Call, Step, Show}
+use Rattle.h41_deck.specs.declared.fault.CommandFault.{CommandFault}
+use Rattle.h41_deck.specs.declared.fault.CommandFault.TheVariants.{OutOfMemory, WriteFault}
 use Rattle.h41_deck.specs.declared.replies.Outcome.{Outcome}
 use Rattle.h41_deck.specs.declared.replies.Outcome.TheVariants.{Accepted, Refused}
 use Rattle.h41_deck.specs.declared.refusal.Refusal.{Refusal}
-use Rattle.h41_deck.specs.Blocks.{filled}
+use Rattle.h41_deck.specs.Blocks.{TakenBlock, filled, judgement}
 use Rattle.h41_deck.specs.Calculator.{State, page_refusal, with_page, call_refusal, called, Steps}
 use Rattle.h41_deck.specs.Ends.{AppendsPart}
-use Rattle.h41_deck.specs.Items.{Spelled}
+use Rattle.h41_deck.specs.Items.{Spelled, with_values}
 use Rattle.h41_deck.specs.Refusals.{refusal_line}
 use Rattle.h41_deck.specs.Views.{view_text}
 
@@ -34,11 +37,23 @@ unless (Some refusal) changed s = s
 abbrev pub ChangesUnless : Option Refusal → State → State → State → Answer → Type 0
 ChangesUnless refusal changed s t answer = (t ≡ unless refusal changed s) × (answer ≡ ends_by refusal)
 
+-- why the words of a block are not plugged at a page
+abbrev pub block_refusal : State → ℕ → List ℕ → Option Refusal
+block_refusal s page words = page_refusal s page (filled words)
+
+-- the state after they were plugged there, or refused
+abbrev pub with_block : ℕ → Bool → List ℕ → State → State
+with_block page writable words s = unless (block_refusal s page words) (with_page page writable (filled words) s) s
+
+-- what ended so was refused as this says
+abbrev pub RefusedAs : {A : Type 0} → Option Refusal → Result A Refusal → Type 0
+RefusedAs refusal ended = result_err ended ≡ refusal
+
 -- each command's change of the calculator, from s to t, and its answer; a command with a block has its block's values
 abbrev pub Reply : Command → List ℕ → State → State → Answer → Type 0
 -- words P [rw] .. end: the page is plugged, or refused as 1 or 2
 Reply (Plug kind page writable) values s t answer =
-    ChangesUnless (page_refusal s page (filled values)) (with_page page writable (filled values) s) s t answer
+    ChangesUnless (block_refusal s page values) (with_page page writable (filled values) s) s t answer
 -- call hhhh: the function runs, or 24 or 8
 Reply (Call address) values s t answer = ChangesUnless (call_refusal s address) (called address s) s t answer
 -- step [n]: single steps up to the first refusal
@@ -66,6 +81,10 @@ ending_line (Some refusal) = refusal_line refusal
 abbrev pub printed : Answer → List ℕ
 printed answer = answer.text ++ ending_line answer.refusal
 
+-- what is printed of a refusal, where there is one
+abbrev pub ending_text : {A : Type 0} → Result A Refusal → List ℕ
+ending_text ended = ending_line (result_err ended)
+
 -- whether it is a refusal
 abbrev pub outcome_in : Option Refusal → Outcome
 outcome_in None = Accepted
@@ -83,3 +102,18 @@ pub record RepliesInPart (item : Spelled) (s t : State) (old new : Option (List 
   pub answer : Answer
   pub reply : ItemReply item s t answer
   pub written : AppendsPart old new (printed answer)
+
+-- what a command leaves that prints a text, by its answer: nothing where memory was refused
+abbrev pub Tells : {A W : Type 0} → Result A CommandFault → (W → Option (List ℕ)) → W → W → List ℕ → Type 0
+Tells (Ok done) contents old new text = Appends (contents old) (contents new) text
+Tells (Err WriteFault) contents old new text = AppendsPart (contents old) (contents new) text
+Tells (Err OutOfMemory) contents old new text = Keeps (contents old) (contents new)
+
+-- what a command and its block leave, by its answer: their reply, a front of it, or where memory was refused nothing
+abbrev pub Leaves : {W : Type 0} → Result Outcome CommandFault → Spelled → State → State → (W → Option (List ℕ)) → W → W → Type 0
+Leaves (Ok outcome) item s t contents old new = Replies item s t (contents old) (contents new) outcome
+Leaves (Err WriteFault) item s t contents old new = RepliesInPart item s t (contents old) (contents new)
+Leaves (Err OutOfMemory) item s t contents old new = Keeps (contents old) (contents new)
+
+abbrev pub Does : {W : Type 0} → Result Outcome CommandFault → Command → TakenBlock → State → State → (W → Option (List ℕ)) → W → W → Type 0
+Does result command block s t contents old new = Leaves result (with_values (judgement block) command) s t contents old new

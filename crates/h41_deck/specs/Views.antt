@@ -80,10 +80,14 @@ abbrev pub position_line : State → Mode → List ℕ
 position_line s modes.Idle = codes "Idle 0000\n"
 position_line s modes.Micro = codes "Micro " ++ hexadecimal_text 4 s.nut.processor.pc ++ codes "\n"
 
+-- the line of where the calculator is
+abbrev pub position_text : State → List ℕ
+position_text s = position_line s s.mode
+
 -- the text of each view
 abbrev pub view_text : View → State → List ℕ
 view_text Cpu s = processor_text s.nut.processor s.nut.keys
 view_text (Register address) s = register_line s.nut.ram address
 view_text Stack s = stack_text s.nut.ram
 view_text Flags s = flags_line s.nut.ram
-view_text Position s = position_line s s.mode
+view_text Position s = position_text s

@@ -2,8 +2,7 @@
 
 ghost use Rattle.std.specs.Prelude.{◌≡◌, None, IfOk, IfErr, OnOk, OnErr};
 ghost use Rattle.std.specs.Result.{result_err};
-ghost use Rattle.h41_nut.specs.PageList.{plug_refusal};
-ghost use Rattle.h41_deck.specs.Calculator.{RefusesPage, Step, call_refusal, called, start, step_refusal, with_page};
+ghost use Rattle.h41_deck.specs.Calculator.{RefusesPage, Step, TakesPage, call_refusal, called, start, step_refusal, with_page};
 
 use crate::refusal::Refusal;
 use h41_nut::{Cpu, END_OF_FUNCTION, FIRST_ADDRESS, Keys, Pages, PlugRefusal, step};
@@ -135,7 +134,7 @@ impl Calculator {
         writable: bool,
         words: &[u16],
     ) -> Result<(), PlugRefusal>
-        ensures accepted { OnOk result (plug_refusal self.old.nut.pages page bank words.now ≡ None) }
+        ensures accepted { OnOk result (TakesPage self.old page bank words.now) }
         ensures change { OnOk result (self.new ≡ with_page page writable words.now self.old) }
         ensures err { OnErr result (self.new ≡ self.old) }
         ensures refusal { IfErr result (RefusesPage self.old page bank words.now) }

@@ -12,6 +12,20 @@ pub enum BlockKind {
     Words,
 }
 
+impl BlockKind {
+    ghost use Rattle.h41_deck.specs.Commands.{kind_of_word};
+
+    /// The kind of the block that a line opens whose first word this is; nothing where it opens none.
+    pub(crate) fn of_word(word: &[u8]) -> Option<Self>
+        ensures { result ≡ kind_of_word word.now }
+    {
+        match word {
+            b"words" => Some(BlockKind::Words),
+            _ => None,
+        }
+    }
+}
+
 /// What `show` prints.
 #[derive(Clone, Copy, Debug, PartialEq, Eq)]
 pub enum View {

@@ -1,11 +1,8 @@
 //! A deck: its commands, answered in turn.
 
-ghost use Rattle.std.specs.Prelude.{◌≡◌, ◌≢◌, Err, IfOk, OnOk, IfSome, true, false};
-ghost use Rattle.h41_deck.specs.Deck.{AnswersItems, Deck, DeckEnds, FailedOrTooLong, Prints, answered_items};
-ghost use Rattle.h41_deck.specs.Entries.{given};
-ghost use Rattle.h41_deck.specs.Items.{commands};
-ghost use Rattle.h41_deck.specs.Lines.{lines};
-ghost use Rattle.h41_deck.specs.Replies.{Replies};
+ghost use Rattle.std.specs.Prelude.{◌≡◌, ◌≢◌, Err, IfOk, OnOk, true, false};
+ghost use Rattle.h41_deck.specs.Deck.{AnswersBytes, EndsKnown, FailedOrTooLong, Prints};
+ghost use Rattle.h41_deck.specs.Entries.{AnswersItem};
 
 use crate::bench::Bench;
 use crate::deck::item::{Entry, Item};
@@ -39,10 +36,9 @@ pub fn run_deck<R: Source, W: Sink>(
     requires writer_clear { W.failed writer.old ≡ false }
 
     // What is written is the text of the deck that was read, where both ends tell their bytes.
-    ensures deck { OnOk result (IfSome (R.remaining reader.old)
-        (Prints Deck (W.contents writer.old) (W.contents writer.new))) }
-    ensures outcome { IfOk result (λ outcome. IfSome (R.remaining reader.old)
-        (λ deck. DeckEnds deck outcome)) }
+    ensures deck { OnOk result (Prints (R.remaining reader.old) W.contents writer.old writer.new) }
+    ensures outcome { IfOk result (EndsKnown (R.remaining reader.old)) }
+    ensures flushed { OnOk result (W.flushed writer.new ≡ true) }
 
     // A read failed, or the deck is too long, and the text of its commands within the bound is written.
     ensures read_fault { result ≡ Err Fault.ReadFault → FailedOrTooLong (R.failed reader.new)
@@ -70,8 +66,8 @@ fn answer_deck<W: Sink>(
     writer: &mut W,
 ) -> Result<Outcome, CommandFault>
     requires { W.failed writer.old ≡ false }
-    ensures answers { IfOk result (AnswersItems (answered_items is_whole (commands (lines deck.now)))
-        (W.contents writer.old) (W.contents writer.new)) }
+    ensures answers { AnswersBytes result is_whole deck.now W.contents writer.old writer.new }
+    ensures flushed { OnOk result (W.flushed writer.new ≡ true) }
     ensures mark { result ≡ Err CommandFault.WriteFault → W.failed writer.new ≡ true }
     ensures clear { result ≢ Err CommandFault.WriteFault → W.failed writer.new ≡ false }
 {
@@ -97,8 +93,7 @@ fn answer<W: Sink>(
     writer: &mut W,
 ) -> Result<Outcome, CommandFault>
     requires { W.failed writer.old ≡ false }
-    ensures reply { IfOk result (Replies (given item) bench.old bench.new
-        (W.contents writer.old) (W.contents writer.new)) }
+    ensures reply { AnswersItem result item bench.old bench.new W.contents writer.old writer.new }
     ensures mark { result ≡ Err CommandFault.WriteFault → W.failed writer.new ≡ true }
     ensures clear { result ≢ Err CommandFault.WriteFault → W.failed writer.new ≡ false }
 {

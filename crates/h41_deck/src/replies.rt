@@ -1,15 +1,11 @@
 //! The replies to commands: what each does to the calculator, and what it prints.
 
-ghost use Rattle.std.specs.Prelude.{◌≡◌, ◌≢◌, true, false, Err, IfOk, OnOk, OnErr, Some, vec_len, ◌≤◌};
-ghost use Rattle.std.specs.Io.KnownBytes.{Appends, Keeps};
+ghost use Rattle.std.specs.Prelude.{◌≡◌, ◌≢◌, true, false, Err, IfOk, OnOk, OnErr, vec_len, ◌≤◌};
 ghost use Rattle.std.specs.Result.{result_err};
 ghost use Rattle.h41_nut.specs.Addresses.{page_size};
-ghost use Rattle.h41_deck.specs.Blocks.{filled, judgement};
-ghost use Rattle.h41_deck.specs.Calculator.{page_refusal, with_page};
 ghost use Rattle.h41_deck.specs.Commands.{kind_of};
-ghost use Rattle.h41_deck.specs.Ends.{AppendsPart};
-ghost use Rattle.h41_deck.specs.Items.{with_values};
-ghost use Rattle.h41_deck.specs.Replies.{Replies, RepliesInPart, ending_line, outcome_in, takes_memory, unless};
+ghost use Rattle.h41_deck.specs.Ends.{Writes};
+ghost use Rattle.h41_deck.specs.Replies.{Does, RefusedAs, Tells, block_refusal, ending_text, outcome_in, takes_memory, with_block};
 ghost use Rattle.h41_deck.specs.Views.{view_text};
 
 use crate::bench::Bench;
@@ -72,18 +68,12 @@ pub fn apply<W: Sink>(
     requires clear { W.failed writer.old ≡ false }
     requires block { block.kind ≡ kind_of command }
 
-    // The reply is written, or a front of it.
-    ensures reply { IfOk result (Replies (with_values (judgement block) command) bench.old bench.new
-        (W.contents writer.old) (W.contents writer.new)) }
-    ensures part { result ≡ Err CommandFault.WriteFault
-        → RepliesInPart (with_values (judgement block) command) bench.old bench.new
-        (W.contents writer.old) (W.contents writer.new) }
+    // The reply is written, or where writing failed a front of it, or where memory was refused nothing.
+    ensures reply { Does result command block bench.old bench.new W.contents writer.old writer.new }
 
     // Memory is refused to commands that take some.
     ensures memory { result ≡ Err CommandFault.OutOfMemory → takes_memory command ≡ true }
     ensures unchanged { result ≡ Err CommandFault.OutOfMemory → bench.new ≡ bench.old }
-    ensures silent { result ≡ Err CommandFault.OutOfMemory
-        → Keeps (W.contents writer.old) (W.contents writer.new) }
 
     // The mark tells whether writing failed.
     ensures mark { result ≡ Err CommandFault.WriteFault → W.failed writer.new ≡ true }
@@ -112,10 +102,8 @@ fn plug(
     words: Vec<u16>,
 ) -> Result<Result<(), Refusal>, AllocError>
     requires { vec_len words ≤ page_size }
-    ensures refusal { IfOk result (λ ended. result_err ended
-        ≡ page_refusal bench.old page (filled words.items)) }
-    ensures change { IfOk result (λ ended. bench.new ≡ unless (result_err ended)
-        (with_page page writable (filled words.items) bench.old) bench.old) }
+    ensures refusal { IfOk result (RefusedAs (block_refusal bench.old page words.items)) }
+    ensures change { OnOk result (bench.new ≡ with_block page writable words.items bench.old) }
     ensures err { OnErr result (bench.new ≡ bench.old) }
 {
     let mut words = words;
@@ -138,12 +126,7 @@ fn show<W: Sink>(
 ) -> Result<Outcome, CommandFault>
     requires { W.failed writer.old ≡ false }
     ensures outcome { IfOk result (λ outcome. outcome ≡ Outcome.Accepted) }
-    ensures written { OnOk result
-        (Appends (W.contents writer.old) (W.contents writer.new) (view_text view bench.now)) }
-    ensures part { result ≡ Err CommandFault.WriteFault
-        → AppendsPart (W.contents writer.old) (W.contents writer.new) (view_text view bench.now) }
-    ensures silent { result ≡ Err CommandFault.OutOfMemory
-        → Keeps (W.contents writer.old) (W.contents writer.new) }
+    ensures written { Tells result W.contents writer.old writer.new (view_text view bench.now) }
     ensures mark { result ≡ Err CommandFault.WriteFault → W.failed writer.new ≡ true }
     ensures clear { result ≢ Err CommandFault.WriteFault → W.failed writer.new ≡ false }
 {
@@ -165,12 +148,9 @@ pub(crate) fn print_ending<W: Sink>(
 ) -> Result<Outcome, WriteFault>
     requires { W.failed writer.old ≡ false }
     ensures outcome { IfOk result (λ outcome. outcome ≡ outcome_in (result_err ended)) }
-    ensures written { OnOk result
-        (Appends (W.contents writer.old) (W.contents writer.new) (ending_line (result_err ended))) }
+    ensures written { Writes result W.contents writer.old writer.new (ending_text ended) }
     ensures clear { OnOk result (W.failed writer.new ≡ false) }
     ensures mark { OnErr result (W.failed writer.new ≡ true) }
-    ensures part { OnErr result
-        (AppendsPart (W.contents writer.old) (W.contents writer.new) (ending_line (result_err ended))) }
 {
     match ended {
         Ok(()) => Ok(Outcome::Accepted),

@@ -97,7 +97,8 @@ impl<const N: usize> Digits<N> {
         requires in_register { place < N }
         requires is_digit { digit < 16 }
         ensures changed { result ≡ slice_set self.now place digit }
-        ensures register { IsRegister N self.now × IsRegister N result }
+        ensures from { IsRegister N self.now }
+        ensures register { IsRegister N result }
     {
         let mut changed = *self;
         changed.set(place, digit);
@@ -109,7 +110,8 @@ impl<const N: usize> Digits<N> {
         requires in_register { place < N }
         requires is_digit { digit < 16 }
         ensures changed { self.new ≡ slice_set self.old place digit }
-        ensures register { IsRegister N self.old × IsRegister N self.new }
+        ensures from { IsRegister N self.old }
+        ensures register { IsRegister N self.new }
     {
         self.digits[place] = digit;
     }
@@ -127,7 +129,8 @@ impl<const N: usize> Digits<N> {
     pub fn with_byte(&self, k: usize, byte: u8) -> Self
         requires { 2 * k + 1 < N }
         ensures changed { result ≡ set_byte self.now k byte }
-        ensures register { IsRegister N self.now × IsRegister N result }
+        ensures from { IsRegister N self.now }
+        ensures register { IsRegister N result }
     {
         self.with(2 * k, byte % 16).with(2 * k + 1, byte / 16)
     }

@@ -29,7 +29,7 @@ page_of address = address / page_size
 abbrev pub offset_of : ℕ → ℕ
 offset_of address = address % page_size
 
--- an address some words further on; behind FFFF comes 0000
+-- an address some words further on; after FFFF comes 0000
 abbrev pub address_after : ℕ → ℕ → ℕ
 address_after address count = (address + count) % address_count
 

@@ -1,5 +1,5 @@
 -- The words that work on a field of A, B and C, from its first place to its last: each within the field, and other places
--- stay. The carry behind is the carry or borrow of the field's last place, the answer of a test, or none.
+-- stay. The carry afterwards is the carry or borrow of the field's last place, the answer of a test, or none.
 use Rattle.std.specs.Prelude.{◌≡◌, ℕ, Bool, true, false, List}
 use Rattle.h41_fields.specs.declared.field.Field.{Field}
 use Rattle.h41_fields.specs.Field.{first_place, last_place}
@@ -22,7 +22,7 @@ IntoA Rule s t = Rule t.a t.carry × (t ≡ record s { a = t.a; carry = t.carry 
 abbrev pub IntoC : (List ℕ → Bool → Type 0) → Processor → Processor → Type 0
 IntoC Rule s t = Rule t.c t.carry × (t ≡ record s { c = t.c; carry = t.carry })
 
--- from a processor whose carry is clear to the one behind
+-- from a processor whose carry is clear to the one afterwards
 abbrev pub Operates : Operation → ℕ → ℕ → Processor → Processor → Type 0
 -- A=0, B=0, C=0
 Operates ClearA lo hi s t = t ≡ record s { a = copied s.a zeros lo hi }

@@ -1,13 +1,14 @@
 -- Where the processor goes: jumps and returns, and the four return addresses. An empty stack gives 0000, and a fifth
 -- address loses the oldest (this project's choice).
-use Rattle.std.specs.Prelude.{ℕ, ◌+◌, ◌*◌, ◌/◌, ℤ, Bool, true, false, not, [], ◌∷◌, ◌++◌, slice_index, take, drop, ◌&&◌, if◌then◌else◌}
+use Rattle.std.specs.Prelude.{ℕ, ◌+◌, ◌*◌, ◌/◌, ℤ, Bool, true, false, not, [], ◌∷◌, ◌++◌, slice_index, take, drop, ◌&&◌, if◌then◌else◌, Result}
 use Rattle.h41_words.specs.declared.rows.Condition.{Condition}
 use Rattle.h41_words.specs.declared.rows.Condition.TheVariants.{NoCarry, Carry}
 use Rattle.h41_words.specs.declared.second_word.LongJumpKind.{LongJumpKind}
 use Rattle.h41_words.specs.declared.second_word.LongJumpKind.TheVariants.{Execute, Go}
 use Rattle.h41_words.specs.declared.second_word.SecondWord.{SecondWord}
 use Rattle.h41_nut.specs.Addresses.{displaced}
-use Rattle.h41_nut.specs.Going.{behind, behind_both}
+use Rattle.h41_nut.specs.declared.refusal.Refusal.{Refusal}
+use Rattle.h41_nut.specs.Going.{next_address, address_after_both, GoesTo}
 use Rattle.h41_nut.specs.Processor.{Processor}
 
 -- whether a jump or return is taken at this carry
@@ -26,29 +27,39 @@ popped s = record s { returns = drop 1 s.returns ++ 0 ∷ [] }
 abbrev pub pushed : ℕ → Processor → Processor
 pushed address s = record s { returns = address ∷ take 3 s.returns }
 
--- whether a long jump keeps the address behind it: XQ does, GO does not
+-- whether a long jump keeps the address after it: XQ does, GO does not
 abbrev pub is_execute : LongJumpKind → Bool
 is_execute Execute = true
 is_execute Go = false
 
--- a long jump goes to the address of both words where it is taken; XQ then keeps the address behind them
+-- a long jump goes to the address of both words where it is taken; XQ then keeps the address after them
 abbrev pub jump_target : ℕ → SecondWord → Processor → ℕ
-jump_target low_byte second s = if is_taken second.condition s.carry then second.high_byte * 256 + low_byte else behind_both s
+jump_target low_byte second s = if is_taken second.condition s.carry then second.high_byte * 256 + low_byte else address_after_both s
 
 abbrev pub jump_change : SecondWord → Processor → Processor
-jump_change second s = if is_taken second.condition s.carry && is_execute second.kind then pushed (behind_both s) s else s
+jump_change second s = if is_taken second.condition s.carry && is_execute second.kind then pushed (address_after_both s) s else s
 
 -- a short jump goes by its displacement from the word's own address, where it is taken
 abbrev pub short_jump_target : Condition → ℤ → Processor → ℕ
-short_jump_target condition displacement s = if is_taken condition s.carry then displaced s.pc displacement else behind s
+short_jump_target condition displacement s = if is_taken condition s.carry then displaced s.pc displacement else next_address s
 
 -- a return goes to the newest return address, which it takes off, where it is taken
 abbrev pub return_target : Condition → Processor → ℕ
-return_target condition s = if is_taken condition s.carry then newest_return s else behind s
+return_target condition s = if is_taken condition s.carry then newest_return s else next_address s
 
 abbrev pub return_change : Condition → Processor → Processor
 return_change condition s = if is_taken condition s.carry then popped s else s
 
 -- GOTO KEY: the next address with the key's code as its low byte
 abbrev pub key_target : ℕ → Processor → ℕ
-key_target key s = behind s / 256 * 256 + key
+key_target key s = next_address s / 256 * 256 + key
+
+-- how the processor goes by a long jump, by a short jump, and by a return on a condition
+abbrev pub JumpsLong : {T : Type 0} → ℕ → SecondWord → Processor → Processor → Result T Refusal → Type 0
+JumpsLong low_byte second s t result = GoesTo (jump_target low_byte second) (jump_change second) s t result
+
+abbrev pub JumpsShort : {T : Type 0} → Condition → ℤ → Processor → Processor → Result T Refusal → Type 0
+JumpsShort condition displacement s t result = GoesTo (short_jump_target condition displacement) (λ s. s) s t result
+
+abbrev pub ReturnsIf : {T : Type 0} → Condition → Processor → Processor → Result T Refusal → Type 0
+ReturnsIf condition s t result = GoesTo (return_target condition) (return_change condition) s t result

@@ -1,10 +1,10 @@
 -- One step of the processor: the first refusal there is, or none, and where there is none the change that the word makes.
 -- What the words do is HP's; what is refused, and in which order, is this project's choice.
-use Rattle.std.specs.Prelude.{◌≡◌, ℕ, Bool, true, false, not, ◌==◌, Option, Some, None}
+use Rattle.std.specs.Prelude.{◌≡◌, ℕ, Bool, true, false, not, ◌==◌, Option, Some, None, Result, OnOk, OnErr}
 use Rattle.std.specs.Option.{option_or}
 use Rattle.std.specs.Result.{result_err}
 use Rattle.h41_words.specs.declared.rows.Row.{Row}
-use Rattle.h41_words.specs.declared.rows.Row.TheVariants.{Arithmetic, LongJump, ShortJump, ClearStatus, SetStatus, TestStatus, TestPointer, SetPointer, RotateRight, LoadDigit, Write, Read, Constant, WriteRom, EnableBank, ClearStatusByte, ClearKeyFlag, TestKeyFlag, DecrementPointer, IncrementPointer, Transfer, DropReturn, PowerOff, SelectPointer, TestPointersEqual, TestLowBattery, ClearRegisters, GoToAddress, ReadKey, SetHexadecimal, SetDecimal, DisplayOff, ToggleDisplay, ReturnIf, Return, LoadImmediate, PushAddress, PopAddress, GoToKey, SelectRegister, WriteData, ReadData, FetchWord, Or, And, SelectPeripheral}
+use Rattle.h41_words.specs.declared.rows.Row.TheVariants as rows
 use Rattle.h41_words.specs.SecondWord.{second_of}
 use Rattle.h41_words.specs.WordTable.{row_of}
 use Rattle.h41_ram.specs.RegisterMap.{RegisterMap}
@@ -13,14 +13,14 @@ use Rattle.h41_nut.specs.declared.base.Base.TheVariants.{Hexadecimal, Decimal}
 use Rattle.h41_nut.specs.declared.keys.Keys.{Keys}
 use Rattle.h41_nut.specs.declared.refusal.Refusal.{Refusal}
 use Rattle.h41_nut.specs.declared.refusal.Refusal.TheVariants.{WordNotInProfile, Asleep}
-use Rattle.h41_nut.specs.Going.{behind, behind_both, arrival_refusal, at_address, gone_on}
-use Rattle.h41_nut.specs.Jumps.{newest_return, popped, jump_target, jump_change, short_jump_target, return_target, return_change, key_target}
-use Rattle.h41_nut.specs.MemoryWords.{block_address, selecting_from_c, selecting_in_block, with_selected_in_c, with_register_in_c, with_c_at, with_fetched_word, refusal_to_fetch, refusal_to_write, with_word_written}
+use Rattle.h41_nut.specs.Going.{next_address, address_after_both, arrival_refusal, at_address, gone_on}
+use Rattle.h41_nut.specs.Jumps as jumps
+use Rattle.h41_nut.specs.MemoryWords as memory
 use Rattle.h41_nut.specs.PageList.{Pages, fetched, word_or_zero}
-use Rattle.h41_nut.specs.Pointers.{pointer_of, with_pointer, with_pointer_up, with_pointer_down, with_active, is_status_set, with_status, with_status_byte}
+use Rattle.h41_nut.specs.Pointers as pointers
 use Rattle.h41_nut.specs.Processor.{Processor}
-use Rattle.h41_nut.specs.RegisterWords.{address_in_c, with_word_in_c, with_key_in_c, with_address_pushed, with_address_popped, with_digit_loaded, transferred, with_c_rotated, with_c_joined, with_c_met, with_abc_clear, with_base, with_display}
-use Rattle.h41_nut.specs.Unheld.{peripheral_refusal, constant_refusal}
+use Rattle.h41_nut.specs.RegisterWords as registers
+use Rattle.h41_nut.specs.Unheld as unheld
 
 -- all that a word may read or change
 pub record Nut : Type 0 where
@@ -32,105 +32,105 @@ pub record Nut : Type 0 where
 abbrev pub nut_of : Processor → RegisterMap → Pages → Keys → Nut
 nut_of processor ram pages keys = record { processor = processor; ram = ram; pages = pages; keys = keys }
 
--- the word of the step, and the word behind it
+-- the word of the step, and the word after it
 abbrev pub word_of : Nut → ℕ
 word_of s = word_or_zero (fetched s.pages s.processor.pc)
 
 abbrev pub second_word : Nut → ℕ
-second_word s = word_or_zero (fetched s.pages (behind s.processor))
+second_word s = word_or_zero (fetched s.pages (next_address s.processor))
 
 -- where the step goes
 abbrev pub goes_to : Row → Nut → ℕ
 -- ?NC XQ and the like: to the address of both words, where the carry is as the second word says
-goes_to (LongJump low_byte) s = jump_target low_byte (second_of (second_word s)) s.processor
+goes_to (rows.LongJump low_byte) s = jumps.jump_target low_byte (second_of (second_word s)) s.processor
 -- JNC and JC: by the displacement from the word's own address, where the carry is as the word says
-goes_to (ShortJump condition displacement) s = short_jump_target condition displacement s.processor
+goes_to (rows.ShortJump condition displacement) s = jumps.short_jump_target condition displacement s.processor
 -- ?C RTN, ?NC RTN and RTN: to the newest return address
-goes_to (ReturnIf condition) s = return_target condition s.processor
-goes_to Return s = newest_return s.processor
+goes_to (rows.ReturnIf condition) s = jumps.return_target condition s.processor
+goes_to rows.Return s = jumps.newest_return s.processor
 -- GOTO ADR: to the address in C
-goes_to GoToAddress s = address_in_c s.processor
+goes_to rows.GoToAddress s = registers.address_in_c s.processor
 -- GOTO KEY: to the next address, with the key's code as its low byte
-goes_to GoToKey s = key_target s.keys.ky s.processor
--- LDI: behind the word that it loads
-goes_to LoadImmediate s = behind_both s.processor
+goes_to rows.GoToKey s = jumps.key_target s.keys.ky s.processor
+-- LDI: after the word that it loads
+goes_to rows.LoadImmediate s = address_after_both s.processor
 -- each other word: to the next
-goes_to row s = behind s.processor
+goes_to row s = next_address s.processor
 
--- the carry behind a word, but for arithmetic: the answer of a test; each other word clears it
+-- the carry after a word, but for arithmetic: the answer of a test; each other word clears it
 abbrev pub answer : Row → Nut → Bool
 -- ?FSET n: whether the status bit is set
-answer (TestStatus bit) s = is_status_set bit s.processor
+answer (rows.TestStatus bit) s = pointers.is_status_set bit s.processor
 -- ?R= n: whether the active pointer is there
-answer (TestPointer place) s = pointer_of s.processor == place
+answer (rows.TestPointer place) s = pointers.pointer_of s.processor == place
 -- ?P=Q: whether both pointers are at one place
-answer TestPointersEqual s = s.processor.p == s.processor.q
+answer rows.TestPointersEqual s = s.processor.p == s.processor.q
 -- ?KEY: whether the key flag is set
-answer TestKeyFlag s = s.keys.flag
+answer rows.TestKeyFlag s = s.keys.flag
 -- ?LLD: no (this project's choice)
-answer TestLowBattery s = false
+answer rows.TestLowBattery s = false
 answer row s = false
 
--- the registers of the processor behind a word, but for the address, the carry and arithmetic
+-- the registers of the processor after a word, but for the address, the carry and arithmetic
 abbrev pub registers_after : Row → Nut → Processor
--- XQ, where it is taken: the address behind both words becomes the newest return address
-registers_after (LongJump low_byte) s = jump_change (second_of (second_word s)) s.processor
+-- XQ, where it is taken: the address after both words becomes the newest return address
+registers_after (rows.LongJump low_byte) s = jumps.jump_change (second_of (second_word s)) s.processor
 -- CLRF n, SETF n and ST=0
-registers_after (ClearStatus bit) s = with_status bit false s.processor
-registers_after (SetStatus bit) s = with_status bit true s.processor
-registers_after ClearStatusByte s = with_status_byte 0 s.processor
+registers_after (rows.ClearStatus bit) s = pointers.with_status bit false s.processor
+registers_after (rows.SetStatus bit) s = pointers.with_status bit true s.processor
+registers_after rows.ClearStatusByte s = pointers.with_status_byte 0 s.processor
 -- R= n, R=R+1, R=R-1, SLCT P and SLCT Q
-registers_after (SetPointer place) s = with_pointer place s.processor
-registers_after IncrementPointer s = with_pointer_up s.processor
-registers_after DecrementPointer s = with_pointer_down s.processor
-registers_after (SelectPointer pointer) s = with_active pointer s.processor
+registers_after (rows.SetPointer place) s = pointers.with_pointer place s.processor
+registers_after rows.IncrementPointer s = pointers.with_pointer_up s.processor
+registers_after rows.DecrementPointer s = pointers.with_pointer_down s.processor
+registers_after (rows.SelectPointer pointer) s = pointers.with_active pointer s.processor
 -- RCR n and LD@R n
-registers_after (RotateRight digits) s = with_c_rotated digits s.processor
-registers_after (LoadDigit digit) s = with_digit_loaded digit s.processor
+registers_after (rows.RotateRight digits) s = registers.with_c_rotated digits s.processor
+registers_after (rows.LoadDigit digit) s = registers.with_digit_loaded digit s.processor
 -- LDI and FETCH S&X: a word to C's digits 2 to 0
-registers_after LoadImmediate s = with_word_in_c (second_word s) s.processor
-registers_after FetchWord s = with_fetched_word s.pages s.processor
+registers_after rows.LoadImmediate s = registers.with_word_in_c (second_word s) s.processor
+registers_after rows.FetchWord s = memory.with_fetched_word s.pages s.processor
 -- G=C, C=M and the like
-registers_after (Transfer transfer) s = transferred transfer s.processor
+registers_after (rows.Transfer transfer) s = registers.transferred transfer s.processor
 -- CLRABC, C=C OR A and C=C AND A
-registers_after ClearRegisters s = with_abc_clear s.processor
-registers_after Or s = with_c_joined s.processor
-registers_after And s = with_c_met s.processor
+registers_after rows.ClearRegisters s = registers.with_abc_clear s.processor
+registers_after rows.Or s = registers.with_c_joined s.processor
+registers_after rows.And s = registers.with_c_met s.processor
 -- XQ->GO, RTN, ?C RTN and ?NC RTN take the newest return address off
-registers_after DropReturn s = popped s.processor
-registers_after Return s = popped s.processor
-registers_after (ReturnIf condition) s = return_change condition s.processor
+registers_after rows.DropReturn s = jumps.popped s.processor
+registers_after rows.Return s = jumps.popped s.processor
+registers_after (rows.ReturnIf condition) s = jumps.return_change condition s.processor
 -- PUSH ADR and POP ADR
-registers_after PushAddress s = with_address_pushed s.processor
-registers_after PopAddress s = with_address_popped s.processor
+registers_after rows.PushAddress s = registers.with_address_pushed s.processor
+registers_after rows.PopAddress s = registers.with_address_popped s.processor
 -- C=KEY
-registers_after ReadKey s = with_key_in_c s.keys.ky s.processor
+registers_after rows.ReadKey s = registers.with_key_in_c s.keys.ky s.processor
 -- SETHEX, SETDEC, DISOFF and DISTOG
-registers_after SetHexadecimal s = with_base Hexadecimal s.processor
-registers_after SetDecimal s = with_base Decimal s.processor
-registers_after DisplayOff s = with_display false s.processor
-registers_after ToggleDisplay s = with_display (not s.processor.display) s.processor
+registers_after rows.SetHexadecimal s = registers.with_base Hexadecimal s.processor
+registers_after rows.SetDecimal s = registers.with_base Decimal s.processor
+registers_after rows.DisplayOff s = registers.with_display false s.processor
+registers_after rows.ToggleDisplay s = registers.with_display (not s.processor.display) s.processor
 -- RAM SLCT, WRIT n, READ n and READ DATA
-registers_after SelectRegister s = selecting_from_c s.processor
-registers_after (Write register) s = selecting_in_block register s.processor
-registers_after (Read register) s = with_register_in_c s.ram register s.processor
-registers_after ReadData s = with_selected_in_c s.ram s.processor
+registers_after rows.SelectRegister s = memory.selecting_from_c s.processor
+registers_after (rows.Write register) s = memory.selecting_in_block register s.processor
+registers_after (rows.Read register) s = memory.with_register_in_c s.ram register s.processor
+registers_after rows.ReadData s = memory.with_selected_in_c s.ram s.processor
 registers_after row s = s.processor
 
--- the memory behind a word: WRIT DATA writes C to the selected register, WRIT n to register n of the selected block
+-- the memory after a word: WRIT DATA writes C to the selected register, WRIT n to register n of the selected block
 abbrev pub ram_after : Row → Nut → RegisterMap
-ram_after WriteData s = with_c_at s.ram s.processor.selected s.processor
-ram_after (Write register) s = with_c_at s.ram (block_address register s.processor) s.processor
+ram_after rows.WriteData s = memory.with_c_at s.ram s.processor.selected s.processor
+ram_after (rows.Write register) s = memory.with_c_in_block s.ram register s.processor
 ram_after row s = s.ram
 
--- the pages behind a word: WROM writes the word in C at the address in C
+-- the pages after a word: WROM writes the word in C at the address in C
 abbrev pub pages_after : Row → Nut → Pages
-pages_after WriteRom s = with_word_written s.pages s.processor
+pages_after rows.WriteRom s = memory.with_word_written s.pages s.processor
 pages_after row s = s.pages
 
--- the keyboard behind a word: CLRKEY clears the key flag
+-- the keyboard after a word: CLRKEY clears the key flag
 abbrev pub keys_after : Row → Nut → Keys
-keys_after ClearKeyFlag s = record s.keys { flag = false }
+keys_after rows.ClearKeyFlag s = record s.keys { flag = false }
 keys_after row s = s.keys
 
 -- all of it
@@ -144,29 +144,29 @@ after row s = record {
 
 -- what a row does: arithmetic by the digit rule, which a relation states; all else is a function of the state
 abbrev pub Effect : Row → Nut → Nut → Type 0
-Effect (Arithmetic operation field) s t =
+Effect (rows.Arithmetic operation field) s t =
     OperatesOn operation field (gone_on s.processor) t.processor × (t ≡ record s { processor = t.processor })
 Effect row s t = t ≡ after row s
 
 -- why a word itself is refused, with its address: no instruction; a bank (7); a peripheral that is selected (10); the
 -- processor goes to sleep (11)
 abbrev pub word_refusal : Row → Nut → Option Refusal
-word_refusal (Constant word) s = Some (constant_refusal word s.processor.pc)
-word_refusal (EnableBank bank) s = Some (WordNotInProfile s.processor.pc)
-word_refusal SelectPeripheral s = peripheral_refusal s.processor
-word_refusal PowerOff s = Some (Asleep s.processor.pc)
+word_refusal (rows.Constant word) s = Some (unheld.constant_refusal word s.processor.pc)
+word_refusal (rows.EnableBank bank) s = Some (WordNotInProfile s.processor.pc)
+word_refusal rows.SelectPeripheral s = unheld.peripheral_refusal s.processor
+word_refusal rows.PowerOff s = Some (Asleep s.processor.pc)
 word_refusal row s = None
 
 -- an instruction of two words fetches the second, whether it needs it or not
 abbrev pub second_refusal : Row → Nut → Option Refusal
-second_refusal (LongJump low_byte) s = result_err (fetched s.pages (behind s.processor))
-second_refusal LoadImmediate s = result_err (fetched s.pages (behind s.processor))
+second_refusal (rows.LongJump low_byte) s = result_err (fetched s.pages (next_address s.processor))
+second_refusal rows.LoadImmediate s = result_err (fetched s.pages (next_address s.processor))
 second_refusal row s = None
 
 -- a read of the system's pages (8), and a write where none may be (12)
 abbrev pub data_refusal : Row → Nut → Option Refusal
-data_refusal FetchWord s = refusal_to_fetch s.processor
-data_refusal WriteRom s = refusal_to_write s.pages s.processor
+data_refusal rows.FetchWord s = memory.refusal_to_fetch s.processor
+data_refusal rows.WriteRom s = memory.refusal_to_write s.pages s.processor
 data_refusal row s = None
 
 -- the first refusal of a row that was fetched: of the word itself, of the fetch of its second word, of what it reads or
@@ -186,3 +186,20 @@ refused s = option_or (result_err (fetched s.pages s.processor.pc)) (row_refusal
 pub record Micro (s t : Nut) : Type 0 where
   pub accepted : refused s ≡ None
   pub effect : Effect (row_of (word_of s)) s t
+
+-- from s to t with an answer: refused for this reason and then not changed, or with this change
+pub record RefusesOr {T : Type 0} (reason : Option Refusal) (Change : Nut → Nut → Type 0) (result : Result T Refusal) (s t : Nut) : Type 0 where
+  pub refusal : result_err result ≡ reason
+  pub change : OnOk result (Change s t)
+  pub stays : OnErr result (t ≡ s)
+
+-- a step was answered: refused as `refused` says and then without a change, or with the change `Micro`; from the processor,
+-- the memory, the pages and the keyboard before it to those after it
+abbrev pub Stepped : {T : Type 0} → Result T Refusal → Processor → RegisterMap → Pages → Keys → Processor → RegisterMap → Pages → Keys → Type 0
+Stepped result cpu ram pages keys cpu' ram' pages' keys' =
+    RefusesOr (refused (nut_of cpu ram pages keys)) Micro result (nut_of cpu ram pages keys) (nut_of cpu' ram' pages' keys')
+
+-- a row was carried out: refused as `row_refusal` says and then without a change, or with its `Effect`
+abbrev pub Ran : {T : Type 0} → Row → Result T Refusal → Processor → RegisterMap → Pages → Keys → Processor → RegisterMap → Pages → Keys → Type 0
+Ran row result cpu ram pages keys cpu' ram' pages' keys' =
+    RefusesOr (row_refusal row (nut_of cpu ram pages keys)) (Effect row) result (nut_of cpu ram pages keys) (nut_of cpu' ram' pages' keys')

@@ -1,8 +1,6 @@
 //! One step: the word at the processor's address, and what it changes.
 
-ghost use Rattle.std.specs.Prelude.{◌≡◌, OnOk, OnErr};
-ghost use Rattle.std.specs.Result.{result_err};
-ghost use Rattle.h41_nut.specs.WordStep.{nut_of, refused, row_refusal, Effect, Micro};
+ghost use Rattle.h41_nut.specs.WordStep.{Ran, Stepped};
 
 use crate::base::Base;
 use crate::cpu::Cpu;
@@ -22,18 +20,14 @@ mod rom;
 
 /// Carries out the word at the processor's address. It is refused by the first of these, and changes nothing then: the
 /// fetch of the word (8, 9); the word itself (6, 7, 10, 11); the fetch of a second word (8, 9); a read or write of a page
-/// (8, 12); an arrival in pages 0 to 3 other than at 00F0 (8). The order is this project's choice; behind FFFF comes 0000.
+/// (8, 12); an arrival in pages 0 to 3 other than at 00F0 (8). The order is this project's choice; after FFFF comes 0000.
 pub fn step<const REGS: usize>(
     cpu: &mut Cpu,
     ram: &mut Ram<REGS>,
     pages: &mut Pages,
     keys: &mut Keys,
 ) -> Result<(), Refusal>
-    ensures refusal { result_err result ≡ refused (nut_of cpu.old ram.old pages.old keys.old) }
-    ensures change { OnOk result (Micro (nut_of cpu.old ram.old pages.old keys.old)
-        (nut_of cpu.new ram.new pages.new keys.new)) }
-    ensures err { OnErr result (nut_of cpu.new ram.new pages.new keys.new
-        ≡ nut_of cpu.old ram.old pages.old keys.old) }
+    ensures { Stepped result cpu.old ram.old pages.old keys.old cpu.new ram.new pages.new keys.new }
 {
     let word = pages.fetch(cpu.pc())?;
     carry_out(row(word), cpu, ram, pages, keys)
@@ -47,17 +41,12 @@ fn carry_out<const REGS: usize>(
     pages: &mut Pages,
     keys: &mut Keys,
 ) -> Result<(), Refusal>
-    ensures refusal { result_err result
-        ≡ row_refusal row (nut_of cpu.old ram.old pages.old keys.old) }
-    ensures change { OnOk result (Effect row (nut_of cpu.old ram.old pages.old keys.old)
-        (nut_of cpu.new ram.new pages.new keys.new)) }
-    ensures err { OnErr result (nut_of cpu.new ram.new pages.new keys.new
-        ≡ nut_of cpu.old ram.old pages.old keys.old) }
+    ensures { Ran row result cpu.old ram.old pages.old keys.old cpu.new ram.new pages.new keys.new }
 {
     match row {
         Row::Arithmetic(operation, field) => cpu.arithmetic(operation, field),
         Row::LongJump(low_byte) => {
-            let second = pages.fetch(cpu.behind())?;
+            let second = pages.fetch(cpu.next_address())?;
             cpu.long_jump(low_byte, SecondWord::of(second))
         }
         Row::ShortJump(condition, displacement) => cpu.short_jump(condition, displacement),
@@ -94,7 +83,7 @@ fn carry_out<const REGS: usize>(
         Row::ReturnIf(condition) => cpu.return_if(condition),
         Row::Return => cpu.return_to_newest(),
         Row::LoadImmediate => {
-            let second = pages.fetch(cpu.behind())?;
+            let second = pages.fetch(cpu.next_address())?;
             cpu.load_immediate(second)
         }
         Row::PushAddress => cpu.push_address(),

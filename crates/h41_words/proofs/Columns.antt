@@ -1,16 +1,25 @@
 -- The words that no row of the listing has, column by column.
-use Rattle.std.specs.Prelude.{◌≡◌, ℕ, ◌/◌, ◌%◌, ◌<◌, ◌⊎◌, Bool, true, false, List, [], ◌∷◌, ◌++◌, Contains, ◌==◌}
+use Rattle.std.specs.Prelude.{◌≡◌, ℕ, map, filter, ◌/◌, ◌%◌, ◌<◌, ◌⊎◌, Bool, true, false, List, [], ◌∷◌, ◌++◌, Contains, ◌==◌}
 use Rattle.std.specs.List.{range_with_len, list_any, list_all}
 use Rattle.std.proofs.Common.{sym, ◌∙◌, ap, arith, inl, inr}
 use Rattle.std.proofs.lemmas.Bool.{both_ways, or_cases}
 use Rattle.std.proofs.lemmas.List.Folds.{list_any-append}
-use Rattle.h41_words.specs.WordTable.{word_at}
+use Rattle.h41_words.specs.Listing.{single_rows}
+use Rattle.h41_words.specs.WordTable.{number_of, word_at}
 use Rattle.h41_words.specs.Unassigned.{unassigned_words}
 use Rattle.h41_words.proofs.Members.{in_range, at_member, found}
 
 -- whether a number is one of these
 abbrev pub is_one_of : List ℕ → ℕ → Bool
 is_one_of numbers number = list_any (λ other. other == number) numbers
+
+-- the numbers of the single words in some columns
+abbrev pub numbers_in : List ℕ → List ℕ
+numbers_in columns = filter (λ number. is_one_of columns (number % 64)) (map number_of single_rows)
+
+-- the mapped columns
+abbrev pub mapped : List ℕ
+mapped = 0x04 ∷ 0x08 ∷ 0x0C ∷ 0x14 ∷ 0x1C ∷ 0x3C ∷ []
 
 -- whether each word of these lines of a column is one of these or unassigned
 unfoldable pub covers : List ℕ → ℕ → List ℕ → Bool

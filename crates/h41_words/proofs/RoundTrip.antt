@@ -17,7 +17,8 @@ use Rattle.h41_words.specs.declared.rows.RegisterTransfer.TheVariants.{CToG}
 use Rattle.h41_words.specs.declared.rows.Bank.TheVariants.{First, Second, Third, Fourth}
 use Rattle.h41_words.specs.declared.rows.Condition.{Condition}
 use Rattle.h41_words.specs.declared.rows.Condition.TheVariants.{NoCarry, Carry}
-use Rattle.h41_words.specs.WordTable.{fields, field_number, operations, operation_number, displacements, number_of, families, listed_rows, numbered, row_in, row_of, word_table, IsRow, WordOfRow, OneWordOfRow}
+use Rattle.h41_words.specs.Listing.{fields, operations, displacements, families, listed_rows}
+use Rattle.h41_words.specs.WordTable.{field_number, operation_number, number_of, numbered, row_in, row_of, word_table, IsRow, WordOfRow, OneWordOfRow}
 use Rattle.h41_words.specs.Unassigned.{unassigned_words}
 use Rattle.h41_words.proofs.Members.{in_flat_map, in_map, in_range, at_member}
 

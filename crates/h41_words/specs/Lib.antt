@@ -1,4 +1,5 @@
 pub mod Counts
+pub mod Listing
 pub mod Mnemonics
 pub mod SecondWord
 pub mod Unassigned

@@ -4,15 +4,15 @@ use Rattle.std.specs.Prelude.{ℕ, List, [], ◌∷◌}
 -- column by column: their low two bits are 00, the column is the low six bits, the line bits 9 to 6
 unfoldable pub unassigned_words : List ℕ
 unassigned_words =
-    -- 00: lines 2, 3 and 8 to F
+    -- column 00
     0x080 ∷ 0x0C0 ∷ 0x200 ∷ 0x240 ∷ 0x280 ∷ 0x2C0 ∷ 0x300 ∷ 0x340 ∷ 0x380 ∷ 0x3C0
-    -- 04, 08, 0C, 14, 1C and 3C: line 7, and 3C in line F too
+    -- the columns 04, 08, 0C, 14, 1C and 3C
     ∷ 0x1C4 ∷ 0x1C8 ∷ 0x1CC ∷ 0x1D4 ∷ 0x1DC ∷ 0x1FC ∷ 0x3FC
-    -- 18: lines 0, 4, 8 and C
+    -- column 18
     ∷ 0x018 ∷ 0x118 ∷ 0x218 ∷ 0x318
-    -- 30: lines 0, 7 and A
+    -- column 30
     ∷ 0x030 ∷ 0x1F0 ∷ 0x2B0
-    -- 24, 2C and 34: each line
+    -- the columns 24, 2C and 34, each line
     ∷ 0x024 ∷ 0x064 ∷ 0x0A4 ∷ 0x0E4 ∷ 0x124 ∷ 0x164 ∷ 0x1A4 ∷ 0x1E4
     ∷ 0x224 ∷ 0x264 ∷ 0x2A4 ∷ 0x2E4 ∷ 0x324 ∷ 0x364 ∷ 0x3A4 ∷ 0x3E4
     ∷ 0x02C ∷ 0x06C ∷ 0x0AC ∷ 0x0EC ∷ 0x12C ∷ 0x16C ∷ 0x1AC ∷ 0x1EC

@@ -1,28 +1,24 @@
--- The table of the words: which row each of the 1,024 words has, and how many words an instruction takes. It lists rows
--- in the order of HP's VASM listings; numbers of words are those of the instruction set of HP's Nut processor.
-use Rattle.std.specs.Prelude.{◌≡◌, ℕ, ◌+◌, ◌-◌, ◌*◌, ◌%◌, ◌<◌, ◌≤◌, ℤ, pos, negsuc, ◌≤ℤ◌, Bool, false, ◌||◌, ◌⊎◌, ◌↔◌, List, [], ◌∷◌, ◌++◌, map, Contains, Option, Some, None, ◌==◌, if◌then◌else◌}
-use Rattle.std.specs.List.{flat_map, range_with_len, position_or_len}
+-- The table of the words: which row each of the 1,024 words has, and how many words an instruction takes. Numbers of words
+-- are those of the instruction set of HP's Nut processor.
+use Rattle.std.specs.Prelude.{◌≡◌, ℕ, ◌+◌, ◌-◌, ◌*◌, ◌%◌, ◌<◌, ◌≤◌, ℤ, pos, negsuc, ◌≤ℤ◌, Bool, false, ◌||◌, ◌⊎◌, ◌↔◌, List, [], ◌∷◌, map, Contains, Option, Some, None, ◌==◌, if◌then◌else◌}
+use Rattle.std.specs.List.{position_or_len}
 use Rattle.h41_fields.specs.declared.field.Field.{Field}
 use Rattle.h41_fields.specs.declared.field.Field.TheVariants.{AtPointer, SignAndExponent, ToPointer, All, PToQ, ExponentSign, Mantissa, MantissaSign}
 use Rattle.h41_fields.specs.declared.field.Pointer.TheVariants.{P, Q}
 use Rattle.h41_words.specs.declared.operation.Operation.{Operation}
 use Rattle.h41_words.specs.declared.operation.Operation.TheVariants.{ClearA, ClearB, ClearC, ExchangeAB, AToB, ExchangeAC, BToC, ExchangeBC, CToA, AddBToA, AddCToA, IncrementA, SubtractBFromA, DecrementA, SubtractCFromA, DoubleC, AddAToC, IncrementC, SubtractCFromAToC, DecrementC, NegateC, ComplementC, TestBNonzero, TestCNonzero, TestALessThanC, TestALessThanB, TestANonzero, TestADiffersFromC, ShiftRightA, ShiftRightB, ShiftRightC, ShiftLeftA}
 use Rattle.h41_words.specs.declared.rows.Row.{Row}
-use Rattle.h41_words.specs.declared.rows.Row.TheVariants.{Arithmetic, LongJump, ShortJump, ClearStatus, SetStatus, TestStatus, TestPointer, SetPointer, RotateRight, LoadDigit, Write, Read, Constant, And, ClearKeyFlag, ClearRegisters, ClearStatusByte, DecrementPointer, DisplayOff, DropReturn, EnableBank, FetchWord, GoToAddress, GoToKey, IncrementPointer, LoadImmediate, Nop, Or, PopAddress, PowerOff, PushAddress, ReadData, ReadKey, Return, ReturnIf, SelectPeripheral, SelectPointer, SelectRegister, SetDecimal, SetHexadecimal, TestKeyFlag, TestLowBattery, TestPointersEqual, ToggleDisplay, Transfer, WriteData, WriteRom}
+use Rattle.h41_words.specs.declared.rows.Row.TheVariants as rows
 use Rattle.h41_words.specs.declared.rows.RegisterTransfer.{RegisterTransfer}
 use Rattle.h41_words.specs.declared.rows.RegisterTransfer.TheVariants.{CToG, GToC, ExchangeCG, CToM, MToC, ExchangeCM, StatusToT, TToStatus, ExchangeStatusT, CToStatus, StatusToC, ExchangeCStatus, CToN, NToC, ExchangeCN}
 use Rattle.h41_words.specs.declared.rows.Bank.TheVariants.{First, Second, Third, Fourth}
 use Rattle.h41_words.specs.declared.rows.Condition.{Condition}
 use Rattle.h41_words.specs.declared.rows.Condition.TheVariants.{NoCarry, Carry}
 use Rattle.h41_words.specs.Counts.{word_count, status_bit_count, place_count, digit_count, block_register_count, least_displacement, greatest_displacement}
+use Rattle.h41_words.specs.Listing.{listed_rows}
 use Rattle.h41_words.specs.Unassigned.{unassigned_words}
 
--- the fields in their order
-abbrev pub fields : List Field
-fields =
-    AtPointer ∷ SignAndExponent ∷ ToPointer ∷ All ∷ PToQ ∷ ExponentSign ∷ Mantissa ∷ MantissaSign ∷ []
-
--- and the number of each, bits 4 to 2 of an arithmetic word
+-- the number of a field, bits 4 to 2 of an arithmetic word
 abbrev pub field_number : Field → ℕ
 field_number AtPointer = 0
 field_number SignAndExponent = 1
@@ -33,16 +29,7 @@ field_number ExponentSign = 5
 field_number Mantissa = 6
 field_number MantissaSign = 7
 
--- the operations in their order
-abbrev pub operations : List Operation
-operations =
-    ClearA ∷ ClearB ∷ ClearC ∷ ExchangeAB ∷ AToB ∷ ExchangeAC ∷ BToC ∷ ExchangeBC ∷ CToA ∷ AddBToA ∷ AddCToA
-    ∷ IncrementA ∷ SubtractBFromA ∷ DecrementA ∷ SubtractCFromA ∷ DoubleC ∷ AddAToC ∷ IncrementC
-    ∷ SubtractCFromAToC ∷ DecrementC ∷ NegateC ∷ ComplementC ∷ TestBNonzero ∷ TestCNonzero ∷ TestALessThanC
-    ∷ TestALessThanB ∷ TestANonzero ∷ TestADiffersFromC ∷ ShiftRightA ∷ ShiftRightB ∷ ShiftRightC ∷ ShiftLeftA
-    ∷ []
-
--- and the number of each, bits 9 to 5 of an arithmetic word
+-- the number of an operation, bits 9 to 5 of an arithmetic word
 abbrev pub operation_number : Operation → ℕ
 operation_number ClearA = 0x00
 operation_number ClearB = 0x01
@@ -132,108 +119,68 @@ transfer_number ExchangeCN = 0x0F0
 -- the number of a row's word
 unfoldable pub number_of : Row → ℕ
 -- OPERATION FIELD: the low two bits are 10
-number_of (Arithmetic operation field) = operation_number operation * 32 + field_number field * 4 + 2
+number_of (rows.Arithmetic operation field) = operation_number operation * 32 + field_number field * 4 + 2
 -- ?NC XQ and the like, the first of two words: the low byte of the address, and 01
-number_of (LongJump low_byte) = low_byte * 4 + 1
+number_of (rows.LongJump low_byte) = low_byte * 4 + 1
 -- JNC and JC: the displacement, the condition and 11
-number_of (ShortJump condition displacement) = displacement_bits displacement * 8 + condition_bit condition * 4 + 3
+number_of (rows.ShortJump condition displacement) = displacement_bits displacement * 8 + condition_bit condition * 4 + 3
 -- CLRF n, SETF n, ?FSET n, ?R= n, R= n and RCR n: the mapped columns
-number_of (ClearStatus bit) = word_at (mapped_line bit) 0x04
-number_of (SetStatus bit) = word_at (mapped_line bit) 0x08
-number_of (TestStatus bit) = word_at (mapped_line bit) 0x0C
-number_of (TestPointer place) = word_at (mapped_line place) 0x14
-number_of (SetPointer place) = word_at (mapped_line place) 0x1C
-number_of (RotateRight digits) = word_at (mapped_line digits) 0x3C
+number_of (rows.ClearStatus bit) = word_at (mapped_line bit) 0x04
+number_of (rows.SetStatus bit) = word_at (mapped_line bit) 0x08
+number_of (rows.TestStatus bit) = word_at (mapped_line bit) 0x0C
+number_of (rows.TestPointer place) = word_at (mapped_line place) 0x14
+number_of (rows.SetPointer place) = word_at (mapped_line place) 0x1C
+number_of (rows.RotateRight digits) = word_at (mapped_line digits) 0x3C
 -- LD@R n, WRIT n and READ n: n is the line
-number_of (LoadDigit digit) = word_at digit 0x10
-number_of (Write register) = word_at register 0x28
-number_of (Read register) = word_at register 0x38
+number_of (rows.LoadDigit digit) = word_at digit 0x10
+number_of (rows.Write register) = word_at register 0x28
+number_of (rows.Read register) = word_at register 0x38
 -- CON hhh: the number itself
-number_of (Constant number) = number
+number_of (rows.Constant number) = number
 -- the single words
-number_of Nop = 0x000
-number_of WriteRom = 0x040
-number_of (EnableBank First) = 0x100
-number_of (EnableBank Second) = 0x180
-number_of (EnableBank Third) = 0x140
-number_of (EnableBank Fourth) = 0x1C0
-number_of ClearStatusByte = 0x3C4
-number_of ClearKeyFlag = 0x3C8
-number_of TestKeyFlag = 0x3CC
-number_of DecrementPointer = 0x3D4
-number_of IncrementPointer = 0x3DC
-number_of ReadData = 0x038
-number_of DropReturn = 0x020
-number_of PowerOff = 0x060
-number_of (SelectPointer P) = 0x0A0
-number_of (SelectPointer Q) = 0x0E0
-number_of TestPointersEqual = 0x120
-number_of TestLowBattery = 0x160
-number_of ClearRegisters = 0x1A0
-number_of GoToAddress = 0x1E0
-number_of ReadKey = 0x220
-number_of SetHexadecimal = 0x260
-number_of SetDecimal = 0x2A0
-number_of DisplayOff = 0x2E0
-number_of ToggleDisplay = 0x320
-number_of (ReturnIf Carry) = 0x360
-number_of (ReturnIf NoCarry) = 0x3A0
-number_of Return = 0x3E0
-number_of LoadImmediate = 0x130
-number_of PushAddress = 0x170
-number_of PopAddress = 0x1B0
-number_of GoToKey = 0x230
-number_of SelectRegister = 0x270
-number_of WriteData = 0x2F0
-number_of FetchWord = 0x330
-number_of Or = 0x370
-number_of And = 0x3B0
-number_of SelectPeripheral = 0x3F0
-number_of (Transfer transfer) = transfer_number transfer
-
--- the single words, column by column
-abbrev pub single_rows : List Row
-single_rows =
-    Nop ∷ WriteRom ∷ EnableBank First ∷ EnableBank Second ∷ EnableBank Third ∷ EnableBank Fourth
-    ∷ ClearStatusByte ∷ ClearKeyFlag ∷ TestKeyFlag ∷ DecrementPointer ∷ IncrementPointer ∷ ReadData
-    ∷ Transfer CToG ∷ Transfer GToC ∷ Transfer ExchangeCG ∷ Transfer CToM ∷ Transfer MToC ∷ Transfer ExchangeCM
-    ∷ Transfer StatusToT ∷ Transfer TToStatus ∷ Transfer ExchangeStatusT ∷ Transfer CToStatus
-    ∷ Transfer StatusToC ∷ Transfer ExchangeCStatus ∷ DropReturn ∷ PowerOff ∷ SelectPointer P ∷ SelectPointer Q
-    ∷ TestPointersEqual ∷ TestLowBattery ∷ ClearRegisters ∷ GoToAddress ∷ ReadKey ∷ SetHexadecimal ∷ SetDecimal
-    ∷ DisplayOff ∷ ToggleDisplay ∷ ReturnIf Carry ∷ ReturnIf NoCarry ∷ Return ∷ Transfer CToN ∷ Transfer NToC
-    ∷ Transfer ExchangeCN ∷ LoadImmediate ∷ PushAddress ∷ PopAddress ∷ GoToKey ∷ SelectRegister ∷ WriteData
-    ∷ FetchWord ∷ Or ∷ And ∷ SelectPeripheral ∷ []
-
--- the displacements of short jumps
-abbrev pub displacements : List ℤ
-displacements = map (λ words. pos words) (range_with_len 0 64) ++ map (λ words. negsuc words) (range_with_len 0 64)
-
--- the families, in the order of the listing, and the single words
-abbrev pub families : List (List Row)
-families =
-    flat_map (λ operation. map (λ field. Arithmetic operation field) fields) operations
-    ∷ map (λ low_byte. LongJump low_byte) (range_with_len 0 256)
-    ∷ map (λ displacement. ShortJump NoCarry displacement) displacements
-    ∷ map (λ displacement. ShortJump Carry displacement) displacements
-    ∷ map (λ bit. ClearStatus bit) (range_with_len 0 status_bit_count)
-    ∷ map (λ bit. SetStatus bit) (range_with_len 0 status_bit_count)
-    ∷ map (λ bit. TestStatus bit) (range_with_len 0 status_bit_count)
-    ∷ map (λ place. TestPointer place) (range_with_len 0 place_count)
-    ∷ map (λ place. SetPointer place) (range_with_len 0 place_count)
-    ∷ map (λ digits. RotateRight digits) (range_with_len 0 place_count)
-    ∷ map (λ digit. LoadDigit digit) (range_with_len 0 digit_count)
-    ∷ map (λ register. Write register) (range_with_len 0 block_register_count)
-    ∷ map (λ register. Read register) (range_with_len 1 (block_register_count - 1))
-    ∷ single_rows
-    ∷ []
-
--- the rows of the listing
-unfoldable pub listed_rows : List Row
-listed_rows = flat_map (λ family. family) families
+number_of rows.Nop = 0x000
+number_of rows.WriteRom = 0x040
+number_of (rows.EnableBank First) = 0x100
+number_of (rows.EnableBank Second) = 0x180
+number_of (rows.EnableBank Third) = 0x140
+number_of (rows.EnableBank Fourth) = 0x1C0
+number_of rows.ClearStatusByte = 0x3C4
+number_of rows.ClearKeyFlag = 0x3C8
+number_of rows.TestKeyFlag = 0x3CC
+number_of rows.DecrementPointer = 0x3D4
+number_of rows.IncrementPointer = 0x3DC
+number_of rows.ReadData = 0x038
+number_of rows.DropReturn = 0x020
+number_of rows.PowerOff = 0x060
+number_of (rows.SelectPointer P) = 0x0A0
+number_of (rows.SelectPointer Q) = 0x0E0
+number_of rows.TestPointersEqual = 0x120
+number_of rows.TestLowBattery = 0x160
+number_of rows.ClearRegisters = 0x1A0
+number_of rows.GoToAddress = 0x1E0
+number_of rows.ReadKey = 0x220
+number_of rows.SetHexadecimal = 0x260
+number_of rows.SetDecimal = 0x2A0
+number_of rows.DisplayOff = 0x2E0
+number_of rows.ToggleDisplay = 0x320
+number_of (rows.ReturnIf Carry) = 0x360
+number_of (rows.ReturnIf NoCarry) = 0x3A0
+number_of rows.Return = 0x3E0
+number_of rows.LoadImmediate = 0x130
+number_of rows.PushAddress = 0x170
+number_of rows.PopAddress = 0x1B0
+number_of rows.GoToKey = 0x230
+number_of rows.SelectRegister = 0x270
+number_of rows.WriteData = 0x2F0
+number_of rows.FetchWord = 0x330
+number_of rows.Or = 0x370
+number_of rows.And = 0x3B0
+number_of rows.SelectPeripheral = 0x3F0
+number_of (rows.Transfer transfer) = transfer_number transfer
 
 -- rows with the numbers of their words
 abbrev pub numbered : List Row → List (ℕ × Row)
-numbered rows = map (λ row. (number_of row, row)) rows
+numbered some = map (λ row. (number_of row, row)) some
 
 -- the table: each row of the listing beside its word
 unfoldable pub word_table : List (ℕ × Row)
@@ -241,7 +188,7 @@ word_table = numbered listed_rows
 
 -- the row of a word in a table, and CON where it has none there
 abbrev pub row_in : List (ℕ × Row) → ℕ → Row
-row_in [] word = Constant word
+row_in [] word = rows.Constant word
 row_in (entry ∷ entries) word = if entry.0 == word then entry.1 else row_in entries word
 
 -- the row of a word
@@ -250,18 +197,18 @@ row_of word = row_in word_table word
 
 -- whether the operands of a row are in their ranges
 abbrev pub IsRow : Row → Type 0
-IsRow (LongJump low_byte) = low_byte < 256
-IsRow (ShortJump condition displacement) = (least_displacement ≤ℤ displacement) × (displacement ≤ℤ greatest_displacement)
-IsRow (ClearStatus bit) = bit < status_bit_count
-IsRow (SetStatus bit) = bit < status_bit_count
-IsRow (TestStatus bit) = bit < status_bit_count
-IsRow (TestPointer place) = place < place_count
-IsRow (SetPointer place) = place < place_count
-IsRow (RotateRight digits) = digits < place_count
-IsRow (LoadDigit digit) = digit < digit_count
-IsRow (Write register) = register < block_register_count
-IsRow (Read register) = (1 ≤ register) × (register < block_register_count)
-IsRow (Constant number) = Contains unassigned_words number
+IsRow (rows.LongJump low_byte) = low_byte < 256
+IsRow (rows.ShortJump condition displacement) = (least_displacement ≤ℤ displacement) × (displacement ≤ℤ greatest_displacement)
+IsRow (rows.ClearStatus bit) = bit < status_bit_count
+IsRow (rows.SetStatus bit) = bit < status_bit_count
+IsRow (rows.TestStatus bit) = bit < status_bit_count
+IsRow (rows.TestPointer place) = place < place_count
+IsRow (rows.SetPointer place) = place < place_count
+IsRow (rows.RotateRight digits) = digits < place_count
+IsRow (rows.LoadDigit digit) = digit < digit_count
+IsRow (rows.Write register) = register < block_register_count
+IsRow (rows.Read register) = (1 ≤ register) × (register < block_register_count)
+IsRow (rows.Constant number) = Contains unassigned_words number
 IsRow row = Unit {0}
 
 -- the word table round trip: a word's row has the word's number,
@@ -278,6 +225,6 @@ length_of word = if word % 4 == 1 || word == 0x130 then 2 else 1
 
 -- how many words a row takes
 abbrev pub words_of : Row → ℕ
-words_of (LongJump low_byte) = 2
-words_of LoadImmediate = 2
+words_of (rows.LongJump low_byte) = 2
+words_of rows.LoadImmediate = 2
 words_of row = 1

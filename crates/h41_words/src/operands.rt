@@ -176,7 +176,7 @@ impl ReadRegister {
     }
 }
 
-/// How many words behind its own address a short jump goes, -64 to 63.
+/// How many words after its own address a short jump goes, -64 to 63.
 #[derive(Clone, Copy, Debug, PartialEq, Eq)]
 pub struct Displacement {
     words: i8,

@@ -5,7 +5,7 @@ use crate::operation::Operation;
 use crate::unassigned::UnassignedWord;
 use h41_fields::{Field, Pointer};
 
-/// The row of a word: what it stands for. There are 13 families, each with its operands, and 53 single words.
+/// The row of a word: what it stands for. It is one of a family, with its operands, or a single word.
 #[derive(Clone, Copy, Debug, PartialEq, Eq)]
 pub enum Row {
     /// `A=A+1 ALL` and the like: works on a field of the registers A, B and C.

@@ -7,7 +7,7 @@ use crate::rows::Condition;
 /// What a jump by address does where it is taken.
 #[derive(Clone, Copy, Debug, PartialEq, Eq)]
 pub enum LongJumpKind {
-    /// `XQ`: goes there, with the address behind the two words as the newest return address.
+    /// `XQ`: goes there, with the address after the two words as the newest return address.
     Execute,
     /// `GO`: goes there.
     Go,

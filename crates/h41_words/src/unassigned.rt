@@ -5,7 +5,7 @@ ghost use Rattle.h41_words.specs.Unassigned.{unassigned_words};
 use crate::rom_word::Word;
 use std::marker::Model;
 
-/// One of the 72 words that stand for no instruction.
+/// A word that stands for no instruction.
 #[derive(Clone, Copy, Debug, PartialEq, Eq)]
 pub struct UnassignedWord {
     word: Word,

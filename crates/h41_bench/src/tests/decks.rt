@@ -259,6 +259,7 @@ fn writer(alloc: Global, most: usize, calls: usize) -> Slow
         most,
         calls,
         has_failed: false,
+        is_flushed: false,
     }
 }
 

@@ -45,6 +45,7 @@ pub struct Slow {
     pub most: usize,
     pub calls: usize,
     pub has_failed: bool,
+    pub is_flushed: bool,
 }
 
 impl Sink for Slow {
@@ -52,7 +53,10 @@ impl Sink for Slow {
 
     ghost failed = { λ s. s.has_failed };
 
+    ghost flushed = { λ s. s.is_flushed };
+
     fn write(&mut self, bytes: &[u8]) -> io::Result<usize> {
+        self.is_flushed = false;
         let count = bytes.len().min(self.most);
         if self.calls == 0 || self.taken.extend_from_slice(&bytes[..count]).is_err() {
             self.has_failed = true;
@@ -66,11 +70,16 @@ impl Sink for Slow {
     }
 
     fn flush(&mut self) -> io::Result<()> {
+        self.is_flushed = self.calls > 0;
         if self.calls == 0 {
             self.has_failed = true;
             return Err(io::Error::from(ErrorKind::Other));
         }
         Ok(())
+    }
+
+    fn is_flushed(&self) -> bool {
+        self.is_flushed
     }
 
     fn failed(&self) -> bool {

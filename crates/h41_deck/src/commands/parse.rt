@@ -1,9 +1,8 @@
 //! The command that a line's words spell.
 
-ghost use Rattle.std.specs.Prelude.{◌≡◌, Ok};
-ghost use Rattle.h41_deck.specs.Commands.{and_then, call_command, is_opening, parsed, plug_command, show_command, step_command, view_named, view_of};
+ghost use Rattle.std.specs.Prelude.{◌≡◌};
+ghost use Rattle.h41_deck.specs.Commands.{call_command, is_opening, opening_command, parsed, plain_command, plug_at, plug_command, show_command, step_command, view_named, view_of};
 ghost use Rattle.h41_deck.specs.Lines.{words_of};
-ghost use Rattle.h41_deck.specs.Numbers.{hexadecimal};
 
 use crate::commands::number::{hexadecimal, number_up_to};
 use crate::commands::{BlockKind, Command, View};
@@ -19,12 +18,12 @@ pub fn parse(line: &[u8]) -> Result<Command, Refusal>
     ensures { result ≡ parsed (words_of line.now) }
 {
     let mut words = LineWords::new(line);
-    match words.next() {
-        Some(b"words") => plug(BlockKind::Words, words),
-        Some(b"call") => call(words),
-        Some(b"step") => step(words),
-        Some(b"show") => show(words),
-        _ => Err(Refusal::BadCommand),
+    let Some(name) = words.next() else {
+        return Err(Refusal::BadCommand);
+    };
+    match BlockKind::of_word(name) {
+        Some(kind) => opening(kind, words),
+        None => plain(name, words),
     }
 }
 
@@ -32,7 +31,31 @@ pub fn parse(line: &[u8]) -> Result<Command, Refusal>
 pub fn is_opening(line: &[u8]) -> bool
     ensures { result ≡ is_opening (words_of line.now) }
 {
-    matches!(LineWords::new(line).next(), Some(b"words"))
+    match LineWords::new(line).next() {
+        Some(name) => BlockKind::of_word(name).is_some(),
+        None => false,
+    }
+}
+
+/// The command of a line that opens a block of this kind, by the words behind its name.
+fn opening(kind: BlockKind, operands: LineWords<'_>) -> Result<Command, Refusal>
+    ensures { result ≡ opening_command kind (words_of operands.entry.rest.now) }
+{
+    match kind {
+        BlockKind::Words => plug(kind, operands),
+    }
+}
+
+/// The command of a line that opens none, by its first word and those behind it.
+fn plain(name: &[u8], operands: LineWords<'_>) -> Result<Command, Refusal>
+    ensures { result ≡ plain_command name.now (words_of operands.entry.rest.now) }
+{
+    match name {
+        b"call" => call(operands),
+        b"step" => step(operands),
+        b"show" => show(operands),
+        _ => Err(Refusal::BadCommand),
+    }
 }
 
 /// `words P [rw]`: a block that fills a page.
@@ -48,8 +71,7 @@ fn plug(kind: BlockKind, mut operands: LineWords<'_>) -> Result<Command, Refusal
 
 /// The same, by the word that names the page.
 fn plug_at(kind: BlockKind, page: &[u8], writable: bool) -> Result<Command, Refusal>
-    ensures { result
-        ≡ and_then (hexadecimal 1 page.now) (λ page. Ok (Command.Plug kind page writable)) }
+    ensures { result ≡ plug_at kind page.now writable }
 {
     let page = hexadecimal(1, 1, page)? as u8;
     Ok(Command::Plug {

@@ -1,11 +1,11 @@
 //! The items of a deck, one at a time.
 
 ghost use Rattle.std.specs.List.{after_first, before_first, list_any};
-ghost use Rattle.std.specs.Prelude.{◌≡◌, ◌<◌, [], length, is_some, IfOk, OnSome};
+ghost use Rattle.std.specs.Prelude.{◌≡◌, [], is_some, IfOk, OnOk};
 ghost use Rattle.h41_deck.specs.Blocks.{HasTaken};
-ghost use Rattle.h41_deck.specs.Entries.{IfTaken, NextOf, given};
+ghost use Rattle.h41_deck.specs.Entries.{IfTaken, NextOf, TakesSome, given, left};
 ghost use Rattle.h41_deck.specs.Items.{opened_block, spelled_by};
-ghost use Rattle.h41_deck.specs.Lines as spec;
+ghost use Rattle.h41_deck.specs.Lines.{is_end};
 
 use crate::blocks::Block;
 use crate::commands::Command;
@@ -19,9 +19,8 @@ use std::alloc::{AllocError, Global};
 /// The next item of a deck, by the lines that are left of it; nothing where they have none. Its lines are taken. 21 where
 /// memory is refused.
 pub fn next_item(alloc: Global, rest: &mut Lines<'_>) -> Result<Option<Item>, AllocError>
-    ensures item { IfOk result (NextOf (spec.lines rest.old.rest.now) (spec.lines rest.new.rest.now)) }
-    ensures shorter { IfOk result (λ next. OnSome next
-        (length (spec.lines rest.new.rest.now) < length (spec.lines rest.old.rest.now))) }
+    ensures item { IfOk result (NextOf (left rest.old) (left rest.new)) }
+    ensures shorter { IfOk result (TakesSome (left rest.old) (left rest.new)) }
 {
     while let Some(line) = rest.next() {
         if is_long(line) {
@@ -55,10 +54,8 @@ fn line_item(alloc: Global, line: &[u8]) -> Item
 
 /// The item of a block by its first line; takes the block's other lines.
 fn block_item(alloc: Global, first: &[u8], rest: &mut Lines<'_>) -> Result<Item, AllocError>
-    ensures item { IfOk result (λ item. given item
-        ≡ opened_block first.now (spec.lines rest.old.rest.now)) }
-    ensures rest { IfOk result (λ _. spec.lines rest.new.rest.now
-        ≡ after_first spec.is_end (spec.lines rest.old.rest.now)) }
+    ensures item { IfOk result (λ item. given item ≡ opened_block first.now (left rest.old)) }
+    ensures rest { OnOk result (left rest.new ≡ after_first is_end (left rest.old)) }
 {
     let parsed = parse(first);
     let block = Block::of_kind(alloc, parsed.ok().and_then(Command::block_kind));
@@ -74,12 +71,9 @@ fn block_item(alloc: Global, first: &[u8], rest: &mut Lines<'_>) -> Result<Item,
 /// Takes the lines of a block up to its end; nothing where it has none.
 fn take_lines(block: Block, rest: &mut Lines<'_>) -> Result<Option<Block>, AllocError>
     requires { HasTaken block [] }
-    ensures end { IfOk result (λ taken. is_some taken
-        ≡ list_any spec.is_end (spec.lines rest.old.rest.now)) }
-    ensures taken { IfOk result (IfTaken block.kind
-        (before_first spec.is_end (spec.lines rest.old.rest.now))) }
-    ensures rest { IfOk result (λ _. spec.lines rest.new.rest.now
-        ≡ after_first spec.is_end (spec.lines rest.old.rest.now)) }
+    ensures end { IfOk result (λ taken. is_some taken ≡ list_any is_end (left rest.old)) }
+    ensures taken { IfOk result (IfTaken block.kind (before_first is_end (left rest.old))) }
+    ensures rest { OnOk result (left rest.new ≡ after_first is_end (left rest.old)) }
 {
     let mut block = block;
     while let Some(line) = rest.next() {

@@ -1,7 +1,7 @@
 //! Reads an input whole.
 
-ghost use Rattle.std.specs.Prelude.{◌≡◌, ◌≢◌, ◌≤◌, true, false, length, take, nat_le, IfOk, IfSome, Err, vec_len};
-ghost use Rattle.h41_deck.specs.Deck.{most_bytes};
+ghost use Rattle.std.specs.Prelude.{◌≡◌, ◌≢◌, ◌≤◌, true, false, IfOk, Err, vec_len};
+ghost use Rattle.h41_deck.specs.Deck.{IsFront, SaysWhole, most_bytes};
 
 use crate::ends::source::Source;
 use crate::fault::InputFault;
@@ -29,10 +29,8 @@ pub struct Input {
 /// `ReadFault` (22) where a read fails, and `OutOfMemory` (21).
 pub fn read_whole<R: Source>(alloc: Global, reader: &mut R) -> Result<Input, InputFault>
     requires { R.failed reader.old ≡ false }
-    ensures bytes { IfOk result (λ input. IfSome (R.remaining reader.old)
-        (λ xs. input.bytes.items ≡ take most_bytes xs)) }
-    ensures whole { IfOk result (λ input. IfSome (R.remaining reader.old)
-        (λ xs. input.is_whole ≡ nat_le (length xs) most_bytes)) }
+    ensures bytes { IfOk result (λ input. IsFront (R.remaining reader.old) input.bytes.items) }
+    ensures whole { IfOk result (λ input. SaysWhole (R.remaining reader.old) input.is_whole) }
     ensures bound { IfOk result (λ input. vec_len input.bytes ≤ most_bytes) }
     ensures mark { result ≡ Err InputFault.ReadFault → R.failed reader.new ≡ true }
     ensures clear { result ≢ Err InputFault.ReadFault → R.failed reader.new ≡ false }

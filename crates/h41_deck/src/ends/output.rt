@@ -1,8 +1,8 @@
 //! Writes an output whole.
 
 ghost use Rattle.std.specs.Prelude.{◌≡◌, true, false, OnOk, OnErr};
-ghost use Rattle.std.specs.Io.KnownBytes.{Appends, Keeps};
-ghost use Rattle.h41_deck.specs.Ends.{AppendsPart};
+ghost use Rattle.std.specs.Io.KnownBytes.{Keeps};
+ghost use Rattle.h41_deck.specs.Ends.{Writes};
 
 use crate::ends::sink::Sink;
 use crate::fault::WriteFault;
@@ -14,11 +14,9 @@ use crate::fault::WriteFault;
 /// `WriteFault` (23) where a write fails or takes nothing. A front of the bytes is then written.
 pub fn write_whole<W: Sink>(writer: &mut W, bytes: &[u8]) -> Result<(), WriteFault>
     requires { W.failed writer.old ≡ false }
-    ensures ok { OnOk result (Appends (W.contents writer.old) (W.contents writer.new) bytes.now) }
+    ensures written { Writes result W.contents writer.old writer.new bytes.now }
     ensures clear { OnOk result (W.failed writer.new ≡ false) }
     ensures mark { OnErr result (W.failed writer.new ≡ true) }
-    ensures part { OnErr result
-        (AppendsPart (W.contents writer.old) (W.contents writer.new) bytes.now) }
 {
     let mut written = 0;
     while written < bytes.len() {
@@ -30,7 +28,7 @@ pub fn write_whole<W: Sink>(writer: &mut W, bytes: &[u8]) -> Result<(), WriteFau
     Ok(())
 }
 
-/// Passes on what the sink's buffer still holds.
+/// Passes on what the sink's buffer still holds, by a flush of the sink.
 ///
 /// # Errors
 ///
@@ -38,6 +36,7 @@ pub fn write_whole<W: Sink>(writer: &mut W, bytes: &[u8]) -> Result<(), WriteFau
 pub fn flush<W: Sink>(writer: &mut W) -> Result<(), WriteFault>
     requires { W.failed writer.old ≡ false }
     ensures bytes { Keeps (W.contents writer.old) (W.contents writer.new) }
+    ensures flushed { OnOk result (W.flushed writer.new ≡ true) }
     ensures clear { OnOk result (W.failed writer.new ≡ false) }
     ensures mark { OnErr result (W.failed writer.new ≡ true) }
 {

@@ -1,7 +1,7 @@
 //! The memory as `show ram`, `show stack` and `show flags` print it.
 
 ghost use Rattle.std.specs.Prelude.{◌≡◌, ◌+◌, ◌*◌, ◌<◌, ◌≤◌, ◌++◌, Some};
-ghost use Rattle.std.specs.Fmt.{DisplaysOnOk};
+ghost use Rattle.std.specs.Fmt.{WritesOnOk};
 ghost use Rattle.arrayvec.specs.ArrayString.{array_string_len};
 ghost use Rattle.h41_deck.specs.Views.{flags_below, flags_line, level_line, register_line, stack_text, two_digits};
 
@@ -25,8 +25,7 @@ pub fn write_register<W: fmt::Write>(
     ram: &Ram<REGISTERS>,
     address: u16,
 ) -> fmt::Result
-    ensures { DisplaysOnOk W.write_str_gives f.old result
-        (Some (register_line ram.now address)) f.new }
+    ensures { WritesOnOk W.write_str_gives f.old result (register_line ram.now address) f.new }
 {
     let name = Digits::<3>::holding(u64::from(address % 0x1000));
     let register = ram.read(address);
@@ -36,7 +35,7 @@ pub fn write_register<W: fmt::Write>(
 /// The stack from T down, and L.
 #[tactic(auto, unfolding(crate::specs::Views::stack_text))]
 pub fn write_stack<W: fmt::Write>(f: &mut fmt::Formatter<W>, ram: &Ram<REGISTERS>) -> fmt::Result
-    ensures { DisplaysOnOk W.write_str_gives f.old result (Some (stack_text ram.now)) f.new }
+    ensures { WritesOnOk W.write_str_gives f.old result (stack_text ram.now) f.new }
 {
     write_level(f, "T", ram.status(0))?;
     write_level(f, "Z", ram.status(1))?;
@@ -48,8 +47,7 @@ pub fn write_stack<W: fmt::Write>(f: &mut fmt::Formatter<W>, ram: &Ram<REGISTERS
 /// A level of the stack, or L, by its name.
 #[tactic(auto, unfolding(crate::specs::Views::level_line))]
 fn write_level<W: fmt::Write>(f: &mut fmt::Formatter<W>, name: &str, register: Reg) -> fmt::Result
-    ensures { DisplaysOnOk W.write_str_gives f.old result
-        (Some (level_line name.now register)) f.new }
+    ensures { WritesOnOk W.write_str_gives f.old result (level_line name.now register) f.new }
 {
     writeln!(f, "{name}={register}")
 }
@@ -57,7 +55,7 @@ fn write_level<W: fmt::Write>(f: &mut fmt::Formatter<W>, name: &str, register: R
 /// The numbers of the flags that are set.
 #[tactic(auto, unfolding(crate::specs::Views::flags_line))]
 pub fn write_flags<W: fmt::Write>(f: &mut fmt::Formatter<W>, ram: &Ram<REGISTERS>) -> fmt::Result
-    ensures { DisplaysOnOk W.write_str_gives f.old result (Some (flags_line ram.now)) f.new }
+    ensures { WritesOnOk W.write_str_gives f.old result (flags_line ram.now) f.new }
 {
     let flags = set_flags(ram);
     let flags = flags.as_str();

@@ -1,8 +1,8 @@
 //! The mode and the position in it, as `show pos` prints them.
 
 ghost use Rattle.std.specs.Prelude.{Some};
-ghost use Rattle.std.specs.Fmt.{DisplaysOnOk};
-ghost use Rattle.h41_deck.specs.Views.{position_line};
+ghost use Rattle.std.specs.Fmt.{WritesOnOk};
+ghost use Rattle.h41_deck.specs.Views.{position_text};
 
 use crate::calculator::{Calculator, Mode};
 use h41_digits::Digits;
@@ -13,8 +13,7 @@ pub fn write_position<W: fmt::Write>(
     f: &mut fmt::Formatter<W>,
     calculator: &Calculator,
 ) -> fmt::Result
-    ensures { DisplaysOnOk W.write_str_gives f.old result
-        (Some (position_line calculator.now calculator.now.mode)) f.new }
+    ensures { WritesOnOk W.write_str_gives f.old result (position_text calculator.now) f.new }
 {
     match calculator.mode() {
         Mode::Idle => f.write_str("Idle 0000\n"),

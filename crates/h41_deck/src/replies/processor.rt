@@ -1,7 +1,7 @@
 //! The processor as `show cpu` prints it.
 
 ghost use Rattle.std.specs.Prelude.{◌≡◌, Some};
-ghost use Rattle.std.specs.Fmt.{DisplaysOnOk};
+ghost use Rattle.std.specs.Fmt.{WritesOnOk};
 ghost use Rattle.h41_deck.specs.Views.{registers_line, memories_line, pointers_line, modes_line, returns_line, pointer_text, base_text, bit_text};
 
 use h41_digits::Digits;
@@ -35,7 +35,7 @@ impl fmt::Display for Processor<'_> {
 /// A, B and C.
 #[tactic(auto, unfolding(crate::specs::Views::registers_line))]
 fn write_registers<W: fmt::Write>(f: &mut fmt::Formatter<W>, cpu: &Cpu) -> fmt::Result
-    ensures { DisplaysOnOk W.write_str_gives f.old result (Some (registers_line cpu.now)) f.new }
+    ensures { WritesOnOk W.write_str_gives f.old result (registers_line cpu.now) f.new }
 {
     let (a, b, c) = (cpu.a(), cpu.b(), cpu.c());
     writeln!(f, "A={a} B={b} C={c}")
@@ -44,7 +44,7 @@ fn write_registers<W: fmt::Write>(f: &mut fmt::Formatter<W>, cpu: &Cpu) -> fmt::
 /// M and N.
 #[tactic(auto, unfolding(crate::specs::Views::memories_line))]
 fn write_memories<W: fmt::Write>(f: &mut fmt::Formatter<W>, cpu: &Cpu) -> fmt::Result
-    ensures { DisplaysOnOk W.write_str_gives f.old result (Some (memories_line cpu.now)) f.new }
+    ensures { WritesOnOk W.write_str_gives f.old result (memories_line cpu.now) f.new }
 {
     let (m, n) = (cpu.m(), cpu.n());
     writeln!(f, "M={m} N={n}")
@@ -53,7 +53,7 @@ fn write_memories<W: fmt::Write>(f: &mut fmt::Formatter<W>, cpu: &Cpu) -> fmt::R
 /// G, T, the status bits and the pointers.
 #[tactic(auto, unfolding(crate::specs::Views::pointers_line))]
 fn write_pointers<W: fmt::Write>(f: &mut fmt::Formatter<W>, cpu: &Cpu) -> fmt::Result
-    ensures { DisplaysOnOk W.write_str_gives f.old result (Some (pointers_line cpu.now)) f.new }
+    ensures { WritesOnOk W.write_str_gives f.old result (pointers_line cpu.now) f.new }
 {
     let g = Digits::<2>::holding(u64::from(cpu.g()));
     let t = Digits::<2>::holding(u64::from(cpu.t()));
@@ -67,7 +67,7 @@ fn write_pointers<W: fmt::Write>(f: &mut fmt::Formatter<W>, cpu: &Cpu) -> fmt::R
 /// The address, the carry, the modes and the keys.
 #[tactic(auto, unfolding(crate::specs::Views::modes_line))]
 fn write_modes<W: fmt::Write>(f: &mut fmt::Formatter<W>, cpu: &Cpu, keys: &Keys) -> fmt::Result
-    ensures { DisplaysOnOk W.write_str_gives f.old result (Some (modes_line cpu.now keys.now)) f.new }
+    ensures { WritesOnOk W.write_str_gives f.old result (modes_line cpu.now keys.now) f.new }
 {
     let pc = Digits::<4>::holding(u64::from(cpu.pc()));
     let carry = bit(cpu.carry());
@@ -84,7 +84,7 @@ fn write_modes<W: fmt::Write>(f: &mut fmt::Formatter<W>, cpu: &Cpu, keys: &Keys)
 /// The return addresses, the newest first.
 #[tactic(auto, unfolding(crate::specs::Views::returns_line))]
 fn write_returns<W: fmt::Write>(f: &mut fmt::Formatter<W>, cpu: &Cpu) -> fmt::Result
-    ensures { DisplaysOnOk W.write_str_gives f.old result (Some (returns_line cpu.now)) f.new }
+    ensures { WritesOnOk W.write_str_gives f.old result (returns_line cpu.now) f.new }
 {
     let [newest, second, third, fourth] = cpu.returns();
     let newest = Digits::<4>::holding(u64::from(newest));

@@ -4,7 +4,7 @@ ghost use Rattle.std.specs.Prelude.{◌≡◌, false, OnOk, OnErr};
 ghost use Rattle.std.specs.Result.{result_err};
 ghost use Rattle.h41_arith.specs.DigitRule.{base_of};
 ghost use Rattle.h41_nut.specs.Arithmetic.{Operates, OperatesOn, base_number};
-ghost use Rattle.h41_nut.specs.Going.{arrival_refusal, behind, gone_on};
+ghost use Rattle.h41_nut.specs.Going.{arrival_refusal, next_address, gone_on};
 
 use crate::base::Base;
 use crate::cpu::Cpu;
@@ -20,11 +20,11 @@ use h41_words::Operation;
 impl Cpu {
     /// `OPERATION FIELD`: works on a field in the base that is set.
     pub(crate) fn arithmetic(&mut self, operation: Operation, field: Field) -> Result<(), Refusal>
-        ensures refusal { result_err result ≡ arrival_refusal (behind self.old) }
+        ensures refusal { result_err result ≡ arrival_refusal (next_address self.old) }
         ensures operates { OnOk result (OperatesOn operation field (gone_on self.old) self.new) }
         ensures stays { OnErr result (self.new ≡ self.old) }
     {
-        let next = arrival(self.behind())?;
+        let next = arrival(self.next_address())?;
         let places = span(field, self.p, self.q, self.active);
         self.arrive(next, false);
         match self.base {

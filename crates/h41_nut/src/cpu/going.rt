@@ -4,7 +4,7 @@ ghost use Rattle.std.specs.Prelude.{◌≡◌, IfOk};
 ghost use Rattle.std.specs.Result.{result_err};
 ghost use Rattle.h41_nut.specs.Addresses.{displaced};
 ghost use Rattle.h41_nut.specs.Going as going;
-ghost use Rattle.h41_nut.specs.Going.{GoesTo, GoesOn, Answers};
+ghost use Rattle.h41_nut.specs.Going.{GoesTo, GoesOn, GoesOnTelling};
 ghost use Rattle.h41_nut.specs.Jumps as spec;
 ghost use Rattle.h41_nut.specs.RegisterWords.{with_address_pushed, with_address_popped};
 
@@ -14,9 +14,9 @@ use crate::refusal::Refusal;
 use h41_words::{Condition, Displacement, LongJumpKind, SecondWord};
 
 impl Cpu {
-    /// The address behind the word.
-    pub(crate) fn behind(&self) -> u16
-        ensures { result ≡ going.behind self.now }
+    /// The address after the word.
+    pub(crate) fn next_address(&self) -> u16
+        ensures { result ≡ going.next_address self.now }
     {
         self.pc.wrapping_add(1)
     }
@@ -38,35 +38,34 @@ impl Cpu {
         Ok(())
     }
 
-    /// Goes on behind the word, with no carry.
+    /// Goes on after the word, with no carry.
     pub(crate) fn go_on(&mut self) -> Result<(), Refusal>
         ensures { GoesOn (λ s. s) self.old self.new result }
     {
-        self.go_to(self.behind())
+        self.go_to(self.next_address())
     }
 
-    /// Goes on behind the word, with the answer of a test as the carry.
+    /// Goes on after the word, with the answer of a test as the carry.
     pub(crate) fn answer(&mut self, test: bool) -> Result<(), Refusal>
-        ensures { Answers test self.old self.new result }
+        ensures { GoesOnTelling test self.old self.new result }
     {
-        let next = arrival(self.behind())?;
+        let next = arrival(self.next_address())?;
         self.arrive(next, test);
         Ok(())
     }
 
     /// `?NC XQ` and the like: goes to the address of both words, where the carry is as the second word says. `XQ` keeps the
-    /// address behind both words.
+    /// address after both words.
     pub(crate) fn long_jump(&mut self, low_byte: u8, second: SecondWord) -> Result<(), Refusal>
-        ensures { GoesTo (spec.jump_target low_byte second) (spec.jump_change second)
-            self.old self.new result }
+        ensures { spec.JumpsLong low_byte second self.old self.new result }
     {
-        let behind = self.pc.wrapping_add(2);
+        let after_both = self.pc.wrapping_add(2);
         if !is_taken(second.condition, self.carry) {
-            return self.go_to(behind);
+            return self.go_to(after_both);
         }
         let next = arrival(u16::from(second.high_byte) * 256 + u16::from(low_byte))?;
         if second.kind == LongJumpKind::Execute {
-            self.push(behind);
+            self.push(after_both);
         }
         self.arrive(next, false);
         Ok(())
@@ -78,13 +77,12 @@ impl Cpu {
         condition: Condition,
         displacement: Displacement,
     ) -> Result<(), Refusal>
-        ensures { GoesTo (spec.short_jump_target condition displacement) (λ s. s)
-            self.old self.new result }
+        ensures { spec.JumpsShort condition displacement self.old self.new result }
     {
         if is_taken(condition, self.carry) {
             self.go_to(displaced(self.pc, displacement))
         } else {
-            self.go_to(self.behind())
+            self.go_to(self.next_address())
         }
     }
 
@@ -100,13 +98,12 @@ impl Cpu {
 
     /// `?C RTN` and `?NC RTN`: returns where the carry is as the condition says.
     pub(crate) fn return_if(&mut self, condition: Condition) -> Result<(), Refusal>
-        ensures { GoesTo (spec.return_target condition) (spec.return_change condition)
-            self.old self.new result }
+        ensures { spec.ReturnsIf condition self.old self.new result }
     {
         if is_taken(condition, self.carry) {
             self.return_to_newest()
         } else {
-            self.go_to(self.behind())
+            self.go_to(self.next_address())
         }
     }
 
@@ -114,7 +111,7 @@ impl Cpu {
     pub(crate) fn drop_return(&mut self) -> Result<(), Refusal>
         ensures { GoesOn spec.popped self.old self.new result }
     {
-        let next = arrival(self.behind())?;
+        let next = arrival(self.next_address())?;
         self.pop();
         self.arrive(next, false);
         Ok(())
@@ -124,7 +121,7 @@ impl Cpu {
     pub(crate) fn push_address(&mut self) -> Result<(), Refusal>
         ensures { GoesOn with_address_pushed self.old self.new result }
     {
-        let next = arrival(self.behind())?;
+        let next = arrival(self.next_address())?;
         self.push(self.address_in_c());
         self.arrive(next, false);
         Ok(())
@@ -134,7 +131,7 @@ impl Cpu {
     pub(crate) fn pop_address(&mut self) -> Result<(), Refusal>
         ensures { GoesOn with_address_popped self.old self.new result }
     {
-        let next = arrival(self.behind())?;
+        let next = arrival(self.next_address())?;
         let address = self.newest_return();
         self.c = self
             .c
@@ -151,7 +148,7 @@ impl Cpu {
     pub(crate) fn go_to_key(&mut self, key: u8) -> Result<(), Refusal>
         ensures { GoesTo (spec.key_target key) (λ s. s) self.old self.new result }
     {
-        self.go_to(self.behind() / 256 * 256 + u16::from(key))
+        self.go_to(self.next_address() / 256 * 256 + u16::from(key))
     }
 
     /// The newest return address, 0000 where there is none.

@@ -27,7 +27,7 @@ impl Cpu {
         requires { place < 14 }
         ensures { GoesOn (spec.with_pointer place) self.old self.new result }
     {
-        let next = arrival(self.behind())?;
+        let next = arrival(self.next_address())?;
         self.move_pointer(place);
         self.arrive(next, false);
         Ok(())
@@ -48,7 +48,7 @@ impl Cpu {
     pub(crate) fn select_pointer(&mut self, pointer: Pointer) -> Result<(), Refusal>
         ensures { GoesOn (spec.with_active pointer) self.old self.new result }
     {
-        let next = arrival(self.behind())?;
+        let next = arrival(self.next_address())?;
         self.active = pointer;
         self.arrive(next, false);
         Ok(())

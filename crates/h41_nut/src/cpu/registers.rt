@@ -2,8 +2,8 @@
 
 ghost use Rattle.std.specs.Prelude.{◌≡◌, ◌<◌};
 ghost use Rattle.h41_words.specs.Counts.{word_count};
-ghost use Rattle.h41_nut.specs.Going.{GoesOn, GoesTo, behind_both};
-ghost use Rattle.h41_nut.specs.MemoryWords.{block_address, selecting};
+ghost use Rattle.h41_nut.specs.Going.{GoesOn, GoesTo, address_after_both};
+ghost use Rattle.h41_nut.specs.MemoryWords.{block_address, selecting, selecting_and_loading};
 ghost use Rattle.h41_nut.specs.RegisterWords as spec;
 
 use crate::base::Base;
@@ -46,9 +46,9 @@ impl Cpu {
             .with(2, (number / 256) as u8);
     }
 
-    /// `LDI`: the second word goes to C; the processor goes on behind it.
+    /// `LDI`: the second word goes to C; the processor goes on after it.
     pub(crate) fn load_immediate(&mut self, second: Word) -> Result<(), Refusal>
-        ensures { GoesTo behind_both (spec.with_word_in_c second) self.old self.new result }
+        ensures { GoesTo address_after_both (spec.with_word_in_c second) self.old self.new result }
     {
         let next = arrival(self.pc.wrapping_add(2))?;
         self.put_word(second);
@@ -60,7 +60,7 @@ impl Cpu {
     pub(crate) fn load_word(&mut self, word: Word) -> Result<(), Refusal>
         ensures { GoesOn (spec.with_word_in_c word) self.old self.new result }
     {
-        let next = arrival(self.behind())?;
+        let next = arrival(self.next_address())?;
         self.put_word(word);
         self.arrive(next, false);
         Ok(())
@@ -70,7 +70,7 @@ impl Cpu {
     pub(crate) fn load_digit(&mut self, digit: Digit) -> Result<(), Refusal>
         ensures { GoesOn (spec.with_digit_loaded digit) self.old self.new result }
     {
-        let next = arrival(self.behind())?;
+        let next = arrival(self.next_address())?;
         let place = self.pointer();
         self.c = self.c.with(place, digit.number());
         self.move_pointer(place_below(place));
@@ -82,7 +82,7 @@ impl Cpu {
     pub(crate) fn load_key(&mut self, key: u8) -> Result<(), Refusal>
         ensures { GoesOn (spec.with_key_in_c key) self.old self.new result }
     {
-        let next = arrival(self.behind())?;
+        let next = arrival(self.next_address())?;
         self.c = self.c.with(3, key % 16).with(4, key / 16);
         self.arrive(next, false);
         Ok(())
@@ -92,7 +92,7 @@ impl Cpu {
     pub(crate) fn load_register(&mut self, register: Reg) -> Result<(), Refusal>
         ensures { GoesOn (spec.with_c register) self.old self.new result }
     {
-        let next = arrival(self.behind())?;
+        let next = arrival(self.next_address())?;
         self.c = register;
         self.arrive(next, false);
         Ok(())
@@ -102,7 +102,7 @@ impl Cpu {
     pub(crate) fn rotate_right(&mut self, digits: Place) -> Result<(), Refusal>
         ensures { GoesOn (spec.with_c_rotated digits) self.old self.new result }
     {
-        let next = arrival(self.behind())?;
+        let next = arrival(self.next_address())?;
         self.c = rotated(self.c, usize::from(digits.number()));
         self.arrive(next, false);
         Ok(())
@@ -112,7 +112,7 @@ impl Cpu {
     pub(crate) fn join_a(&mut self) -> Result<(), Refusal>
         ensures { GoesOn spec.with_c_joined self.old self.new result }
     {
-        let next = arrival(self.behind())?;
+        let next = arrival(self.next_address())?;
         self.c = joined(self.c, self.a);
         self.arrive(next, false);
         Ok(())
@@ -122,7 +122,7 @@ impl Cpu {
     pub(crate) fn meet_a(&mut self) -> Result<(), Refusal>
         ensures { GoesOn spec.with_c_met self.old self.new result }
     {
-        let next = arrival(self.behind())?;
+        let next = arrival(self.next_address())?;
         self.c = met(self.c, self.a);
         self.arrive(next, false);
         Ok(())
@@ -132,7 +132,7 @@ impl Cpu {
     pub(crate) fn clear_registers(&mut self) -> Result<(), Refusal>
         ensures { GoesOn spec.with_abc_clear self.old self.new result }
     {
-        let next = arrival(self.behind())?;
+        let next = arrival(self.next_address())?;
         self.a = Reg::zero();
         self.b = Reg::zero();
         self.c = Reg::zero();
@@ -145,7 +145,7 @@ impl Cpu {
         requires { address < word_count }
         ensures { GoesOn (selecting address) self.old self.new result }
     {
-        let next = arrival(self.behind())?;
+        let next = arrival(self.next_address())?;
         self.selected = address;
         self.arrive(next, false);
         Ok(())
@@ -154,10 +154,9 @@ impl Cpu {
     /// `READ n`: selects an address of the memory, whose register goes to C.
     pub(crate) fn select_and_load(&mut self, address: u16, register: Reg) -> Result<(), Refusal>
         requires { address < word_count }
-        ensures { GoesOn (λ s. selecting address (spec.with_c register s))
-            self.old self.new result }
+        ensures { GoesOn (selecting_and_loading address register) self.old self.new result }
     {
-        let next = arrival(self.behind())?;
+        let next = arrival(self.next_address())?;
         self.selected = address;
         self.c = register;
         self.arrive(next, false);
@@ -168,7 +167,7 @@ impl Cpu {
     pub(crate) fn set_base(&mut self, base: Base) -> Result<(), Refusal>
         ensures { GoesOn (spec.with_base base) self.old self.new result }
     {
-        let next = arrival(self.behind())?;
+        let next = arrival(self.next_address())?;
         self.base = base;
         self.arrive(next, false);
         Ok(())
@@ -178,7 +177,7 @@ impl Cpu {
     pub(crate) fn set_display(&mut self, on: bool) -> Result<(), Refusal>
         ensures { GoesOn (spec.with_display on) self.old self.new result }
     {
-        let next = arrival(self.behind())?;
+        let next = arrival(self.next_address())?;
         self.display = on;
         self.arrive(next, false);
         Ok(())
@@ -188,7 +187,7 @@ impl Cpu {
     pub(crate) fn transfer(&mut self, transfer: RegisterTransfer) -> Result<(), Refusal>
         ensures { GoesOn (spec.transferred transfer) self.old self.new result }
     {
-        let next = arrival(self.behind())?;
+        let next = arrival(self.next_address())?;
         let (c, g, t) = (self.c, self.g, self.t);
         match transfer {
             RegisterTransfer::CToG => self.g = self.byte_at_pointer(),

@@ -23,7 +23,7 @@ impl Cpu {
     pub(crate) fn set_status(&mut self, bit: StatusBit, on: bool) -> Result<(), Refusal>
         ensures { GoesOn (spec.with_status bit on) self.old self.new result }
     {
-        let next = arrival(self.behind())?;
+        let next = arrival(self.next_address())?;
         self.put_status(bit, on);
         self.arrive(next, false);
         Ok(())
@@ -40,7 +40,7 @@ impl Cpu {
     pub(crate) fn clear_status_byte(&mut self) -> Result<(), Refusal>
         ensures { GoesOn (spec.with_status_byte 0) self.old self.new result }
     {
-        let next = arrival(self.behind())?;
+        let next = arrival(self.next_address())?;
         self.set_status_byte(0);
         self.arrive(next, false);
         Ok(())

@@ -16,8 +16,7 @@ pub fn write_register<const REGS: usize>(
     register: BlockRegister,
 ) -> Result<(), Refusal>
     ensures processor { GoesOn (spec.selecting_in_block register) cpu.old cpu.new result }
-    ensures written { OnOk result (ram.new
-        ≡ spec.with_c_at ram.old (spec.block_address register cpu.old) cpu.old) }
+    ensures written { OnOk result (ram.new ≡ spec.with_c_in_block ram.old register cpu.old) }
     ensures kept { OnErr result (ram.new ≡ ram.old) }
 {
     let address = cpu.block_address(register.number());

@@ -1,7 +1,6 @@
 //! The words that write and read the pages.
 
 ghost use Rattle.std.specs.Prelude.{◌≡◌, OnOk, OnErr};
-ghost use Rattle.h41_nut.specs.Going.{GoesOnUnless};
 ghost use Rattle.h41_nut.specs.MemoryWords as spec;
 
 use crate::cpu::Cpu;
@@ -11,8 +10,7 @@ use h41_words::Word;
 
 /// `WROM`: the word in C is written at the address in C. Refused as 12 before all else where its page is not writable.
 pub fn write_rom(cpu: &mut Cpu, pages: &mut Pages) -> Result<(), Refusal>
-    ensures processor { GoesOnUnless (spec.refusal_to_write pages.old cpu.old) (λ s. s)
-        cpu.old cpu.new result }
+    ensures processor { spec.WritesWord pages.old cpu.old cpu.new result }
     ensures written { OnOk result (pages.new ≡ spec.with_word_written pages.old cpu.old) }
     ensures kept { OnErr result (pages.new ≡ pages.old) }
 {
@@ -26,8 +24,7 @@ pub fn write_rom(cpu: &mut Cpu, pages: &mut Pages) -> Result<(), Refusal>
 /// `FETCH S&X`: the word at the address in C goes to C; 000 where no page is plugged there. Refused as 8 before all else in
 /// the system's pages.
 pub fn fetch_word(cpu: &mut Cpu, pages: &Pages) -> Result<(), Refusal>
-    ensures { GoesOnUnless (spec.refusal_to_fetch cpu.old) (spec.with_fetched_word pages.now)
-        cpu.old cpu.new result }
+    ensures { spec.FetchesWord pages.now cpu.old cpu.new result }
 {
     let word = pages.fetch_or_zero(cpu.address_in_c())?;
     cpu.load_word(word)

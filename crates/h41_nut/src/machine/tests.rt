@@ -1,4 +1,4 @@
-//! Microcode that is stepped: what the registers are behind it, and what is refused.
+//! Microcode that is stepped: what the registers are after it, and what is refused.
 
 use crate::base::Base;
 use crate::cpu::Cpu;
@@ -21,7 +21,7 @@ fn page(alloc: Global, words: &[u16]) -> Result<Vec<u16>, Fail> {
     Ok(page)
 }
 
-/// The processor behind so many steps of these words at 8000, and the answer of the last.
+/// The processor after so many steps of these words at 8000, and the answer of the last.
 fn stepped(
     alloc: Global,
     words: &[u16],

@@ -9,5 +9,5 @@ returns-clause-digits c =
     let past : c.loop-place.place ≡ hi = omega (arith, c.args.span.ordered) in
     let so_far = subst (λ next. FilledTo c.args.into c.args.span.lo next digit c.loop-place.digits) past c.loop-place.invariant.filled in
     let zero : 0 ≡ digit hi = rw (place_itself hi) refl in
-    let more = filled_more c.args.into c.loop-place.digits c.args.span.lo hi digit 0 (omega (arith, c.with.ensures.register.0.size, c.args.span.in_register)) (omega (arith, c.args.span.ordered)) zero so_far in
-    filled_all c.args.into c.with.result c.args.span.lo hi digit c.with.ensures.register.1.size (rw c.with.ensures.changed more)
+    let more = filled_more c.args.into c.loop-place.digits c.args.span.lo hi digit 0 (omega (arith, c.with.ensures.from.size, c.args.span.in_register)) (omega (arith, c.args.span.ordered)) zero so_far in
+    filled_all c.args.into c.with.result c.args.span.lo hi digit c.with.ensures.register.size (rw c.with.ensures.changed more)

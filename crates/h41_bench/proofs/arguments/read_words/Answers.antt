@@ -54,4 +54,4 @@ pub returns-in-Err-clause-mistake : goal.returns-in-Err-clause-mistake
 returns-in-Err-clause-mistake c = λ is.
     let words : List (List ℕ) = map (λ w. w.now) c.args.words.now in
     let wrong = failed_mistake words c.in-Err.error c.in-Err.ensures.kinds is in
-    c.make_ending.ensures.mistake wrong.0 wrong.1
+    c.make_ending.ensures.mistake (record { no_help = wrong.0; no_version = wrong.1 })

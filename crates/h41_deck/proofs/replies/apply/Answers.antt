@@ -1,16 +1,17 @@
-use Rattle.std.proofs.Common.{◌≡◌, sym, ◌∙◌}
+use Rattle.std.proofs.lemmas.Result.{err_from_is_err_and}
 use Rattle.std.specs.Result.{result_err}
 use Rattle.h41_deck.specs.Blocks.{judgement}
 use Rattle.h41_deck.specs.Items.{with_values}
 use Rattle.h41_deck.specs.Replies.{ItemReply, ends_by}
-use Rattle.h41_deck.proofs.Commanded.{call_reply, part_by, plug_reply, refused_reply, replies_by, shows, shows_in_part, step_reply}
+use Rattle.h41_deck.proofs.Commanded.{call_reply, part_by, plug_reply, refused_reply, replies_by, shows, step_reply}
 use Rattle.h41_deck.proofs.replies.apply.Goals as goal
 use Rattle.h41_deck.proofs.replies.apply.Goals.{in-Plug+in_ok-ended-in-Plug, in-Call, in-Step}
 
-pub returns-in_err-print_ending-clause-part : goal.returns-in_err-print_ending-clause-part
-returns-in_err-print_ending-clause-part g c = λ _.
+pub returns-in_err-print_ending-clause-reply : goal.returns-in_err-print_ending-clause-reply
+returns-in_err-print_ending-clause-reply g c =
     let reply = refused_reply (judgement c.args.block) c.args.command c.in-Some.refusal c.args.bench.now c.in-Some.ensures in
-    part_by _ _ _ _ _ _ reply c.in_err-print_ending.ensures.part
+    let p = err_from_is_err_and c.from_residual.result c.from_residual.ensures.1 in
+    rw (p.1, p.2) (part_by _ _ _ _ _ _ reply c.in_err-print_ending.ensures.written)
 
 pub returns-in-Some-clause-reply : goal.returns-in-Some-clause-reply
 returns-in-Some-clause-reply g c =
@@ -19,14 +20,10 @@ returns-in-Some-clause-reply g c =
 
 pub returns-in-Show-clause-reply : goal.returns-in-Show-clause-reply
 returns-in-Show-clause-reply g c =
-    shows (judgement c.args.block) c.args.command c.in-Show.view c.args.bench.now _ _ c.show.result c.in-Show.is c.in_default.ensures c.show.ensures.outcome c.show.ensures.written
+    shows (judgement c.args.block) c.args.command c.in-Show.view c.args.bench.now g.W.Sink.contents _ _ c.show.result c.in-Show.is c.in_default.ensures c.show.ensures.outcome c.show.ensures.written
 
-pub returns-in-Show-clause-part : goal.returns-in-Show-clause-part
-returns-in-Show-clause-part g c = λ failed.
-    shows_in_part (judgement c.args.block) c.args.command c.in-Show.view c.args.bench.now _ _ c.in-Show.is c.in_default.ensures (c.show.ensures.part failed)
-
-pub returns-in_err-print_ending-2-clause-part : goal.returns-in_err-print_ending-2-clause-part
-returns-in_err-print_ending-2-clause-part g c = λ _.
+pub returns-in_err-print_ending-2-clause-reply : goal.returns-in_err-print_ending-2-clause-reply
+returns-in_err-print_ending-2-clause-reply g c =
     let reply : ItemReply (with_values (judgement c.args.block) c.args.command) c.args.bench.now c.match-command.bench (ends_by (result_err c.match-command.ended)) =
     elim c.match-command.branch [
       | in-Plug+in_ok-ended-in-Plug w ↦ rw (w.bench-is, w.ended-is) (plug_reply (judgement c.args.block) c.args.command w.in-Plug.kind w.in-Plug.page w.in-Plug.writable _ w.in_ok-ended-in-Plug.ended c.args.bench.now _
@@ -35,7 +32,8 @@ returns-in_err-print_ending-2-clause-part g c = λ _.
           w.in-Call.is c.in_default.ensures (rw w.bench.view_is at w.call-ended.ensures.refusal) (rw w.bench.view_is at w.call-ended.ensures.change) (rw w.bench.view_is at w.call-ended.ensures.err))
       | in-Step w ↦ rw (w.bench-is, w.ended-is) (step_reply (judgement c.args.block) c.args.command w.in-Step.count w.steps-ended.result c.args.bench.now _ w.in-Step.is c.in_default.ensures w.steps-ended.ensures)
     ] in
-    part_by _ _ _ _ _ _ reply c.in_err-print_ending-2.ensures.part
+    let p = err_from_is_err_and c.from_residual-in_err-print_ending-2.result c.from_residual-in_err-print_ending-2.ensures.1 in
+    rw (p.1, p.2) (part_by _ _ _ _ _ _ reply c.in_err-print_ending-2.ensures.written)
 
 pub returns-clause-reply : goal.returns-clause-reply
 returns-clause-reply g c =

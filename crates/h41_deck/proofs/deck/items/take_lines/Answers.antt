@@ -1,4 +1,4 @@
-use Rattle.std.proofs.Common.{◌≡◌, ◌∷◌, ◌++◌, [], sym, ◌∙◌}
+use Rattle.std.proofs.Common.{◌∷◌, ◌++◌, [], sym, ◌∙◌}
 use Rattle.h41_deck.proofs.BlockLines.{ends_block, lacks_end, reads_more}
 use Rattle.h41_deck.proofs.deck.items.take_lines.Goals as goal
 

@@ -2,7 +2,7 @@ use Rattle.std.proofs.Common.{◌≡◌, ℕ, ◌<◌, ◌≤◌, slice_index}
 use Rattle.h41_digits.specs.Register.{IsRegister}
 use Rattle.h41_arith.specs.DigitRule.{rule_of, carry_digit}
 use Rattle.h41_arith.proofs.Carries.{CarriedTo}
-use Rattle.h41_arith.proofs.sums.Operation.over_span.Given as goal
+use Rattle.h41_arith.proofs.sums.DigitOperation.over_span.Given as goal
 
 -- the rule holds up to the place, and the places outside are those of `into`
 abbrev pub invariant-loop-place : goal.invariant-loop-place

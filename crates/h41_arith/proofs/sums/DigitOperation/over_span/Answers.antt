@@ -2,7 +2,7 @@ use Rattle.std.proofs.Common.{◌≡◌, ◌+◌, ◌<◌, ◌≢◌, length, ar
 use Rattle.std.proofs.lemmas.List.{get_or-set_other}
 use Rattle.h41_arith.specs.DigitRule.{rule_of, carry_digit}
 use Rattle.h41_arith.proofs.Carries.{CarriedTo, carried_none, carried_more, carried_all, carry_le}
-use Rattle.h41_arith.proofs.sums.Operation.over_span.Goals as goal
+use Rattle.h41_arith.proofs.sums.DigitOperation.over_span.Goals as goal
 
 pub loop-place-init : goal.loop-place-init
 loop-place-init c = record {
@@ -16,7 +16,7 @@ pub loop-place-preserved : goal.loop-place-preserved
 loop-place-preserved c =
     let at = c.loop-place.place in
     let changed = c.set.ensures.changed in
-    let inside : at < length c.loop-place.digits = omega (arith, c.set.ensures.register.0.size, c.args.span.in_register) in
+    let inside : at < length c.loop-place.digits = omega (arith, c.set.ensures.from.size, c.args.span.in_register) in
     let rule = c.digit-digit.ensures.rule in
     let step = carried_more (rule_of c.args.self c.args.base) c.args.x c.args.y (carry_digit c.args.carry_in) c.args.span.lo at c.loop-place.digits (carry_digit c.loop-place.carry)
     c.digit-digit.result.0 (carry_digit c.digit-digit.result.1) inside c.loop-place.auto.place c.loop-place.invariant.carried
@@ -24,7 +24,7 @@ loop-place-preserved c =
       carried = rw changed step;
       below = λ place low. let other : place ≢ at = omega arith in rw changed (get_or-set_other c.loop-place.digits at place c.digit-digit.result.0 0 other ∙ c.loop-place.invariant.below place low);
       above = λ place high. let other : place ≢ at = omega arith in rw changed (get_or-set_other c.loop-place.digits at place c.digit-digit.result.0 0 other ∙ c.loop-place.invariant.above place (omega arith));
-      registers = λ h. (c.set.ensures.register.1, c.get.ensures.register, c.get-in-loop-place.ensures.register);
+      registers = λ h. (c.set.ensures.register, c.get.ensures.register, c.get-in-loop-place.ensures.register);
     }
 
 pub returns-clause-result : goal.returns-clause-result
@@ -36,6 +36,8 @@ returns-clause-result c =
       outside = record { below = c.loop-place.invariant.below; above = λ place high. c.loop-place.invariant.above place (omega arith) };
     }
 
-pub returns-clause-operands : goal.returns-clause-operands
-returns-clause-operands c =
-    let registers = c.loop-place.invariant.registers (omega (arith, c.args.span.ordered)) in (registers.1, registers.2)
+pub returns-clause-first : goal.returns-clause-first
+returns-clause-first c = (c.loop-place.invariant.registers (omega (arith, c.args.span.ordered))).1
+
+pub returns-clause-second : goal.returns-clause-second
+returns-clause-second c = (c.loop-place.invariant.registers (omega (arith, c.args.span.ordered))).2

@@ -1,0 +1,72 @@
+-- The listing: which rows there are, in the order of HP's VASM listings.
+use Rattle.std.specs.Prelude.{◌-◌, ℤ, pos, negsuc, List, [], ◌∷◌, ◌++◌, map}
+use Rattle.std.specs.List.{flat_map, range_with_len}
+use Rattle.h41_fields.specs.declared.field.Field.{Field}
+use Rattle.h41_fields.specs.declared.field.Field.TheVariants.{AtPointer, SignAndExponent, ToPointer, All, PToQ, ExponentSign, Mantissa, MantissaSign}
+use Rattle.h41_fields.specs.declared.field.Pointer.TheVariants.{P, Q}
+use Rattle.h41_words.specs.declared.operation.Operation.{Operation}
+use Rattle.h41_words.specs.declared.operation.Operation.TheVariants.{ClearA, ClearB, ClearC, ExchangeAB, AToB, ExchangeAC, BToC, ExchangeBC, CToA, AddBToA, AddCToA, IncrementA, SubtractBFromA, DecrementA, SubtractCFromA, DoubleC, AddAToC, IncrementC, SubtractCFromAToC, DecrementC, NegateC, ComplementC, TestBNonzero, TestCNonzero, TestALessThanC, TestALessThanB, TestANonzero, TestADiffersFromC, ShiftRightA, ShiftRightB, ShiftRightC, ShiftLeftA}
+use Rattle.h41_words.specs.declared.rows.Row.{Row}
+use Rattle.h41_words.specs.declared.rows.Row.TheVariants as rows
+use Rattle.h41_words.specs.declared.rows.RegisterTransfer.TheVariants.{CToG, GToC, ExchangeCG, CToM, MToC, ExchangeCM, StatusToT, TToStatus, ExchangeStatusT, CToStatus, StatusToC, ExchangeCStatus, CToN, NToC, ExchangeCN}
+use Rattle.h41_words.specs.declared.rows.Bank.TheVariants.{First, Second, Third, Fourth}
+use Rattle.h41_words.specs.declared.rows.Condition.TheVariants.{NoCarry, Carry}
+use Rattle.h41_words.specs.Counts.{status_bit_count, place_count, digit_count, block_register_count}
+
+-- the fields in their order
+abbrev pub fields : List Field
+fields =
+    AtPointer ∷ SignAndExponent ∷ ToPointer ∷ All ∷ PToQ ∷ ExponentSign ∷ Mantissa ∷ MantissaSign ∷ []
+
+-- the operations in their order
+abbrev pub operations : List Operation
+operations =
+    ClearA ∷ ClearB ∷ ClearC ∷ ExchangeAB ∷ AToB ∷ ExchangeAC ∷ BToC ∷ ExchangeBC ∷ CToA ∷ AddBToA ∷ AddCToA
+    ∷ IncrementA ∷ SubtractBFromA ∷ DecrementA ∷ SubtractCFromA ∷ DoubleC ∷ AddAToC ∷ IncrementC
+    ∷ SubtractCFromAToC ∷ DecrementC ∷ NegateC ∷ ComplementC ∷ TestBNonzero ∷ TestCNonzero ∷ TestALessThanC
+    ∷ TestALessThanB ∷ TestANonzero ∷ TestADiffersFromC ∷ ShiftRightA ∷ ShiftRightB ∷ ShiftRightC ∷ ShiftLeftA
+    ∷ []
+
+-- the single words
+abbrev pub single_rows : List Row
+single_rows =
+    rows.Nop ∷ rows.WriteRom ∷ rows.EnableBank First ∷ rows.EnableBank Second
+    ∷ rows.EnableBank Third ∷ rows.EnableBank Fourth ∷ rows.ClearStatusByte ∷ rows.ClearKeyFlag
+    ∷ rows.TestKeyFlag ∷ rows.DecrementPointer ∷ rows.IncrementPointer ∷ rows.ReadData
+    ∷ rows.Transfer CToG ∷ rows.Transfer GToC ∷ rows.Transfer ExchangeCG ∷ rows.Transfer CToM
+    ∷ rows.Transfer MToC ∷ rows.Transfer ExchangeCM ∷ rows.Transfer StatusToT
+    ∷ rows.Transfer TToStatus ∷ rows.Transfer ExchangeStatusT ∷ rows.Transfer CToStatus
+    ∷ rows.Transfer StatusToC ∷ rows.Transfer ExchangeCStatus ∷ rows.DropReturn ∷ rows.PowerOff
+    ∷ rows.SelectPointer P ∷ rows.SelectPointer Q ∷ rows.TestPointersEqual ∷ rows.TestLowBattery
+    ∷ rows.ClearRegisters ∷ rows.GoToAddress ∷ rows.ReadKey ∷ rows.SetHexadecimal ∷ rows.SetDecimal
+    ∷ rows.DisplayOff ∷ rows.ToggleDisplay ∷ rows.ReturnIf Carry ∷ rows.ReturnIf NoCarry
+    ∷ rows.Return ∷ rows.Transfer CToN ∷ rows.Transfer NToC ∷ rows.Transfer ExchangeCN
+    ∷ rows.LoadImmediate ∷ rows.PushAddress ∷ rows.PopAddress ∷ rows.GoToKey ∷ rows.SelectRegister
+    ∷ rows.WriteData ∷ rows.FetchWord ∷ rows.Or ∷ rows.And ∷ rows.SelectPeripheral ∷ []
+
+-- the displacements of short jumps
+abbrev pub displacements : List ℤ
+displacements = map (λ words. pos words) (range_with_len 0 64) ++ map (λ words. negsuc words) (range_with_len 0 64)
+
+-- the families, in the order of the listing, and the single words
+abbrev pub families : List (List Row)
+families =
+    flat_map (λ operation. map (λ field. rows.Arithmetic operation field) fields) operations
+    ∷ map (λ low_byte. rows.LongJump low_byte) (range_with_len 0 256)
+    ∷ map (λ displacement. rows.ShortJump NoCarry displacement) displacements
+    ∷ map (λ displacement. rows.ShortJump Carry displacement) displacements
+    ∷ map (λ bit. rows.ClearStatus bit) (range_with_len 0 status_bit_count)
+    ∷ map (λ bit. rows.SetStatus bit) (range_with_len 0 status_bit_count)
+    ∷ map (λ bit. rows.TestStatus bit) (range_with_len 0 status_bit_count)
+    ∷ map (λ place. rows.TestPointer place) (range_with_len 0 place_count)
+    ∷ map (λ place. rows.SetPointer place) (range_with_len 0 place_count)
+    ∷ map (λ digits. rows.RotateRight digits) (range_with_len 0 place_count)
+    ∷ map (λ digit. rows.LoadDigit digit) (range_with_len 0 digit_count)
+    ∷ map (λ register. rows.Write register) (range_with_len 0 block_register_count)
+    ∷ map (λ register. rows.Read register) (range_with_len 1 (block_register_count - 1))
+    ∷ single_rows
+    ∷ []
+
+-- the rows of the listing
+unfoldable pub listed_rows : List Row
+listed_rows = flat_map (λ family. family) families

@@ -6,7 +6,7 @@ mod serve;
 #[cfg(test)]
 mod tests;
 
-ghost use Rattle.std.specs.Prelude.{◌≡◌, ◌≢◌, ◌∷◌, ◌≤◌, true, IfOk, IfSome, IsSome, codes, drop, map, string_bytes};
+ghost use Rattle.std.specs.Prelude.{◌≡◌, ◌≢◌, ◌∷◌, ◌≤◌, true, Err, IfOk, IfSome, IsSome, Ok, OnErr, codes, drop, map, string_bytes};
 ghost use Rattle.h41_bench.specs.CommandLine.{asks_help, file_to_run, is_mistake, named};
 ghost use Rattle.h41_bench.specs.Ending.{status_of};
 ghost use Rattle.h41_bench.specs.Statuses.{EndsDeck, IsOrFailed, IsStatus};
@@ -17,7 +17,7 @@ use h41_deck::{Fault, FromRead, ToWrite};
 use std::alloc::{AllocError, Global};
 use std::env;
 use std::fs::File;
-use std::io::{BufWriter, ErrorKind, Read};
+use std::io::{self, BufWriter, ErrorKind, Read};
 use std::process::ExitCode;
 
 /// The program's name, as help and faults of the command line tell it.
@@ -101,10 +101,18 @@ fn run_job(rt: &HostRuntime, alloc: Global, job: Job<'_>) -> u8
     if job.file == "-" {
         return run_from(rt, alloc, job, rt.stdin());
     }
-    match File::open(rt, job.file) {
+    match opened(File::open(rt, job.file)) {
         Ok(file) => run_from(rt, alloc, job, file),
-        Err(_) => fail(rt, Fault::ReadFault),
+        Err(fault) => fail(rt, fault),
     }
+}
+
+/// The file, or the fault that it is where a file cannot be opened.
+fn opened(file: io::Result<File>) -> Result<File, Fault>
+    ensures file { IfOk file (λ given. result ≡ Ok given) }
+    ensures fault { OnErr file (result ≡ Err Fault.ReadFault) }
+{
+    file.map_err(|_| Fault::ReadFault)
 }
 
 /// Runs the deck that a reader gives, from there to standard output.

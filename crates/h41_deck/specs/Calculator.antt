@@ -72,7 +72,7 @@ page_refusal s page words = option_map of_plug (plug_refusal s.nut.pages page bl
 abbrev pub RefusesPage : State → ℕ → ℕ → List ℕ → plug.PlugRefusal → Type 0
 RefusesPage s page bank words refusal = RefusesPlug s.nut.pages page bank words refusal
 
--- they are not refused
+-- words are not refused at a page's bank
 abbrev pub TakesPage : State → ℕ → ℕ → List ℕ → Type 0
 TakesPage s page bank words = plug_refusal s.nut.pages page bank words ≡ None
 

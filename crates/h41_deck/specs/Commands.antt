@@ -76,7 +76,7 @@ plain_command name operands =
     else (if bytes_eq name (codes "show") then show_command operands
     else Err BadCommand))
 
--- the command of a line
+-- the command of a line, by the kind of the block that its first word opens
 abbrev pub command_by : Option BlockKind → List ℕ → List (List ℕ) → Result Command Refusal
 command_by (Some kind) name operands = opening_command kind operands
 command_by None name operands = plain_command name operands

@@ -54,7 +54,7 @@ EndsKnown known outcome = IfSome known (λ deck. DeckEnds deck outcome)
 abbrev pub IsFront : Option (List ℕ) → List ℕ → Type 0
 IsFront known bytes = IfSome known (λ deck. bytes ≡ take most_bytes deck)
 
--- and this says whether they are all
+-- where it is known, this says whether they are all
 abbrev pub SaysWhole : Option (List ℕ) → Bool → Type 0
 SaysWhole known is_whole = IfSome known (λ deck. is_whole ≡ nat_le (length deck) most_bytes)
 
@@ -86,7 +86,7 @@ answered_items false items = closed items
 abbrev pub AnswersItems : List Spelled → Option (List ℕ) → Option (List ℕ) → Outcome → Type 0
 AnswersItems items old new outcome = (text : List ℕ) × Answered items text outcome × Appends old new text
 
--- where all are answered, those of these bytes are
+-- where there is an outcome, the commands of these bytes are answered so
 abbrev pub AnswersBytes : {E W : Type 0} → Result Outcome E → Bool → List ℕ → (W → Option (List ℕ)) → W → W → Type 0
 AnswersBytes result is_whole bytes contents old new =
     IfOk result (AnswersItems (answered_items is_whole (commands (lines bytes))) (contents old) (contents new))

@@ -45,7 +45,7 @@ block_refusal s page words = page_refusal s page (filled words)
 abbrev pub with_block : ℕ → Bool → List ℕ → State → State
 with_block page writable words s = unless (block_refusal s page words) (with_page page writable (filled words) s) s
 
--- what ended so was refused as this says
+-- what ended was refused so, or not at all
 abbrev pub RefusedAs : {A : Type 0} → Option Refusal → Result A Refusal → Type 0
 RefusedAs refusal ended = result_err ended ≡ refusal
 

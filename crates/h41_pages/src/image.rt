@@ -50,7 +50,8 @@ impl Image {
 
     /// Its words.
     pub fn words(&self) -> &[Word]
-        ensures { result.now ≡ self.now.words }
+        ensures words { result.now ≡ self.now.words }
+        ensures size { length result.now ≡ page_size }
     {
         self.words.as_slice()
     }

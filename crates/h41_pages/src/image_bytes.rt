@@ -1,6 +1,6 @@
 //! Images as bytes, as files have them: two bytes a word, the high byte first.
 
-ghost use Rattle.std.specs.Prelude.{◌≡◌, ◌+◌, ◌*◌, ◌≤◌, ◌<◌, None, IfOk, IfErr, OnOk, IsTrue, All, length};
+ghost use Rattle.std.specs.Prelude.{◌≡◌, ◌+◌, ◌*◌, ◌≤◌, ◌<◌, None, IfOk, IfErr, OnOk, IsTrue, All, length, vec_len};
 ghost use Rattle.h41_words.specs.Counts.{word_count};
 ghost use Rattle.h41_pages.specs.Addresses.{page_size};
 ghost use Rattle.h41_pages.specs.Images as spec;
@@ -23,7 +23,7 @@ pub fn image_read(alloc: Global, bytes: &[u8]) -> Result<Vec<u16>, ReadRefusal>
     ensures words { IfOk result (λ words. words.items ≡ spec.words_in bytes.now) }
     ensures refusal { IfErr result (spec.RefusesRead bytes.now) }
 {
-    if !is_image(bytes) {
+    if !is_image_bytes(bytes) {
         return Err(ReadRefusal::BadImage);
     }
     Ok(words_in(alloc, bytes)?)
@@ -41,8 +41,8 @@ fn words_in(alloc: Global, bytes: &[u8]) -> Result<Vec<u16>, AllocError>
     Ok(words)
 }
 
-/// Whether these are the bytes of an image.
-fn is_image(bytes: &[u8]) -> bool
+/// Whether these are the bytes of an image: 8,192 of them, and no word above 3FF.
+pub fn is_image_bytes(bytes: &[u8]) -> bool
     ensures test { result ≡ spec.is_image_bytes bytes.now }
     ensures size { IsTrue result → length bytes.now ≡ spec.image_size }
 {
@@ -76,6 +76,7 @@ impl Pages {
     pub fn image_write(&self, alloc: Global, page: u8, bank: u8) -> Result<Vec<u8>, ImageRefusal>
         ensures accepted { OnOk result (spec.image_refusal self.now page bank ≡ None) }
         ensures bytes { IfOk result (λ bytes. spec.IsImageAt self.now page bank bytes.items) }
+        ensures size { IfOk result (λ bytes. vec_len bytes ≡ spec.image_size) }
         ensures refusal { IfErr result (spec.RefusesImage self.now page bank) }
     {
         if !is_held(page, bank) {
@@ -91,7 +92,8 @@ impl Pages {
 impl Image {
     /// The bytes of its words.
     fn bytes(&self, alloc: Global) -> Result<Vec<u8>, AllocError>
-        ensures { IfOk result (λ bytes. bytes.items ≡ spec.image_bytes self.now.words) }
+        ensures bytes { IfOk result (λ bytes. bytes.items ≡ spec.image_bytes self.now.words) }
+        ensures size { IfOk result (λ bytes. vec_len bytes ≡ spec.image_size) }
     {
         bytes_of(alloc, self.words())
     }
@@ -99,7 +101,8 @@ impl Image {
 
 /// The bytes of words.
 fn bytes_of(alloc: Global, words: &[Word]) -> Result<Vec<u8>, AllocError>
-    ensures { IfOk result (λ bytes. bytes.items ≡ spec.image_bytes words.now) }
+    ensures bytes { IfOk result (λ bytes. bytes.items ≡ spec.image_bytes words.now) }
+    ensures size { IfOk result (λ bytes. vec_len bytes ≡ 2 * length words.now) }
 {
     let mut bytes = Vec::with_capacity(alloc, IMAGE_BYTES)?;
     for word in words {

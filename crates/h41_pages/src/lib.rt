@@ -13,7 +13,7 @@ mod refusal;
 
 pub use addresses::FIRST_ADDRESS;
 pub use functions::{Entry, Function};
-pub use image_bytes::image_read;
+pub use image_bytes::{image_read, is_image_bytes};
 pub use name::Name;
 pub use pages::Pages;
 pub use refusal::{FetchRefusal, ImageRefusal, PlugRefusal, ReadOnly, ReadRefusal, UnplugRefusal};

@@ -26,5 +26,9 @@ fn digit(digit: u8) -> u8
     requires { digit < 200 }
     ensures { result ≡ digit_glyph true digit }
 {
-    if digit < 10 { b'0' + digit } else { b'A' - 10 + digit }
+    if digit < 10 {
+        b'0' + digit
+    } else {
+        b'A' - 10 + digit
+    }
 }

@@ -24,10 +24,7 @@ impl fmt::Display for PositionLine<'_> {
 }
 
 /// `Micro` and the address of the next word while a function runs, else `Idle` and the position, which is 0000 for now.
-fn write_position<W: fmt::Write>(
-    f: &mut fmt::Formatter<W>,
-    calculator: &Calculator,
-) -> fmt::Result
+fn write_position<W: fmt::Write>(f: &mut fmt::Formatter<W>, calculator: &Calculator) -> fmt::Result
     ensures { WritesOnOk W.write_str_gives f.old result (position_text calculator.now) f.new }
 {
     match calculator.mode() {

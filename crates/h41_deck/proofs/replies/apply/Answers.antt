@@ -33,7 +33,7 @@ returns-in_err-print_ending-2-clause-reply g c =
       | in-Reset w ↦ rw (w.bench-is, w.ended-is) (reset_reply (judgement c.args.block) c.args.command c.args.bench.now _
           w.in-Reset.is c.in_default.ensures (rw w.bench.view_is at w.reset.ensures))
       | in-Call w ↦ rw (w.bench-is, w.ended-is) (call_reply (judgement c.args.block) c.args.command w.in-Call.address w.call-ended.result c.args.bench.now _
-          w.in-Call.is c.in_default.ensures (rw w.bench.view_is at w.call-ended.ensures.refusal) (rw w.bench.view_is at w.call-ended.ensures.change) (rw w.bench.view_is at w.call-ended.ensures.err))
+          w.in-Call.is c.in_default.ensures (rw w.bench-in-Call.view_is at w.call-ended.ensures.refusal) (rw w.bench-in-Call.view_is at w.call-ended.ensures.change) (rw w.bench-in-Call.view_is at w.call-ended.ensures.err))
       | in-Step w ↦ rw (w.bench-is, w.ended-is) (step_reply (judgement c.args.block) c.args.command w.in-Step.count w.steps-ended.result c.args.bench.now _ w.in-Step.is c.in_default.ensures w.steps-ended.ensures)
     ] in
     let p = err_from_is_err_and c.from_residual-in_err-print_ending-2.result c.from_residual-in_err-print_ending-2.ensures.1 in
@@ -50,7 +50,7 @@ returns-clause-reply g c =
       | in-Reset w ↦ rw (w.bench-is, w.ended-is) (reset_reply (judgement c.args.block) c.args.command c.args.bench.now _
           w.in-Reset.is c.in_default.ensures (rw w.bench.view_is at w.reset.ensures))
       | in-Call w ↦ rw (w.bench-is, w.ended-is) (call_reply (judgement c.args.block) c.args.command w.in-Call.address w.call-ended.result c.args.bench.now _
-          w.in-Call.is c.in_default.ensures (rw w.bench.view_is at w.call-ended.ensures.refusal) (rw w.bench.view_is at w.call-ended.ensures.change) (rw w.bench.view_is at w.call-ended.ensures.err))
+          w.in-Call.is c.in_default.ensures (rw w.bench-in-Call.view_is at w.call-ended.ensures.refusal) (rw w.bench-in-Call.view_is at w.call-ended.ensures.change) (rw w.bench-in-Call.view_is at w.call-ended.ensures.err))
       | in-Step w ↦ rw (w.bench-is, w.ended-is) (step_reply (judgement c.args.block) c.args.command w.in-Step.count w.steps-ended.result c.args.bench.now _ w.in-Step.is c.in_default.ensures w.steps-ended.ensures)
     ] in
     replies_by _ _ _ _ _ _ _ reply c.in_ok-print_ending-2.ensures.outcome c.in_ok-print_ending-2.ensures.written

@@ -1,5 +1,5 @@
-use Rattle.std.proofs.Common.{◌≡◌, ◌+◌, ◌*◌, ◌++◌, ℕ, arith, refl, ap, sym, ◌∙◌}
-use Rattle.h41_deck.specs.PageViews.{image_line, image_lines, line_text}
+use Rattle.std.proofs.Common.{◌+◌, ◌*◌, ◌++◌, refl, ap, sym, ◌∙◌}
+use Rattle.h41_deck.specs.PageViews.{image_line, line_text}
 use Rattle.h41_deck.proofs.ImageLines.{no_lines, one_more_line, line_of}
 use Rattle.h41_deck.proofs.replies.image.image_text.Goals as goal
 

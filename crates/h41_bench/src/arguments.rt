@@ -73,6 +73,9 @@ A deck is a text file of commands, one a line. Such as:
     show cpu
 
   words P [rw]  fills page P, 4 to F, with the words on the lines up to `end`
+  image P [rw]  likewise with the bytes of an image file, in hexadecimal
+  unplug P      takes the page out again
+  reset         begins anew; pages stay plugged
   call hhhh     begins the function at an address
   step [n]      carries out n of its instructions, one where n is missing
   show cpu      prints the processor
@@ -80,6 +83,8 @@ A deck is a text file of commands, one a line. Such as:
   show stack    prints the registers T, Z, Y, X and L of the stack
   show flags    prints the numbers of the flags that are set
   show pos      prints whether a function runs, and where
+  show image P  prints the page's image in hexadecimal
+  show functions  prints the functions of plugged modules
   # ...         is a comment, where # is the first character of the line
 
 A refused command prints a line such as `! 24 Busy`, and the deck goes on.

@@ -1,21 +1,20 @@
 -- How a command that was carried out is answered.
-use Rattle.std.proofs.Common.{◌≡◌, ℕ, Bool, List, Option, Some, None, Result, Ok, Err, OnOk, OnErr, IfOk, refl, sym, ap, subst, append-nil}
+use Rattle.std.proofs.Common.{◌≡◌, ℕ, Bool, List, Option, Some, None, Result, Ok, Err, OnOk, OnErr, IfOk, refl, sym, ap, subst, append-nil, ◌∙◌}
 use Rattle.std.specs.Result.{result_err}
 use Rattle.std.specs.Io.KnownBytes.{Appends}
 use Rattle.h41_deck.specs.declared.commands.BlockKind.{BlockKind}
 use Rattle.h41_deck.specs.declared.commands.Command.{Command}
-use Rattle.h41_deck.specs.declared.commands.Command.TheVariants.{Plug, Call, Step, Show}
+use Rattle.h41_deck.specs.declared.commands.Command.TheVariants.{Plug, Unplug, Reset, Call, Step, Show}
 use Rattle.h41_deck.specs.declared.commands.View.{View}
 use Rattle.h41_deck.specs.declared.fault.CommandFault.{CommandFault}
 use Rattle.h41_deck.specs.declared.fault.CommandFault.TheVariants.{OutOfMemory, WriteFault}
 use Rattle.h41_deck.specs.declared.refusal.Refusal.{Refusal}
 use Rattle.h41_deck.specs.declared.replies.Outcome.{Outcome}
-use Rattle.h41_deck.specs.declared.replies.Outcome.TheVariants.{Accepted}
-use Rattle.h41_deck.specs.Calculator.{State, Steps, call_refusal, called}
+use Rattle.h41_deck.specs.Calculator.{State, Steps, call_refusal, called, restarted, unplug_refusal, without_page}
 use Rattle.h41_deck.specs.Ends.{AppendsPart}
 use Rattle.h41_deck.specs.Items.{Spelled, with_values}
-use Rattle.h41_deck.specs.Views.{view_text}
-use Rattle.h41_deck.specs.Replies.{Answer, ChangesUnless, ItemReply, Leaves, Replies, RepliesInPart, Reply, Tells, block_refusal, ending_line, ends_by, outcome_in, says, with_block}
+use Rattle.h41_deck.specs.Views.{shown}
+use Rattle.h41_deck.specs.Replies.{Answer, ChangesUnless, ItemReply, Leaves, Replies, RepliesInPart, Reply, Tells, block_refusal, ending_line, ends_by, outcome_in, printed, says_or_ends, shown_text, with_block}
 
 -- a block that is refused is answered by its refusal
 pub refused_reply : (values : Result (List ℕ) Refusal) (command : Command) (refusal : Refusal) (s : State) → Some refusal ≡ result_err values
@@ -70,23 +69,43 @@ pub step_reply : (values : Result (List ℕ) Refusal) (command : Command) (count
 step_reply values command count ended s t spelt good steps =
     given_reply values command s t (ends_by (result_err ended)) good (λ given said. rw spelt (steps, refl))
 
+pub unplug_reply : (values : Result (List ℕ) Refusal) (command : Command) (page : ℕ) (ended : Result (Unit {0}) Refusal) (s t : State)
+    → command ≡ Unplug page → None ≡ result_err values → result_err ended ≡ unplug_refusal s page → OnOk ended (t ≡ without_page page s)
+    → OnErr ended (t ≡ s) → ItemReply (with_values values command) s t (ends_by (result_err ended))
+unplug_reply values command page ended s t spelt good refusal change err =
+    given_reply values command s t (ends_by (result_err ended)) good (λ given said. rw spelt (changes_unless ended (unplug_refusal s page) (without_page page s) s t refusal change err))
+
+pub reset_reply : (values : Result (List ℕ) Refusal) (command : Command) (s t : State)
+    → command ≡ Reset → None ≡ result_err values → t ≡ restarted s → ItemReply (with_values values command) s t (ends_by None)
+reset_reply values command s t spelt good change =
+    given_reply values command s t (ends_by None) good (λ given said. rw spelt (change, refl))
+
 pub show_reply : (values : Result (List ℕ) Refusal) (command : Command) (view : View) (s : State)
-    → command ≡ Show view → None ≡ result_err values → ItemReply (with_values values command) s s (says (view_text view s))
+    → command ≡ Show view → None ≡ result_err values → ItemReply (with_values values command) s s (says_or_ends (shown view s))
 show_reply values command view s spelt good =
-    given_reply values command s s (says (view_text view s)) good (λ given said. rw spelt (refl, refl))
+    given_reply values command s s (says_or_ends (shown view s)) good (λ given said. rw spelt (refl, refl))
+
+-- what is printed of a view
+view_printed : (made : Result (List ℕ) Refusal) → printed (says_or_ends made) ≡ shown_text made
+view_printed (Ok text) = append-nil text
+view_printed (Err refusal) = refl
+
+view_outcome : (made : Result (List ℕ) Refusal) → (says_or_ends made).refusal ≡ result_err made
+view_outcome (Ok text) = refl
+view_outcome (Err refusal) = refl
 
 pub shows : {W : Type 0} (values : Result (List ℕ) Refusal) (command : Command) (view : View) (s : State) (contents : W → Option (List ℕ)) (old new : W)
-    (result : Result Outcome CommandFault) → command ≡ Show view → None ≡ result_err values → IfOk result (λ outcome. outcome ≡ Accepted)
-    → Tells result contents old new (view_text view s) → Leaves result (with_values values command) s s contents old new
+    (result : Result Outcome CommandFault) → command ≡ Show view → None ≡ result_err values → IfOk result (λ outcome. outcome ≡ outcome_in (result_err (shown view s)))
+    → Tells result contents old new (shown_text (shown view s)) → Leaves result (with_values values command) s s contents old new
 shows values command view s contents old new (Err OutOfMemory) spelt good outcome written = written
 shows values command view s contents old new (Err WriteFault) spelt good outcome written = record {
-  answer = says (view_text view s);
+  answer = says_or_ends (shown view s);
   reply = show_reply values command view s spelt good;
-  written = subst (AppendsPart (contents old) (contents new)) (sym (append-nil (view_text view s))) written;
+  written = subst (AppendsPart (contents old) (contents new)) (sym (view_printed (shown view s))) written;
 }
 shows values command view s contents old new (Ok done) spelt good outcome written = record {
-  answer = says (view_text view s);
+  answer = says_or_ends (shown view s);
   reply = show_reply values command view s spelt good;
-  written = subst (Appends (contents old) (contents new)) (sym (append-nil (view_text view s))) written;
-  outcome_is = outcome;
+  written = subst (Appends (contents old) (contents new)) (sym (view_printed (shown view s))) written;
+  outcome_is = outcome ∙ ap outcome_in (sym (view_outcome (shown view s)));
 }

@@ -36,6 +36,8 @@ module _ (same_micro : MicroIsDetermined) where
 
   same_reply : (command : Command) (words : List ℕ) (s t u : State) (a b : Answer) → Reply command words s t a → Reply command words s u b → (t ≡ u) × (a ≡ b)
   same_reply (commands.Plug kind page writable) words s t u a b p q = (p.0 ∙ sym q.0, p.1 ∙ sym q.1)
+  same_reply (commands.Unplug page) words s t u a b p q = (p.0 ∙ sym q.0, p.1 ∙ sym q.1)
+  same_reply commands.Reset words s t u a b p q = (p.0 ∙ sym q.0, p.1 ∙ sym q.1)
   same_reply (commands.Call address) words s t u a b p q = (p.0 ∙ sym q.0, p.1 ∙ sym q.1)
   same_reply (commands.Step count) words s t u a b p q =
       let both = same_steps count s t u a.refusal b.refusal p.0 q.0 in

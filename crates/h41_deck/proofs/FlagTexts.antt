@@ -3,7 +3,8 @@ use Rattle.std.proofs.Common.{◌≡◌, ℕ, zero, suc, ◌+◌, Bool, true, fa
 use Rattle.std.specs.List.{join_with_byte, range_with_len}
 use Rattle.std.proofs.lemmas.List.Elements.{filter-append}
 use Rattle.h41_ram.specs.RegisterMap.{RegisterMap, flag_of}
-use Rattle.h41_deck.specs.Views.{flags_below, two_digits}
+use Rattle.h41_deck.specs.PageViews.{two_digits}
+use Rattle.h41_deck.specs.Views.{flags_below}
 
 -- one number more
 range_more : (first count : ℕ) → range_with_len first (suc count) ≡ range_with_len first count ++ (first + count) ∷ []

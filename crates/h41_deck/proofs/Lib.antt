@@ -7,6 +7,7 @@ pub mod DeckWords
 pub mod Determined
 pub mod EndsLemmas
 pub mod FlagTexts
+pub mod ImageLines
 pub mod Inputs
 pub mod Numbers
 pub mod Plugging

@@ -1,9 +1,9 @@
 -- What plugging a page answers, in the words of a deck.
 use Rattle.std.proofs.Common.{◌≡◌, ℕ, List, Some, None, inl, inr, sym, ap, ◌∙◌}
 use Rattle.std.specs.Prelude.{option_map}
-use Rattle.h41_nut.specs.PageList.{plug_refusal}
-use Rattle.h41_nut.specs.declared.refusal.PlugRefusal.{PlugRefusal}
-use Rattle.h41_nut.specs.declared.refusal.PlugRefusal.TheVariants as plugs
+use Rattle.h41_pages.specs.PageMap.{plug_refusal}
+use Rattle.h41_pages.specs.declared.refusal.PlugRefusal.{PlugRefusal}
+use Rattle.h41_pages.specs.declared.refusal.PlugRefusal.TheVariants as plugs
 use Rattle.h41_deck.specs.Calculator.{RefusesPage, State, of_plug, page_refusal}
 
 -- a page that is refused for another reason than memory

@@ -8,7 +8,7 @@ use Rattle.std.proofs.lemmas.List.{map-append, take_all}
 use Rattle.std.proofs.lemmas.List.Elements.{filter-append}
 use Rattle.std.proofs.lemmas.List.Folds.{list_all-append, list_any-append}
 use Rattle.std.proofs.lemmas.Grind.{flat_map-append}
-use Rattle.h41_nut.specs.Addresses.{page_size}
+use Rattle.h41_pages.specs.Addresses.{page_size}
 use Rattle.h41_deck.specs.Blocks.{word_values, block_words, filled}
 use Rattle.h41_deck.specs.Lines.{is_skipped, words_of}
 use Rattle.h41_deck.specs.Numbers.{is_hexadecimal}

@@ -1,13 +1,17 @@
 -- What the lines of a block say, by the block's kind, or why they are refused. The language is this project's own.
-use Rattle.std.specs.Prelude.{◌≡◌, ℕ, ◌-◌, Bool, not, ◌||◌, List, [], ◌∷◌, ◌++◌, map, length, replicate, filter, flat_map, nat_lt, if◌then◌else◌, Option, Some, None, Result, Ok, Err}
+use Rattle.std.specs.Prelude.{◌≡◌, ℕ, ◌-◌, Bool, not, ◌||◌, List, [], ◌∷◌, ◌++◌, map, length, replicate, filter, flat_map, nat_lt, if◌then◌else◌, Option, Some, None, Result, Ok, Err, is_ok}
+use Rattle.std.specs.Result.{result_unwrap_or}
 use Rattle.std.specs.List.{list_any, list_all}
 use Rattle.std.specs.Str.Parse.{digits_value}
-use Rattle.h41_nut.specs.Addresses.{last_word, page_size}
+use Rattle.hex.specs.Hex.{decode_of}
+use Rattle.hex.specs.declared.error.FromHexError.{FromHexError}
+use Rattle.h41_pages.specs.Addresses.{last_word, page_size}
+use Rattle.h41_pages.specs.Images.{is_image_bytes, words_in}
 use Rattle.h41_deck.specs.declared.commands.BlockKind.{BlockKind}
-use Rattle.h41_deck.specs.declared.commands.BlockKind.TheVariants.{Words}
+use Rattle.h41_deck.specs.declared.commands.BlockKind.TheVariants.{Words, Image}
 use Rattle.h41_deck.specs.declared.refusal.Refusal.{Refusal}
 use Rattle.h41_deck.specs.declared.refusal.Refusal.TheVariants.{BadImage, BadNumber, LineTooLong}
-use Rattle.h41_deck.specs.Lines.{is_long, is_skipped, words_of}
+use Rattle.h41_deck.specs.Lines.{is_blank, is_long, is_skipped, words_of}
 use Rattle.h41_deck.specs.Numbers.{is_hexadecimal}
 
 -- the words of a block's lines
@@ -22,10 +26,44 @@ word_values words =
     else (if nat_lt page_size (length words) || list_any (λ word. nat_lt last_word (digits_value 16 word)) words then Err BadImage
     else Ok (map (digits_value 16) words))
 
--- what the lines of a block say; a command without a block has none
+-- the bytes of a line: two hexadecimal digits each, of either case, with blanks and tabs anywhere
+abbrev pub line_digits : List ℕ → List ℕ
+line_digits line = filter (λ byte. not (is_blank byte)) line
+
+abbrev pub line_bytes : List ℕ → Result (List ℕ) FromHexError
+line_bytes line = decode_of (line_digits line)
+
+-- the bytes of a block's lines: 51 where one isn't a row of bytes
+abbrev pub said_lines : List (List ℕ) → List (List ℕ)
+said_lines lines = filter (λ line. not (is_skipped line)) lines
+
+abbrev pub bytes_values : List (List ℕ) → Result (List ℕ) Refusal
+bytes_values lines =
+    if list_all (λ line. is_ok (line_bytes line)) lines then Ok (flat_map (λ line. result_unwrap_or (line_bytes line) []) lines)
+    else Err BadNumber
+
+abbrev pub block_bytes : List (List ℕ) → Result (List ℕ) Refusal
+block_bytes lines = bytes_values (said_lines lines)
+
+-- the words of an image's bytes: 4 where these are no image
+abbrev pub image_content : Result (List ℕ) Refusal → Result (List ℕ) Refusal
+image_content (Ok bytes) = if is_image_bytes bytes then Ok (words_in bytes) else Err BadImage
+image_content (Err refusal) = Err refusal
+
+-- what the lines of a block say, before it is judged: values of words, or bytes; a command without a block has none
+abbrev pub said_by : Option BlockKind → List (List ℕ) → Result (List ℕ) Refusal
+said_by None lines = Ok []
+said_by (Some Words) lines = word_values (block_words lines)
+said_by (Some Image) lines = block_bytes lines
+
+-- the words of a page that they say
+abbrev pub words_said : Option BlockKind → Result (List ℕ) Refusal → Result (List ℕ) Refusal
+words_said None said = said
+words_said (Some Words) said = said
+words_said (Some Image) said = image_content said
+
 abbrev pub content_of : Option BlockKind → List (List ℕ) → Result (List ℕ) Refusal
-content_of None lines = Ok []
-content_of (Some Words) lines = word_values (block_words lines)
+content_of kind lines = words_said kind (said_by kind lines)
 
 -- a line that is too long comes before what else is wrong
 abbrev pub judged : Bool → Result (List ℕ) Refusal → Result (List ℕ) Refusal
@@ -51,7 +89,7 @@ pub record TakenBlock : Type 0 where
 -- these are the lines that it has taken
 pub record HasTaken (block : TakenBlock) (lines : List (List ℕ)) : Type 0 where
   pub long : block.has_long ≡ list_any is_long lines
-  pub content : block.content ≡ content_of block.kind (short_lines lines)
+  pub content : block.content ≡ said_by block.kind (short_lines lines)
 
 -- a block of this kind that has taken no lines
 pub record IsNew (kind : Option BlockKind) (block : TakenBlock) : Type 0 where
@@ -65,4 +103,4 @@ pub record Takes (old : TakenBlock) (line : List ℕ) (new : TakenBlock) : Type 
 
 -- its judgement
 abbrev pub judgement : TakenBlock → Result (List ℕ) Refusal
-judgement block = judged block.has_long block.content
+judgement block = judged block.has_long (words_said block.kind block.content)

@@ -4,17 +4,24 @@ use Rattle.std.specs.Bool.{then_some}
 use Rattle.std.specs.Option.{option_or}
 use Rattle.h41_nut.specs.declared.refusal.Refusal as nut
 use Rattle.h41_nut.specs.declared.refusal.Refusal.TheVariants as steps
-use Rattle.h41_nut.specs.declared.refusal.PlugRefusal as plug
-use Rattle.h41_nut.specs.declared.refusal.PlugRefusal.TheVariants as plugs
+use Rattle.h41_pages.specs.declared.refusal.PlugRefusal as plug
+use Rattle.h41_pages.specs.declared.refusal.PlugRefusal.TheVariants as plugs
+use Rattle.h41_pages.specs.declared.refusal.UnplugRefusal as unplug
+use Rattle.h41_pages.specs.declared.refusal.UnplugRefusal.TheVariants as unplugs
+use Rattle.h41_pages.specs.declared.refusal.ImageRefusal as image
+use Rattle.h41_pages.specs.declared.refusal.ImageRefusal.TheVariants as images
 use Rattle.h41_ram.specs.RegisterMap as ram
 use Rattle.h41_nut.specs.Processor.{initial, entered}
-use Rattle.h41_nut.specs.Addresses.{first_address, end_of_function}
-use Rattle.h41_nut.specs.PageList.{RefusesPlug, no_pages, plug_refusal, plugged}
+use Rattle.h41_nut.specs.Addresses.{end_of_function}
+use Rattle.h41_nut.specs.declared.keys.Keys.{Keys}
+use Rattle.h41_pages.specs.Addresses.{first_address}
+use Rattle.h41_pages.specs.Images as pageimages
+use Rattle.h41_pages.specs.PageMap as pages
 use Rattle.h41_nut.specs.WordStep.{Nut, nut_of, refused, Micro}
 use Rattle.h41_deck.specs.declared.calculator.Mode.{Mode}
 use Rattle.h41_deck.specs.declared.calculator.Mode.TheVariants as modes
 use Rattle.h41_deck.specs.declared.refusal.Refusal.{Refusal}
-use Rattle.h41_deck.specs.declared.refusal.Refusal.TheVariants.{UndefinedWord, WordNotInProfile, SystemRom, EmptyPage, PeripheralNotHeld, Asleep, ReadOnly, NoSuchPage, Occupied, BadImage, OutOfMemory, Busy}
+use Rattle.h41_deck.specs.declared.refusal.Refusal.TheVariants.{UndefinedWord, WordNotInProfile, SystemRom, EmptyPage, PeripheralNotHeld, Asleep, ReadOnly, NoSuchPage, Occupied, NotPlugged, BadImage, OutOfMemory, Busy}
 
 -- The state of the calculator.
 pub record State : Type 0 where
@@ -26,9 +33,13 @@ pub record State : Type 0 where
 abbrev pub registers : ℕ
 registers = 320
 
+-- no key was pressed
+abbrev pub no_key : Keys
+no_key = record { ky = 0; flag = false }
+
 -- nothing is plugged, nothing runs, and memory has an empty program
 abbrev pub start : State
-start = record { nut = nut_of initial (ram.start registers) no_pages (record { ky = 0; flag = false }); mode = modes.Idle }
+start = record { nut = nut_of initial (ram.start registers) pages.no_pages no_key; mode = modes.Idle }
 
 abbrev pub is_idle : Mode → Bool
 is_idle modes.Idle = true
@@ -66,19 +77,48 @@ block_bank = 1
 
 -- why words are not plugged at a page's bank
 abbrev pub page_refusal : State → ℕ → List ℕ → Option Refusal
-page_refusal s page words = option_map of_plug (plug_refusal s.nut.pages page block_bank words)
+page_refusal s page words = option_map of_plug (pages.plug_refusal s.nut.pages page block_bank words)
 
 -- this is why words are not plugged; memory that was refused comes last
 abbrev pub RefusesPage : State → ℕ → ℕ → List ℕ → plug.PlugRefusal → Type 0
-RefusesPage s page bank words refusal = RefusesPlug s.nut.pages page bank words refusal
+RefusesPage s page bank words refusal = pages.RefusesPlug s.nut.pages page bank words refusal
 
 -- words are not refused at a page's bank
 abbrev pub TakesPage : State → ℕ → ℕ → List ℕ → Type 0
-TakesPage s page bank words = plug_refusal s.nut.pages page bank words ≡ None
+TakesPage s page bank words = pages.plug_refusal s.nut.pages page bank words ≡ None
+
+-- the calculator with other pages
+abbrev pub with_pages : pages.PageMap → State → State
+with_pages all s = record s { nut = record s.nut { pages = all } }
 
 -- the words plugged there
-abbrev pub with_page : ℕ → Bool → List ℕ → State → State
-with_page page writable words s = record s { nut = record s.nut { pages = plugged s.nut.pages page writable words } }
+abbrev pub with_page : ℕ → ℕ → Bool → List ℕ → State → State
+with_page page bank writable words s = with_pages (pages.plugged s.nut.pages page bank writable words) s
+
+-- a page's refusal to be unplugged, and to be shown, likewise
+abbrev pub of_unplug : unplug.UnplugRefusal → Refusal
+of_unplug unplugs.NoSuchPage = NoSuchPage
+of_unplug unplugs.NotPlugged = NotPlugged
+
+abbrev pub of_image : image.ImageRefusal → Refusal
+of_image images.NoSuchPage = NoSuchPage
+of_image images.NotPlugged = NotPlugged
+of_image images.OutOfMemory = OutOfMemory
+
+-- why a page's image is not shown
+abbrev pub image_refusal : pages.PageMap → ℕ → Option Refusal
+image_refusal all page = option_map of_image (pageimages.image_refusal all page block_bank)
+
+-- why a page is not unplugged, and all its banks taken out
+abbrev pub unplug_refusal : State → ℕ → Option Refusal
+unplug_refusal s page = option_map of_unplug (pages.unplug_refusal s.nut.pages page)
+
+abbrev pub without_page : ℕ → State → State
+without_page page s = with_pages (pages.unplugged s.nut.pages page) s
+
+-- as at the start, but for the pages, which stay plugged; bank 1 is chosen at each
+abbrev pub restarted : State → State
+restarted s = with_pages (pages.with_first_banks s.nut.pages) start
 
 -- why a step is refused: a word's refusal while a function runs, and nothing else
 abbrev pub step_refusal : State → Option Refusal

@@ -2,11 +2,11 @@
 -- wrong. The language is this project's own.
 use Rattle.std.specs.Prelude.{ℕ, Bool, true, false, List, [], ◌∷◌, if◌then◌else◌, Option, Some, None, is_some, Result, Ok, Err, codes, bytes_eq}
 use Rattle.h41_deck.specs.declared.commands.Command.{Command}
-use Rattle.h41_deck.specs.declared.commands.Command.TheVariants.{Plug, Call, Step, Show}
+use Rattle.h41_deck.specs.declared.commands.Command.TheVariants.{Plug, Unplug, Reset, Call, Step, Show}
 use Rattle.h41_deck.specs.declared.commands.BlockKind.{BlockKind}
-use Rattle.h41_deck.specs.declared.commands.BlockKind.TheVariants.{Words}
+use Rattle.h41_deck.specs.declared.commands.BlockKind.TheVariants as kinds
 use Rattle.h41_deck.specs.declared.commands.View.{View}
-use Rattle.h41_deck.specs.declared.commands.View.TheVariants.{Cpu, Register, Stack, Flags, Position}
+use Rattle.h41_deck.specs.declared.commands.View.TheVariants.{Cpu, Register, Stack, Flags, Position, Image, Functions}
 use Rattle.h41_deck.specs.declared.refusal.Refusal.{Refusal}
 use Rattle.h41_deck.specs.declared.refusal.Refusal.TheVariants.{BadCommand}
 use Rattle.h41_deck.specs.Numbers.{hexadecimal, number_up_to}
@@ -24,12 +24,22 @@ most_steps = 9999999
 abbrev pub plug_at : BlockKind → List ℕ → Bool → Result Command Refusal
 plug_at kind page writable = and_then (hexadecimal 1 page) (λ page. Ok (Plug kind page writable))
 
--- words P [rw]: a block that fills a page, which microcode may write with rw
+-- words P [rw] and image P [rw]: a block that fills a page, which microcode may write with rw
 abbrev pub plug_command : BlockKind → List (List ℕ) → Result Command Refusal
 plug_command kind (page ∷ []) = plug_at kind page false
 plug_command kind (page ∷ option ∷ []) =
     if bytes_eq option (codes "rw") then plug_at kind page true else Err BadCommand
 plug_command kind operands = Err BadCommand
+
+-- unplug P
+abbrev pub unplug_command : List (List ℕ) → Result Command Refusal
+unplug_command (page ∷ []) = and_then (hexadecimal 1 page) (λ page. Ok (Unplug page))
+unplug_command operands = Err BadCommand
+
+-- reset
+abbrev pub reset_command : List (List ℕ) → Result Command Refusal
+reset_command [] = Ok Reset
+reset_command operands = Err BadCommand
 
 -- call hhhh
 abbrev pub call_command : List (List ℕ) → Result Command Refusal
@@ -43,18 +53,23 @@ step_command (count ∷ []) = and_then (number_up_to most_steps 10 count) (λ co
 step_command operands = Err BadCommand
 
 -- show WHAT
-abbrev pub view_named : List ℕ → Result View Refusal
-view_named what =
+unfoldable pub machine_view : List ℕ → Result View Refusal
+machine_view what =
     if bytes_eq what (codes "cpu") then Ok Cpu
     else (if bytes_eq what (codes "stack") then Ok Stack
     else (if bytes_eq what (codes "flags") then Ok Flags
     else (if bytes_eq what (codes "pos") then Ok Position
     else Err BadCommand)))
 
+abbrev pub view_named : List ℕ → Result View Refusal
+view_named what = if bytes_eq what (codes "functions") then Ok Functions else machine_view what
+
 abbrev pub view_of : List (List ℕ) → Result View Refusal
 view_of (what ∷ []) = view_named what
 view_of (what ∷ address ∷ []) =
-    if bytes_eq what (codes "ram") then and_then (hexadecimal 3 address) (λ address. Ok (Register address)) else Err BadCommand
+    if bytes_eq what (codes "ram") then and_then (hexadecimal 3 address) (λ address. Ok (Register address))
+    else (if bytes_eq what (codes "image") then and_then (hexadecimal 1 address) (λ page. Ok (Image page))
+    else Err BadCommand)
 view_of operands = Err BadCommand
 
 abbrev pub show_command : List (List ℕ) → Result Command Refusal
@@ -62,19 +77,30 @@ show_command operands = and_then (view_of operands) (λ view. Ok (Show view))
 
 -- the kind of the block that a line opens by its first word
 abbrev pub kind_of_word : List ℕ → Option BlockKind
-kind_of_word name = if bytes_eq name (codes "words") then Some Words else None
+kind_of_word name =
+    if bytes_eq name (codes "words") then Some kinds.Words
+    else (if bytes_eq name (codes "image") then Some kinds.Image
+    else None)
 
 -- the command of a line that opens a block
 abbrev pub opening_command : BlockKind → List (List ℕ) → Result Command Refusal
-opening_command Words operands = plug_command Words operands
+opening_command kinds.Words operands = plug_command kinds.Words operands
+opening_command kinds.Image operands = plug_command kinds.Image operands
 
--- the command of a line that opens none, by its first word
+-- the command of a line that changes what is plugged, or begins anew
+unfoldable pub setting_command : List ℕ → List (List ℕ) → Result Command Refusal
+setting_command name operands =
+    if bytes_eq name (codes "unplug") then unplug_command operands
+    else (if bytes_eq name (codes "reset") then reset_command operands
+    else Err BadCommand)
+
+-- the command of a line that opens no block, by its first word
 abbrev pub plain_command : List ℕ → List (List ℕ) → Result Command Refusal
 plain_command name operands =
     if bytes_eq name (codes "call") then call_command operands
     else (if bytes_eq name (codes "step") then step_command operands
     else (if bytes_eq name (codes "show") then show_command operands
-    else Err BadCommand))
+    else setting_command name operands))
 
 -- the command of a line, by the kind of the block that its first word opens
 abbrev pub command_by : Option BlockKind → List ℕ → List (List ℕ) → Result Command Refusal

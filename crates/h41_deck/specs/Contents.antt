@@ -1,12 +1,15 @@
 -- What the code's blocks hold, in the words of a deck.
-use Rattle.std.specs.Prelude.{◌≡◌, ℕ, List, [], ◌∷◌, ◌++◌, Option, Some, None, Result, Ok, Err}
+use Rattle.std.specs.Prelude.{◌≡◌, ℕ, List, [], ◌∷◌, ◌++◌, Option, Some, None, Result, Ok, Err, Vec, is_ok, false, if◌then◌else◌}
+use Rattle.std.specs.Global.{Global}
+use Rattle.h41_deck.specs.declared.refusal.Refusal.TheVariants.{BadNumber}
 use Rattle.h41_deck.specs.declared.blocks.Content.{Content}
 use Rattle.h41_deck.specs.declared.blocks.Content.TheVariants as contents
 use Rattle.h41_deck.specs.declared.blocks.page_words.PageWords.{PageWords}
 use Rattle.h41_deck.specs.declared.commands.BlockKind.{BlockKind}
-use Rattle.h41_deck.specs.declared.commands.BlockKind.TheVariants.{Words}
+use Rattle.h41_deck.specs.declared.commands.BlockKind.TheVariants.{Words, Image}
 use Rattle.h41_deck.specs.declared.refusal.Refusal.{Refusal}
-use Rattle.h41_deck.specs.Blocks.{block_words, word_values}
+use Rattle.h41_deck.specs.declared.blocks.page_bytes.PageBytes.{PageBytes}
+use Rattle.h41_deck.specs.Blocks.{block_bytes, block_words, line_bytes, word_values}
 
 abbrev pub unless_fault : Option Refusal → List ℕ → Result (List ℕ) Refusal
 unless_fault None values = Ok values
@@ -26,11 +29,27 @@ abbrev pub TakesWord : PageWords → List ℕ → PageWords → Type 0
 TakesWord old word new =
     (words : List (List ℕ)) → words_in old ≡ word_values words → words_in new ≡ word_values (words ++ word ∷ [])
 
+-- the bytes of an image, or their fault
+abbrev pub bytes_in : PageBytes → Result (List ℕ) Refusal
+bytes_in page = if page.is_wrong then Err BadNumber else Ok page.bytes.items
+
+-- whatever lines the bytes were those of, they are now those of one line more
+abbrev pub TakesBytes : PageBytes → List ℕ → PageBytes → Type 0
+TakesBytes old line new =
+    (lines : List (List ℕ)) → bytes_in old ≡ block_bytes lines → bytes_in new ≡ block_bytes (lines ++ line ∷ [])
+
+-- what was decoded of a line
+abbrev pub AreBytesOf : List ℕ → Option (Vec ℕ Global) → Type 0
+AreBytesOf line None = is_ok (line_bytes line) ≡ false
+AreBytesOf line (Some bytes) = line_bytes line ≡ Ok bytes.items
+
 -- what the content of a block says, and its kind
 abbrev pub content_in : Content → Result (List ℕ) Refusal
 content_in contents.Nothing = Ok []
 content_in (contents.Words words) = words_in words
+content_in (contents.Image bytes) = bytes_in bytes
 
 abbrev pub kind_in : Content → Option BlockKind
 kind_in contents.Nothing = None
 kind_in (contents.Words words) = Some Words
+kind_in (contents.Image bytes) = Some Image

@@ -9,6 +9,7 @@ pub mod Faults
 pub mod Items
 pub mod Lines
 pub mod Numbers
+pub mod PageViews
 pub mod Refusals
 pub mod Replies
 pub mod Views

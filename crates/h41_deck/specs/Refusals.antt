@@ -2,7 +2,7 @@
 use Rattle.std.specs.Prelude.{ℕ, List, [], ◌++◌, Option, Some, None, codes}
 use Rattle.h41_digits.specs.Register.{hexadecimal_text}
 use Rattle.h41_deck.specs.declared.refusal.Refusal.{Refusal}
-use Rattle.h41_deck.specs.declared.refusal.Refusal.TheVariants.{NoSuchPage, Occupied, BadImage, UndefinedWord, WordNotInProfile, SystemRom, EmptyPage, PeripheralNotHeld, Asleep, ReadOnly, OutOfMemory, ReadFault, WriteFault, Busy, BadCommand, BadNumber, NoEnd, LineTooLong}
+use Rattle.h41_deck.specs.declared.refusal.Refusal.TheVariants.{NoSuchPage, Occupied, NotPlugged, BadImage, UndefinedWord, WordNotInProfile, SystemRom, EmptyPage, PeripheralNotHeld, Asleep, ReadOnly, OutOfMemory, ReadFault, WriteFault, Busy, BadCommand, BadNumber, NoEnd, LineTooLong}
 use Rattle.h41_deck.specs.declared.fault.Fault.{Fault}
 use Rattle.h41_deck.specs.declared.fault.Fault.TheVariants as faults
 
@@ -10,6 +10,7 @@ use Rattle.h41_deck.specs.declared.fault.Fault.TheVariants as faults
 abbrev pub number_and_name : Refusal → List ℕ
 number_and_name NoSuchPage = codes "01 NoSuchPage"
 number_and_name Occupied = codes "02 Occupied"
+number_and_name NotPlugged = codes "03 NotPlugged"
 number_and_name BadImage = codes "04 BadImage"
 number_and_name (UndefinedWord address) = codes "06 UndefinedWord"
 number_and_name (WordNotInProfile address) = codes "07 WordNotInProfile"

@@ -3,18 +3,18 @@ use Rattle.std.specs.Prelude.{◌≡◌, ℕ, Bool, true, false, List, [], ◌++
 use Rattle.std.specs.Io.KnownBytes.{Appends, Keeps}
 use Rattle.std.specs.Result.{result_err}
 use Rattle.h41_deck.specs.declared.commands.Command.{Command}
-use Rattle.h41_deck.specs.declared.commands.Command.TheVariants.{Plug, Call, Step, Show}
+use Rattle.h41_deck.specs.declared.commands.Command.TheVariants.{Plug, Unplug, Reset, Call, Step, Show}
 use Rattle.h41_deck.specs.declared.fault.CommandFault.{CommandFault}
 use Rattle.h41_deck.specs.declared.fault.CommandFault.TheVariants.{OutOfMemory, WriteFault}
 use Rattle.h41_deck.specs.declared.replies.Outcome.{Outcome}
 use Rattle.h41_deck.specs.declared.replies.Outcome.TheVariants.{Accepted, Refused}
 use Rattle.h41_deck.specs.declared.refusal.Refusal.{Refusal}
 use Rattle.h41_deck.specs.Blocks.{TakenBlock, filled, judgement}
-use Rattle.h41_deck.specs.Calculator.{State, page_refusal, with_page, call_refusal, called, Steps}
+use Rattle.h41_deck.specs.Calculator.{State, block_bank, page_refusal, with_page, unplug_refusal, without_page, restarted, call_refusal, called, Steps}
 use Rattle.h41_deck.specs.Ends.{AppendsPart}
 use Rattle.h41_deck.specs.Items.{Spelled, with_values}
 use Rattle.h41_deck.specs.Refusals.{refusal_line}
-use Rattle.h41_deck.specs.Views.{view_text}
+use Rattle.h41_deck.specs.Views.{shown}
 
 -- What a command answers: a text, and then its refusal, where it is refused.
 pub record Answer : Type 0 where
@@ -27,6 +27,10 @@ ends_by refusal = record { text = []; refusal = refusal }
 
 abbrev pub says : List ℕ → Answer
 says text = record { text = text; refusal = None }
+
+abbrev pub says_or_ends : Result (List ℕ) Refusal → Answer
+says_or_ends (Ok text) = says text
+says_or_ends (Err refusal) = ends_by (Some refusal)
 
 -- the state after a change that is made unless there is a refusal
 abbrev pub unless : Option Refusal → State → State → State
@@ -43,7 +47,7 @@ block_refusal s page words = page_refusal s page (filled words)
 
 -- the state after they were plugged there, or refused
 abbrev pub with_block : ℕ → Bool → List ℕ → State → State
-with_block page writable words s = unless (block_refusal s page words) (with_page page writable (filled words) s) s
+with_block page writable words s = unless (block_refusal s page words) (with_page page block_bank writable (filled words) s) s
 
 -- what ended was refused so, or not at all
 abbrev pub RefusedAs : {A : Type 0} → Option Refusal → Result A Refusal → Type 0
@@ -53,13 +57,17 @@ RefusedAs refusal ended = result_err ended ≡ refusal
 abbrev pub Reply : Command → List ℕ → State → State → Answer → Type 0
 -- words P [rw] .. end: the page is plugged, or refused as 1 or 2
 Reply (Plug kind page writable) values s t answer =
-    ChangesUnless (block_refusal s page values) (with_page page writable (filled values) s) s t answer
+    ChangesUnless (block_refusal s page values) (with_page page block_bank writable (filled values) s) s t answer
+-- unplug P: all banks of the page are taken out, or 1 or 3
+Reply (Unplug page) values s t answer = ChangesUnless (unplug_refusal s page) (without_page page s) s t answer
+-- reset: as at the start, but that the pages stay plugged
+Reply Reset values s t answer = (t ≡ restarted s) × (answer ≡ ends_by None)
 -- call hhhh: the function runs, or 24 or 8
 Reply (Call address) values s t answer = ChangesUnless (call_refusal s address) (called address s) s t answer
 -- step [n]: single steps up to the first refusal
 Reply (Step count) values s t answer = Steps count s t answer.refusal × (answer.text ≡ [])
--- show WHAT: the view's text, and nothing changes
-Reply (Show view) values s t answer = (t ≡ s) × (answer ≡ says (view_text view s))
+-- show WHAT: the view's text, or why it is refused, and nothing changes
+Reply (Show view) values s t answer = (t ≡ s) × (answer ≡ says_or_ends (shown view s))
 
 -- what the lines of a command do; those that are refused are answered by their refusal
 abbrev pub ItemReply : Spelled → State → State → Answer → Type 0
@@ -69,6 +77,8 @@ ItemReply (Ok given) s t answer = Reply given.0 given.1 s t answer
 -- the commands that take memory; the others never end a deck for want of it
 abbrev pub takes_memory : Command → Bool
 takes_memory (Plug kind page writable) = true
+takes_memory (Unplug page) = false
+takes_memory Reset = false
 takes_memory (Call address) = false
 takes_memory (Step count) = false
 takes_memory (Show view) = true
@@ -84,6 +94,11 @@ printed answer = answer.text ++ ending_line answer.refusal
 -- what is printed of a refusal, where there is one
 abbrev pub ending_text : {A : Type 0} → Result A Refusal → List ℕ
 ending_text ended = ending_line (result_err ended)
+
+-- what is printed of a text, or of its refusal
+abbrev pub shown_text : Result (List ℕ) Refusal → List ℕ
+shown_text (Ok text) = text
+shown_text (Err refusal) = refusal_line refusal
 
 -- whether it is a refusal
 abbrev pub outcome_in : Option Refusal → Outcome

@@ -1,6 +1,6 @@
 -- What `show` prints, view by view. The form is this project's choice.
-use Rattle.std.specs.Prelude.{ℕ, ◌/◌, ◌%◌, Bool, true, List, [], ◌∷◌, ◌++◌, map, filter, slice_index, if◌then◌else◌, codes}
-use Rattle.std.specs.Fmt.{digit_glyph}
+use Rattle.std.specs.Global.{Global}
+use Rattle.std.specs.Prelude.{◌≡◌, ℕ, Vec, Bool, List, ◌++◌, map, filter, slice_index, if◌then◌else◌, Option, Some, None, Result, Ok, Err, codes}
 use Rattle.std.specs.List.{join_with_byte, range_with_len}
 use Rattle.h41_digits.specs.Register.{text, hexadecimal_text}
 use Rattle.h41_fields.specs.declared.field.Pointer.{Pointer}
@@ -8,13 +8,17 @@ use Rattle.h41_fields.specs.declared.field.Pointer.TheVariants.{P, Q}
 use Rattle.h41_nut.specs.declared.base.Base.{Base}
 use Rattle.h41_nut.specs.declared.base.Base.TheVariants.{Hexadecimal, Decimal}
 use Rattle.h41_nut.specs.declared.keys.Keys.{Keys}
+use Rattle.h41_pages.specs.FunctionTables.{functions}
 use Rattle.h41_ram.specs.RegisterMap.{RegisterMap, flag_of, register_at}
 use Rattle.h41_nut.specs.Processor.{Processor}
 use Rattle.h41_deck.specs.declared.commands.View.{View}
-use Rattle.h41_deck.specs.declared.commands.View.TheVariants.{Cpu, Register, Stack, Flags, Position}
+use Rattle.h41_deck.specs.declared.commands.View.TheVariants.{Cpu, Register, Stack, Flags, Position, Image, Functions}
 use Rattle.h41_deck.specs.declared.calculator.Mode.{Mode}
 use Rattle.h41_deck.specs.declared.calculator.Mode.TheVariants as modes
-use Rattle.h41_deck.specs.Calculator.{State}
+use Rattle.h41_pages.specs.PageMap.{PageMap}
+use Rattle.h41_deck.specs.Calculator.{State, image_refusal}
+use Rattle.h41_deck.specs.declared.refusal.Refusal.{Refusal}
+use Rattle.h41_deck.specs.PageViews.{two_digits, functions_text, image_at_text}
 
 abbrev pub bit_text : Bool → List ℕ
 bit_text bit = if bit then codes "1" else codes "0"
@@ -64,10 +68,6 @@ stack_text ram =
     level_line (codes "T") (register_at ram 0) ++ level_line (codes "Z") (register_at ram 1) ++ level_line (codes "Y") (register_at ram 2)
     ++ level_line (codes "X") (register_at ram 3) ++ level_line (codes "L") (register_at ram 4)
 
--- a number below 100 by its two decimal digits
-abbrev pub two_digits : ℕ → List ℕ
-two_digits number = digit_glyph true (number / 10) ∷ digit_glyph true (number % 10) ∷ []
-
 -- the flags that are set among so many, from flag 0 on, by their numbers, which blanks (32) part
 abbrev pub flags_below : ℕ → RegisterMap → List ℕ
 flags_below count ram = join_with_byte 32 (map two_digits (filter (flag_of ram) (range_with_len 0 count)))
@@ -84,10 +84,32 @@ position_line s modes.Micro = codes "Micro " ++ hexadecimal_text 4 s.nut.process
 abbrev pub position_text : State → List ℕ
 position_text s = position_line s s.mode
 
--- the text of each view
-abbrev pub view_text : View → State → List ℕ
-view_text Cpu s = processor_text s.nut.processor s.nut.keys
-view_text (Register address) s = register_line s.nut.ram address
-view_text Stack s = stack_text s.nut.ram
-view_text Flags s = flags_line s.nut.ram
-view_text Position s = position_text s
+-- a text, unless there is a refusal
+abbrev pub text_unless : Option Refusal → List ℕ → Result (List ℕ) Refusal
+text_unless None text = Ok text
+text_unless (Some refusal) text = Err refusal
+
+-- the image of a page, or why it is not shown
+abbrev pub image_view : PageMap → ℕ → Result (List ℕ) Refusal
+image_view pages page = text_unless (image_refusal pages page) (image_at_text pages page)
+
+-- the text of each view, or why it is refused
+abbrev pub shown : View → State → Result (List ℕ) Refusal
+shown Cpu s = Ok (processor_text s.nut.processor s.nut.keys)
+shown (Register address) s = Ok (register_line s.nut.ram address)
+shown Stack s = Ok (stack_text s.nut.ram)
+shown Flags s = Ok (flags_line s.nut.ram)
+shown Position s = Ok (position_text s)
+shown (Image page) s = image_view s.nut.pages page
+shown Functions s = Ok (functions_text (functions s.nut.pages))
+
+-- what was made is the text of a view, or why it is refused
+abbrev pub text_in : Result (Vec ℕ Global) Refusal → Result (List ℕ) Refusal
+text_in (Ok text) = Ok text.items
+text_in (Err refusal) = Err refusal
+
+abbrev pub IsShown : View → State → Result (Vec ℕ Global) Refusal → Type 0
+IsShown view s made = text_in made ≡ shown view s
+
+abbrev pub IsImageShown : PageMap → ℕ → Result (Vec ℕ Global) Refusal → Type 0
+IsImageShown pages page made = text_in made ≡ image_view pages page

@@ -1,11 +1,12 @@
 //! The block of a command: one mechanism for all kinds, which takes the lines one at a time and is judged in one place.
 
-ghost use Rattle.std.specs.Prelude.{◌≡◌, ◌≤◌, IfOk, None, Some, Ok, vec_len};
+ghost use Rattle.std.specs.Prelude.{◌≡◌, ◌≤◌, IfOk, IsSome, None, Ok, vec_len};
 ghost use Rattle.std.specs.Result.{result_err};
-ghost use Rattle.h41_nut.specs.Addresses.{page_size};
+ghost use Rattle.h41_pages.specs.Addresses.{page_size};
 ghost use Rattle.h41_deck.specs.Blocks.{IsNew, Takes, judgement};
 ghost use Rattle.h41_deck.specs.Commands.{kind_of};
 
+use crate::blocks::page_bytes::PageBytes;
 use crate::blocks::page_words::PageWords;
 use crate::commands::{BlockKind, Command};
 use crate::lines::line::is_long;
@@ -13,6 +14,7 @@ use crate::refusal::Refusal;
 use std::alloc::{AllocError, Global};
 use std::marker::Model;
 
+pub mod page_bytes;
 pub mod page_words;
 
 /// The block of a command: what its lines have said so far. A command that has none has an empty one.
@@ -29,6 +31,8 @@ enum Content {
     Nothing,
     /// The words of a page.
     Words(PageWords),
+    /// The bytes of a page's image.
+    Image(PageBytes),
 }
 
 impl Model for Block {
@@ -59,6 +63,7 @@ impl Block {
         let content = match kind {
             None => Content::Nothing,
             Some(BlockKind::Words) => Content::Words(PageWords::new(alloc)),
+            Some(BlockKind::Image) => Content::Image(PageBytes::new(alloc)),
         };
         Block {
             content,
@@ -78,6 +83,7 @@ impl Block {
         match &mut self.content {
             Content::Nothing => Ok(()),
             Content::Words(words) => words.add_line(text),
+            Content::Image(bytes) => bytes.add_line(text),
         }
     }
 
@@ -89,18 +95,20 @@ impl Block {
             _ if self.has_long => Some(Refusal::LineTooLong),
             Content::Nothing => None,
             Content::Words(words) => words.refusal(),
+            Content::Image(bytes) => bytes.refusal(),
         }
     }
 
-    /// The words of a page that its lines say.
-    pub(crate) fn into_words(self) -> Vec<u16>
-        requires kind { self.kind ≡ Some BlockKind.Words }
+    /// The words of a page that its lines say. 21 where memory is refused.
+    pub(crate) fn into_words(self, alloc: Global) -> Result<Vec<u16>, AllocError>
+        requires kind { IsSome self.kind }
         requires accepted { result_err (judgement self) ≡ None }
-        ensures words { judgement self ≡ Ok result.items }
-        ensures bound { vec_len result ≤ page_size }
+        ensures words { IfOk result (λ words. judgement self ≡ Ok words.items) }
+        ensures bound { IfOk result (λ words. vec_len words ≤ page_size) }
     {
         match self.content {
-            Content::Words(words) => words.into_words(),
+            Content::Words(words) => Ok(words.into_words()),
+            Content::Image(bytes) => bytes.into_words(alloc),
             Content::Nothing => unreachable!(),
         }
     }

@@ -2,10 +2,12 @@
 
 ghost use Rattle.std.specs.Prelude.{◌≡◌, None, IfOk, IfErr, OnOk, OnErr};
 ghost use Rattle.std.specs.Result.{result_err};
-ghost use Rattle.h41_deck.specs.Calculator.{RefusesPage, Step, TakesPage, call_refusal, called, start, step_refusal, with_page};
+ghost use Rattle.h41_pages.specs.PageMap.{unplug_refusal};
+ghost use Rattle.h41_deck.specs.Calculator.{RefusesPage, Step, TakesPage, call_refusal, called, restarted, start, step_refusal, with_page, without_page};
 
 use crate::refusal::Refusal;
-use h41_nut::{Cpu, END_OF_FUNCTION, FIRST_ADDRESS, Keys, Pages, PlugRefusal, step};
+use h41_nut::{Cpu, END_OF_FUNCTION, Keys, step};
+use h41_pages::{FIRST_ADDRESS, Pages, PlugRefusal, UnplugRefusal};
 use h41_ram::Ram;
 use std::alloc::{AllocError, Global};
 use std::marker::Model;
@@ -67,6 +69,13 @@ impl Calculator {
         ensures { result.now ≡ self.now.nut.ram }
     {
         &self.ram
+    }
+
+    /// The pages.
+    pub fn pages(&self) -> &Pages
+        ensures { result.now ≡ self.now.nut.pages }
+    {
+        &self.pages
     }
 
     /// What it does.
@@ -135,10 +144,31 @@ impl Calculator {
         words: &[u16],
     ) -> Result<(), PlugRefusal>
         ensures accepted { OnOk result (TakesPage self.old page bank words.now) }
-        ensures change { OnOk result (self.new ≡ with_page page writable words.now self.old) }
+        ensures change { OnOk result (self.new ≡ with_page page bank writable words.now self.old) }
         ensures err { OnErr result (self.new ≡ self.old) }
         ensures refusal { IfErr result (RefusesPage self.old page bank words.now) }
     {
         self.pages.plug(alloc, page, bank, writable, words)
+    }
+
+    /// Takes out all banks of a page. Refused as 1 where the page is not 4 to F, as 3 where none is plugged; nothing is
+    /// changed then.
+    pub fn unplug(&mut self, page: u8) -> Result<(), UnplugRefusal>
+        ensures refusal { result_err result ≡ unplug_refusal self.old.nut.pages page }
+        ensures change { OnOk result (self.new ≡ without_page page self.old) }
+        ensures err { OnErr result (self.new ≡ self.old) }
+    {
+        self.pages.unplug(page)
+    }
+
+    /// All as at the start, but for the pages: they stay plugged, and bank 1 is chosen at each.
+    pub fn reset(&mut self)
+        ensures { self.new ≡ restarted self.old }
+    {
+        self.cpu = Cpu::new();
+        self.ram = Ram::new();
+        self.pages.choose_first_banks();
+        self.keys = Keys::new();
+        self.mode = Mode::Idle;
     }
 }

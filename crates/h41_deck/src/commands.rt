@@ -10,6 +10,8 @@ pub mod parse;
 pub enum BlockKind {
     /// Words of a page, of 1 to 3 hexadecimal digits each.
     Words,
+    /// The bytes of a page's image, of 2 hexadecimal digits each.
+    Image,
 }
 
 impl BlockKind {
@@ -21,6 +23,7 @@ impl BlockKind {
     {
         match word {
             b"words" => Some(BlockKind::Words),
+            b"image" => Some(BlockKind::Image),
             _ => None,
         }
     }
@@ -39,18 +42,26 @@ pub enum View {
     Flags,
     /// `pos`: the mode, and the position in it.
     Position,
+    /// `image P`: the image at page P, 0 to 15. Pages 0 to 3 are refused when it is carried out.
+    Image(u8),
+    /// `functions`: the functions of the modules that are plugged.
+    Functions,
 }
 
 /// One command of a deck.
 #[derive(Clone, Copy, Debug, PartialEq, Eq)]
 pub enum Command {
-    /// `words P [rw]`, with a block up to `end`: plugs what the block says at page P, 0 to 15, writable with `rw`. Pages 0
+    /// `words P [rw]` or `image P [rw]`, with a block up to `end`: plugs what the block says at page P, 0 to 15, writable with `rw`. Pages 0
     /// to 3 are refused when it is carried out.
     Plug {
         kind: BlockKind,
         page: u8,
         writable: bool,
     },
+    /// `unplug P`: takes out all banks of page P, 0 to 15. Pages 0 to 3 are refused when it is carried out.
+    Unplug(u8),
+    /// `reset`: all as at the start, but for the pages, which stay plugged.
+    Reset,
     /// `call hhhh`: begins the function at an address.
     Call(u16),
     /// `step [n]`: n single steps, 0 to 9,999,999, one where no number is given.

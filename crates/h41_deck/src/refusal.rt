@@ -7,7 +7,8 @@ ghost use Rattle.arrayvec.specs.ArrayString.{array_string_len};
 ghost use Rattle.h41_digits.specs.Register.{hexadecimal_text};
 
 use arrayvec::ArrayString;
-use h41_nut::{PlugRefusal, Refusal as NutRefusal};
+use h41_nut::Refusal as NutRefusal;
+use h41_pages::{ImageRefusal, PlugRefusal, UnplugRefusal};
 
 /// The most bytes of a refusal's line.
 const LINE: usize = 28;
@@ -20,6 +21,8 @@ pub enum Refusal {
     NoSuchPage,
     /// 2: the page is plugged.
     Occupied,
+    /// 3: no bank of the page is plugged.
+    NotPlugged,
     /// 4: more than 4,096 words, or a word above 3FF.
     BadImage,
     /// 6: the word at this address is neither an instruction nor a peripheral's.
@@ -81,6 +84,7 @@ impl Refusal {
         match self {
             Refusal::NoSuchPage => "! 01 NoSuchPage",
             Refusal::Occupied => "! 02 Occupied",
+            Refusal::NotPlugged => "! 03 NotPlugged",
             Refusal::BadImage => "! 04 BadImage",
             Refusal::UndefinedWord(_) => "! 06 UndefinedWord",
             Refusal::WordNotInProfile(_) => "! 07 WordNotInProfile",
@@ -148,6 +152,35 @@ impl From<PlugRefusal> for Refusal {
             PlugRefusal::Occupied => Refusal::Occupied,
             PlugRefusal::BadImage => Refusal::BadImage,
             PlugRefusal::OutOfMemory => Refusal::OutOfMemory,
+        }
+    }
+}
+
+impl From<UnplugRefusal> for Refusal {
+    ghost use Rattle.std.specs.Prelude.{◌≡◌};
+    ghost use Rattle.h41_deck.specs.Calculator.{of_unplug};
+
+    ghost from_gives = { λ refusal own. own ≡ of_unplug refusal };
+
+    fn from(refusal: UnplugRefusal) -> Self {
+        match refusal {
+            UnplugRefusal::NoSuchPage => Refusal::NoSuchPage,
+            UnplugRefusal::NotPlugged => Refusal::NotPlugged,
+        }
+    }
+}
+
+impl From<ImageRefusal> for Refusal {
+    ghost use Rattle.std.specs.Prelude.{◌≡◌};
+    ghost use Rattle.h41_deck.specs.Calculator.{of_image};
+
+    ghost from_gives = { λ refusal own. own ≡ of_image refusal };
+
+    fn from(refusal: ImageRefusal) -> Self {
+        match refusal {
+            ImageRefusal::NoSuchPage => Refusal::NoSuchPage,
+            ImageRefusal::NotPlugged => Refusal::NotPlugged,
+            ImageRefusal::OutOfMemory => Refusal::OutOfMemory,
         }
     }
 }

@@ -2,11 +2,12 @@
 
 ghost use Rattle.std.specs.Prelude.{◌≡◌, ◌≢◌, true, false, Err, IfOk, OnOk, OnErr, vec_len, ◌≤◌};
 ghost use Rattle.std.specs.Result.{result_err};
-ghost use Rattle.h41_nut.specs.Addresses.{page_size};
+ghost use Rattle.h41_pages.specs.Addresses.{page_size};
+ghost use Rattle.h41_deck.specs.Calculator.{unplug_refusal, without_page};
 ghost use Rattle.h41_deck.specs.Commands.{kind_of};
 ghost use Rattle.h41_deck.specs.Ends.{Writes};
-ghost use Rattle.h41_deck.specs.Replies.{Does, RefusedAs, Tells, block_refusal, ending_text, outcome_in, takes_memory, with_block};
-ghost use Rattle.h41_deck.specs.Views.{view_text};
+ghost use Rattle.h41_deck.specs.Replies.{Does, RefusedAs, Tells, block_refusal, ending_text, outcome_in, shown_text, takes_memory, with_block};
+ghost use Rattle.h41_deck.specs.Views.{shown};
 
 use crate::bench::Bench;
 use crate::blocks::Block;
@@ -16,17 +17,20 @@ use crate::ends::output::write_whole;
 use crate::ends::sink::Sink;
 use crate::fault::{CommandFault, WriteFault};
 use crate::refusal::Refusal;
-use crate::replies::view::Shown;
-use h41_nut::PlugRefusal;
+use crate::replies::view::shown;
+use h41_pages::PlugRefusal;
 use std::alloc::{AllocError, Global};
 
+mod digits;
+mod functions;
+mod image;
 mod memory;
 mod position;
 mod processor;
 mod view;
 
 /// The bank of a page that a deck's blocks fill.
-const BANK: u8 = 1;
+pub(crate) const BANK: u8 = 1;
 
 /// Whether a refusal was printed.
 #[derive(Clone, Copy, Debug, PartialEq, Eq)]
@@ -84,7 +88,13 @@ pub fn apply<W: Sink>(
     }
     let ended = match command {
         Command::Plug { page, writable, .. } => {
-            plug(alloc, bench, page, writable, block.into_words())?
+            let words = block.into_words(alloc)?;
+            plug(alloc, bench, page, writable, words)?
+        }
+        Command::Unplug(page) => unplug(bench, page),
+        Command::Reset => {
+            bench.calculator.reset();
+            Ok(())
         }
         Command::Call(address) => bench.calculator.call(address),
         Command::Step(count) => bench.steps(count),
@@ -117,6 +127,15 @@ fn plug(
     }
 }
 
+/// Takes out all banks of a page.
+fn unplug(bench: &mut Bench, page: u8) -> Result<(), Refusal>
+    ensures refusal { result_err result ≡ unplug_refusal bench.old page }
+    ensures change { OnOk result (bench.new ≡ without_page page bench.old) }
+    ensures err { OnErr result (bench.new ≡ bench.old) }
+{
+    Ok(bench.calculator.unplug(page)?)
+}
+
 /// Prints a view. 21 where memory is refused.
 fn show<W: Sink>(
     alloc: Global,
@@ -125,20 +144,18 @@ fn show<W: Sink>(
     writer: &mut W,
 ) -> Result<Outcome, CommandFault>
     requires { W.failed writer.old ≡ false }
-    ensures outcome { IfOk result (λ outcome. outcome ≡ Outcome.Accepted) }
-    ensures written { Tells result W.contents writer.old writer.new (view_text view bench.now) }
+    ensures outcome { IfOk result (λ outcome. outcome ≡ outcome_in (result_err (shown view bench.now))) }
+    ensures written { Tells result W.contents writer.old writer.new (shown_text (shown view bench.now)) }
     ensures mark { result ≡ Err CommandFault.WriteFault → W.failed writer.new ≡ true }
     ensures clear { result ≢ Err CommandFault.WriteFault → W.failed writer.new ≡ false }
 {
-    let text = format!(in alloc;
-        "{}",
-        Shown {
-            view,
-            calculator: bench.calculator()
+    match shown(alloc, bench.calculator(), view)? {
+        Ok(text) => {
+            write_whole(writer, &text)?;
+            Ok(Outcome::Accepted)
         }
-    )?;
-    write_whole(writer, text.as_bytes())?;
-    Ok(Outcome::Accepted)
+        Err(refusal) => Ok(print_ending(Err(refusal), writer)?),
+    }
 }
 
 /// Prints the refusal that a command ended with, if any, and tells whether it did.

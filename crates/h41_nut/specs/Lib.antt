@@ -3,7 +3,7 @@ pub mod Arithmetic
 pub mod Going
 pub mod Jumps
 pub mod MemoryWords
-pub mod PageList
+pub mod PageWords
 pub mod Pointers
 pub mod Processor
 pub mod ProcessorLaws

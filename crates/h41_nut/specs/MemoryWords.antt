@@ -1,9 +1,10 @@
 -- The words that read and write the memory and the pages.
 use Rattle.std.specs.Prelude.{ℕ, List, ◌+◌, ◌*◌, ◌/◌, Option, Result}
+use Rattle.h41_pages.specs.PageMap.{PageMap, written}
 use Rattle.h41_ram.specs.RegisterMap.{RegisterMap, register_at, with_register}
 use Rattle.h41_nut.specs.declared.refusal.Refusal.{Refusal}
 use Rattle.h41_nut.specs.Going.{GoesOnUnless}
-use Rattle.h41_nut.specs.PageList.{Pages, fetched, system_refusal, word_or_zero, write_refusal, written}
+use Rattle.h41_nut.specs.PageWords.{fetched, system_refusal, word_or_zero, write_refusal}
 use Rattle.h41_nut.specs.Processor.{Processor}
 use Rattle.h41_nut.specs.RegisterWords.{with_c, word_in_c, address_in_c, with_word_in_c}
 
@@ -40,23 +41,23 @@ abbrev pub with_c_in_block : RegisterMap → ℕ → Processor → RegisterMap
 with_c_in_block ram register s = with_c_at ram (block_address register s) s
 
 -- FETCH S&X: the word at the address in C; 000 where no page is plugged there (this project's choice)
-abbrev pub with_fetched_word : Pages → Processor → Processor
+abbrev pub with_fetched_word : PageMap → Processor → Processor
 with_fetched_word pages s = with_word_in_c (word_or_zero (fetched pages (address_in_c s))) s
 
 -- FETCH S&X reads no word of the system's pages (8), and WROM writes none that is not writable (12); both with C's address
 abbrev pub refusal_to_fetch : Processor → Option Refusal
 refusal_to_fetch s = system_refusal (address_in_c s)
 
-abbrev pub refusal_to_write : Pages → Processor → Option Refusal
+abbrev pub refusal_to_write : PageMap → Processor → Option Refusal
 refusal_to_write pages s = write_refusal pages (address_in_c s)
 
 -- WROM: the pages with the word in C at the address in C
-abbrev pub with_word_written : Pages → Processor → Pages
+abbrev pub with_word_written : PageMap → Processor → PageMap
 with_word_written pages s = written pages (address_in_c s) (word_in_c s)
 
 -- how the processor goes on with FETCH S&X, and with WROM
-abbrev pub FetchesWord : {T : Type 0} → Pages → Processor → Processor → Result T Refusal → Type 0
+abbrev pub FetchesWord : {T : Type 0} → PageMap → Processor → Processor → Result T Refusal → Type 0
 FetchesWord pages s t result = GoesOnUnless (refusal_to_fetch s) (with_fetched_word pages) s t result
 
-abbrev pub WritesWord : {T : Type 0} → Pages → Processor → Processor → Result T Refusal → Type 0
+abbrev pub WritesWord : {T : Type 0} → PageMap → Processor → Processor → Result T Refusal → Type 0
 WritesWord pages s t result = GoesOnUnless (refusal_to_write pages s) (λ s. s) s t result

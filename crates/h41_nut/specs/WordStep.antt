@@ -7,6 +7,7 @@ use Rattle.h41_words.specs.declared.rows.Row.{Row}
 use Rattle.h41_words.specs.declared.rows.Row.TheVariants as rows
 use Rattle.h41_words.specs.SecondWord.{second_of}
 use Rattle.h41_words.specs.WordTable.{row_of}
+use Rattle.h41_pages.specs.PageMap.{PageMap}
 use Rattle.h41_ram.specs.RegisterMap.{RegisterMap}
 use Rattle.h41_nut.specs.Arithmetic.{OperatesOn}
 use Rattle.h41_nut.specs.declared.base.Base.TheVariants.{Hexadecimal, Decimal}
@@ -16,7 +17,7 @@ use Rattle.h41_nut.specs.declared.refusal.Refusal.TheVariants.{WordNotInProfile,
 use Rattle.h41_nut.specs.Going.{next_address, address_after_both, arrival_refusal, at_address, gone_on}
 use Rattle.h41_nut.specs.Jumps as jumps
 use Rattle.h41_nut.specs.MemoryWords as memory
-use Rattle.h41_nut.specs.PageList.{Pages, fetched, word_or_zero}
+use Rattle.h41_nut.specs.PageWords.{fetched, word_or_zero}
 use Rattle.h41_nut.specs.Pointers as pointers
 use Rattle.h41_nut.specs.Processor.{Processor}
 use Rattle.h41_nut.specs.RegisterWords as registers
@@ -26,10 +27,10 @@ use Rattle.h41_nut.specs.Unheld as unheld
 pub record Nut : Type 0 where
   pub processor : Processor
   pub ram : RegisterMap
-  pub pages : Pages
+  pub pages : PageMap
   pub keys : Keys
 
-abbrev pub nut_of : Processor → RegisterMap → Pages → Keys → Nut
+abbrev pub nut_of : Processor → RegisterMap → PageMap → Keys → Nut
 nut_of processor ram pages keys = record { processor = processor; ram = ram; pages = pages; keys = keys }
 
 -- the word of the step, and the word after it
@@ -124,7 +125,7 @@ ram_after (rows.Write register) s = memory.with_c_in_block s.ram register s.proc
 ram_after row s = s.ram
 
 -- the pages after a word: WROM writes the word in C at the address in C
-abbrev pub pages_after : Row → Nut → Pages
+abbrev pub pages_after : Row → Nut → PageMap
 pages_after rows.WriteRom s = memory.with_word_written s.pages s.processor
 pages_after row s = s.pages
 
@@ -195,11 +196,11 @@ pub record RefusesOr {T : Type 0} (reason : Option Refusal) (Change : Nut → Nu
 
 -- a step was answered: refused as `refused` says and then without a change, or with the change `Micro`; from the processor,
 -- the memory, the pages and the keyboard before it to those after it
-abbrev pub Stepped : {T : Type 0} → Result T Refusal → Processor → RegisterMap → Pages → Keys → Processor → RegisterMap → Pages → Keys → Type 0
+abbrev pub Stepped : {T : Type 0} → Result T Refusal → Processor → RegisterMap → PageMap → Keys → Processor → RegisterMap → PageMap → Keys → Type 0
 Stepped result cpu ram pages keys cpu' ram' pages' keys' =
     RefusesOr (refused (nut_of cpu ram pages keys)) Micro result (nut_of cpu ram pages keys) (nut_of cpu' ram' pages' keys')
 
 -- a row was carried out: refused as `row_refusal` says and then without a change, or with its `Effect`
-abbrev pub Ran : {T : Type 0} → Row → Result T Refusal → Processor → RegisterMap → Pages → Keys → Processor → RegisterMap → Pages → Keys → Type 0
+abbrev pub Ran : {T : Type 0} → Row → Result T Refusal → Processor → RegisterMap → PageMap → Keys → Processor → RegisterMap → PageMap → Keys → Type 0
 Ran row result cpu ram pages keys cpu' ram' pages' keys' =
     RefusesOr (row_refusal row (nut_of cpu ram pages keys)) (Effect row) result (nut_of cpu ram pages keys) (nut_of cpu' ram' pages' keys')

@@ -8,9 +8,9 @@ use crate::cpu::pointers::{place_above, place_below};
 use crate::keys::Keys;
 use crate::machine::memory::{read_register, write_data, write_register};
 use crate::machine::peripherals::{clear_key_flag, constant_refusal, select_peripheral};
-use crate::machine::rom::{fetch_word, write_rom};
-use crate::pages::Pages;
+use crate::machine::rom::{fetch, fetch_word, write_rom};
 use crate::refusal::Refusal;
+use h41_pages::Pages;
 use h41_ram::Ram;
 use h41_words::{Row, SecondWord, row};
 
@@ -29,7 +29,7 @@ pub fn step<const REGS: usize>(
 ) -> Result<(), Refusal>
     ensures { Stepped result cpu.old ram.old pages.old keys.old cpu.new ram.new pages.new keys.new }
 {
-    let word = pages.fetch(cpu.pc())?;
+    let word = fetch(pages, cpu.pc())?;
     carry_out(row(word), cpu, ram, pages, keys)
 }
 
@@ -46,7 +46,7 @@ fn carry_out<const REGS: usize>(
     match row {
         Row::Arithmetic(operation, field) => cpu.arithmetic(operation, field),
         Row::LongJump(low_byte) => {
-            let second = pages.fetch(cpu.next_address())?;
+            let second = fetch(pages, cpu.next_address())?;
             cpu.long_jump(low_byte, SecondWord::of(second))
         }
         Row::ShortJump(condition, displacement) => cpu.short_jump(condition, displacement),
@@ -83,7 +83,7 @@ fn carry_out<const REGS: usize>(
         Row::ReturnIf(condition) => cpu.return_if(condition),
         Row::Return => cpu.return_to_newest(),
         Row::LoadImmediate => {
-            let second = pages.fetch(cpu.next_address())?;
+            let second = fetch(pages, cpu.next_address())?;
             cpu.load_immediate(second)
         }
         Row::PushAddress => cpu.push_address(),

@@ -1,12 +1,12 @@
-//! Why words are not carried out, and why pages are not plugged.
+//! Why words are not carried out.
 
 ghost use Rattle.std.specs.Prelude.{◌≡◌};
-ghost use Rattle.h41_nut.specs.declared.refusal.PlugRefusal.TheVariants.{OutOfMemory};
+ghost use Rattle.h41_nut.specs.PageWords.{of_fetch, of_write};
 
-use std::alloc::AllocError;
+use h41_pages::{FetchRefusal, ReadOnly};
 use thiserror::Error;
 
-/// Why a fetch, a write or a step was refused. It changes nothing then.
+/// Why a step was refused. It changes nothing then.
 #[derive(Clone, Copy, Debug, PartialEq, Eq, Error)]
 pub enum Refusal {
     /// 6: the word at this address is neither an instruction nor a peripheral's.
@@ -18,7 +18,7 @@ pub enum Refusal {
     /// 8: this address lies in pages 0 to 3, where the system's ROM would be.
     #[error("{0:04X} lies in the system's ROM")]
     SystemRom(u16),
-    /// 9: nothing is plugged at this address.
+    /// 9: the chosen bank of this address's page is not plugged.
     #[error("no page is plugged at {0:04X}")]
     EmptyPage(u16),
     /// 10: the word at this address is a peripheral's.
@@ -27,32 +27,26 @@ pub enum Refusal {
     /// 11: the word at this address is POWOFF.
     #[error("the processor goes to sleep at {0:04X}")]
     Asleep(u16),
-    /// 12: the page of this address is not plugged as writable.
+    /// 12: the chosen bank of this address's page is not plugged as writable.
     #[error("{0:04X} can't be written")]
     ReadOnly(u16),
 }
 
-/// Why words were not plugged. Nothing is changed then.
-#[derive(Clone, Copy, Debug, PartialEq, Eq, Error)]
-pub enum PlugRefusal {
-    /// 1: the page is not 4 to F, or the bank is not 1.
-    #[error("there is no such page")]
-    NoSuchPage,
-    /// 2: the page is plugged.
-    #[error("the page is plugged")]
-    Occupied,
-    /// 4: there are not 4,096 words, or one is above 3FF.
-    #[error("this is no image of a page")]
-    BadImage,
-    /// 21: memory was refused.
-    #[error("out of memory")]
-    OutOfMemory,
+impl From<FetchRefusal> for Refusal {
+    ghost from_gives = { λ own refusal. refusal ≡ of_fetch own };
+
+    fn from(refusal: FetchRefusal) -> Self {
+        match refusal {
+            FetchRefusal::SystemRom(address) => Refusal::SystemRom(address),
+            FetchRefusal::EmptyPage(address) => Refusal::EmptyPage(address),
+        }
+    }
 }
 
-impl From<AllocError> for PlugRefusal {
-    ghost from_gives = { λ _ refusal. refusal ≡ OutOfMemory };
+impl From<ReadOnly> for Refusal {
+    ghost from_gives = { λ own refusal. refusal ≡ of_write own };
 
-    fn from(_error: AllocError) -> Self {
-        PlugRefusal::OutOfMemory
+    fn from(refusal: ReadOnly) -> Self {
+        Refusal::ReadOnly(refusal.address)
     }
 }

@@ -101,6 +101,40 @@ fn refuses_lines(rt: HostRuntime) -> Result<(), Fail> {
     Ok(())
 }
 
+/// A module with the functions KIT and KILL, as a `words` block at page 8.
+const MODULE: &str =
+    "words 8\n005 002 000 00B 000 010 000 000 094 009 00B 3E0\n08C 00C 009 00B 3E0\nend\n";
+
+#[test]
+fn plugs_and_unplugs_modules(rt: HostRuntime) -> Result<(), Fail> {
+    let cases = [
+        ("show functions\n", "XROM 05,00 KIT\nXROM 05,01 KILL\n"),
+        ("unplug 8\nunplug 8\nshow functions\n", "! 03 NotPlugged\n"),
+        (
+            "reset\nshow functions\n",
+            "XROM 05,00 KIT\nXROM 05,01 KILL\n",
+        ),
+        ("call 8000\nreset\nshow pos\n", "Idle 0000\n"),
+        ("call 8000\nunplug 8\nstep\n", "! 09 EmptyPage 8000\n"),
+        ("image 8\nend\n", "! 04 BadImage\n"),
+        ("image 9\n1 2 3\nend\n", "! 51 BadNumber\n"),
+        ("image 9\n1 2 34\nend\n", "! 04 BadImage\n"),
+        (
+            "unplug 3\nshow image 3\nshow image 9\n",
+            "! 01 NoSuchPage\n! 01 NoSuchPage\n! 03 NotPlugged\n",
+        ),
+        (
+            "unplug\nreset 1\nshow image\nunplug g\n",
+            "! 50 BadCommand\n! 50 BadCommand\n! 50 BadCommand\n! 51 BadNumber\n",
+        ),
+    ];
+    for (rest, text) in cases {
+        let deck = format!(in rt.alloc(); "{MODULE}{rest}")?;
+        prints(&rt, rt.alloc(), deck.as_str(), text)?;
+    }
+    Ok(())
+}
+
 #[test]
 fn shows_the_processor(rt: HostRuntime) -> Result<(), Fail> {
     let two = "00000000000002";

@@ -1,7 +1,7 @@
 //! The words of a page, as the lines of a `words` block give them.
 
 ghost use Rattle.std.specs.Prelude.{◌≤◌, vec_len};
-ghost use Rattle.h41_nut.specs.Addresses.{page_size};
+ghost use Rattle.h41_pages.specs.Addresses.{page_size};
 
 use crate::commands::number::hexadecimal;
 use crate::lines::line::is_skipped;

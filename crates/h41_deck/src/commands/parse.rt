@@ -1,8 +1,9 @@
 //! The command that a line's words spell.
 
 ghost use Rattle.std.specs.Prelude.{◌≡◌};
-ghost use Rattle.h41_deck.specs.Commands.{call_command, is_opening, opening_command, parsed, plain_command, plug_at, plug_command, show_command, step_command, view_named, view_of};
+ghost use Rattle.h41_deck.specs.Commands.{call_command, machine_view, reset_command, setting_command, unplug_command, is_opening, opening_command, parsed, plain_command, plug_at, plug_command, show_command, step_command, view_named, view_of};
 ghost use Rattle.h41_deck.specs.Lines.{words_of};
+ghost use Rattle.h41_deck.specs.Numbers as spec;
 
 use crate::commands::number::{hexadecimal, number_up_to};
 use crate::commands::{BlockKind, Command, View};
@@ -42,7 +43,7 @@ fn opening(kind: BlockKind, operands: LineWords<'_>) -> Result<Command, Refusal>
     ensures { result ≡ opening_command kind (words_of operands.entry.rest.now) }
 {
     match kind {
-        BlockKind::Words => plug(kind, operands),
+        BlockKind::Words | BlockKind::Image => plug(kind, operands),
     }
 }
 
@@ -54,11 +55,25 @@ fn plain(name: &[u8], operands: LineWords<'_>) -> Result<Command, Refusal>
         b"call" => call(operands),
         b"step" => step(operands),
         b"show" => show(operands),
-        _ => Err(Refusal::BadCommand),
+        _ => setting(name, operands),
     }
 }
 
-/// `words P [rw]`: a block that fills a page.
+/// The command of a line that changes what is plugged, or begins anew, by its first word and those behind it.
+#[tactic(auto, unfolding(crate::specs::Commands::setting_command))]
+fn setting(name: &[u8], operands: LineWords<'_>) -> Result<Command, Refusal>
+    ensures { result ≡ setting_command name.now (words_of operands.entry.rest.now) }
+{
+    if name == b"unplug".as_slice() {
+        unplug(operands)
+    } else if name == b"reset".as_slice() {
+        reset(operands)
+    } else {
+        Err(Refusal::BadCommand)
+    }
+}
+
+/// `words P [rw]` and `image P [rw]`: a block that fills a page.
 fn plug(kind: BlockKind, mut operands: LineWords<'_>) -> Result<Command, Refusal>
     ensures { result ≡ plug_command kind (words_of operands.entry.rest.now) }
 {
@@ -73,12 +88,39 @@ fn plug(kind: BlockKind, mut operands: LineWords<'_>) -> Result<Command, Refusal
 fn plug_at(kind: BlockKind, page: &[u8], writable: bool) -> Result<Command, Refusal>
     ensures { result ≡ plug_at kind page.now writable }
 {
-    let page = hexadecimal(1, 1, page)? as u8;
+    let page = page_number(page)?;
     Ok(Command::Plug {
         kind,
         page,
         writable,
     })
+}
+
+/// `unplug P`.
+fn unplug(mut operands: LineWords<'_>) -> Result<Command, Refusal>
+    ensures { result ≡ unplug_command (words_of operands.entry.rest.now) }
+{
+    match (operands.next(), operands.next()) {
+        (Some(page), None) => Ok(Command::Unplug(page_number(page)?)),
+        _ => Err(Refusal::BadCommand),
+    }
+}
+
+/// The page that one hexadecimal digit names.
+fn page_number(page: &[u8]) -> Result<u8, Refusal>
+    ensures { result ≡ spec.hexadecimal 1 page.now }
+{
+    Ok(hexadecimal(1, 1, page)? as u8)
+}
+
+/// `reset`.
+fn reset(mut operands: LineWords<'_>) -> Result<Command, Refusal>
+    ensures { result ≡ reset_command (words_of operands.entry.rest.now) }
+{
+    match operands.next() {
+        None => Ok(Command::Reset),
+        Some(_) => Err(Refusal::BadCommand),
+    }
 }
 
 /// `call hhhh`.
@@ -116,6 +158,7 @@ fn view(mut operands: LineWords<'_>) -> Result<View, Refusal>
     match (operands.next(), operands.next(), operands.next()) {
         (Some(what), None, _) => view_named(what),
         (Some(b"ram"), Some(address), None) => Ok(View::Register(hexadecimal(3, 3, address)?)),
+        (Some(b"image"), Some(page), None) => Ok(View::Image(page_number(page)?)),
         _ => Err(Refusal::BadCommand),
     }
 }
@@ -123,6 +166,18 @@ fn view(mut operands: LineWords<'_>) -> Result<View, Refusal>
 /// The view of one word.
 fn view_named(what: &[u8]) -> Result<View, Refusal>
     ensures { result ≡ view_named what.now }
+{
+    if what == b"functions".as_slice() {
+        Ok(View::Functions)
+    } else {
+        machine_view(what)
+    }
+}
+
+/// The view of the processor or of memory that one word names.
+#[tactic(auto, unfolding(crate::specs::Commands::machine_view))]
+fn machine_view(what: &[u8]) -> Result<View, Refusal>
+    ensures { result ≡ machine_view what.now }
 {
     match what {
         b"cpu" => Ok(View::Cpu),

@@ -39,7 +39,7 @@ impl<'a> Iterator for LineWords<'a> {
 }
 
 /// A byte that parts words: a blank or a tab.
-fn is_blank(byte: u8) -> bool
+pub fn is_blank(byte: u8) -> bool
     ensures { result ≡ is_blank byte }
 {
     matches!(byte, b' ' | b'\t')

@@ -3,7 +3,8 @@
 ghost use Rattle.std.specs.Prelude.{◌≡◌, ◌+◌, ◌*◌, ◌<◌, ◌≤◌, ◌++◌, Some};
 ghost use Rattle.std.specs.Fmt.{WritesOnOk};
 ghost use Rattle.arrayvec.specs.ArrayString.{array_string_len};
-ghost use Rattle.h41_deck.specs.Views.{flags_below, flags_line, level_line, register_line, stack_text, two_digits};
+ghost use Rattle.h41_deck.specs.Views.{flags_below, flags_line, level_line, register_line, stack_text};
+ghost use Rattle.h41_deck.specs.PageViews.{two_digits};
 
 use crate::calculator::REGISTERS;
 use crate::refusal::glyph;
@@ -18,9 +19,57 @@ const FLAGS: usize = 56;
 /// The most bytes of their numbers: two digits and a blank each.
 const FLAGS_TEXT: usize = 168;
 
+/// A register with its address.
+#[derive(Clone, Copy)]
+pub struct RegisterLine<'a> {
+    pub ram: &'a Ram<REGISTERS>,
+    pub address: u16,
+}
+
+impl fmt::Display for RegisterLine<'_> {
+    ghost use Rattle.std.specs.Prelude.{Some};
+    ghost use Rattle.h41_deck.specs.Views.{register_line};
+
+    ghost output = { λ line. Some (register_line line.ram.now line.address) };
+
+    fn fmt<W: fmt::Write>(&self, f: &mut fmt::Formatter<W>) -> fmt::Result {
+        write_register(f, self.ram, self.address)
+    }
+}
+
+/// The stack from T down, and L.
+#[derive(Clone, Copy)]
+pub struct StackLines<'a>(pub &'a Ram<REGISTERS>);
+
+impl fmt::Display for StackLines<'_> {
+    ghost use Rattle.std.specs.Prelude.{Some};
+    ghost use Rattle.h41_deck.specs.Views.{stack_text};
+
+    ghost output = { λ lines. Some (stack_text lines.0.now) };
+
+    fn fmt<W: fmt::Write>(&self, f: &mut fmt::Formatter<W>) -> fmt::Result {
+        write_stack(f, self.0)
+    }
+}
+
+/// The numbers of the flags that are set.
+#[derive(Clone, Copy)]
+pub struct FlagsLine<'a>(pub &'a Ram<REGISTERS>);
+
+impl fmt::Display for FlagsLine<'_> {
+    ghost use Rattle.std.specs.Prelude.{Some};
+    ghost use Rattle.h41_deck.specs.Views.{flags_line};
+
+    ghost output = { λ line. Some (flags_line line.0.now) };
+
+    fn fmt<W: fmt::Write>(&self, f: &mut fmt::Formatter<W>) -> fmt::Result {
+        write_flags(f, self.0)
+    }
+}
+
 /// A register with its address, of three hexadecimal digits.
 #[tactic(auto, unfolding(crate::specs::Views::register_line))]
-pub fn write_register<W: fmt::Write>(
+fn write_register<W: fmt::Write>(
     f: &mut fmt::Formatter<W>,
     ram: &Ram<REGISTERS>,
     address: u16,
@@ -34,7 +83,7 @@ pub fn write_register<W: fmt::Write>(
 
 /// The stack from T down, and L.
 #[tactic(auto, unfolding(crate::specs::Views::stack_text))]
-pub fn write_stack<W: fmt::Write>(f: &mut fmt::Formatter<W>, ram: &Ram<REGISTERS>) -> fmt::Result
+fn write_stack<W: fmt::Write>(f: &mut fmt::Formatter<W>, ram: &Ram<REGISTERS>) -> fmt::Result
     ensures { WritesOnOk W.write_str_gives f.old result (stack_text ram.now) f.new }
 {
     write_level(f, "T", ram.status(0))?;
@@ -54,7 +103,7 @@ fn write_level<W: fmt::Write>(f: &mut fmt::Formatter<W>, name: &str, register: R
 
 /// The numbers of the flags that are set.
 #[tactic(auto, unfolding(crate::specs::Views::flags_line))]
-pub fn write_flags<W: fmt::Write>(f: &mut fmt::Formatter<W>, ram: &Ram<REGISTERS>) -> fmt::Result
+fn write_flags<W: fmt::Write>(f: &mut fmt::Formatter<W>, ram: &Ram<REGISTERS>) -> fmt::Result
     ensures { WritesOnOk W.write_str_gives f.old result (flags_line ram.now) f.new }
 {
     let flags = set_flags(ram);

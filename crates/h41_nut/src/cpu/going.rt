@@ -8,9 +8,10 @@ ghost use Rattle.h41_nut.specs.Going.{GoesTo, GoesOn, GoesOnTelling};
 ghost use Rattle.h41_nut.specs.Jumps as spec;
 ghost use Rattle.h41_nut.specs.RegisterWords.{with_address_pushed, with_address_popped};
 
-use crate::addresses::{END_OF_FUNCTION, FIRST_ADDRESS};
+use crate::addresses::END_OF_FUNCTION;
 use crate::cpu::Cpu;
 use crate::refusal::Refusal;
+use h41_pages::FIRST_ADDRESS;
 use h41_words::{Condition, Displacement, LongJumpKind, SecondWord};
 
 impl Cpu {

@@ -1,12 +1,34 @@
 //! The words that write and read the pages.
 
-ghost use Rattle.std.specs.Prelude.{◌≡◌, OnOk, OnErr};
+ghost use Rattle.std.specs.Prelude.{◌≡◌, IfOk, OnOk, OnErr};
+ghost use Rattle.std.specs.Result.{result_err};
+ghost use Rattle.h41_nut.specs.PageWords.{fetched, system_refusal, word_or_zero};
 ghost use Rattle.h41_nut.specs.MemoryWords as spec;
 
 use crate::cpu::Cpu;
-use crate::pages::Pages;
 use crate::refusal::Refusal;
+use h41_pages::{FetchRefusal, Pages};
 use h41_words::Word;
+
+/// The word at an address. Refused as 8 in pages 0 to 3, as 9 where the chosen bank of its page is not plugged.
+pub fn fetch(pages: &Pages, address: u16) -> Result<Word, Refusal>
+    ensures { result ≡ fetched pages.now address }
+{
+    Ok(pages.fetch(address)?)
+}
+
+/// The word at an address, and 000 where nothing is plugged (this project's choice). Refused as 8 in pages 0 to 3.
+#[tactic(auto, unfolding(h41_pages::specs::PageMap::fetched))]
+fn fetch_or_zero(pages: &Pages, address: u16) -> Result<Word, Refusal>
+    ensures refusal { result_err result ≡ system_refusal address }
+    ensures word { IfOk result (λ word. word ≡ word_or_zero (fetched pages.now address)) }
+{
+    match pages.fetch(address) {
+        Ok(word) => Ok(word),
+        Err(FetchRefusal::EmptyPage(_)) => Ok(Word::new(0).unwrap()),
+        Err(refusal) => Err(refusal.into()),
+    }
+}
 
 /// `WROM`: the word in C is written at the address in C. Refused as 12 before all else where its page is not writable.
 pub fn write_rom(cpu: &mut Cpu, pages: &mut Pages) -> Result<(), Refusal>
@@ -18,7 +40,8 @@ pub fn write_rom(cpu: &mut Cpu, pages: &mut Pages) -> Result<(), Refusal>
     pages.check_writable(address)?;
     let word = Word::new(cpu.word_in_c()).unwrap();
     cpu.go_on()?;
-    pages.write(address, word)
+    pages.write(address, word)?;
+    Ok(())
 }
 
 /// `FETCH S&X`: the word at the address in C goes to C; 000 where no page is plugged there. Refused as 8 before all else in
@@ -26,6 +49,6 @@ pub fn write_rom(cpu: &mut Cpu, pages: &mut Pages) -> Result<(), Refusal>
 pub fn fetch_word(cpu: &mut Cpu, pages: &Pages) -> Result<(), Refusal>
     ensures { spec.FetchesWord pages.now cpu.old cpu.new result }
 {
-    let word = pages.fetch_or_zero(cpu.address_in_c())?;
+    let word = fetch_or_zero(pages, cpu.address_in_c())?;
     cpu.load_word(word)
 }

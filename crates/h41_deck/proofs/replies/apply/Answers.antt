@@ -3,9 +3,9 @@ use Rattle.std.specs.Result.{result_err}
 use Rattle.h41_deck.specs.Blocks.{judgement}
 use Rattle.h41_deck.specs.Items.{with_values}
 use Rattle.h41_deck.specs.Replies.{ItemReply, ends_by}
-use Rattle.h41_deck.proofs.Commanded.{call_reply, part_by, plug_reply, refused_reply, replies_by, shows, step_reply}
+use Rattle.h41_deck.proofs.Commanded.{call_reply, part_by, plug_reply, refused_reply, replies_by, reset_reply, shows, step_reply, unplug_reply}
 use Rattle.h41_deck.proofs.replies.apply.Goals as goal
-use Rattle.h41_deck.proofs.replies.apply.Goals.{in-Plug+in_ok-ended-in-Plug, in-Call, in-Step}
+use Rattle.h41_deck.proofs.replies.apply.Goals.{in-Plug+in_ok-words-in-Plug+in_ok-ended-in-Plug, in-Call, in-Reset, in-Step, in-Unplug}
 
 pub returns-in_err-print_ending-clause-reply : goal.returns-in_err-print_ending-clause-reply
 returns-in_err-print_ending-clause-reply g c =
@@ -26,10 +26,14 @@ pub returns-in_err-print_ending-2-clause-reply : goal.returns-in_err-print_endin
 returns-in_err-print_ending-2-clause-reply g c =
     let reply : ItemReply (with_values (judgement c.args.block) c.args.command) c.args.bench.now c.match-command.bench (ends_by (result_err c.match-command.ended)) =
     elim c.match-command.branch [
-      | in-Plug+in_ok-ended-in-Plug w ↦ rw (w.bench-is, w.ended-is) (plug_reply (judgement c.args.block) c.args.command w.in-Plug.kind w.in-Plug.page w.in-Plug.writable _ w.in_ok-ended-in-Plug.ended c.args.bench.now _
-          w.in-Plug.is w.into_words.ensures.words w.in_ok-ended-in-Plug.ensures.refusal w.in_ok-ended-in-Plug.ensures.change)
+      | in-Plug+in_ok-words-in-Plug+in_ok-ended-in-Plug w ↦ rw (w.bench-is, w.ended-is) (plug_reply (judgement c.args.block) c.args.command w.in-Plug.kind w.in-Plug.page w.in-Plug.writable _ w.in_ok-ended-in-Plug.ended c.args.bench.now _
+          w.in-Plug.is w.in_ok-words-in-Plug.ensures.words w.in_ok-ended-in-Plug.ensures.refusal w.in_ok-ended-in-Plug.ensures.change)
+      | in-Unplug w ↦ rw (w.bench-is, w.ended-is) (unplug_reply (judgement c.args.block) c.args.command w.in-Unplug.page w.unplug-ended.result c.args.bench.now _
+          w.in-Unplug.is c.in_default.ensures w.unplug-ended.ensures.refusal w.unplug-ended.ensures.change w.unplug-ended.ensures.err)
+      | in-Reset w ↦ rw (w.bench-is, w.ended-is) (reset_reply (judgement c.args.block) c.args.command c.args.bench.now _
+          w.in-Reset.is c.in_default.ensures (rw w.bench.view_is at w.reset.ensures))
       | in-Call w ↦ rw (w.bench-is, w.ended-is) (call_reply (judgement c.args.block) c.args.command w.in-Call.address w.call-ended.result c.args.bench.now _
-          w.in-Call.is c.in_default.ensures (rw w.bench.view_is at w.call-ended.ensures.refusal) (rw w.bench.view_is at w.call-ended.ensures.change) (rw w.bench.view_is at w.call-ended.ensures.err))
+          w.in-Call.is c.in_default.ensures (rw w.bench-in-Call.view_is at w.call-ended.ensures.refusal) (rw w.bench-in-Call.view_is at w.call-ended.ensures.change) (rw w.bench-in-Call.view_is at w.call-ended.ensures.err))
       | in-Step w ↦ rw (w.bench-is, w.ended-is) (step_reply (judgement c.args.block) c.args.command w.in-Step.count w.steps-ended.result c.args.bench.now _ w.in-Step.is c.in_default.ensures w.steps-ended.ensures)
     ] in
     let p = err_from_is_err_and c.from_residual-in_err-print_ending-2.result c.from_residual-in_err-print_ending-2.ensures.1 in
@@ -39,10 +43,14 @@ pub returns-clause-reply : goal.returns-clause-reply
 returns-clause-reply g c =
     let reply : ItemReply (with_values (judgement c.args.block) c.args.command) c.args.bench.now c.match-command.bench (ends_by (result_err c.match-command.ended)) =
     elim c.match-command.branch [
-      | in-Plug+in_ok-ended-in-Plug w ↦ rw (w.bench-is, w.ended-is) (plug_reply (judgement c.args.block) c.args.command w.in-Plug.kind w.in-Plug.page w.in-Plug.writable _ w.in_ok-ended-in-Plug.ended c.args.bench.now _
-          w.in-Plug.is w.into_words.ensures.words w.in_ok-ended-in-Plug.ensures.refusal w.in_ok-ended-in-Plug.ensures.change)
+      | in-Plug+in_ok-words-in-Plug+in_ok-ended-in-Plug w ↦ rw (w.bench-is, w.ended-is) (plug_reply (judgement c.args.block) c.args.command w.in-Plug.kind w.in-Plug.page w.in-Plug.writable _ w.in_ok-ended-in-Plug.ended c.args.bench.now _
+          w.in-Plug.is w.in_ok-words-in-Plug.ensures.words w.in_ok-ended-in-Plug.ensures.refusal w.in_ok-ended-in-Plug.ensures.change)
+      | in-Unplug w ↦ rw (w.bench-is, w.ended-is) (unplug_reply (judgement c.args.block) c.args.command w.in-Unplug.page w.unplug-ended.result c.args.bench.now _
+          w.in-Unplug.is c.in_default.ensures w.unplug-ended.ensures.refusal w.unplug-ended.ensures.change w.unplug-ended.ensures.err)
+      | in-Reset w ↦ rw (w.bench-is, w.ended-is) (reset_reply (judgement c.args.block) c.args.command c.args.bench.now _
+          w.in-Reset.is c.in_default.ensures (rw w.bench.view_is at w.reset.ensures))
       | in-Call w ↦ rw (w.bench-is, w.ended-is) (call_reply (judgement c.args.block) c.args.command w.in-Call.address w.call-ended.result c.args.bench.now _
-          w.in-Call.is c.in_default.ensures (rw w.bench.view_is at w.call-ended.ensures.refusal) (rw w.bench.view_is at w.call-ended.ensures.change) (rw w.bench.view_is at w.call-ended.ensures.err))
+          w.in-Call.is c.in_default.ensures (rw w.bench-in-Call.view_is at w.call-ended.ensures.refusal) (rw w.bench-in-Call.view_is at w.call-ended.ensures.change) (rw w.bench-in-Call.view_is at w.call-ended.ensures.err))
       | in-Step w ↦ rw (w.bench-is, w.ended-is) (step_reply (judgement c.args.block) c.args.command w.in-Step.count w.steps-ended.result c.args.bench.now _ w.in-Step.is c.in_default.ensures w.steps-ended.ensures)
     ] in
     replies_by _ _ _ _ _ _ _ reply c.in_ok-print_ending-2.ensures.outcome c.in_ok-print_ending-2.ensures.written

@@ -15,8 +15,8 @@ pub returns-in-Ok-clause-change : goal.returns-in-Ok-clause-change
 returns-in-Ok-clause-change c =
     let words : c.deref.result.now ≡ filled c.args.words.items = c.deref.ensures.value ∙ resized c.args.words.items _ _ c.args.words.ok.0 c.requires c.in_ok-resize.ensures.items in
     let accepted = accepted_page c.args.bench.now c.args.page _ _ words (rw c.bench.view_is at c.in-Ok.ensures.accepted) in
-    let changed = c.in-Ok.ensures.change ∙ (λ i. with_page c.args.page c.args.writable (words i) (c.bench.view_is i)) in
-    changed ∙ ap (λ why. unless why (with_page c.args.page c.args.writable (filled c.args.words.items) c.args.bench.now) c.args.bench.now) accepted
+    let changed = c.in-Ok.ensures.change ∙ (λ i. with_page c.args.page 1 c.args.writable (words i) (c.bench.view_is i)) in
+    changed ∙ ap (λ why. unless why (with_page c.args.page 1 c.args.writable (filled c.args.words.items) c.args.bench.now) c.args.bench.now) accepted
 
 pub returns : goal.returns
 returns c =
@@ -25,6 +25,6 @@ returns c =
     let stays = c.in-Err.ensures.err ∙ c.bench.view_is in
     record {
       refusal = rw c.from.ensures refused;
-      change = stays ∙ ap (λ why. unless why (with_page c.args.page c.args.writable (filled c.args.words.items) c.args.bench.now) c.args.bench.now) refused;
+      change = stays ∙ ap (λ why. unless why (with_page c.args.page 1 c.args.writable (filled c.args.words.items) c.args.bench.now) c.args.bench.now) refused;
       err = tt;
     }

@@ -1,0 +1,59 @@
+-- What `show functions` and `show image` print. The form is this project's choice.
+use Rattle.std.specs.Prelude.{ℕ, ◌*◌, ◌/◌, ◌%◌, Bool, true, not, ◌&&◌, List, [], ◌∷◌, ◌++◌, take, drop, nat_le, ◌==◌, if◌then◌else◌, Option, Some, None, codes}
+use Rattle.std.specs.Fmt.{digit_glyph}
+use Rattle.std.specs.List.{flat_map, range_with_len}
+use Rattle.std.specs.Option.{option_map_or}
+use Rattle.h41_digits.specs.Register.{hexadecimal_text}
+use Rattle.h41_pages.specs.Images.{image_bytes}
+use Rattle.h41_pages.specs.PageMap.{PageMap, bank_numbered, image_at}
+use Rattle.h41_pages.specs.declared.functions.Function.{Function}
+use Rattle.h41_deck.specs.Calculator.{block_bank}
+
+-- a number below 100 by its two decimal digits
+abbrev pub two_digits : ℕ → List ℕ
+two_digits number = digit_glyph true (number / 10) ∷ digit_glyph true (number % 10) ∷ []
+
+-- a character as it is printed: 20 to 7E but `\` (5C) as it is, any other as `\` and its two hexadecimal digits
+abbrev pub is_plain : ℕ → Bool
+is_plain character = nat_le 0x20 character && nat_le character 0x7E && not (character == 0x5C)
+
+abbrev pub character_text : ℕ → List ℕ
+character_text character = if is_plain character then character ∷ [] else 0x5C ∷ hexadecimal_text 2 character
+
+abbrev pub characters_text : List ℕ → List ℕ
+characters_text characters = flat_map character_text characters
+
+-- a name by its characters, and `-` where there is none
+abbrev pub name_text : Option (List ℕ) → List ℕ
+name_text None = codes "-"
+name_text (Some name) = characters_text name
+
+-- a function by its two numbers and its name
+unfoldable pub function_line : Function → List ℕ
+function_line function =
+    codes "XROM " ++ two_digits function.number ++ codes "," ++ two_digits function.entry ++ codes " " ++ name_text function.name ++ codes "\n"
+
+abbrev pub functions_text : List Function → List ℕ
+functions_text functions = flat_map function_line functions
+
+-- bytes as two hexadecimal digits each, with the line's end
+abbrev pub bytes_text : List ℕ → List ℕ
+bytes_text bytes = flat_map (hexadecimal_text 2) bytes
+
+abbrev pub line_text : List ℕ → List ℕ
+line_text bytes = bytes_text bytes ++ codes "\n"
+
+-- the line of an image, of 32 bytes
+abbrev pub image_line : List ℕ → ℕ → List ℕ
+image_line bytes line = line_text (take 32 (drop (32 * line) bytes))
+
+-- so many lines of 32 bytes each; an image has 256
+unfoldable pub image_lines : List ℕ → ℕ → List ℕ
+image_lines bytes count = flat_map (image_line bytes) (range_with_len 0 count)
+
+abbrev pub image_text : List ℕ → List ℕ
+image_text bytes = image_lines bytes 256
+
+-- the image at the bank of a page that a deck's blocks fill
+abbrev pub image_at_text : PageMap → ℕ → List ℕ
+image_at_text pages page = option_map_or (λ image. image_text (image_bytes image.words)) (image_at pages page (bank_numbered block_bank)) []

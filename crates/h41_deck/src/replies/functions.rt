@@ -1,0 +1,68 @@
+//! The functions of modules, as `show functions` prints them.
+
+ghost use Rattle.std.specs.Prelude.{◌≡◌, ◌<◌, ◌++◌, IfOk, OnOk};
+ghost use Rattle.h41_digits.specs.Register.{hexadecimal_text};
+ghost use Rattle.h41_pages.specs.FunctionTables.{functions};
+ghost use Rattle.h41_deck.specs.PageViews as spec;
+
+use crate::replies::digits::{push_hexadecimal, push_number};
+use h41_pages::{Function, Name, Pages};
+use std::alloc::{AllocError, Global};
+
+/// A line for each function, with its two numbers and its name. 21 where memory is refused.
+pub fn functions_text(alloc: Global, pages: &Pages) -> Result<Vec<u8>, AllocError>
+    ensures { IfOk result (λ text. text.items ≡ spec.functions_text (functions pages.now)) }
+{
+    let functions = pages.functions(alloc)?;
+    let mut text = Vec::new(alloc);
+    for function in &functions {
+        push_function(&mut text, function)?;
+    }
+    Ok(text)
+}
+
+/// Appends the line of a function.
+#[tactic(auto, unfolding(crate::specs::PageViews::function_line))]
+fn push_function(text: &mut Vec<u8>, function: &Function) -> Result<(), AllocError>
+    ensures { OnOk result (text.new.items ≡ text.old.items ++ spec.function_line function.now) }
+{
+    text.extend_from_slice(b"XROM ")?;
+    push_number(text, function.number)?;
+    text.extend_from_slice(b",")?;
+    push_number(text, function.entry)?;
+    text.extend_from_slice(b" ")?;
+    push_name(text, &function.name)?;
+    text.extend_from_slice(b"\n")
+}
+
+/// Appends a name, and `-` where there is none.
+fn push_name(text: &mut Vec<u8>, name: &Option<Name>) -> Result<(), AllocError>
+    ensures { OnOk result (text.new.items ≡ text.old.items ++ spec.name_text name.now) }
+{
+    match name {
+        None => text.extend_from_slice(b"-"),
+        Some(name) => push_characters(text, name.as_bytes()),
+    }
+}
+
+/// Appends characters as they are printed.
+fn push_characters(text: &mut Vec<u8>, characters: &[u8]) -> Result<(), AllocError>
+    ensures { OnOk result (text.new.items ≡ text.old.items ++ spec.characters_text characters.now) }
+{
+    for character in characters {
+        push_character(text, *character)?;
+    }
+    Ok(())
+}
+
+/// Appends a character: 20 to 7E but `\` as it is, any other as `\` and its two hexadecimal digits.
+fn push_character(text: &mut Vec<u8>, character: u8) -> Result<(), AllocError>
+    ensures { OnOk result (text.new.items ≡ text.old.items ++ spec.character_text character) }
+{
+    if (0x20..=0x7E).contains(&character) && character != b'\\' {
+        text.extend_from_slice(&[character])
+    } else {
+        text.extend_from_slice(b"\\")?;
+        push_hexadecimal(text, character)
+    }
+}

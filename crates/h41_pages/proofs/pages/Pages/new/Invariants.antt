@@ -1,0 +1,7 @@
+use Rattle.std.proofs.Common.{◌≡◌, replicate}
+use Rattle.h41_pages.specs.PageMap.{no_banks}
+use Rattle.h41_pages.proofs.pages.Pages.new.Given as goal
+
+-- the pages so far, nothing plugged
+abbrev pub invariant-loop-page : goal.invariant-loop-page
+invariant-loop-page l = l.images.items ≡ replicate l._page no_banks

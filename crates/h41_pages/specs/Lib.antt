@@ -1,0 +1,5 @@
+pub mod Addresses
+pub mod PageMap
+pub mod Images
+pub mod FunctionTables
+pub mod PageLaws

@@ -1,0 +1,278 @@
+//! The functions that modules list: word 0 of a page is its XROM number, word 1 how many entries it has, and two words an
+//! entry follow. All of it is read in bank 1.
+
+ghost use Rattle.std.specs.Prelude.{◌≡◌, ◌<◌, ◌≤◌, ◌+◌, ◌++◌, find, option_map, IfOk, IfSome, Some, length, slice_index};
+ghost use Rattle.h41_words.specs.Counts.{word_count};
+ghost use Rattle.h41_pages.specs.Addresses.{page_size};
+ghost use Rattle.h41_pages.specs.FunctionTables as spec;
+
+use crate::addresses::{PAGE_WORDS, PAGES};
+use crate::image::Image;
+use crate::name::{NAME_LENGTH, Name};
+use crate::pages::Pages;
+use h41_words::{Bank, Word};
+use std::alloc::{AllocError, Global};
+
+/// The greatest XROM number, and the most entries of a page.
+const LAST_NUMBER: u16 = 31;
+
+const MOST_ENTRIES: u16 = 64;
+
+/// An entry of a module's table.
+#[derive(Clone, Copy, Debug, PartialEq, Eq)]
+pub struct Entry {
+    /// Where the function stands.
+    pub address: u16,
+    /// Whether it is keystroke code, and else microcode.
+    pub keystroke: bool,
+}
+
+/// A function of a module.
+#[derive(Debug, Drop)]
+pub struct Function {
+    /// The XROM number of its module, 1 to 31.
+    pub number: u8,
+    /// Its entry there, 0 to 63.
+    pub entry: u8,
+    /// Its name, where it has one. Keystroke code has none yet.
+    pub name: Option<Name>,
+}
+
+impl Pages {
+    /// The entry with these two numbers: that of the lowest page with the first, and nothing past that page's count, which
+    /// is taken as 0 where it is above 64 or the number is not 1 to 31 (this project's choice).
+    pub fn entry(&self, number: u8, entry: u8) -> Option<Entry>
+        ensures { result ≡ spec.entry_at self.now number entry }
+    {
+        let page = self.page_numbered(number)?;
+        self.entry_of(page, entry)
+    }
+
+    /// The entry of a page, where it has one of that number.
+    fn entry_of(&self, page: usize, entry: u8) -> Option<Entry>
+        requires { page < 16 }
+        ensures { result ≡ spec.entry_on self.now page entry }
+    {
+        match self.image(page, Bank::First) {
+            None => None,
+            Some(image) => image.entry(page, usize::from(entry)),
+        }
+    }
+
+    /// The lowest page with an XROM number.
+    fn page_numbered(&self, number: u8) -> Option<usize>
+        ensures page { result ≡ spec.page_numbered self.now number }
+        ensures bound { IfSome result (λ page. page < 16) }
+    {
+        for page in 0..PAGES {
+            if self.is_numbered(page, number) {
+                return Some(page);
+            }
+        }
+        None
+    }
+
+    /// Whether a page has an XROM number.
+    fn is_numbered(&self, page: usize, number: u8) -> bool
+        requires { page < 16 }
+        ensures { result ≡ spec.is_numbered number (spec.first_image self.now page) }
+    {
+        match self.image(page, Bank::First) {
+            None => false,
+            Some(image) => image.number() == u16::from(number),
+        }
+    }
+
+    /// The two numbers of the function with a name: the first that has it, by page, then entry.
+    pub fn find(&self, name: &[u8]) -> Option<(u8, u8)>
+        ensures { result ≡ spec.found self.now name.now }
+    {
+        for page in 0..PAGES {
+            if let Some(numbers) = self.find_at(page, name) {
+                return Some(numbers);
+            }
+        }
+        None
+    }
+
+    /// The same of one page.
+    fn find_at(&self, page: usize, name: &[u8]) -> Option<(u8, u8)>
+        requires { page < 16 }
+        ensures { result ≡ spec.found_in name.now (spec.functions_at self.now page) }
+    {
+        match self.image(page, Bank::First) {
+            None => None,
+            Some(image) => image.find(name),
+        }
+    }
+
+    /// All functions, by page, then entry. 21 where memory is refused.
+    pub fn functions(&self, alloc: Global) -> Result<Vec<Function>, AllocError>
+        ensures { IfOk result (λ functions. functions.items ≡ spec.functions self.now) }
+    {
+        let mut functions = Vec::new(alloc);
+        for page in 0..PAGES {
+            self.add_functions_at(page, &mut functions)?;
+        }
+        Ok(functions)
+    }
+
+    /// Adds the functions of a page to a list.
+    fn add_functions_at(&self, page: usize, functions: &mut Vec<Function>) -> Result<(), AllocError>
+        requires { page < 16 }
+        ensures { IfOk result (λ _. functions.new.items ≡ functions.old.items ++ spec.functions_at self.now page) }
+    {
+        match self.image(page, Bank::First) {
+            None => Ok(()),
+            Some(image) => image.add_functions(functions),
+        }
+    }
+}
+
+impl Image {
+    /// The XROM number, where there are functions: word 0.
+    fn number(&self) -> u16
+        ensures { result ≡ spec.number_in self.now.words }
+    {
+        self.word(0).number()
+    }
+
+    /// How many entries there are: word 1, and none where the number or the count is out of range.
+    fn entry_count(&self) -> usize
+        ensures count { result ≡ spec.entry_count self.now.words }
+        ensures bound { result ≤ 64 }
+    {
+        let number = self.number();
+        let count = self.word(1).number();
+        if (1..=LAST_NUMBER).contains(&number) && count <= MOST_ENTRIES {
+            usize::from(count)
+        } else {
+            0
+        }
+    }
+
+    /// Whether an entry is marked as keystroke code.
+    fn is_keystroke(&self, entry: usize) -> bool
+        requires { entry < 64 }
+        ensures { result ≡ spec.is_keystroke self.now.words entry }
+    {
+        self.word(2 + 2 * entry).number() / 512 % 2 == 1
+    }
+
+    /// The offset where the function of an entry stands.
+    fn entry_offset(&self, entry: usize) -> usize
+        requires { entry < 64 }
+        ensures offset { result ≡ spec.entry_offset self.now.words entry }
+        ensures bound { result < page_size }
+    {
+        let high = self.word(2 + 2 * entry).number() % 16;
+        let low = self.word(3 + 2 * entry).number() % 256;
+        usize::from(256 * high + low)
+    }
+
+    /// An entry of a page that has this image, where there is one of that number.
+    fn entry(&self, page: usize, entry: usize) -> Option<Entry>
+        requires { page < 16 }
+        ensures { result ≡ spec.entry_of page entry self.now }
+    {
+        if entry >= self.entry_count() {
+            return None;
+        }
+        Some(Entry {
+            address: (page * PAGE_WORDS + self.entry_offset(entry)) as u16,
+            keystroke: self.is_keystroke(entry),
+        })
+    }
+
+    /// The name that ends before an offset: read backwards, up to the character marked as the last.
+    fn name_before(&self, offset: usize) -> Option<Name>
+        requires { offset < page_size }
+        ensures { result ≡ spec.spelled (spec.words_before self.now.words offset) }
+    {
+        let mut name = Name::new();
+        let count = offset.min(NAME_LENGTH);
+        for distance in 0..count {
+            let word = self.word(offset - 1 - distance);
+            name.push(character(word));
+            if is_last(word) {
+                return Some(name);
+            }
+        }
+        None
+    }
+
+    /// The name of an entry's function, where it has one.
+    fn entry_name(&self, entry: usize) -> Option<Name>
+        requires { entry < 64 }
+        ensures { result ≡ spec.entry_name self.now.words entry }
+    {
+        if self.is_keystroke(entry) {
+            None
+        } else {
+            self.name_before(self.entry_offset(entry))
+        }
+    }
+
+    /// Whether an entry's function has a name.
+    fn is_named(&self, entry: usize, name: &[u8]) -> bool
+        requires { entry < 64 }
+        ensures { result ≡ spec.is_named name.now (spec.function_in self.now.words entry) }
+    {
+        match self.entry_name(entry) {
+            None => false,
+            Some(own) => own.is(name),
+        }
+    }
+
+    /// An entry's function.
+    fn function(&self, entry: usize) -> Function
+        requires { entry < spec.entry_count self.now.words }
+        ensures { result ≡ spec.function_in self.now.words entry }
+    {
+        let _count = self.entry_count();
+        Function {
+            number: self.number() as u8,
+            entry: entry as u8,
+            name: self.entry_name(entry),
+        }
+    }
+
+    /// The two numbers of the function with a name: the first that has it.
+    fn find(&self, name: &[u8]) -> Option<(u8, u8)>
+        ensures { result ≡ spec.found_in name.now (spec.functions_of self.now.words) }
+    {
+        let count = self.entry_count();
+        for entry in 0..count {
+            if self.is_named(entry, name) {
+                return Some((self.number() as u8, entry as u8));
+            }
+        }
+        None
+    }
+
+    /// Adds its functions to a list.
+    fn add_functions(&self, functions: &mut Vec<Function>) -> Result<(), AllocError>
+        ensures { IfOk result (λ _. functions.new.items ≡ functions.old.items ++ spec.functions_of self.now.words) }
+    {
+        let count = self.entry_count();
+        for entry in 0..count {
+            functions.push(self.function(entry))?;
+        }
+        Ok(())
+    }
+}
+
+/// The character of a word of a name: its low six bits are the character's code, 20 to 5F, modulo 64.
+fn character(word: Word) -> u8
+    ensures { result ≡ spec.character word }
+{
+    let code = (word.number() % 64) as u8;
+    if code < 0x20 { code + 0x40 } else { code }
+}
+
+/// Whether a word of a name is marked as the last character.
+fn is_last(word: Word) -> bool
+    ensures { result ≡ spec.is_last word }
+{
+    word.number() / 128 % 2 == 1
+}

@@ -1,0 +1,98 @@
+//! The image of a page's bank: its words.
+
+ghost use Rattle.std.specs.Prelude.{◌≡◌, ◌<◌, IfOk, IsTrue, All, length, slice_index, slice_set};
+ghost use Rattle.std.specs.List.{list_all};
+ghost use Rattle.std.specs.Prelude.{nat_le};
+ghost use Rattle.h41_words.specs.Counts.{word_count};
+ghost use Rattle.h41_pages.specs.Addresses.{page_size};
+ghost use Rattle.h41_pages.specs.PageMap.{is_image};
+
+use crate::addresses::PAGE_WORDS;
+use h41_words::Word;
+use std::alloc::{AllocError, Global};
+use std::marker::Model;
+
+/// The words of a page's bank, and whether microcode may write them.
+#[derive(Drop)]
+pub struct Image {
+    words: Vec<Word>,
+    writable: bool,
+}
+
+impl Model for Image {
+    ghost use Rattle.std.specs.Prelude.{◌≡◌, vec_len};
+    ghost use Rattle.h41_pages.specs.Addresses.{page_size};
+    ghost use Rattle.h41_pages.specs.PageMap.{PageImage};
+
+    ghost Value = { PageImage };
+
+    ghost view = { λ image. record { words = image.words.items; writable = image.writable } };
+
+    ghost invariant = { λ image. vec_len image.words ≡ page_size };
+}
+
+impl Image {
+    /// An image of these words.
+    pub fn new(alloc: Global, writable: bool, words: &[u16]) -> Result<Self, AllocError>
+        requires size { length words.now ≡ page_size }
+        requires each { All (λ word. word < word_count) words.now }
+        ensures { IfOk result (λ image. image ≡ record { words = words.now; writable = writable }) }
+    {
+        let mut image = Vec::with_capacity(alloc, PAGE_WORDS)?;
+        for number in words {
+            image.push(Word::new(*number).unwrap())?;
+        }
+        Ok(Image {
+            words: image,
+            writable,
+        })
+    }
+
+    /// Its words.
+    pub fn words(&self) -> &[Word]
+        ensures words { result.now ≡ self.now.words }
+        ensures size { length result.now ≡ page_size }
+    {
+        self.words.as_slice()
+    }
+
+    /// The word at an offset.
+    pub fn word(&self, offset: usize) -> Word
+        requires { offset < page_size }
+        ensures { result ≡ slice_index self.now.words offset }
+    {
+        self.words[offset]
+    }
+
+    /// Whether microcode may write its words.
+    pub fn is_writable(&self) -> bool
+        ensures { result ≡ self.now.writable }
+    {
+        self.writable
+    }
+
+    /// Writes the word at an offset.
+    pub fn write(&mut self, offset: usize, word: Word)
+        requires { offset < page_size }
+        ensures { self.new ≡ record self.old { words = slice_set self.old.words offset word } }
+    {
+        self.words[offset] = word;
+    }
+}
+
+/// Whether these are the words of an image.
+pub fn is_image(words: &[u16]) -> bool
+    ensures test { result ≡ is_image words.now }
+    ensures size { IsTrue result → length words.now ≡ page_size }
+    ensures each { IsTrue result → All (λ word. word < word_count) words.now }
+{
+    words.len() == PAGE_WORDS && all_fit(words)
+}
+
+/// Whether none is above 3FF.
+fn all_fit(words: &[u16]) -> bool
+    ensures test { result ≡ list_all (λ word. nat_le word 0x3FF) words.now }
+    ensures each { IsTrue result → All (λ word. word < word_count) words.now }
+{
+    words.iter().all(|word| *word <= 0x3FF)
+}

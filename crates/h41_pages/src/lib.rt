@@ -1,0 +1,22 @@
+//! The pages of the HP-41's address space: images of words that are plugged, read and written, their bytes as files have
+//! them, and the functions that modules list.
+#![tactic(auto)]
+
+mod addresses;
+mod functions;
+mod image;
+mod image_bytes;
+pub mod laws;
+mod name;
+mod pages;
+mod refusal;
+
+pub use addresses::FIRST_ADDRESS;
+pub use functions::{Entry, Function};
+pub use image_bytes::{image_read, is_image_bytes};
+pub use name::Name;
+pub use pages::Pages;
+pub use refusal::{FetchRefusal, ImageRefusal, PlugRefusal, ReadOnly, ReadRefusal, UnplugRefusal};
+
+#[cfg(test)]
+mod tests;

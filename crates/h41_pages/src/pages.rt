@@ -1,0 +1,230 @@
+//! The pages of the address space.
+
+ghost use Rattle.std.specs.Prelude.{◌≡◌, ◌<◌, None, IfOk, IfErr, IfNone, OnOk, OnErr, All, length, is_some, option_copied};
+ghost use Rattle.std.specs.List.{list_any};
+ghost use Rattle.std.specs.Result.{result_err};
+ghost use Rattle.h41_words.specs.Counts.{word_count};
+ghost use Rattle.h41_pages.specs.Addresses.{page_size};
+ghost use Rattle.h41_pages.specs.PageMap as spec;
+
+use crate::addresses::{FIRST_ADDRESS, PAGES, is_pluggable, offset_of, page_of};
+use crate::image::{Image, is_image};
+use crate::refusal::{FetchRefusal, PlugRefusal, ReadOnly, UnplugRefusal};
+use h41_words::{Bank, Word};
+use std::alloc::{AllocError, Global};
+use std::marker::Model;
+
+/// How many banks a page has.
+const BANKS: usize = 4;
+
+/// The pages of the address space: sixteen of 4,096 words, each with four banks. Pages 4 to F may be plugged, at bank 1.
+#[derive(Drop)]
+pub struct Pages {
+    images: Vec<[Option<Image>; BANKS]>,
+    chosen: [Bank; PAGES],
+}
+
+impl Model for Pages {
+    ghost use Rattle.std.specs.Prelude.{◌≡◌, vec_len};
+    ghost use Rattle.h41_pages.specs.PageMap.{PageMap};
+
+    ghost Value = { PageMap };
+
+    ghost view = { λ all. record { images = all.images.items; chosen = all.chosen } };
+
+    ghost invariant = { λ all. vec_len all.images ≡ 16 };
+}
+
+impl Pages {
+    /// Nothing plugged, and bank 1 chosen everywhere. 21 where memory is refused.
+    pub fn new(alloc: Global) -> Result<Self, AllocError>
+        ensures { IfOk result (λ pages. pages ≡ spec.no_pages) }
+    {
+        let mut images = Vec::with_capacity(alloc, PAGES)?;
+        for _page in 0..PAGES {
+            images.push([None, None, None, None])?;
+        }
+        Ok(Pages {
+            images,
+            chosen: [Bank::First; PAGES],
+        })
+    }
+
+    /// Plugs 4,096 words at a page and bank. Refused, in this order: 1 where the page is not 4 to F or the bank is not 1
+    /// (this project's choice), 2 where it is plugged, 4 where there are not 4,096 words or one is above 3FF, 21 where
+    /// memory is refused.
+    pub fn plug(
+        &mut self,
+        alloc: Global,
+        page: u8,
+        bank: u8,
+        writable: bool,
+        words: &[u16],
+    ) -> Result<(), PlugRefusal>
+        ensures accepted { OnOk result (spec.plug_refusal self.old page bank words.now ≡ None) }
+        ensures change { OnOk result (self.new ≡ spec.plugged self.old page bank writable words.now) }
+        ensures err { OnErr result (self.new ≡ self.old) }
+        ensures refusal { IfErr result (spec.RefusesPlug self.old page bank words.now) }
+    {
+        if let Some(refusal) = self.plug_refusal(page, bank, words) {
+            return Err(refusal);
+        }
+        let image = Image::new(alloc, writable, words)?;
+        self.images[usize::from(page)][bank_place(bank_numbered(bank))] = Some(image);
+        Ok(())
+    }
+
+    /// Why words are not plugged, but for want of memory.
+    fn plug_refusal(&self, page: u8, bank: u8, words: &[u16]) -> Option<PlugRefusal>
+        ensures refusal { result ≡ spec.plug_refusal self.now page bank words.now }
+        ensures page { IfNone result (page < 16) }
+        ensures size { IfNone result (length words.now ≡ page_size) }
+        ensures each { IfNone result (All (λ word. word < word_count) words.now) }
+    {
+        if !is_held(page, bank) {
+            Some(PlugRefusal::NoSuchPage)
+        } else if self.image(usize::from(page), bank_numbered(bank)).is_some() {
+            Some(PlugRefusal::Occupied)
+        } else if !is_image(words) {
+            Some(PlugRefusal::BadImage)
+        } else {
+            None
+        }
+    }
+
+    /// Takes out all banks of a page, which is then as at the start. Refused as 1 where the page is not 4 to F, as 3 where
+    /// none of its banks is plugged.
+    pub fn unplug(&mut self, page: u8) -> Result<(), UnplugRefusal>
+        ensures refusal { result_err result ≡ spec.unplug_refusal self.old page }
+        ensures ok { OnOk result (self.new ≡ spec.unplugged self.old page) }
+        ensures err { OnErr result (self.new ≡ self.old) }
+    {
+        if !is_pluggable(page) {
+            return Err(UnplugRefusal::NoSuchPage);
+        }
+        let page = usize::from(page);
+        if !is_any_plugged(&self.images[page]) {
+            return Err(UnplugRefusal::NotPlugged);
+        }
+        self.images[page] = [None, None, None, None];
+        self.chosen[page] = Bank::First;
+        Ok(())
+    }
+
+    /// Chooses a bank of a page, 0 to F, where it is plugged; else nothing changes (this project's choice).
+    pub fn choose(&mut self, page: u8, bank: Bank)
+        requires { page < 16 }
+        ensures { self.new ≡ spec.with_chosen self.old page bank }
+    {
+        let page = usize::from(page);
+        if self.image(page, bank).is_some() {
+            self.chosen[page] = bank;
+        }
+    }
+
+    /// Chooses bank 1 of each page.
+    pub fn choose_first_banks(&mut self)
+        ensures { self.new ≡ spec.with_first_banks self.old }
+    {
+        self.chosen = [Bank::First; PAGES];
+    }
+
+    /// The word at an address, in the chosen bank of its page. Refused as 8 in pages 0 to 3, as 9 where that bank is not
+    /// plugged.
+    #[tactic(auto, unfolding(crate::specs::PageMap::fetched))]
+    pub fn fetch(&self, address: u16) -> Result<Word, FetchRefusal>
+        ensures { result ≡ spec.fetched self.now address }
+    {
+        if address < FIRST_ADDRESS {
+            return Err(FetchRefusal::SystemRom(address));
+        }
+        match self.chosen_image(page_of(address)) {
+            None => Err(FetchRefusal::EmptyPage(address)),
+            Some(image) => Ok(image.word(offset_of(address))),
+        }
+    }
+
+    /// Writes the word at an address, in the chosen bank of its page. Refused as 12 where that is not plugged as writable.
+    #[tactic(auto, unfolding(crate::specs::PageMap::written))]
+    pub fn write(&mut self, address: u16, word: Word) -> Result<(), ReadOnly>
+        ensures refusal { result_err result ≡ spec.write_refusal self.old address }
+        ensures ok { OnOk result (self.new ≡ spec.written self.old address word) }
+        ensures err { OnErr result (self.new ≡ self.old) }
+    {
+        let page = page_of(address);
+        let bank = bank_place(self.chosen[page]);
+        match &mut self.images[page][bank] {
+            Some(image) if image.is_writable() => {
+                image.write(offset_of(address), word);
+                Ok(())
+            }
+            _ => Err(ReadOnly { address }),
+        }
+    }
+
+    /// Whether the word at an address may be written. Refused as 12 where the chosen bank of its page is not plugged as
+    /// writable.
+    pub fn check_writable(&self, address: u16) -> Result<(), ReadOnly>
+        ensures { result_err result ≡ spec.write_refusal self.now address }
+    {
+        match self.chosen_image(page_of(address)) {
+            Some(image) if image.is_writable() => Ok(()),
+            _ => Err(ReadOnly { address }),
+        }
+    }
+
+    /// The image at a page's bank.
+    pub(crate) fn image(&self, page: usize, bank: Bank) -> Option<&Image>
+        requires { page < 16 }
+        ensures { option_copied result ≡ spec.image_at self.now page bank }
+    {
+        self.images[page][bank_place(bank)].as_ref()
+    }
+
+    /// The image at the chosen bank of a page.
+    fn chosen_image(&self, page: usize) -> Option<&Image>
+        requires { page < 16 }
+        ensures { option_copied result ≡ spec.chosen_image self.now page }
+    {
+        self.image(page, self.chosen[page])
+    }
+}
+
+/// Whether any of a page's banks is plugged.
+fn is_any_plugged(images: &[Option<Image>]) -> bool
+    ensures { result ≡ list_any (λ image. is_some image) images.now }
+{
+    images.iter().any(|image| image.is_some())
+}
+
+/// Whether a page and a bank are held: pages 4 to F, and of the banks the first alone (this project's choice).
+pub(crate) fn is_held(page: u8, bank: u8) -> bool
+    ensures { result ≡ spec.is_held page bank }
+{
+    is_pluggable(page) && bank == 1
+}
+
+/// The bank with a number, 1 to 4.
+pub(crate) fn bank_numbered(number: u8) -> Bank
+    ensures { result ≡ spec.bank_numbered number }
+{
+    match number {
+        1 => Bank::First,
+        2 => Bank::Second,
+        3 => Bank::Third,
+        _ => Bank::Fourth,
+    }
+}
+
+/// The place of a bank among those of its page.
+fn bank_place(bank: Bank) -> usize
+    ensures place { result ≡ spec.bank_place bank }
+    ensures bound { result < 4 }
+{
+    match bank {
+        Bank::First => 0,
+        Bank::Second => 1,
+        Bank::Third => 2,
+        Bank::Fourth => 3,
+    }
+}

@@ -234,7 +234,7 @@ pub enum NameFunction {
     GoToName,
     /// `XEQ "NAME"`.
     ExecuteName,
-    /// `W "NAME"`: a code that the calculator never writes, and does nothing with.
+    /// `W "NAME"`: a code that the calculator never writes; it is stored and listed only.
     Wordless,
 }
 

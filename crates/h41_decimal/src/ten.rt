@@ -120,7 +120,7 @@ impl Ten {
     }
 
     /// The number modulo a divisor, rounded: `self - divisor * floor(self / divisor)`, which has the divisor's sign, and the
-    /// number itself where the divisor is zero. Its only fault is Range.
+    /// number itself where the divisor is zero. It answers no fault.
     pub fn modulo(self, divisor: Self) -> Result<Self, Fault>
         ensures { NearestModulo self divisor result }
     {

@@ -50,10 +50,13 @@ second_column (Some second) = codes " " ++ hexadecimal_text 3 second
 abbrev pub words_column : Piece → List ℕ
 words_column piece = hexadecimal_text 3 piece.first ++ second_column piece.second
 
--- a line with its columns: the address, which has 16 bits, the words, and the text
+-- the columns before its line: the address, and the words, with two blanks after each
+abbrev pub columns_text : ℕ → Piece → List ℕ
+columns_text address piece = hexadecimal_text 4 address ++ codes "  " ++ words_column piece ++ codes "  "
+
+-- a line with its columns; an address has 16 bits
 abbrev pub columns_line : ℕ → Piece → List ℕ
-columns_line address piece =
-    hexadecimal_text 4 (address % 0x10000) ++ codes "  " ++ words_column piece ++ codes "  " ++ piece_line piece
+columns_line address piece = columns_text (address % 0x10000) piece ++ piece_line piece
 
 -- these lines, where the first piece stands at this address
 abbrev pub columns_of : ℕ → List Piece → List ℕ

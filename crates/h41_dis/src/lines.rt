@@ -1,9 +1,8 @@
 //! The lines of words.
 
-ghost use Rattle.std.specs.Prelude.{◌≡◌, ◌+◌, ◌%◌, ◌≤◌, ◌<◌, ◌++◌, IfOk, codes, length};
+ghost use Rattle.std.specs.Prelude.{◌≡◌, ◌+◌, ◌%◌, ◌≤◌, ◌<◌, ◌++◌, IfOk, length};
 ghost use Rattle.std.specs.String.{string_bytes};
-ghost use Rattle.h41_digits.specs.Register.{hexadecimal_text};
-ghost use Rattle.h41_dis.specs.Spelling.{listing_text, piece_line, spell, words_column};
+ghost use Rattle.h41_dis.specs.Spelling.{columns_text, listing_text, piece_line, spell};
 
 use crate::cut::{Piece, Pieces};
 use crate::text::{instruction, push_byte, push_word};
@@ -50,8 +49,7 @@ fn push_line(text: &mut String, piece: Piece) -> Result<(), AllocError>
 
 /// The columns before the text of an instruction at an address.
 fn columns(address: u16, piece: Piece) -> ArrayString<COLUMNS>
-    ensures { result.bytes
-        ≡ hexadecimal_text 4 address ++ codes "  " ++ words_column piece ++ codes "  " }
+    ensures { result.bytes ≡ columns_text address piece }
 {
     let mut columns = ArrayString::new();
     push_byte(&mut columns, (address / 256) as u8);

@@ -63,10 +63,6 @@ chosen_at pages page = slice_index_or pages.chosen page First
 abbrev pub chosen_image : PageMap → ℕ → Option PageImage
 chosen_image pages page = image_at pages page (chosen_at pages page)
 
--- the map itself: the word at a page's bank and offset, where the bank is plugged
-abbrev pub word_at : PageMap → ℕ → Bank → ℕ → Option ℕ
-word_at pages page bank offset = option_map (λ image. slice_index image.words offset) (image_at pages page bank)
-
 -- the pages with another image at a page's bank
 abbrev pub with_image : PageMap → ℕ → Bank → Option PageImage → PageMap
 with_image pages page bank image =

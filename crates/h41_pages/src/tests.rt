@@ -48,7 +48,11 @@ fn images_come_and_go(rt: HostRuntime) -> Result<(), Fail> {
     );
     let bytes = pages.image_write(rt.alloc(), 8, 1)?;
     assert_eq!(rt; bytes.len(), 8192);
-    assert!(rt; bytes.as_slice().starts_with(&[0x00, 0x05, 0x00, 0x02, 0x00, 0x00, 0x00, 0x0B]));
+    assert!(rt;
+        bytes
+            .as_slice()
+            .starts_with(&[0x00, 0x05, 0x00, 0x02, 0x00, 0x00, 0x00, 0x0B])
+    );
     let words = image_read(rt.alloc(), &bytes)?;
     assert!(rt; words.as_slice() == module().as_slice());
     assert!(rt; image_read(rt.alloc(), &bytes[1..]).is_err());

@@ -1,0 +1,157 @@
+-- What a line of a source says behind its label: the words of an instruction or of a directive, some by an address that a
+-- label stands for; or that it cannot be read. Instructions are the mnemonics of HP's VASM listings; the directives CON, NAME,
+-- ENTRY and FOCAL, and which faults there are, are this project's own.
+use Rattle.std.specs.Prelude.{◌≡◌, ℕ, ◌+◌, ◌*◌, ◌/◌, ◌%◌, ℤ, Bool, true, false, ◌&&◌, List, [], ◌∷◌, ◌++◌, length, take, drop, map, filter, reverse, nat_le, is_some, is_none, if◌then◌else◌, Option, Some, None, Result, Ok, Err, bytes_eq, codes}
+use Rattle.std.specs.Prelude.{int_le}
+use Rattle.std.specs.List.{find, list_any, starts_with}
+use Rattle.std.specs.Option.{ok_or}
+use Rattle.h41_words.specs.declared.operation.Operation.{Operation}
+use Rattle.h41_words.specs.declared.rows.Condition.{Condition}
+use Rattle.h41_words.specs.declared.rows.Condition.TheVariants.{NoCarry, Carry}
+use Rattle.h41_words.specs.declared.rows.Row.{Row}
+use Rattle.h41_words.specs.declared.rows.Row.TheVariants.{Arithmetic, LongJump, ShortJump, ClearStatus, SetStatus, TestStatus, TestPointer, SetPointer, RotateRight, LoadDigit, Write, Read, LoadImmediate}
+use Rattle.h41_words.specs.declared.second_word.LongJumpKind.{LongJumpKind}
+use Rattle.h41_words.specs.declared.second_word.LongJumpKind.TheVariants.{Execute, Go}
+use Rattle.h41_words.specs.Counts.{status_bit_count, place_count, digit_count, block_register_count, least_displacement, greatest_displacement}
+use Rattle.h41_words.specs.Mnemonics.{mnemonic, operand, operation_text, long_jump_text, short_jump_text}
+use Rattle.h41_words.specs.SecondWord.{second_number_of}
+use Rattle.h41_words.specs.WordTable.{number_of, operations, single_rows}
+use Rattle.h41_asm.specs.declared.fault.Fault.{Fault}
+use Rattle.h41_asm.specs.declared.fault.Fault.TheVariants.{BadLine, BadOperand}
+use Rattle.h41_asm.specs.Operands.{address_in, displacement_in, field_in, number_in, text_in, word_in}
+use Rattle.h41_asm.specs.SourceLines.{reference_in, words_of}
+
+-- what a line says
+pub data Statement : Type 0 where
+  -- these words, whatever the labels
+  Words : List ℕ → Statement
+  -- a short jump by a displacement that no word has
+  OutOfReach : Statement
+  -- a jump to a label
+  LongJumpTo : Condition → LongJumpKind → List ℕ → Statement
+  ShortJumpTo : Condition → List ℕ → Statement
+  -- the two words of a function that begins at a label, the first with these bits too
+  EntryAt : ℕ → List ℕ → Statement
+
+-- how many words it takes
+abbrev pub statement_length : Statement → ℕ
+statement_length (Words words) = length words
+statement_length OutOfReach = 1
+statement_length (LongJumpTo condition kind name) = 2
+statement_length (ShortJumpTo condition name) = 1
+statement_length (EntryAt bits name) = 2
+
+-- the word of a row alone
+abbrev pub one_word : Row → Statement
+one_word row = Words (number_of row ∷ [])
+
+-- the two words of a jump to an address
+abbrev pub long_jump_words : Condition → LongJumpKind → ℕ → List ℕ
+long_jump_words condition kind address =
+    number_of (LongJump (address % 256))
+    ∷ second_number_of (record { condition = condition; kind = kind; high_byte = address / 256 }) ∷ []
+
+-- whether a short jump has this displacement
+abbrev pub is_in_reach : ℤ → Bool
+is_in_reach displacement = int_le least_displacement displacement && int_le displacement greatest_displacement
+
+abbrev pub short_jump_by : Condition → ℤ → Statement
+short_jump_by condition displacement =
+    if is_in_reach displacement then one_word (ShortJump condition displacement) else OutOfReach
+
+-- the words of a name: a word for each character, the last first and with bit 7 set; a character is its code modulo 64
+abbrev pub with_mark : List ℕ → List ℕ
+with_mark [] = []
+with_mark (last ∷ others) = (last + 0x80) ∷ others
+
+abbrev pub name_words : List ℕ → List ℕ
+name_words text = with_mark (reverse (map (λ byte. byte % 64) text))
+
+-- what a mnemonic or a directive takes as its one operand: what the operand's word says with it, where it is one
+abbrev pub Taking : Type 0
+Taking = List ℕ → Option Statement
+
+-- a value that the word is, as a statement
+abbrev pub said : {T : Type 0} → (T → Statement) → Option T → Option Statement
+said says None = None
+said says (Some value) = Some (says value)
+
+-- one of two, where the first is none
+abbrev pub or_else : Option Statement → Option Statement → Option Statement
+or_else None other = other
+or_else (Some statement) other = Some statement
+
+abbrev pub takes_field : Operation → Taking
+takes_field operation word = said (λ field. one_word (Arithmetic operation field)) (field_in word)
+
+abbrev pub takes_number : ℕ → ℕ → (ℕ → Row) → Taking
+takes_number least count row word = said (λ number. one_word (row number)) (number_in least count word)
+
+abbrev pub takes_address : Condition → LongJumpKind → Taking
+takes_address condition kind word =
+    or_else (said (λ address. Words (long_jump_words condition kind address)) (address_in word))
+    (said (λ name. LongJumpTo condition kind name) (reference_in word))
+
+abbrev pub takes_displacement : Condition → Taking
+takes_displacement condition word =
+    or_else (said (short_jump_by condition) (displacement_in word)) (said (λ name. ShortJumpTo condition name) (reference_in word))
+
+-- the instructions and directives with an operand: what they begin with, and how they take it
+abbrev pub takers : List (List ℕ × Taking)
+takers =
+    map (λ operation. (operation_text operation, takes_field operation)) operations
+    ++ (codes "CLRF", takes_number 0 status_bit_count (λ n. ClearStatus n))
+    ∷ (codes "SETF", takes_number 0 status_bit_count (λ n. SetStatus n))
+    ∷ (codes "?FSET", takes_number 0 status_bit_count (λ n. TestStatus n))
+    ∷ (codes "?R=", takes_number 0 place_count (λ n. TestPointer n))
+    ∷ (codes "R=", takes_number 0 place_count (λ n. SetPointer n))
+    ∷ (codes "RCR", takes_number 0 place_count (λ n. RotateRight n))
+    ∷ (codes "LD@R", takes_number 0 digit_count (λ n. LoadDigit n))
+    ∷ (codes "WRIT", takes_number 0 block_register_count (λ n. Write n))
+    ∷ (codes "READ", takes_number 1 15 (λ n. Read n))
+    ∷ (codes "LDI", (λ word. said (λ number. Words (number_of LoadImmediate ∷ number ∷ [])) (word_in word)))
+    ∷ (codes "CON", (λ word. said (λ number. Words (number ∷ [])) (word_in word)))
+    ∷ (long_jump_text NoCarry Execute, takes_address NoCarry Execute)
+    ∷ (long_jump_text Carry Execute, takes_address Carry Execute)
+    ∷ (long_jump_text NoCarry Go, takes_address NoCarry Go)
+    ∷ (long_jump_text Carry Go, takes_address Carry Go)
+    ∷ (short_jump_text NoCarry, takes_displacement NoCarry)
+    ∷ (short_jump_text Carry, takes_displacement Carry)
+    ∷ (codes "NAME", (λ word. said (λ text. Words (name_words text)) (text_in word)))
+    ∷ (codes "ENTRY", (λ word. said (λ name. EntryAt 0 name) (reference_in word)))
+    ∷ (codes "FOCAL", (λ word. said (λ name. EntryAt 0x200 name) (reference_in word)))
+    ∷ []
+
+-- the instructions without an operand
+abbrev pub singles : List Row
+singles = filter (λ row. is_none (operand row)) single_rows
+
+-- whether words begin with those of a mnemonic
+abbrev pub begins_with : List ℕ → List (List ℕ) → Bool
+begins_with name words = starts_with bytes_eq words (words_of name)
+
+-- and whether they are just those
+abbrev pub is_whole : List ℕ → List (List ℕ) → Bool
+is_whole name words = begins_with name words && nat_le (length words) (length (words_of name))
+
+-- the words behind a mnemonic: its operand is one word, and nothing else stands there
+abbrev pub taken : Taking → List (List ℕ) → Result Statement Fault
+taken takes [] = Err BadOperand
+taken takes (word ∷ []) = ok_or (takes word) BadOperand
+taken takes (word ∷ other ∷ others) = Err BadOperand
+
+-- words that begin with something that takes an operand, or with nothing that does
+abbrev pub with_taker : Option (List ℕ × Taking) → List (List ℕ) → Result Statement Fault
+with_taker (Some taker) words = taken taker.1 (drop (length (words_of taker.0)) words)
+with_taker None words = Err (if list_any (λ row. begins_with (mnemonic row) words) singles then BadOperand else BadLine)
+
+-- words that are a single mnemonic, or are none
+abbrev pub with_single : Option Row → List (List ℕ) → Result Statement Fault
+with_single (Some row) words = Ok (one_word row)
+with_single None words = with_taker (find (λ taker. begins_with taker.0 words) takers) words
+
+-- What the words behind a label say: nothing, a single mnemonic, or one that takes an operand. BadOperand is a known mnemonic
+-- or directive with an operand that is missing, too many, or not one that it takes; BadLine is everything else.
+abbrev pub reading : List (List ℕ) → Result Statement Fault
+reading [] = Ok (Words [])
+reading (first ∷ others) = with_single (find (λ row. is_whole (mnemonic row) (first ∷ others)) singles) (first ∷ others)

@@ -1,5 +1,5 @@
 -- The lines of a source, the words of a line, and the label that a line can begin with. The language is this project's own.
-use Rattle.std.specs.Prelude.{ℕ, ◌-◌, Bool, true, false, not, ◌&&◌, ◌||◌, List, [], ◌∷◌, ◌++◌, length, take, drop, filter, map, filter_map, nat_lt, nat_le, ◌==◌, if◌then◌else◌, Option, Some, None, bytes_eq, codes}
+use Rattle.std.specs.Prelude.{ℕ, suc, ◌-◌, Bool, true, false, not, ◌&&◌, ◌||◌, List, [], ◌∷◌, length, take, filter, map, filter_map, nat_lt, nat_le, ◌==◌, if◌then◌else◌, Option, Some, None, slice_index}
 use Rattle.std.specs.List.{list_all, onto_first}
 use Rattle.std.specs.Str.Lines as text
 
@@ -25,6 +25,12 @@ parts_from quoted (byte ∷ rest) =
     else (if not quoted && is_blank byte then [] ∷ others
     else onto_first byte others)
 
+-- how many bytes the first part has
+abbrev pub part_length : Bool → List ℕ → ℕ
+part_length quoted [] = 0
+part_length quoted (byte ∷ rest) =
+    if not quoted && (is_blank byte || byte == 59) then 0 else suc (part_length (quoted_after quoted byte) rest)
+
 -- the words of a line: the parts that are not empty
 abbrev pub words_of : List ℕ → List (List ℕ)
 words_of line = filter (λ part. nat_lt 0 (length part)) (parts_from false line)
@@ -45,13 +51,12 @@ is_name (first ∷ others) = is_letter first && (list_all is_name_byte others &&
 abbrev pub label_in : List ℕ → Option (List ℕ)
 label_in word =
     let name = take (length word - 1) word in
-    if is_name name && bytes_eq word (name ++ codes ":") then Some name else None
+    if slice_index word (length word - 1) == 58 && is_name name then Some name else None
 
 -- the name that a word refers to: ':name'
 abbrev pub reference_in : List ℕ → Option (List ℕ)
-reference_in word =
-    let name = drop 1 word in
-    if is_name name && bytes_eq word (codes ":" ++ name) then Some name else None
+reference_in [] = None
+reference_in (first ∷ name) = if first == 58 && is_name name then Some name else None
 
 -- a line: its label, where it has one, and the words behind that
 pub record SourceLine : Type 0 where

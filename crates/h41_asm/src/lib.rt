@@ -3,3 +3,7 @@
 #![tactic(auto)]
 
 pub mod fault;
+pub mod lines;
+pub mod names;
+pub mod operands;
+pub mod words;

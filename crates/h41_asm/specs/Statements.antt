@@ -1,9 +1,9 @@
 -- What a line of a source says behind its label: the words of an instruction or of a directive, some by an address that a
 -- label stands for; or that it cannot be read. Instructions are the mnemonics of HP's VASM listings; the directives CON, NAME,
 -- ENTRY and FOCAL, and which faults there are, are this project's own.
-use Rattle.std.specs.Prelude.{◌≡◌, ℕ, ◌+◌, ◌*◌, ◌/◌, ◌%◌, ℤ, Bool, true, false, ◌&&◌, List, [], ◌∷◌, ◌++◌, length, take, drop, map, filter, reverse, nat_le, is_some, is_none, if◌then◌else◌, Option, Some, None, Result, Ok, Err, bytes_eq, codes}
+use Rattle.std.specs.Prelude.{◌≡◌, ℕ, ◌+◌, ◌*◌, ◌/◌, ◌%◌, ℤ, Bool, true, false, ◌&&◌, List, [], ◌∷◌, ◌++◌, length, map, filter, reverse, ◌==◌, is_some, is_none, if◌then◌else◌, Option, Some, None, Result, Ok, Err, bytes_eq, codes}
 use Rattle.std.specs.Prelude.{int_le}
-use Rattle.std.specs.List.{find, list_any, starts_with}
+use Rattle.std.specs.List.{list_any}
 use Rattle.std.specs.Option.{ok_or}
 use Rattle.h41_words.specs.declared.operation.Operation.{Operation}
 use Rattle.h41_words.specs.declared.rows.Condition.{Condition}
@@ -96,6 +96,18 @@ abbrev pub takes_displacement : Condition → Taking
 takes_displacement condition word =
     or_else (said (short_jump_by condition) (displacement_in word)) (said (λ name. ShortJumpTo condition name) (reference_in word))
 
+abbrev pub takes_immediate : Taking
+takes_immediate word = said (λ number. Words (number_of LoadImmediate ∷ number ∷ [])) (word_in word)
+
+abbrev pub takes_constant : Taking
+takes_constant word = said (λ number. Words (number ∷ [])) (word_in word)
+
+abbrev pub takes_name : Taking
+takes_name word = said (λ text. Words (name_words text)) (text_in word)
+
+abbrev pub takes_entry : ℕ → Taking
+takes_entry bits word = said (λ name. EntryAt bits name) (reference_in word)
+
 -- the instructions and directives with an operand: what they begin with, and how they take it
 abbrev pub takers : List (List ℕ × Taking)
 takers =
@@ -109,30 +121,44 @@ takers =
     ∷ (codes "LD@R", takes_number 0 digit_count (λ n. LoadDigit n))
     ∷ (codes "WRIT", takes_number 0 block_register_count (λ n. Write n))
     ∷ (codes "READ", takes_number 1 15 (λ n. Read n))
-    ∷ (codes "LDI", (λ word. said (λ number. Words (number_of LoadImmediate ∷ number ∷ [])) (word_in word)))
-    ∷ (codes "CON", (λ word. said (λ number. Words (number ∷ [])) (word_in word)))
+    ∷ (codes "LDI", takes_immediate)
+    ∷ (codes "CON", takes_constant)
     ∷ (long_jump_text NoCarry Execute, takes_address NoCarry Execute)
     ∷ (long_jump_text Carry Execute, takes_address Carry Execute)
     ∷ (long_jump_text NoCarry Go, takes_address NoCarry Go)
     ∷ (long_jump_text Carry Go, takes_address Carry Go)
     ∷ (short_jump_text NoCarry, takes_displacement NoCarry)
     ∷ (short_jump_text Carry, takes_displacement Carry)
-    ∷ (codes "NAME", (λ word. said (λ text. Words (name_words text)) (text_in word)))
-    ∷ (codes "ENTRY", (λ word. said (λ name. EntryAt 0 name) (reference_in word)))
-    ∷ (codes "FOCAL", (λ word. said (λ name. EntryAt 0x200 name) (reference_in word)))
+    ∷ (codes "NAME", takes_name)
+    ∷ (codes "ENTRY", takes_entry 0)
+    ∷ (codes "FOCAL", takes_entry 0x200)
     ∷ []
 
--- the instructions without an operand
-abbrev pub singles : List Row
-singles = filter (λ row. is_none (operand row)) single_rows
+-- the instructions without an operand, and the row of each
+abbrev pub singles : List (List ℕ × Row)
+singles = map (λ row. (mnemonic row, row)) (filter (λ row. is_none (operand row)) single_rows)
 
--- whether words begin with those of a mnemonic
-abbrev pub begins_with : List ℕ → List (List ℕ) → Bool
-begins_with name words = starts_with bytes_eq words (words_of name)
+-- the words behind some, where they begin with these
+abbrev pub after : List (List ℕ) → List (List ℕ) → Option (List (List ℕ))
+after [] words = Some words
+after (part ∷ parts) [] = None
+after (part ∷ parts) (word ∷ words) = if bytes_eq word part then after parts words else None
 
--- and whether they are just those
-abbrev pub is_whole : List ℕ → List (List ℕ) → Bool
-is_whole name words = begins_with name words && nat_le (length words) (length (words_of name))
+-- the words behind a mnemonic, where they begin with it
+abbrev pub behind : List ℕ → List (List ℕ) → Option (List (List ℕ))
+behind name words = after (words_of name) words
+
+-- whether these are none
+abbrev pub is_nothing : Option (List (List ℕ)) → Bool
+is_nothing None = false
+is_nothing (Some words) = length words == 0
+
+-- whether words are just a mnemonic, or begin with it
+abbrev pub is_whole : List (List ℕ) → List ℕ → Bool
+is_whole words name = is_nothing (behind name words)
+
+abbrev pub begins : List (List ℕ) → List ℕ → Bool
+begins words name = is_some (behind name words)
 
 -- the words behind a mnemonic: its operand is one word, and nothing else stands there
 abbrev pub taken : Taking → List (List ℕ) → Result Statement Fault
@@ -140,18 +166,27 @@ taken takes [] = Err BadOperand
 taken takes (word ∷ []) = ok_or (takes word) BadOperand
 taken takes (word ∷ other ∷ others) = Err BadOperand
 
--- words that begin with something that takes an operand, or with nothing that does
-abbrev pub with_taker : Option (List ℕ × Taking) → List (List ℕ) → Result Statement Fault
-with_taker (Some taker) words = taken taker.1 (drop (length (words_of taker.0)) words)
-with_taker None words = Err (if list_any (λ row. begins_with (mnemonic row) words) singles then BadOperand else BadLine)
+-- words that are none of these but begin with one, or do not
+abbrev pub unread : List (List ℕ × Row) → List (List ℕ) → Result Statement Fault
+unread known words = Err (if list_any (λ single. begins words single.0) known then BadOperand else BadLine)
 
--- words that are a single mnemonic, or are none
-abbrev pub with_single : Option Row → List (List ℕ) → Result Statement Fault
-with_single (Some row) words = Ok (one_word row)
-with_single None words = with_taker (find (λ taker. begins_with taker.0 words) takers) words
+-- the operand behind a mnemonic that words begin with, or what else they say
+abbrev pub taken_or : Option (List (List ℕ)) → Taking → Result Statement Fault → Result Statement Fault
+taken_or None takes other = other
+taken_or (Some words) takes other = taken takes words
+
+-- what words say that begin with one of these
+abbrev pub read_taker : List (List ℕ × Taking) → List (List ℕ) → Result Statement Fault
+read_taker [] words = unread singles words
+read_taker (taker ∷ others) words = taken_or (behind taker.0 words) taker.1 (read_taker others words)
+
+-- the single mnemonic that words are
+abbrev pub read_single : List (List ℕ × Row) → List (List ℕ) → Result Statement Fault
+read_single [] words = read_taker takers words
+read_single (single ∷ others) words = if is_whole words single.0 then Ok (one_word single.1) else read_single others words
 
 -- What the words behind a label say: nothing, a single mnemonic, or one that takes an operand. BadOperand is a known mnemonic
 -- or directive with an operand that is missing, too many, or not one that it takes; BadLine is everything else.
 abbrev pub reading : List (List ℕ) → Result Statement Fault
 reading [] = Ok (Words [])
-reading (first ∷ others) = with_single (find (λ row. is_whole (mnemonic row) (first ∷ others)) singles) (first ∷ others)
+reading (first ∷ others) = read_single singles (first ∷ others)

@@ -2,8 +2,12 @@
 //! directives this project's own.
 #![tactic(auto)]
 
-pub mod fault;
-pub mod lines;
-pub mod names;
-pub mod operands;
-pub mod words;
+mod fault;
+mod lines;
+mod names;
+mod operands;
+mod statement;
+mod table;
+mod words;
+
+pub use fault::Fault;

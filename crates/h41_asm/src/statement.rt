@@ -1,0 +1,236 @@
+//! What a line says behind its label.
+
+ghost use Rattle.std.specs.Prelude.{◌≡◌, ◌+◌, ◌≤◌, ◌==◌, [], ◌∷◌, length, Err};
+ghost use Rattle.std.specs.Option.{option_map};
+ghost use Rattle.h41_asm.specs.CodeStatements.{found_in_code, in_code, read_in_code, takes_in_code, takes_numbered};
+ghost use Rattle.h41_asm.specs.SourceLines.{words_of};
+ghost use Rattle.h41_asm.specs.Statements as spec;
+
+use crate::fault::Fault;
+use crate::names::reference_in;
+use crate::operands::{address_in, displacement_in, field_in, number_in, text_in, word_in};
+use crate::table::{Numbered, SINGLES, TAKERS, Taking};
+use crate::words::LineWords;
+use h41_words::{
+    BlockRegister, Condition, Digit, Displacement, LongJumpKind, Place, ReadRegister, Row,
+    SecondWord, StatusBit, Word, word,
+};
+
+/// What a line says: words, some by an address that a label stands for.
+#[derive(Clone, Copy, Debug)]
+pub(crate) enum Statement<'a> {
+    /// No words.
+    Nothing,
+    /// An instruction of one word, or a word as a number.
+    One(Word),
+    /// An instruction of two words.
+    Two(Word, Word),
+    /// The words of a name, by its text.
+    Name(&'a [u8]),
+    /// A short jump by a displacement that no word has.
+    OutOfReach,
+    /// A jump by address to a label.
+    LongJumpTo(Condition, LongJumpKind, &'a [u8]),
+    /// A short jump to a label.
+    ShortJumpTo(Condition, &'a [u8]),
+    /// The two words of a function that begins at a label, the first with these bits too.
+    EntryAt(u16, &'a [u8]),
+}
+
+impl Statement<'_> {
+    /// How many words it takes, 0 to 11.
+    pub(crate) fn length(&self) -> usize
+        ensures { result ≡ spec.statement_length (in_code self.now) }
+    {
+        match self {
+            Statement::Nothing => 0,
+            Statement::One(_) | Statement::OutOfReach | Statement::ShortJumpTo(..) => 1,
+            Statement::Two(..) | Statement::LongJumpTo(..) | Statement::EntryAt(..) => 2,
+            Statement::Name(text) => text.len(),
+        }
+    }
+}
+
+/// What the words behind a label say, or why they cannot be read.
+pub(crate) fn read(words: LineWords<'_>) -> Result<Statement<'_>, Fault>
+    ensures { read_in_code result ≡ spec.reading (words_of words.entry.rest.now) }
+{
+    if is_nothing(words) {
+        return Ok(Statement::Nothing);
+    }
+    for (name, row) in &SINGLES {
+        if behind(name, words).is_some_and(is_nothing) {
+            return Ok(Statement::One(word(*row)));
+        }
+    }
+    read_taker(words)
+}
+
+/// What words say that are not a single mnemonic.
+fn read_taker(words: LineWords<'_>) -> Result<Statement<'_>, Fault>
+    ensures { read_in_code result ≡ spec.read_taker spec.takers (words_of words.entry.rest.now) }
+{
+    for (name, taking) in &TAKERS {
+        if let Some(operands) = behind(name, words) {
+            return taken(*taking, operands);
+        }
+    }
+    Err(unread(words))
+}
+
+/// The fault of words that begin with nothing that takes an operand, and are not a single mnemonic: whether they begin with
+/// one.
+fn unread(words: LineWords<'_>) -> Fault
+    ensures { Err result ≡ spec.unread spec.singles (words_of words.entry.rest.now) }
+{
+    for (name, _) in &SINGLES {
+        if behind(name, words).is_some() {
+            return Fault::BadOperand;
+        }
+    }
+    Fault::BadLine
+}
+
+/// The words behind those of a mnemonic, where they begin with it.
+fn behind<'a>(name: &str, words: LineWords<'a>) -> Option<LineWords<'a>>
+    ensures { option_map (λ rest. words_of rest.rest.now) result
+        ≡ spec.behind name.now (words_of words.entry.rest.now) }
+{
+    let mut rest = words;
+    for part in LineWords::new(name.as_bytes()) {
+        let word = rest.next()?;
+        if word != part {
+            return None;
+        }
+    }
+    Some(rest)
+}
+
+/// Whether no word is left.
+fn is_nothing(words: LineWords<'_>) -> bool
+    ensures { result ≡ (length (words_of words.entry.rest.now) == 0) }
+{
+    let mut words = words;
+    words.next().is_none()
+}
+
+/// The one operand behind a mnemonic.
+fn taken(taking: Taking, operands: LineWords<'_>) -> Result<Statement<'_>, Fault>
+    ensures { read_in_code result
+        ≡ spec.taken (takes_in_code taking) (words_of operands.entry.rest.now) }
+{
+    let mut operands = operands;
+    match (operands.next(), operands.next()) {
+        (Some(operand), None) => match take(taking, operand) {
+            Some(statement) => Ok(statement),
+            None => Err(Fault::BadOperand),
+        },
+        _ => Err(Fault::BadOperand),
+    }
+}
+
+/// What an operand says with its mnemonic, where that takes it.
+fn take(taking: Taking, operand: &[u8]) -> Option<Statement<'_>>
+    ensures { found_in_code result ≡ takes_in_code taking operand.now }
+{
+    match taking {
+        Taking::LongJump(condition, kind) => take_address(condition, kind, operand),
+        Taking::ShortJump(condition) => take_displacement(condition, operand),
+        Taking::Immediate => {
+            let number = word_in(operand)?;
+            Some(Statement::Two(word(Row::LoadImmediate), number))
+        }
+        Taking::Constant => {
+            let number = word_in(operand)?;
+            Some(Statement::One(number))
+        }
+        Taking::Name => {
+            let text = text_in(operand)?;
+            Some(Statement::Name(text))
+        }
+        Taking::Entry(bits) => {
+            let name = reference_in(operand)?;
+            Some(Statement::EntryAt(bits, name))
+        }
+        Taking::Field(operation) => {
+            let field = field_in(operand)?;
+            Some(Statement::One(word(Row::Arithmetic(operation, field))))
+        }
+        Taking::Number(numbered) => take_number(numbered, operand),
+    }
+}
+
+/// An instruction whose operand is a number.
+fn take_number(numbered: Numbered, operand: &[u8]) -> Option<Statement<'_>>
+    ensures { found_in_code result ≡ takes_numbered numbered operand.now }
+{
+    let row = match numbered {
+        Numbered::ClearStatus => Row::ClearStatus(StatusBit::new(number_in(0, 14, operand)?)),
+        Numbered::SetStatus => Row::SetStatus(StatusBit::new(number_in(0, 14, operand)?)),
+        Numbered::TestStatus => Row::TestStatus(StatusBit::new(number_in(0, 14, operand)?)),
+        Numbered::TestPointer => Row::TestPointer(Place::new(number_in(0, 14, operand)?)),
+        Numbered::SetPointer => Row::SetPointer(Place::new(number_in(0, 14, operand)?)),
+        Numbered::RotateRight => Row::RotateRight(Place::new(number_in(0, 14, operand)?)),
+        Numbered::LoadDigit => Row::LoadDigit(Digit::new(number_in(0, 16, operand)?)),
+        Numbered::Write => Row::Write(BlockRegister::new(number_in(0, 16, operand)?)),
+        Numbered::Read => Row::Read(ReadRegister::new(number_in(1, 15, operand)?)),
+    };
+    Some(Statement::One(word(row)))
+}
+
+/// A jump to an address, or to a label.
+fn take_address(
+    condition: Condition,
+    kind: LongJumpKind,
+    operand: &[u8],
+) -> Option<Statement<'_>>
+    ensures { found_in_code result ≡ spec.takes_address condition kind operand.now }
+{
+    match address_in(operand) {
+        Some(address) => {
+            let (first, second) = long_jump_words(condition, kind, address);
+            Some(Statement::Two(first, second))
+        }
+        None => {
+            let name = reference_in(operand)?;
+            Some(Statement::LongJumpTo(condition, kind, name))
+        }
+    }
+}
+
+/// The two words of a jump to an address.
+pub(crate) fn long_jump_words(condition: Condition, kind: LongJumpKind, address: u16) -> (Word, Word)
+    ensures { result.0 ∷ result.1 ∷ [] ≡ spec.long_jump_words condition kind address }
+{
+    let second = SecondWord {
+        condition,
+        kind,
+        high_byte: (address / 256) as u8,
+    };
+    (word(Row::LongJump((address % 256) as u8)), second.word())
+}
+
+/// A short jump by a displacement, or to a label.
+fn take_displacement(condition: Condition, operand: &[u8]) -> Option<Statement<'_>>
+    ensures { found_in_code result ≡ spec.takes_displacement condition operand.now }
+{
+    match displacement_in(operand) {
+        Some(displacement) => Some(short_jump_by(condition, displacement)),
+        None => {
+            let name = reference_in(operand)?;
+            Some(Statement::ShortJumpTo(condition, name))
+        }
+    }
+}
+
+/// A short jump by a displacement.
+fn short_jump_by<'a>(condition: Condition, displacement: i16) -> Statement<'a>
+    ensures { in_code result ≡ spec.short_jump_by condition displacement }
+{
+    if -64 <= displacement && displacement <= 63 {
+        let displacement = Displacement::new(displacement as i8);
+        Statement::One(word(Row::ShortJump(condition, displacement)))
+    } else {
+        Statement::OutOfReach
+    }
+}

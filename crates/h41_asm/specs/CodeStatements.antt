@@ -1,5 +1,7 @@
 -- What the code's statements say, in the words of a source.
-use Rattle.std.specs.Prelude.{List, [], ◌∷◌, Option, Some, None, Result, Ok, Err}
+use Rattle.std.specs.Prelude.{ℕ, map, List, [], ◌∷◌, Option, Some, None, Result, Ok, Err}
+use Rattle.std.specs.Borrow.{Bor}
+use Rattle.h41_words.specs.declared.rows.Row.{Row}
 use Rattle.h41_asm.specs.declared.fault.Fault.{Fault}
 use Rattle.h41_asm.specs.declared.statement.Statement as code
 use Rattle.h41_asm.specs.declared.statement.Statement.TheVariants as codes_of
@@ -51,3 +53,15 @@ takes_in_code (takings.LongJump condition kind) = takes_address condition kind
 takes_in_code (takings.ShortJump condition) = takes_displacement condition
 takes_in_code takings.Name = takes_name
 takes_in_code (takings.Entry bits) = takes_entry bits
+
+-- the tables of the code
+abbrev pub singles_in : List (Bor (List ℕ) × Row) → List (List ℕ × Row)
+singles_in entries = map (λ entry. (entry.0.now, entry.1)) entries
+
+abbrev pub takers_in : List (Bor (List ℕ) × table.Taking) → List (List ℕ × Taking)
+takers_in entries = map (λ entry. (entry.0.now, takes_in_code entry.1)) entries
+
+-- what was found in one
+abbrev pub taken_in_code : Option (Result code.Statement Fault) → Option (Result Statement Fault)
+taken_in_code None = None
+taken_in_code (Some read) = Some (read_in_code read)

@@ -109,7 +109,7 @@ abbrev pub takes_entry : ℕ → Taking
 takes_entry bits word = said (λ name. EntryAt bits name) (reference_in word)
 
 -- the instructions and directives with an operand: what they begin with, and how they take it
-abbrev pub takers : List (List ℕ × Taking)
+unfoldable pub takers : List (List ℕ × Taking)
 takers =
     map (λ operation. (operation_text operation, takes_field operation)) operations
     ++ (codes "CLRF", takes_number 0 status_bit_count (λ n. ClearStatus n))
@@ -135,7 +135,7 @@ takers =
     ∷ []
 
 -- the instructions without an operand, and the row of each
-abbrev pub singles : List (List ℕ × Row)
+unfoldable pub singles : List (List ℕ × Row)
 singles = map (λ row. (mnemonic row, row)) (filter (λ row. is_none (operand row)) single_rows)
 
 -- the words behind some, where they begin with these
@@ -166,27 +166,42 @@ taken takes [] = Err BadOperand
 taken takes (word ∷ []) = ok_or (takes word) BadOperand
 taken takes (word ∷ other ∷ others) = Err BadOperand
 
--- words that are none of these but begin with one, or do not
-abbrev pub unread : List (List ℕ × Row) → List (List ℕ) → Result Statement Fault
-unread known words = Err (if list_any (λ single. begins words single.0) known then BadOperand else BadLine)
+-- the row of the single mnemonic that words are
+abbrev pub single_among : List (List ℕ × Row) → List (List ℕ) → Option Row
+single_among [] words = None
+single_among (single ∷ others) words = if is_whole words single.0 then Some single.1 else single_among others words
 
--- the operand behind a mnemonic that words begin with, or what else they say
-abbrev pub taken_or : Option (List (List ℕ)) → Taking → Result Statement Fault → Result Statement Fault
+-- whether words begin with one
+abbrev pub is_begun : List (List ℕ × Row) → List (List ℕ) → Bool
+is_begun some words = list_any (λ single. begins words single.0) some
+
+-- what the words behind the first mnemonic that they begin with say as its operand
+abbrev pub taken_or : Option (List (List ℕ)) → Taking → Option (Result Statement Fault) → Option (Result Statement Fault)
 taken_or None takes other = other
-taken_or (Some words) takes other = taken takes words
+taken_or (Some words) takes other = Some (taken takes words)
 
--- what words say that begin with one of these
-abbrev pub read_taker : List (List ℕ × Taking) → List (List ℕ) → Result Statement Fault
-read_taker [] words = unread singles words
-read_taker (taker ∷ others) words = taken_or (behind taker.0 words) taker.1 (read_taker others words)
+abbrev pub taken_among : List (List ℕ × Taking) → List (List ℕ) → Option (Result Statement Fault)
+taken_among [] words = None
+taken_among (taker ∷ others) words = taken_or (behind taker.0 words) taker.1 (taken_among others words)
 
--- the single mnemonic that words are
-abbrev pub read_single : List (List ℕ × Row) → List (List ℕ) → Result Statement Fault
-read_single [] words = read_taker takers words
-read_single (single ∷ others) words = if is_whole words single.0 then Ok (one_word single.1) else read_single others words
+-- the fault of words that begin with none of these: a single mnemonic with something behind it, or nothing that is known
+abbrev pub unread : List (List ℕ) → Fault
+unread words = if is_begun singles words then BadOperand else BadLine
+
+abbrev pub taken_or_unread : Option (Result Statement Fault) → List (List ℕ) → Result Statement Fault
+taken_or_unread (Some read) words = read
+taken_or_unread None words = Err (unread words)
+
+-- words that are not a single mnemonic
+abbrev pub not_single : List (List ℕ) → Result Statement Fault
+not_single words = taken_or_unread (taken_among takers words) words
+
+abbrev pub single_or_not : Option Row → List (List ℕ) → Result Statement Fault
+single_or_not (Some row) words = Ok (one_word row)
+single_or_not None words = not_single words
 
 -- What the words behind a label say: nothing, a single mnemonic, or one that takes an operand. BadOperand is a known mnemonic
 -- or directive with an operand that is missing, too many, or not one that it takes; BadLine is everything else.
 abbrev pub reading : List (List ℕ) → Result Statement Fault
 reading [] = Ok (Words [])
-reading (first ∷ others) = read_single singles (first ∷ others)
+reading (first ∷ others) = single_or_not (single_among singles (first ∷ others)) (first ∷ others)

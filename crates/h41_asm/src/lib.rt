@@ -6,6 +6,7 @@ mod fault;
 mod lines;
 mod names;
 mod operands;
+mod source;
 mod statement;
 mod table;
 mod words;

@@ -1,8 +1,8 @@
 //! What a line says behind its label.
 
-ghost use Rattle.std.specs.Prelude.{◌≡◌, ◌+◌, ◌≤◌, ◌==◌, [], ◌∷◌, length, Err};
+ghost use Rattle.std.specs.Prelude.{◌≡◌, ◌+◌, ◌≤◌, ◌==◌, [], ◌∷◌, length};
 ghost use Rattle.std.specs.Option.{option_map};
-ghost use Rattle.h41_asm.specs.CodeStatements.{found_in_code, in_code, read_in_code, takes_in_code, takes_numbered};
+ghost use Rattle.h41_asm.specs.CodeStatements.{found_in_code, in_code, read_in_code, singles_in, taken_in_code, takers_in, takes_in_code, takes_numbered};
 ghost use Rattle.h41_asm.specs.SourceLines.{words_of};
 ghost use Rattle.h41_asm.specs.Statements as spec;
 
@@ -58,37 +58,97 @@ pub(crate) fn read(words: LineWords<'_>) -> Result<Statement<'_>, Fault>
     if is_nothing(words) {
         return Ok(Statement::Nothing);
     }
-    for (name, row) in &SINGLES {
-        if behind(name, words).is_some_and(is_nothing) {
-            return Ok(Statement::One(word(*row)));
-        }
+    match single(words) {
+        Some(row) => Ok(Statement::One(word(row))),
+        None => read_taker(words),
     }
-    read_taker(words)
 }
 
 /// What words say that are not a single mnemonic.
 fn read_taker(words: LineWords<'_>) -> Result<Statement<'_>, Fault>
-    ensures { read_in_code result ≡ spec.read_taker spec.takers (words_of words.entry.rest.now) }
+    ensures { read_in_code result ≡ spec.not_single (words_of words.entry.rest.now) }
 {
-    for (name, taking) in &TAKERS {
-        if let Some(operands) = behind(name, words) {
-            return taken(*taking, operands);
-        }
+    match with_operand(words) {
+        Some(read) => read,
+        None => Err(unread(words)),
     }
-    Err(unread(words))
 }
 
-/// The fault of words that begin with nothing that takes an operand, and are not a single mnemonic: whether they begin with
-/// one.
-fn unread(words: LineWords<'_>) -> Fault
-    ensures { Err result ≡ spec.unread spec.singles (words_of words.entry.rest.now) }
+/// What words say that begin with a mnemonic that takes an operand.
+#[tactic(auto, unfolding(crate::specs::Statements::takers))]
+fn with_operand<'a>(words: LineWords<'a>) -> Option<Result<Statement<'a>, Fault>>
+    ensures { taken_in_code result ≡ spec.taken_among spec.takers (words_of words.entry.rest.now) }
 {
-    for (name, _) in &SINGLES {
-        if behind(name, words).is_some() {
-            return Fault::BadOperand;
+    taken_among(&TAKERS, words)
+}
+
+/// The row of the single mnemonic that words are.
+#[tactic(auto, unfolding(crate::specs::Statements::singles))]
+fn single(words: LineWords<'_>) -> Option<Row>
+    ensures { result ≡ spec.single_among spec.singles (words_of words.entry.rest.now) }
+{
+    single_among(&SINGLES, words)
+}
+
+/// The fault of words that are no single mnemonic, and do not begin with one that takes an operand.
+fn unread(words: LineWords<'_>) -> Fault
+    ensures { result ≡ spec.unread (words_of words.entry.rest.now) }
+{
+    if begins_single(words) {
+        Fault::BadOperand
+    } else {
+        Fault::BadLine
+    }
+}
+
+/// Whether words begin with a single mnemonic.
+#[tactic(auto, unfolding(crate::specs::Statements::singles))]
+fn begins_single(words: LineWords<'_>) -> bool
+    ensures { result ≡ spec.is_begun spec.singles (words_of words.entry.rest.now) }
+{
+    is_begun(&SINGLES, words)
+}
+
+/// The row of the single mnemonic that words are, among some.
+fn single_among(singles: &[(&str, Row)], words: LineWords<'_>) -> Option<Row>
+    ensures { result ≡ spec.single_among (singles_in singles.now) (words_of words.entry.rest.now) }
+{
+    for (name, row) in singles {
+        if let Some(others) = behind(name, words) {
+            if is_nothing(others) {
+                return Some(*row);
+            }
         }
     }
-    Fault::BadLine
+    None
+}
+
+/// Whether words begin with a single mnemonic, among some.
+fn is_begun(singles: &[(&str, Row)], words: LineWords<'_>) -> bool
+    ensures { result ≡ spec.is_begun (singles_in singles.now) (words_of words.entry.rest.now) }
+{
+    for (name, _) in singles {
+        if behind(name, words).is_some() {
+            return true;
+        }
+    }
+    false
+}
+
+/// What words say that begin with a mnemonic that takes an operand, among some.
+fn taken_among<'a>(
+    takers: &[(&str, Taking)],
+    words: LineWords<'a>,
+) -> Option<Result<Statement<'a>, Fault>>
+    ensures { taken_in_code result
+        ≡ spec.taken_among (takers_in takers.now) (words_of words.entry.rest.now) }
+{
+    for (name, taking) in takers {
+        if let Some(operands) = behind(name, words) {
+            return Some(taken(*taking, operands));
+        }
+    }
+    None
 }
 
 /// The words behind those of a mnemonic, where they begin with it.

@@ -1,5 +1,5 @@
 -- Hexadecimal digits as they come.
-use Rattle.std.proofs.Common.{◌≡◌, ℕ, ◌+◌, ◌*◌, ◌<◌, ◌≤◌, ◌^◌, arith, suc, add-one}
+use Rattle.std.proofs.Common.{◌≡◌, ℕ, ◌+◌, ◌*◌, ◌≤◌, ◌^◌, arith, add-one}
 use Rattle.std.proofs.Math.Nat.{pow-le-pow_right, pow-suc}
 
 pub next_power : (i : ℕ) → 16 ^ (i + 1) ≡ 16 ^ i * 16

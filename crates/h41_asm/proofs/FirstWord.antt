@@ -1,7 +1,7 @@
 -- The first word of a line, and the words after it.
-use Rattle.std.proofs.Common.{inl, inr, not, suc, length-take, ◌≡◌, ℕ, ◌+◌, ◌<◌, ◌≤◌, ◌⊎◌, ◌||◌, ◌&&◌, Bool, true, false, nat_lt, List, [], ◌∷◌, length, take, drop, get_or, Option, Some, None, refl, sym, ◌∙◌, ap, arith, filter, if◌then◌else◌, ◌==◌}
+use Rattle.std.proofs.Common.{inl, inr, not, suc, length-take, ◌≡◌, ℕ, ◌+◌, ◌<◌, ◌≤◌, ◌||◌, ◌&&◌, Bool, true, false, nat_lt, List, [], ◌∷◌, length, take, drop, get_or, Some, None, refl, sym, ◌∙◌, ap, arith, filter, if◌then◌else◌, ◌==◌}
 use Rattle.std.specs.List.{position, position_or_len, onto_first}
-use Rattle.std.proofs.lemmas.Bool.{cases_Bool, lt-ltb, cond-true, cond-false, or_cases, eqb-true, both_ways}
+use Rattle.std.proofs.lemmas.Bool.{cases_Bool, lt-ltb, cond-true, or_cases, eqb-true}
 use Rattle.std.proofs.lemmas.List.{drop_more, drop_all}
 use Rattle.std.proofs.lemmas.List.Sums.{passes_at_first}
 use Rattle.h41_asm.proofs.FirstLine.{position_some, position_none}
@@ -56,9 +56,9 @@ parts_behind (byte ∷ rest) = if byte == 59 then [] else parts_from false rest
 parts_end : (byte : ℕ) (rest : List ℕ) → (is_blank byte || byte == 59) ≡ true → parts_from false (byte ∷ rest) ≡ [] ∷ parts_behind (byte ∷ rest)
 parts_end byte rest stop = elim (or_cases (is_blank byte) (byte == 59) stop) [
   | inl blank ↦ elim (or_cases (byte == 32) (byte == 9) blank) [
-      | inl space ↦ rw (eqb-true byte 32 space) refl
-      | inr tab ↦ rw (eqb-true byte 9 tab) refl
-    ]
+    | inl space ↦ rw (eqb-true byte 32 space) refl
+    | inr tab ↦ rw (eqb-true byte 9 tab) refl
+  ]
   | inr comment ↦ rw (eqb-true byte 59 comment) refl
 ]
 
@@ -115,9 +115,9 @@ only_comment : (line : List ℕ) → 0 < length line → not (is_blank (get_or l
 only_comment [] some first none = absurd (omega arith)
 only_comment (byte ∷ rest) some first none = elim (cases_Bool (is_blank byte || byte == 59)) [
   | inl stop ↦ elim (or_cases (is_blank byte) (byte == 59) stop) [
-      | inl blank ↦ let no : false ≡ true = ap not (sym blank) ∙ first in cc
-      | inr comment ↦ words_of-comment byte rest comment
-    ]
+    | inl blank ↦ let no : false ≡ true = ap not (sym blank) ∙ first in cc
+    | inr comment ↦ words_of-comment byte rest comment
+  ]
   | inr goes ↦ let one : suc (part_length (quoted_after false byte) rest) ≡ 0 = rw goes at none in absurd (omega (arith, one))
 ]
 

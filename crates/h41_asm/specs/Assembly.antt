@@ -1,5 +1,5 @@
 -- Which words a source spells at an origin.
-use Rattle.std.specs.Prelude.{◌≡◌, ℕ, ◌+◌, ◌<◌, ◌≤◌, ◌↔◌, List, length, Contains, IsSome, IfSome, bytes_eq}
+use Rattle.std.specs.Prelude.{ℕ, ◌+◌, ◌<◌, ◌≤◌, ◌↔◌, List, length, Contains, IsSome, IfSome, bytes_eq}
 use Rattle.std.specs.List.{IsDistinct}
 use Rattle.h41_asm.specs.Placing.{Labels, LinesSpell}
 use Rattle.h41_asm.specs.SourceLines.{labels_of, source_lines}

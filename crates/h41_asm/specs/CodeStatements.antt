@@ -5,6 +5,8 @@ use Rattle.h41_words.specs.declared.rows.Row.{Row}
 use Rattle.h41_asm.specs.declared.fault.Fault.{Fault}
 use Rattle.h41_asm.specs.declared.statement.Statement as code
 use Rattle.h41_asm.specs.declared.statement.Statement.TheVariants as codes_of
+use Rattle.h41_asm.specs.declared.table.EntryKind as entry
+use Rattle.h41_asm.specs.declared.table.EntryKind.TheVariants as kinds
 use Rattle.h41_asm.specs.declared.table.Numbered as numbered
 use Rattle.h41_asm.specs.declared.table.Numbered.TheVariants as numbers
 use Rattle.h41_asm.specs.declared.table.Taking as table
@@ -12,6 +14,11 @@ use Rattle.h41_asm.specs.declared.table.Taking.TheVariants as takings
 use Rattle.h41_asm.specs.Statements.{Statement, Words, OutOfReach, LongJumpTo, ShortJumpTo, EntryAt, Taking, name_words, takes_field, takes_number, takes_immediate, takes_constant, takes_address, takes_displacement, takes_name, takes_entry}
 use Rattle.h41_words.specs.Counts.{status_bit_count, place_count, digit_count, block_register_count}
 use Rattle.h41_words.specs.declared.rows.Row.TheVariants.{ClearStatus, SetStatus, TestStatus, TestPointer, SetPointer, RotateRight, LoadDigit, Write, Read}
+
+-- the bits of an entry's first word
+abbrev pub entry_bits : entry.EntryKind → ℕ
+entry_bits kinds.Microcode = 0
+entry_bits kinds.Keystroke = 0x200
 
 -- what a statement of the code says
 abbrev pub in_code : code.Statement → Statement
@@ -22,7 +29,7 @@ in_code (codes_of.Name text) = Words (name_words text.now)
 in_code codes_of.OutOfReach = OutOfReach
 in_code (codes_of.LongJumpTo condition kind name) = LongJumpTo condition kind name.now
 in_code (codes_of.ShortJumpTo condition name) = ShortJumpTo condition name.now
-in_code (codes_of.EntryAt bits name) = EntryAt bits name.now
+in_code (codes_of.EntryAt kind name) = EntryAt (entry_bits kind) name.now
 
 abbrev pub read_in_code : Result code.Statement Fault → Result Statement Fault
 read_in_code (Ok statement) = Ok (in_code statement)
@@ -52,7 +59,7 @@ takes_in_code takings.Constant = takes_constant
 takes_in_code (takings.LongJump condition kind) = takes_address condition kind
 takes_in_code (takings.ShortJump condition) = takes_displacement condition
 takes_in_code takings.Name = takes_name
-takes_in_code (takings.Entry bits) = takes_entry bits
+takes_in_code (takings.Entry kind) = takes_entry (entry_bits kind)
 
 -- the tables of the code
 abbrev pub singles_in : List (Bor (List ℕ) × Row) → List (List ℕ × Row)

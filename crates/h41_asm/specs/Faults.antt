@@ -1,12 +1,12 @@
 -- Why a source is refused: its first fault. First come the faults that a line has whatever the labels are, by lines, a line's
 -- in the order 30, 31, 32, 35; then those of references, 33 and 34, by lines.
-use Rattle.std.specs.Prelude.{◌≡◌, ℕ, suc, ◌+◌, ℤ, pos, ◌-ℤ◌, Bool, false, not, ◌||◌, List, [], ◌∷◌, ◌++◌, length, nat_le, nat_lt, if◌then◌else◌, Option, Some, None, Result, Ok, Err, bytes_eq}
+use Rattle.std.specs.Prelude.{ℕ, suc, ◌+◌, pos, ◌-ℤ◌, Bool, false, not, ◌||◌, List, [], ◌∷◌, ◌++◌, nat_le, nat_lt, if◌then◌else◌, Option, Some, None, Result, Ok, Err, bytes_eq}
 use Rattle.std.specs.Bool.{then_some}
 use Rattle.std.specs.List.{list_any}
 use Rattle.std.specs.Option.{option_or}
 use Rattle.std.specs.Result.{result_err}
 use Rattle.h41_asm.specs.declared.fault.Fault.{Fault}
-use Rattle.h41_asm.specs.declared.fault.Fault.TheVariants.{BadLine, BadOperand, LabelTwice, NoLabel, TooFar, TooLong}
+use Rattle.h41_asm.specs.declared.fault.Fault.TheVariants.{LabelTwice, NoLabel, TooFar, TooLong}
 use Rattle.h41_asm.specs.Assembly.{address_count}
 use Rattle.h41_asm.specs.Placing.{Labels}
 use Rattle.h41_asm.specs.SourceLines.{SourceLine, source_lines}

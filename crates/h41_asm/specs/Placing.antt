@@ -1,6 +1,6 @@
 -- Where the lines of a source stand, and the words that they spell there: under a map from names to addresses, each line at
 -- the origin plus the words before it, spells its words, and each label is its line's address.
-use Rattle.std.specs.Prelude.{◌≡◌, ◌≢◌, ℕ, ◌+◌, ◌/◌, ◌%◌, ◌<◌, ◌≤◌, ℤ, pos, ◌+ℤ◌, true, ◌↔◌, List, [], ◌∷◌, ◌++◌, length, Contains, IsSome, IfSome, Option, Some, None, Result, Ok, Err}
+use Rattle.std.specs.Prelude.{◌≡◌, ℕ, ◌+◌, ◌/◌, ◌%◌, ℤ, pos, ◌+ℤ◌, true, List, [], ◌∷◌, ◌++◌, length, IfSome, Option, Some, Result, Ok, Err}
 use Rattle.h41_words.specs.declared.rows.Row.TheVariants.{ShortJump}
 use Rattle.h41_words.specs.WordTable.{number_of}
 use Rattle.h41_asm.specs.declared.fault.Fault.{Fault}

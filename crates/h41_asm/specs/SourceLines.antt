@@ -1,5 +1,5 @@
 -- The lines of a source, the words of a line, and the label that a line can begin with. The language is this project's own.
-use Rattle.std.specs.Prelude.{ℕ, suc, ◌-◌, Bool, true, false, not, ◌&&◌, ◌||◌, List, [], ◌∷◌, length, take, filter, map, filter_map, nat_lt, nat_le, ◌==◌, if◌then◌else◌, Option, Some, None, slice_index}
+use Rattle.std.specs.Prelude.{ℕ, suc, ◌-◌, Bool, false, not, ◌&&◌, ◌||◌, List, [], ◌∷◌, length, take, filter, map, filter_map, nat_lt, nat_le, ◌==◌, if◌then◌else◌, Option, Some, None, slice_index}
 use Rattle.std.specs.List.{list_all, onto_first}
 use Rattle.std.specs.Str.Lines as text
 

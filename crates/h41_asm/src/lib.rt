@@ -2,6 +2,7 @@
 //! directives this project's own.
 #![tactic(auto)]
 
+mod emit;
 mod fault;
 mod lines;
 mod names;

@@ -9,7 +9,7 @@ ghost use Rattle.h41_asm.specs.Statements as spec;
 use crate::fault::Fault;
 use crate::names::reference_in;
 use crate::operands::{address_in, displacement_in, field_in, number_in, text_in, word_in};
-use crate::table::{Numbered, SINGLES, TAKERS, Taking};
+use crate::table::{EntryKind, Numbered, SINGLES, TAKERS, Taking};
 use crate::words::LineWords;
 use h41_words::{
     BlockRegister, Condition, Digit, Displacement, LongJumpKind, Place, ReadRegister, Row,
@@ -33,8 +33,8 @@ pub(crate) enum Statement<'a> {
     LongJumpTo(Condition, LongJumpKind, &'a [u8]),
     /// A short jump to a label.
     ShortJumpTo(Condition, &'a [u8]),
-    /// The two words of a function that begins at a label, the first with these bits too.
-    EntryAt(u16, &'a [u8]),
+    /// The two words of a function that begins at a label.
+    EntryAt(EntryKind, &'a [u8]),
 }
 
 impl Statement<'_> {
@@ -208,9 +208,9 @@ fn take(taking: Taking, operand: &[u8]) -> Option<Statement<'_>>
             let text = text_in(operand)?;
             Some(Statement::Name(text))
         }
-        Taking::Entry(bits) => {
+        Taking::Entry(kind) => {
             let name = reference_in(operand)?;
-            Some(Statement::EntryAt(bits, name))
+            Some(Statement::EntryAt(kind, name))
         }
         Taking::Field(operation) => {
             let field = field_in(operand)?;
@@ -239,11 +239,7 @@ fn take_number(numbered: Numbered, operand: &[u8]) -> Option<Statement<'_>>
 }
 
 /// A jump to an address, or to a label.
-fn take_address(
-    condition: Condition,
-    kind: LongJumpKind,
-    operand: &[u8],
-) -> Option<Statement<'_>>
+fn take_address(condition: Condition, kind: LongJumpKind, operand: &[u8]) -> Option<Statement<'_>>
     ensures { found_in_code result ≡ spec.takes_address condition kind operand.now }
 {
     match address_in(operand) {
@@ -259,7 +255,11 @@ fn take_address(
 }
 
 /// The two words of a jump to an address.
-pub(crate) fn long_jump_words(condition: Condition, kind: LongJumpKind, address: u16) -> (Word, Word)
+pub(crate) fn long_jump_words(
+    condition: Condition,
+    kind: LongJumpKind,
+    address: u16,
+) -> (Word, Word)
     ensures { result.0 ∷ result.1 ∷ [] ≡ spec.long_jump_words condition kind address }
 {
     let second = SecondWord {
@@ -292,5 +292,44 @@ fn short_jump_by<'a>(condition: Condition, displacement: i16) -> Statement<'a>
         Statement::One(word(Row::ShortJump(condition, displacement)))
     } else {
         Statement::OutOfReach
+    }
+}
+
+#[cfg(test)]
+mod tests {
+    use super::*;
+    use std::test::Fail;
+
+    /// The word that a line says, or its fault.
+    fn word_of(line: &str) -> Result<u16, Fault> {
+        match read(LineWords::new(line.as_bytes()))? {
+            Statement::One(word) => Ok(word.number()),
+            _ => Err(Fault::TooFar),
+        }
+    }
+
+    #[test]
+    fn words_of_lines(rt: HostRuntime) -> Result<(), Fail> {
+        assert_eq!(rt; word_of("C=C+1 S&X"), Ok(0x226));
+        assert_eq!(rt; word_of("RTN;x"), Ok(0x3E0));
+        assert_eq!(rt; word_of(" READ\t DATA "), Ok(0x038));
+        assert_eq!(rt; word_of("READ 15"), Ok(0x3F8));
+        assert_eq!(rt; word_of("RCR 3"), Ok(0x03C));
+        assert_eq!(rt; word_of("JC +3f"), Ok(0x1FF));
+        assert_eq!(rt; word_of("JNC -40"), Ok(0x203));
+        assert_eq!(rt; word_of("JC +40"), Err(Fault::TooFar));
+        assert_eq!(rt; word_of("CON 3ff"), Ok(0x3FF));
+        Ok(())
+    }
+
+    #[test]
+    fn lines_that_cannot_be_read(rt: HostRuntime) -> Result<(), Fail> {
+        assert_eq!(rt; word_of("slct p"), Err(Fault::BadLine));
+        assert_eq!(rt; word_of("?NC FOO"), Err(Fault::BadLine));
+        assert_eq!(rt; word_of("SLCT P P"), Err(Fault::BadOperand));
+        assert_eq!(rt; word_of("READ 0"), Err(Fault::BadOperand));
+        assert_eq!(rt; word_of("CON 400"), Err(Fault::BadOperand));
+        assert_eq!(rt; word_of("NAME \"kit\""), Err(Fault::BadOperand));
+        Ok(())
     }
 }

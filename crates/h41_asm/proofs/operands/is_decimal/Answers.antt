@@ -1,4 +1,4 @@
-use Rattle.std.proofs.Common.{◌≡◌, ap, sym, ◌∙◌}
+use Rattle.std.proofs.Common.{ap, sym, ◌∙◌}
 use Rattle.std.specs.Str.{bytes_eq}
 use Rattle.h41_asm.proofs.Decimals.{decimal_one, decimal_two}
 use Rattle.h41_asm.proofs.operands.is_decimal.Goals as goal

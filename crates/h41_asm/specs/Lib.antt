@@ -3,5 +3,6 @@ pub mod CodeStatements
 pub mod Faults
 pub mod Operands
 pub mod Placing
+pub mod Refusals
 pub mod SourceLines
 pub mod Statements

@@ -2,6 +2,7 @@
 //! directives this project's own.
 #![tactic(auto)]
 
+mod assembler;
 mod emit;
 mod fault;
 mod lines;
@@ -12,4 +13,4 @@ mod statement;
 mod table;
 mod words;
 
-pub use fault::Fault;
+pub use fault::{AssembleError, Fault};

@@ -284,7 +284,7 @@ fn take_displacement(condition: Condition, operand: &[u8]) -> Option<Statement<'
 }
 
 /// A short jump by a displacement.
-fn short_jump_by<'a>(condition: Condition, displacement: i16) -> Statement<'a>
+pub(crate) fn short_jump_by<'a>(condition: Condition, displacement: i16) -> Statement<'a>
     ensures { in_code result ≡ spec.short_jump_by condition displacement }
 {
     if -64 <= displacement && displacement <= 63 {

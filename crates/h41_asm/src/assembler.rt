@@ -1,0 +1,122 @@
+//! From lines to words, in two passes: first the addresses of the labels, then the words.
+
+ghost use Rattle.std.specs.Prelude.{◌≡◌, ◌+◌, ◌≤◌, ◌<◌, ◌^◌, ◌++◌, [], ◌∷◌, None, IfOk, IfErr, OnOk, pos, ◌-ℤ◌, ℤ};
+ghost use Rattle.std.specs.Option.{ok_or};
+ghost use Rattle.h41_asm.specs.CodeStatements.{in_code};
+ghost use Rattle.h41_asm.specs.Faults.{reference_fault, reference_faults};
+ghost use Rattle.h41_asm.specs.Placing.{LinesSpell};
+ghost use Rattle.h41_asm.specs.SourceLines.{source_lines};
+ghost use Rattle.h41_asm.specs.Refusals.{IsFault, IsReady, IsRefusal, SpellsNext, jump_word, labels_in};
+ghost use Rattle.h41_asm.specs.Statements as spec;
+
+use crate::emit::{entry_words, push_name};
+use crate::fault::{AssembleError, Fault, SpellError};
+use crate::lines::Lines;
+use crate::source::read_line;
+use crate::statement::{Statement, long_jump_words, read};
+use crate::table::EntryKind;
+use h41_words::{Condition, Displacement, LongJumpKind, Row, Word, word};
+use indexmap::IndexMap;
+use std::alloc::{AllocError, Global};
+
+/// How many addresses there are.
+const ADDRESSES: u32 = 0x10000;
+
+/// The addresses of the labels, in the order of their lines.
+type Labels<'a> = IndexMap<&'a [u8], u16>;
+
+/// The words of a source whose lines can be read and placed, or the first fault of a reference.
+fn spell(
+    alloc: Global,
+    text: &[u8],
+    origin: u16,
+    labels: &Labels<'_>,
+) -> Result<Vec<Word>, AssembleError>
+    requires { IsReady (labels_in labels.now) origin (source_lines text.now) }
+    ensures ok { OnOk result (reference_faults (labels_in labels.now) 1 origin (source_lines text.now) ≡ None) }
+    ensures words { IfOk result (λ words. LinesSpell (labels_in labels.now) origin (source_lines text.now) words.items) }
+    ensures err { IfErr result (λ error. IsRefusal error (reference_faults (labels_in labels.now) 1 origin (source_lines text.now))) }
+{
+    let mut words = Vec::new(alloc);
+    let mut address = u32::from(origin);
+    let mut number = 1;
+    for line in Lines::new(text) {
+        if let Ok(statement) = read(read_line(line).code) {
+            match push_statement(&mut words, labels, address, &statement) {
+                Ok(()) => {}
+                Err(error) => return Err(error.at_line(number)),
+            }
+            address += statement.length() as u32;
+        }
+        number += 1;
+    }
+    Ok(words)
+}
+
+/// Appends the words of a statement at an address.
+fn push_statement(
+    words: &mut Vec<Word>,
+    labels: &Labels<'_>,
+    address: u32,
+    statement: &Statement<'_>,
+) -> Result<(), SpellError>
+    requires { address ≤ 65536 }
+    ensures ok { OnOk result (reference_fault (labels_in labels.now) address (in_code statement.now) ≡ None) }
+    ensures words { OnOk result (SpellsNext (labels_in labels.now) address (in_code statement.now) words.old.items words.new.items) }
+    ensures err { IfErr result (λ error. IsFault error (reference_fault (labels_in labels.now) address (in_code statement.now))) }
+{
+    match statement {
+        Statement::Nothing => {}
+        Statement::One(word) => words.push(*word)?,
+        Statement::Two(first, second) => push_two(words, *first, *second)?,
+        Statement::Name(text) => push_name(words, text)?,
+        Statement::OutOfReach => return Err(SpellError::Fault(Fault::TooFar)),
+        Statement::LongJumpTo(condition, kind, name) => {
+            let target = label_address(labels, name)?;
+            let (first, second) = long_jump_words(*condition, *kind, target);
+            push_two(words, first, second)?;
+        }
+        Statement::ShortJumpTo(condition, name) => {
+            let target = label_address(labels, name)?;
+            let word = short_jump(*condition, i32::from(target) - address as i32)?;
+            words.push(word)?;
+        }
+        Statement::EntryAt(kind, name) => {
+            let target = label_address(labels, name)?;
+            let (first, second) = entry_words(*kind, target);
+            push_two(words, first, second)?;
+        }
+    }
+    Ok(())
+}
+
+/// Appends two words.
+fn push_two(words: &mut Vec<Word>, first: Word, second: Word) -> Result<(), AllocError>
+    ensures { OnOk result (words.new.items ≡ words.old.items ++ first ∷ second ∷ []) }
+{
+    words.push(first)?;
+    words.push(second)?;
+    Ok(())
+}
+
+/// The address of a label.
+fn label_address(labels: &Labels<'_>, name: &[u8]) -> Result<u16, Fault>
+    ensures { result ≡ ok_or (labels_in labels.now name.now) Fault.NoLabel }
+{
+    match labels.get(name) {
+        Some(address) => Ok(*address),
+        None => Err(Fault::NoLabel),
+    }
+}
+
+/// The word of a short jump by a displacement.
+fn short_jump(condition: Condition, displacement: i32) -> Result<Word, Fault>
+    ensures { result ≡ jump_word condition displacement }
+{
+    if -64 <= displacement && displacement <= 63 {
+        let displacement = Displacement::new(displacement as i8);
+        Ok(word(Row::ShortJump(condition, displacement)))
+    } else {
+        Err(Fault::TooFar)
+    }
+}

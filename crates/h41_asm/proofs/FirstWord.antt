@@ -56,9 +56,9 @@ parts_behind (byte ∷ rest) = if byte == 59 then [] else parts_from false rest
 parts_end : (byte : ℕ) (rest : List ℕ) → (is_blank byte || byte == 59) ≡ true → parts_from false (byte ∷ rest) ≡ [] ∷ parts_behind (byte ∷ rest)
 parts_end byte rest stop = elim (or_cases (is_blank byte) (byte == 59) stop) [
   | inl blank ↦ elim (or_cases (byte == 32) (byte == 9) blank) [
-      | inl space ↦ rw (eqb-true byte 32 space) refl
-      | inr tab ↦ rw (eqb-true byte 9 tab) refl
-    ]
+    | inl space ↦ rw (eqb-true byte 32 space) refl
+    | inr tab ↦ rw (eqb-true byte 9 tab) refl
+  ]
   | inr comment ↦ rw (eqb-true byte 59 comment) refl
 ]
 
@@ -115,9 +115,9 @@ only_comment : (line : List ℕ) → 0 < length line → not (is_blank (get_or l
 only_comment [] some first none = absurd (omega arith)
 only_comment (byte ∷ rest) some first none = elim (cases_Bool (is_blank byte || byte == 59)) [
   | inl stop ↦ elim (or_cases (is_blank byte) (byte == 59) stop) [
-      | inl blank ↦ let no : false ≡ true = ap not (sym blank) ∙ first in cc
-      | inr comment ↦ words_of-comment byte rest comment
-    ]
+    | inl blank ↦ let no : false ≡ true = ap not (sym blank) ∙ first in cc
+    | inr comment ↦ words_of-comment byte rest comment
+  ]
   | inr goes ↦ let one : suc (part_length (quoted_after false byte) rest) ≡ 0 = rw goes at none in absurd (omega (arith, one))
 ]
 

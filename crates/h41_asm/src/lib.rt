@@ -2,6 +2,7 @@
 //! directives this project's own.
 #![tactic(auto)]
 
+mod assembler;
 mod fault;
 mod lines;
 mod names;
@@ -11,4 +12,5 @@ mod statement;
 mod table;
 mod words;
 
-pub use fault::Fault;
+pub use assembler::assemble;
+pub use fault::{AssembleError, Fault};

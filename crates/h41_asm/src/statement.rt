@@ -239,11 +239,7 @@ fn take_number(numbered: Numbered, operand: &[u8]) -> Option<Statement<'_>>
 }
 
 /// A jump to an address, or to a label.
-fn take_address(
-    condition: Condition,
-    kind: LongJumpKind,
-    operand: &[u8],
-) -> Option<Statement<'_>>
+fn take_address(condition: Condition, kind: LongJumpKind, operand: &[u8]) -> Option<Statement<'_>>
     ensures { found_in_code result ≡ spec.takes_address condition kind operand.now }
 {
     match address_in(operand) {
@@ -259,7 +255,11 @@ fn take_address(
 }
 
 /// The two words of a jump to an address.
-pub(crate) fn long_jump_words(condition: Condition, kind: LongJumpKind, address: u16) -> (Word, Word)
+pub(crate) fn long_jump_words(
+    condition: Condition,
+    kind: LongJumpKind,
+    address: u16,
+) -> (Word, Word)
     ensures { result.0 ∷ result.1 ∷ [] ≡ spec.long_jump_words condition kind address }
 {
     let second = SecondWord {
@@ -284,7 +284,7 @@ fn take_displacement(condition: Condition, operand: &[u8]) -> Option<Statement<'
 }
 
 /// A short jump by a displacement.
-fn short_jump_by<'a>(condition: Condition, displacement: i16) -> Statement<'a>
+pub(crate) fn short_jump_by<'a>(condition: Condition, displacement: i16) -> Statement<'a>
     ensures { in_code result ≡ spec.short_jump_by condition displacement }
 {
     if -64 <= displacement && displacement <= 63 {

@@ -148,10 +148,22 @@ pub(crate) const TAKERS: [(&str, Taking); 52] = [
     ("READ", Taking::Number(Numbered::Read)),
     ("LDI", Taking::Immediate),
     ("CON", Taking::Constant),
-    ("?NC XQ", Taking::LongJump(Condition::NoCarry, LongJumpKind::Execute)),
-    ("?C XQ", Taking::LongJump(Condition::Carry, LongJumpKind::Execute)),
-    ("?NC GO", Taking::LongJump(Condition::NoCarry, LongJumpKind::Go)),
-    ("?C GO", Taking::LongJump(Condition::Carry, LongJumpKind::Go)),
+    (
+        "?NC XQ",
+        Taking::LongJump(Condition::NoCarry, LongJumpKind::Execute),
+    ),
+    (
+        "?C XQ",
+        Taking::LongJump(Condition::Carry, LongJumpKind::Execute),
+    ),
+    (
+        "?NC GO",
+        Taking::LongJump(Condition::NoCarry, LongJumpKind::Go),
+    ),
+    (
+        "?C GO",
+        Taking::LongJump(Condition::Carry, LongJumpKind::Go),
+    ),
     ("JNC", Taking::ShortJump(Condition::NoCarry)),
     ("JC", Taking::ShortJump(Condition::Carry)),
     ("NAME", Taking::Name),

@@ -1,10 +1,17 @@
 -- What the code's statements say, in the words of a source.
-use Rattle.std.specs.Prelude.{ℕ, map, List, [], ◌∷◌, Option, Some, None, Result, Ok, Err}
+use Rattle.std.specs.Prelude.{◌≡◌, ℕ, bytes_eq, map, List, [], ◌∷◌, Option, Some, None, Result, Ok, Err}
 use Rattle.std.specs.Borrow.{Bor}
 use Rattle.h41_words.specs.declared.rows.Row.{Row}
+use Rattle.indexmap.specs.IndexMap.{IndexMap, get_by}
+use Rattle.h41_asm.specs.Faults.{Found}
+use Rattle.h41_asm.specs.Placing.{Labels}
+use Rattle.h41_asm.specs.declared.fault.AssembleError as errors
+use Rattle.h41_asm.specs.declared.fault.AssembleError.TheVariants as refusals
 use Rattle.h41_asm.specs.declared.fault.Fault.{Fault}
 use Rattle.h41_asm.specs.declared.statement.Statement as code
 use Rattle.h41_asm.specs.declared.statement.Statement.TheVariants as codes_of
+use Rattle.h41_asm.specs.declared.table.EntryKind as entry
+use Rattle.h41_asm.specs.declared.table.EntryKind.TheVariants as kinds
 use Rattle.h41_asm.specs.declared.table.Numbered as numbered
 use Rattle.h41_asm.specs.declared.table.Numbered.TheVariants as numbers
 use Rattle.h41_asm.specs.declared.table.Taking as table
@@ -12,6 +19,11 @@ use Rattle.h41_asm.specs.declared.table.Taking.TheVariants as takings
 use Rattle.h41_asm.specs.Statements.{Statement, Words, OutOfReach, LongJumpTo, ShortJumpTo, EntryAt, Taking, name_words, takes_field, takes_number, takes_immediate, takes_constant, takes_address, takes_displacement, takes_name, takes_entry}
 use Rattle.h41_words.specs.Counts.{status_bit_count, place_count, digit_count, block_register_count}
 use Rattle.h41_words.specs.declared.rows.Row.TheVariants.{ClearStatus, SetStatus, TestStatus, TestPointer, SetPointer, RotateRight, LoadDigit, Write, Read}
+
+-- the bits of an entry's first word
+abbrev pub entry_bits : entry.EntryKind → ℕ
+entry_bits kinds.Microcode = 0
+entry_bits kinds.Keystroke = 0x200
 
 -- what a statement of the code says
 abbrev pub in_code : code.Statement → Statement
@@ -22,7 +34,7 @@ in_code (codes_of.Name text) = Words (name_words text.now)
 in_code codes_of.OutOfReach = OutOfReach
 in_code (codes_of.LongJumpTo condition kind name) = LongJumpTo condition kind name.now
 in_code (codes_of.ShortJumpTo condition name) = ShortJumpTo condition name.now
-in_code (codes_of.EntryAt bits name) = EntryAt bits name.now
+in_code (codes_of.EntryAt kind name) = EntryAt (entry_bits kind) name.now
 
 abbrev pub read_in_code : Result code.Statement Fault → Result Statement Fault
 read_in_code (Ok statement) = Ok (in_code statement)
@@ -52,7 +64,7 @@ takes_in_code takings.Constant = takes_constant
 takes_in_code (takings.LongJump condition kind) = takes_address condition kind
 takes_in_code (takings.ShortJump condition) = takes_displacement condition
 takes_in_code takings.Name = takes_name
-takes_in_code (takings.Entry bits) = takes_entry bits
+takes_in_code (takings.Entry kind) = takes_entry (entry_bits kind)
 
 -- the tables of the code
 abbrev pub singles_in : List (Bor (List ℕ) × Row) → List (List ℕ × Row)
@@ -65,3 +77,17 @@ takers_in entries = map (λ entry. (entry.0.now, takes_in_code entry.1)) entries
 abbrev pub taken_in_code : Option (Result code.Statement Fault) → Option (Result Statement Fault)
 taken_in_code None = None
 taken_in_code (Some read) = Some (read_in_code read)
+
+-- the words of a statement that no label is left in
+abbrev pub known_words : Statement → List ℕ
+known_words (Words words) = words
+known_words other = []
+
+-- the addresses that a table of labels holds
+abbrev pub labels_in : {S : Type 0} → IndexMap (Bor (List ℕ)) ℕ S → Labels
+labels_in table name = get_by (λ key. bytes_eq name key.now) table
+
+-- what the code answers in the place of words: a fault and its line, or nothing where memory was refused
+abbrev pub IsRefusal : errors.AssembleError → Found → Type 0
+IsRefusal (refusals.Line fault line) found = found ≡ Some (fault, line)
+IsRefusal refusals.OutOfMemory found = Unit {0}

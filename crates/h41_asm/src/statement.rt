@@ -9,7 +9,7 @@ ghost use Rattle.h41_asm.specs.Statements as spec;
 use crate::fault::Fault;
 use crate::names::reference_in;
 use crate::operands::{address_in, displacement_in, field_in, number_in, text_in, word_in};
-use crate::table::{Numbered, SINGLES, TAKERS, Taking};
+use crate::table::{EntryKind, Numbered, SINGLES, TAKERS, Taking};
 use crate::words::LineWords;
 use h41_words::{
     BlockRegister, Condition, Digit, Displacement, LongJumpKind, Place, ReadRegister, Row,
@@ -33,8 +33,8 @@ pub(crate) enum Statement<'a> {
     LongJumpTo(Condition, LongJumpKind, &'a [u8]),
     /// A short jump to a label.
     ShortJumpTo(Condition, &'a [u8]),
-    /// The two words of a function that begins at a label, the first with these bits too.
-    EntryAt(u16, &'a [u8]),
+    /// The two words of a function that begins at a label.
+    EntryAt(EntryKind, &'a [u8]),
 }
 
 impl Statement<'_> {
@@ -208,9 +208,9 @@ fn take(taking: Taking, operand: &[u8]) -> Option<Statement<'_>>
             let text = text_in(operand)?;
             Some(Statement::Name(text))
         }
-        Taking::Entry(bits) => {
+        Taking::Entry(kind) => {
             let name = reference_in(operand)?;
-            Some(Statement::EntryAt(bits, name))
+            Some(Statement::EntryAt(kind, name))
         }
         Taking::Field(operation) => {
             let field = field_in(operand)?;

@@ -20,8 +20,17 @@ pub(crate) enum Taking {
     ShortJump(Condition),
     /// `NAME "text"`.
     Name,
-    /// `ENTRY :name` and `FOCAL :name`: bits of the first word of an entry, and a label.
-    Entry(u16),
+    /// `ENTRY :name` and `FOCAL :name`.
+    Entry(EntryKind),
+}
+
+/// What a function of a module is.
+#[derive(Clone, Copy, Debug, PartialEq, Eq)]
+pub(crate) enum EntryKind {
+    /// Microcode.
+    Microcode,
+    /// A keystroke program.
+    Keystroke,
 }
 
 /// The instructions whose operand is a number.
@@ -167,6 +176,6 @@ pub(crate) const TAKERS: [(&str, Taking); 52] = [
     ("JNC", Taking::ShortJump(Condition::NoCarry)),
     ("JC", Taking::ShortJump(Condition::Carry)),
     ("NAME", Taking::Name),
-    ("ENTRY", Taking::Entry(0)),
-    ("FOCAL", Taking::Entry(0x200)),
+    ("ENTRY", Taking::Entry(EntryKind::Microcode)),
+    ("FOCAL", Taking::Entry(EntryKind::Keystroke)),
 ];

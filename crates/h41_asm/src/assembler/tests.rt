@@ -41,7 +41,12 @@ fn a_module(rt: HostRuntime) -> Result<(), Fail> {
 }
 
 /// Wants this fault at this line.
-fn refused(rt: &(impl std::process::Abort + AllocGlobal), text: &str, fault: Fault, line: usize) -> Result<(), Fail> {
+fn refused(
+    rt: &(impl std::process::Abort + AllocGlobal),
+    text: &str,
+    fault: Fault,
+    line: usize,
+) -> Result<(), Fail> {
     match numbers(rt.alloc(), text)? {
         Ok(_) => assert!(rt; false, "{text:?} is accepted"),
         Err(error) => assert_eq!(rt; error, AssembleError::Line { fault, line }, "{text:?}"),

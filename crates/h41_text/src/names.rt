@@ -1,5 +1,7 @@
 //! The names of functions, as a listing shows them. Each stands once, in a list of which macros write the look-ups.
-ghost use Rattle.std.specs.Prelude.{◌≡◌, ◌+◌, ◌-◌, ◌<◌, ◌≤◌, length, slice_index_or, []};
+ghost use Rattle.std.specs.Prelude.{◌≡◌, ◌+◌, ◌-◌, ◌<◌, ◌≤◌, length, slice_index_or, [], IfSome, IfNone};
+ghost use Rattle.h41_codes.specs.declared.functions.Function.{Function as AnyFunction};
+ghost use Rattle.h41_codes.specs.declared.functions.ParameterFunction.{ParameterFunction as AnyParameterFunction};
 ghost use Rattle.h41_text.specs.LineText.{high_parameters};
 ghost use Rattle.h41_text.specs.Names as spec;
 
@@ -132,6 +134,32 @@ macro_rules! text_beside {
             $($kind::$name => $text,)*
         }
     };
+}
+
+/// Writes the match from a text to the name of a list beside it, or nothing.
+macro_rules! name_beside {
+    (($value:expr) $kind:ident $($name:ident => $text:literal,)*) => {
+        match $value {
+            $($text => Some($kind::$name),)*
+            _ => None,
+        }
+    };
+}
+
+/// The function without a parameter of this name.
+pub(crate) fn function_named(name: &str) -> Option<Function>
+    ensures named { IfSome result (λ function. spec.function_name function ≡ name.now) }
+    ensures none { IfNone result ((function : AnyFunction) → spec.function_name function ≡ name.now → ⊥) }
+{
+    functions!(name_beside(name))
+}
+
+/// The function with a parameter of this name.
+pub(crate) fn parameter_function_named(name: &str) -> Option<ParameterFunction>
+    ensures named { IfSome result (λ function. spec.parameter_function_name function ≡ name.now) }
+    ensures none { IfNone result ((function : AnyParameterFunction) → spec.parameter_function_name function ≡ name.now → ⊥) }
+{
+    parameter_functions!(name_beside(name))
 }
 
 /// The name of a function without a parameter, up to 6 characters.

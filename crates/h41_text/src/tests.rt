@@ -1,7 +1,7 @@
 //! The byte table, row by row: the text of each first byte, with the same bytes behind it.
 use super::*;
 use crate::writer::LineText;
-use h41_codes::{decode, encode};
+use h41_codes::{Line, canon, decode, encode};
 use std::test::Fail;
 
 /// The bytes behind each first byte: an operand or a text of one character, a third byte, and letters.
@@ -319,6 +319,15 @@ fn each_first_byte(rt: HostRuntime) -> Result<(), Fail> {
         let text = text_of(&bytes);
         assert_eq!(rt; text.as_str(), *expected, "the text of {first:02X}");
         let (count, spelled) = counts_of(&bytes);
+        if let Ok((line, _)) = decode(&bytes) {
+            if line != Line::Null {
+                assert_eq!(rt;
+                    read_line(text.as_str().as_bytes()).ok(),
+                    Some(canon(line)),
+                    "read {first:02X}"
+                );
+            }
+        }
         assert_eq!(rt; count, spelled, "the length of {first:02X}");
     }
     Ok(())

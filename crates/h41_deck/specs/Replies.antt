@@ -15,6 +15,7 @@ use Rattle.h41_deck.specs.Ends.{AppendsPart}
 use Rattle.h41_deck.specs.Items.{Spelled, with_values}
 use Rattle.h41_deck.specs.Refusals.{refusal_line}
 use Rattle.h41_deck.specs.Views.{shown}
+use Rattle.h41_deck.specs.declared.commands.View.{View}
 
 -- What a command answers: a text, and then its refusal, where it is refused.
 pub record Answer : Type 0 where
@@ -100,10 +101,16 @@ abbrev pub shown_text : Result (List ℕ) Refusal → List ℕ
 shown_text (Ok text) = text
 shown_text (Err refusal) = refusal_line refusal
 
+abbrev pub shows : View → State → List ℕ
+shows view s = shown_text (shown view s)
+
 -- whether it is a refusal
 abbrev pub outcome_in : Option Refusal → Outcome
 outcome_in None = Accepted
 outcome_in (Some refusal) = Refused
+
+abbrev pub EndsAs : Option Refusal → Outcome → Type 0
+EndsAs refusal outcome = outcome ≡ outcome_in refusal
 
 -- the lines of a command are answered: their reply is written, and the outcome tells whether it is a refusal
 pub record Replies (item : Spelled) (s t : State) (old new : Option (List ℕ)) (outcome : Outcome) : Type 0 where

@@ -6,7 +6,7 @@ ghost use Rattle.h41_pages.specs.Addresses.{page_size};
 ghost use Rattle.h41_deck.specs.Calculator.{unplug_refusal, without_page};
 ghost use Rattle.h41_deck.specs.Commands.{kind_of};
 ghost use Rattle.h41_deck.specs.Ends.{Writes};
-ghost use Rattle.h41_deck.specs.Replies.{Does, RefusedAs, Tells, block_refusal, ending_text, outcome_in, shown_text, takes_memory, with_block};
+ghost use Rattle.h41_deck.specs.Replies.{Does, EndsAs, RefusedAs, Tells, block_refusal, ending_text, shows, takes_memory, with_block};
 ghost use Rattle.h41_deck.specs.Views.{shown};
 
 use crate::bench::Bench;
@@ -144,8 +144,8 @@ fn show<W: Sink>(
     writer: &mut W,
 ) -> Result<Outcome, CommandFault>
     requires { W.failed writer.old ≡ false }
-    ensures outcome { IfOk result (λ outcome. outcome ≡ outcome_in (result_err (shown view bench.now))) }
-    ensures written { Tells result W.contents writer.old writer.new (shown_text (shown view bench.now)) }
+    ensures outcome { IfOk result (EndsAs (result_err (shown view bench.now))) }
+    ensures written { Tells result W.contents writer.old writer.new (shows view bench.now) }
     ensures mark { result ≡ Err CommandFault.WriteFault → W.failed writer.new ≡ true }
     ensures clear { result ≢ Err CommandFault.WriteFault → W.failed writer.new ≡ false }
 {
@@ -164,7 +164,7 @@ pub(crate) fn print_ending<W: Sink>(
     writer: &mut W,
 ) -> Result<Outcome, WriteFault>
     requires { W.failed writer.old ≡ false }
-    ensures outcome { IfOk result (λ outcome. outcome ≡ outcome_in (result_err ended)) }
+    ensures outcome { IfOk result (EndsAs (result_err ended)) }
     ensures written { Writes result W.contents writer.old writer.new (ending_text ended) }
     ensures clear { OnOk result (W.failed writer.new ≡ false) }
     ensures mark { OnErr result (W.failed writer.new ≡ true) }

@@ -1,7 +1,7 @@
 -- The functions of a module, as HP's modules list them: word 0 of a page is its XROM number, word 1 how many entries it
 -- has, and two words an entry follow. A microcode function's name stands before the words of the function. All of it is
 -- read in bank 1. What counts as a name, and what a number or a count out of range means, are this project's choices.
-use Rattle.std.specs.Prelude.{ℕ, ◌+◌, ◌-◌, ◌*◌, ◌/◌, ◌%◌, ◌^◌, Bool, false, ◌&&◌, List, [], ◌∷◌, map, find, min, slice_index, nat_lt, nat_le, ◌==◌, bytes_eq, if◌then◌else◌, Option, Some, None, option_map, option_and_then}
+use Rattle.std.specs.Prelude.{◌≡◌, ℕ, ◌+◌, ◌-◌, ◌*◌, ◌/◌, ◌%◌, ◌^◌, Bool, false, ◌&&◌, List, [], ◌∷◌, ◌++◌, map, find, min, slice_index, nat_lt, nat_le, ◌==◌, bytes_eq, if◌then◌else◌, Option, Some, None, option_map, option_and_then}
 use Rattle.std.specs.Bool.{then_some}
 use Rattle.std.specs.List.{flat_map, range_with_len}
 use Rattle.std.specs.Option.{option_map_or}
@@ -82,6 +82,13 @@ functions_at pages page = option_map_or (λ image. functions_of image.words) (fi
 
 abbrev pub functions : PageMap → List Function
 functions pages = flat_map (functions_at pages) all_pages
+
+-- a list after the functions of a page were put behind it: by the page's words, and by its number
+abbrev pub AddsOf : List ℕ → List Function → List Function → Type 0
+AddsOf words old new = new ≡ old ++ functions_of words
+
+abbrev pub AddsAt : PageMap → ℕ → List Function → List Function → Type 0
+AddsAt pages page old new = new ≡ old ++ functions_at pages page
 
 -- the function with a name is the first that has it; it is called by its two numbers
 abbrev pub is_named : List ℕ → Function → Bool

@@ -1,7 +1,7 @@
 //! The functions that modules list: word 0 of a page is its XROM number, word 1 how many entries it has, and two words an
 //! entry follow. All of it is read in bank 1.
 
-ghost use Rattle.std.specs.Prelude.{◌≡◌, ◌<◌, ◌≤◌, ◌+◌, ◌++◌, find, option_map, IfOk, IfSome, Some, length, slice_index};
+ghost use Rattle.std.specs.Prelude.{◌≡◌, ◌<◌, ◌≤◌, ◌+◌, ◌++◌, find, option_map, IfOk, IfSome, OnOk, Some, length, slice_index};
 ghost use Rattle.h41_words.specs.Counts.{word_count};
 ghost use Rattle.h41_pages.specs.Addresses.{page_size};
 ghost use Rattle.h41_pages.specs.FunctionTables as spec;
@@ -120,7 +120,7 @@ impl Pages {
     /// Adds the functions of a page to a list.
     fn add_functions_at(&self, page: usize, functions: &mut Vec<Function>) -> Result<(), AllocError>
         requires { page < 16 }
-        ensures { IfOk result (λ _. functions.new.items ≡ functions.old.items ++ spec.functions_at self.now page) }
+        ensures { OnOk result (spec.AddsAt self.now page functions.old.items functions.new.items) }
     {
         match self.image(page, Bank::First) {
             None => Ok(()),
@@ -252,7 +252,7 @@ impl Image {
 
     /// Adds its functions to a list.
     fn add_functions(&self, functions: &mut Vec<Function>) -> Result<(), AllocError>
-        ensures { IfOk result (λ _. functions.new.items ≡ functions.old.items ++ spec.functions_of self.now.words) }
+        ensures { OnOk result (spec.AddsOf self.now.words functions.old.items functions.new.items) }
     {
         let count = self.entry_count();
         for entry in 0..count {

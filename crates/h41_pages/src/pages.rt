@@ -6,6 +6,7 @@ ghost use Rattle.std.specs.Result.{result_err};
 ghost use Rattle.h41_words.specs.Counts.{word_count};
 ghost use Rattle.h41_pages.specs.Addresses.{page_size};
 ghost use Rattle.h41_pages.specs.PageMap as spec;
+ghost use Rattle.h41_pages.specs.PageMap.{plugged};
 
 use crate::addresses::{FIRST_ADDRESS, PAGES, is_pluggable, offset_of, page_of};
 use crate::image::{Image, is_image};
@@ -62,7 +63,7 @@ impl Pages {
         words: &[u16],
     ) -> Result<(), PlugRefusal>
         ensures accepted { OnOk result (spec.plug_refusal self.old page bank words.now ≡ None) }
-        ensures change { OnOk result (self.new ≡ spec.plugged self.old page bank writable words.now) }
+        ensures change { OnOk result (self.new ≡ plugged self.old page bank writable words.now) }
         ensures err { OnErr result (self.new ≡ self.old) }
         ensures refusal { IfErr result (spec.RefusesPlug self.old page bank words.now) }
     {

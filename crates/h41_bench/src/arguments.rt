@@ -78,6 +78,7 @@ A deck is a text file of commands, one a line. Such as:
   reset         begins anew; pages stay plugged
   call hhhh     begins the function at an address
   step [n]      carries out n of its instructions, one where n is missing
+  list hhhh n   prints n words from an address on, as instructions
   show cpu      prints the processor
   show ram hhh  prints the register at an address in memory
   show stack    prints the registers T, Z, Y, X and L of the stack

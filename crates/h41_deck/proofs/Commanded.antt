@@ -5,6 +5,7 @@ use Rattle.std.specs.Io.KnownBytes.{Appends}
 use Rattle.h41_deck.specs.declared.commands.BlockKind.{BlockKind}
 use Rattle.h41_deck.specs.declared.commands.Command.{Command}
 use Rattle.h41_deck.specs.declared.commands.Command.TheVariants.{Plug, Unplug, Reset, Call, Step, Show}
+use Rattle.h41_deck.specs.declared.commands.Command.TheVariants as commands
 use Rattle.h41_deck.specs.declared.commands.View.{View}
 use Rattle.h41_deck.specs.declared.fault.CommandFault.{CommandFault}
 use Rattle.h41_deck.specs.declared.fault.CommandFault.TheVariants.{OutOfMemory, WriteFault}
@@ -13,8 +14,9 @@ use Rattle.h41_deck.specs.declared.replies.Outcome.{Outcome}
 use Rattle.h41_deck.specs.Calculator.{State, Steps, call_refusal, called, restarted, unplug_refusal, without_page}
 use Rattle.h41_deck.specs.Ends.{AppendsPart}
 use Rattle.h41_deck.specs.Items.{Spelled, with_values}
+use Rattle.h41_deck.specs.Listings.{listed}
 use Rattle.h41_deck.specs.Views.{shown}
-use Rattle.h41_deck.specs.Replies.{Answer, ChangesUnless, ItemReply, Leaves, Replies, RepliesInPart, Reply, Tells, block_refusal, ending_line, ends_by, outcome_in, printed, says_or_ends, shown_text, with_block}
+use Rattle.h41_deck.specs.Replies.{Answer, ChangesUnless, EndsAs, ItemReply, Leaves, Replies, RepliesInPart, Reply, Tells, block_refusal, ending_line, ends_by, outcome_in, printed, says_or_ends, shown_text, with_block}
 
 -- a block that is refused is answered by its refusal
 pub refused_reply : (values : Result (List ℕ) Refusal) (command : Command) (refusal : Refusal) (s : State) → Some refusal ≡ result_err values
@@ -85,27 +87,34 @@ pub show_reply : (values : Result (List ℕ) Refusal) (command : Command) (view 
 show_reply values command view s spelt good =
     given_reply values command s s (says_or_ends (shown view s)) good (λ given said. rw spelt (refl, refl))
 
--- what is printed of a view
-view_printed : (made : Result (List ℕ) Refusal) → printed (says_or_ends made) ≡ shown_text made
-view_printed (Ok text) = append-nil text
-view_printed (Err refusal) = refl
+pub list_reply : (values : Result (List ℕ) Refusal) (command : Command) (address count : ℕ) (s : State)
+    → command ≡ commands.List address count → None ≡ result_err values
+    → ItemReply (with_values values command) s s (says_or_ends (listed s.nut.pages address count))
+list_reply values command address count s spelt good =
+    given_reply values command s s (says_or_ends (listed s.nut.pages address count)) good (λ given said. rw spelt (refl, refl))
 
-view_outcome : (made : Result (List ℕ) Refusal) → (says_or_ends made).refusal ≡ result_err made
-view_outcome (Ok text) = refl
-view_outcome (Err refusal) = refl
+-- what is printed of a text that was made
+made_printed : (made : Result (List ℕ) Refusal) → printed (says_or_ends made) ≡ shown_text made
+made_printed (Ok text) = append-nil text
+made_printed (Err refusal) = refl
 
-pub shows : {W : Type 0} (values : Result (List ℕ) Refusal) (command : Command) (view : View) (s : State) (contents : W → Option (List ℕ)) (old new : W)
-    (result : Result Outcome CommandFault) → command ≡ Show view → None ≡ result_err values → IfOk result (λ outcome. outcome ≡ outcome_in (result_err (shown view s)))
-    → Tells result contents old new (shown_text (shown view s)) → Leaves result (with_values values command) s s contents old new
-shows values command view s contents old new (Err OutOfMemory) spelt good outcome written = written
-shows values command view s contents old new (Err WriteFault) spelt good outcome written = record {
-  answer = says_or_ends (shown view s);
-  reply = show_reply values command view s spelt good;
-  written = subst (AppendsPart (contents old) (contents new)) (sym (view_printed (shown view s))) written;
+made_outcome : (made : Result (List ℕ) Refusal) → (says_or_ends made).refusal ≡ result_err made
+made_outcome (Ok text) = refl
+made_outcome (Err refusal) = refl
+
+-- a command that prints one
+pub tells_made : {W : Type 0} (item : Spelled) (made : Result (List ℕ) Refusal) (s : State) (contents : W → Option (List ℕ)) (old new : W)
+    (result : Result Outcome CommandFault) → ItemReply item s s (says_or_ends made) → IfOk result (EndsAs (result_err made))
+    → Tells result contents old new (shown_text made) → Leaves result item s s contents old new
+tells_made item made s contents old new (Err OutOfMemory) reply outcome written = written
+tells_made item made s contents old new (Err WriteFault) reply outcome written = record {
+  answer = says_or_ends made;
+  reply = reply;
+  written = subst (AppendsPart (contents old) (contents new)) (sym (made_printed made)) written;
 }
-shows values command view s contents old new (Ok done) spelt good outcome written = record {
-  answer = says_or_ends (shown view s);
-  reply = show_reply values command view s spelt good;
-  written = subst (Appends (contents old) (contents new)) (sym (view_printed (shown view s))) written;
-  outcome_is = outcome ∙ ap outcome_in (sym (view_outcome (shown view s)));
+tells_made item made s contents old new (Ok done) reply outcome written = record {
+  answer = says_or_ends made;
+  reply = reply;
+  written = subst (Appends (contents old) (contents new)) (sym (made_printed made)) written;
+  outcome_is = outcome ∙ ap outcome_in (sym (made_outcome made));
 }

@@ -44,6 +44,7 @@ module _ (same_micro : MicroIsDetermined) where
       let text : a.text ≡ b.text = p.1 ∙ sym q.1 in
       let refusal : a.refusal ≡ b.refusal = both.1 in
       (both.0, λ i. record { text = text i; refusal = refusal i })
+  same_reply (commands.List address count) words s t u a b p q = (p.0 ∙ sym q.0, p.1 ∙ sym q.1)
   same_reply (commands.Show view) words s t u a b p q = (p.0 ∙ sym q.0, p.1 ∙ sym q.1)
 
   same_item : (item : Spelled) (s t u : State) (a b : Answer) → ItemReply item s t a → ItemReply item s u b → (t ≡ u) × (a ≡ b)

@@ -3,13 +3,14 @@
 use Rattle.std.specs.Prelude.{ℕ, Bool, true, false, List, [], ◌∷◌, if◌then◌else◌, Option, Some, None, is_some, Result, Ok, Err, codes, bytes_eq}
 use Rattle.h41_deck.specs.declared.commands.Command.{Command}
 use Rattle.h41_deck.specs.declared.commands.Command.TheVariants.{Plug, Unplug, Reset, Call, Step, Show}
+use Rattle.h41_deck.specs.declared.commands.Command.TheVariants as commands
 use Rattle.h41_deck.specs.declared.commands.BlockKind.{BlockKind}
 use Rattle.h41_deck.specs.declared.commands.BlockKind.TheVariants as kinds
 use Rattle.h41_deck.specs.declared.commands.View.{View}
 use Rattle.h41_deck.specs.declared.commands.View.TheVariants.{Cpu, Register, Stack, Flags, Position, Image, Functions}
 use Rattle.h41_deck.specs.declared.refusal.Refusal.{Refusal}
 use Rattle.h41_deck.specs.declared.refusal.Refusal.TheVariants.{BadCommand}
-use Rattle.h41_deck.specs.Numbers.{hexadecimal, number_up_to}
+use Rattle.h41_deck.specs.Numbers.{count_up_to, hexadecimal, number_up_to}
 
 -- what goes on with a value, and keeps a refusal
 abbrev pub and_then : {A B : Type 0} → Result A Refusal → (A → Result B Refusal) → Result B Refusal
@@ -19,6 +20,10 @@ and_then (Err refusal) next = Err refusal
 -- the most steps of one command
 abbrev pub most_steps : ℕ
 most_steps = 9999999
+
+-- the most words of one listing
+abbrev pub most_words : ℕ
+most_words = 4096
 
 -- a block that fills the page of this number
 abbrev pub plug_at : BlockKind → List ℕ → Bool → Result Command Refusal
@@ -51,6 +56,14 @@ abbrev pub step_command : List (List ℕ) → Result Command Refusal
 step_command [] = Ok (Step 1)
 step_command (count ∷ []) = and_then (number_up_to most_steps 10 count) (λ count. Ok (Step count))
 step_command operands = Err BadCommand
+
+-- list hhhh n
+abbrev pub listing_of : ℕ → List ℕ → Result Command Refusal
+listing_of address count = and_then (count_up_to most_words count) (λ count. Ok (commands.List address count))
+
+abbrev pub list_command : List (List ℕ) → Result Command Refusal
+list_command (address ∷ count ∷ []) = and_then (hexadecimal 4 address) (λ address. listing_of address count)
+list_command operands = Err BadCommand
 
 -- show WHAT
 unfoldable pub machine_view : List ℕ → Result View Refusal
@@ -100,7 +113,8 @@ plain_command name operands =
     if bytes_eq name (codes "call") then call_command operands
     else (if bytes_eq name (codes "step") then step_command operands
     else (if bytes_eq name (codes "show") then show_command operands
-    else setting_command name operands))
+    else (if bytes_eq name (codes "list") then list_command operands
+    else setting_command name operands)))
 
 -- the command of a line, by the kind of the block that its first word opens
 abbrev pub command_by : Option BlockKind → List ℕ → List (List ℕ) → Result Command Refusal

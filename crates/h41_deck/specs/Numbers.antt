@@ -24,3 +24,10 @@ hexadecimal count word = hexadecimal_within count count word
 abbrev pub number_up_to : ℕ → ℕ → List ℕ → Result ℕ Refusal
 number_up_to most radix word =
     if is_numeral radix word && nat_le (digits_value radix word) most then Ok (digits_value radix word) else Err BadNumber
+
+-- a decimal number likewise, from 1 up
+abbrev pub is_count : ℕ → List ℕ → Bool
+is_count most word = is_numeral 10 word && (nat_lt 0 (digits_value 10 word) && nat_le (digits_value 10 word) most)
+
+abbrev pub count_up_to : ℕ → List ℕ → Result ℕ Refusal
+count_up_to most word = if is_count most word then Ok (digits_value 10 word) else Err BadNumber

@@ -4,6 +4,7 @@ use Rattle.std.specs.Io.KnownBytes.{Appends, Keeps}
 use Rattle.std.specs.Result.{result_err}
 use Rattle.h41_deck.specs.declared.commands.Command.{Command}
 use Rattle.h41_deck.specs.declared.commands.Command.TheVariants.{Plug, Unplug, Reset, Call, Step, Show}
+use Rattle.h41_deck.specs.declared.commands.Command.TheVariants as commands
 use Rattle.h41_deck.specs.declared.fault.CommandFault.{CommandFault}
 use Rattle.h41_deck.specs.declared.fault.CommandFault.TheVariants.{OutOfMemory, WriteFault}
 use Rattle.h41_deck.specs.declared.replies.Outcome.{Outcome}
@@ -14,6 +15,7 @@ use Rattle.h41_deck.specs.Calculator.{State, block_bank, page_refusal, with_page
 use Rattle.h41_deck.specs.Ends.{AppendsPart}
 use Rattle.h41_deck.specs.Items.{Spelled, with_values}
 use Rattle.h41_deck.specs.Refusals.{refusal_line}
+use Rattle.h41_deck.specs.Listings.{listed}
 use Rattle.h41_deck.specs.Views.{shown}
 use Rattle.h41_deck.specs.declared.commands.View.{View}
 
@@ -67,6 +69,8 @@ Reply Reset values s t answer = (t ≡ restarted s) × (answer ≡ ends_by None)
 Reply (Call address) values s t answer = ChangesUnless (call_refusal s address) (called address s) s t answer
 -- step [n]: single steps up to the first refusal
 Reply (Step count) values s t answer = Steps count s t answer.refusal × (answer.text ≡ [])
+-- list hhhh n: the words' listing, or 8, 9 or 4, and nothing changes
+Reply (commands.List address count) values s t answer = (t ≡ s) × (answer ≡ says_or_ends (listed s.nut.pages address count))
 -- show WHAT: the view's text, or why it is refused, and nothing changes
 Reply (Show view) values s t answer = (t ≡ s) × (answer ≡ says_or_ends (shown view s))
 
@@ -82,6 +86,7 @@ takes_memory (Unplug page) = false
 takes_memory Reset = false
 takes_memory (Call address) = false
 takes_memory (Step count) = false
+takes_memory (commands.List address count) = true
 takes_memory (Show view) = true
 
 -- how an answer is printed
@@ -103,6 +108,9 @@ shown_text (Err refusal) = refusal_line refusal
 
 abbrev pub shows : View → State → List ℕ
 shows view s = shown_text (shown view s)
+
+abbrev pub lists : ℕ → ℕ → State → List ℕ
+lists address count s = shown_text (listed s.nut.pages address count)
 
 -- whether it is a refusal
 abbrev pub outcome_in : Option Refusal → Outcome

@@ -66,6 +66,11 @@ pub enum Command {
     Call(u16),
     /// `step [n]`: n single steps, 0 to 9,999,999, one where no number is given.
     Step(u32),
+    /// `list hhhh n`: prints the listing of n words, 1 to 4,096, of one page from an address on.
+    List {
+        address: u16,
+        count: u16,
+    },
     /// `show WHAT`: prints a view.
     Show(View),
 }

@@ -8,7 +8,7 @@ ghost use Rattle.h41_digits.specs.Register.{hexadecimal_text};
 
 use arrayvec::ArrayString;
 use h41_nut::Refusal as NutRefusal;
-use h41_pages::{ImageRefusal, PlugRefusal, UnplugRefusal};
+use h41_pages::{FetchRefusal, ImageRefusal, PlugRefusal, UnplugRefusal};
 
 /// The most bytes of a refusal's line.
 const LINE: usize = 28;
@@ -181,6 +181,20 @@ impl From<ImageRefusal> for Refusal {
             ImageRefusal::NoSuchPage => Refusal::NoSuchPage,
             ImageRefusal::NotPlugged => Refusal::NotPlugged,
             ImageRefusal::OutOfMemory => Refusal::OutOfMemory,
+        }
+    }
+}
+
+impl From<FetchRefusal> for Refusal {
+    ghost use Rattle.std.specs.Prelude.{◌≡◌};
+    ghost use Rattle.h41_deck.specs.Listings.{of_fetch};
+
+    ghost from_gives = { λ refusal own. own ≡ of_fetch refusal };
+
+    fn from(refusal: FetchRefusal) -> Self {
+        match refusal {
+            FetchRefusal::SystemRom(address) => Refusal::SystemRom(address),
+            FetchRefusal::EmptyPage(address) => Refusal::EmptyPage(address),
         }
     }
 }

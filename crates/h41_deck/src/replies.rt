@@ -6,8 +6,9 @@ ghost use Rattle.h41_pages.specs.Addresses.{page_size};
 ghost use Rattle.h41_deck.specs.Calculator.{unplug_refusal, without_page};
 ghost use Rattle.h41_deck.specs.Commands.{kind_of};
 ghost use Rattle.h41_deck.specs.Ends.{Writes};
-ghost use Rattle.h41_deck.specs.Replies.{Does, EndsAs, RefusedAs, Tells, block_refusal, ending_text, shows, takes_memory, with_block};
-ghost use Rattle.h41_deck.specs.Views.{shown};
+ghost use Rattle.h41_deck.specs.Replies.{Does, EndsAs, RefusedAs, Tells, block_refusal, ending_text, lists, shown_text, shows, takes_memory, with_block};
+ghost use Rattle.h41_deck.specs.Listings.{listed};
+ghost use Rattle.h41_deck.specs.Views.{shown, text_in};
 
 use crate::bench::Bench;
 use crate::blocks::Block;
@@ -17,6 +18,7 @@ use crate::ends::output::write_whole;
 use crate::ends::sink::Sink;
 use crate::fault::{CommandFault, WriteFault};
 use crate::refusal::Refusal;
+use crate::replies::listing::listed;
 use crate::replies::view::shown;
 use h41_pages::PlugRefusal;
 use std::alloc::{AllocError, Global};
@@ -24,6 +26,7 @@ use std::alloc::{AllocError, Global};
 mod digits;
 mod functions;
 mod image;
+mod listing;
 mod memory;
 mod position;
 mod processor;
@@ -98,6 +101,7 @@ pub fn apply<W: Sink>(
         }
         Command::Call(address) => bench.calculator.call(address),
         Command::Step(count) => bench.steps(count),
+        Command::List { address, count } => return list(alloc, bench, address, count, writer),
         Command::Show(view) => return show(alloc, bench, view, writer),
     };
     Ok(print_ending(ended, writer)?)
@@ -149,12 +153,45 @@ fn show<W: Sink>(
     ensures mark { result ≡ Err CommandFault.WriteFault → W.failed writer.new ≡ true }
     ensures clear { result ≢ Err CommandFault.WriteFault → W.failed writer.new ≡ false }
 {
-    match shown(alloc, bench.calculator(), view)? {
+    let made = shown(alloc, bench.calculator(), view)?;
+    Ok(print_made(made, writer)?)
+}
+
+/// Prints the listing of so many words from an address on. 21 where memory is refused.
+fn list<W: Sink>(
+    alloc: Global,
+    bench: &Bench,
+    address: u16,
+    count: u16,
+    writer: &mut W,
+) -> Result<Outcome, CommandFault>
+    requires { W.failed writer.old ≡ false }
+    ensures outcome { IfOk result (EndsAs (result_err (listed bench.now.nut.pages address count))) }
+    ensures written { Tells result W.contents writer.old writer.new (lists address count bench.now) }
+    ensures mark { result ≡ Err CommandFault.WriteFault → W.failed writer.new ≡ true }
+    ensures clear { result ≢ Err CommandFault.WriteFault → W.failed writer.new ≡ false }
+{
+    let made = listed(alloc, bench.calculator().pages(), address, count)?;
+    Ok(print_made(made, writer)?)
+}
+
+/// Prints a text that was made, or why it was not.
+fn print_made<W: Sink>(
+    made: Result<Vec<u8>, Refusal>,
+    writer: &mut W,
+) -> Result<Outcome, WriteFault>
+    requires { W.failed writer.old ≡ false }
+    ensures outcome { IfOk result (EndsAs (result_err made)) }
+    ensures written { Writes result W.contents writer.old writer.new (shown_text (text_in made)) }
+    ensures clear { OnOk result (W.failed writer.new ≡ false) }
+    ensures mark { OnErr result (W.failed writer.new ≡ true) }
+{
+    match made {
         Ok(text) => {
             write_whole(writer, &text)?;
             Ok(Outcome::Accepted)
         }
-        Err(refusal) => Ok(print_ending(Err(refusal), writer)?),
+        Err(refusal) => print_ending(Err(refusal), writer),
     }
 }
 

@@ -1,10 +1,11 @@
 -- The pages of the address space: a finite map from page, bank and offset to words, the banks whose words microcode may
 -- write, and the bank that is chosen at each page; when plugging, unplugging, reading and writing are refused, and what
 -- they change. Which pages and banks are held, and in which order refusals are asked, are this project's choices.
-use Rattle.std.specs.Prelude.{◌≡◌, ◌⊎◌, ℕ, Bool, false, not, ◌&&◌, List, [], length, slice_index, slice_index_or, slice_set, replicate, nat_le, ◌==◌, if◌then◌else◌, is_some, Option, Some, None, Result, Ok, Err, option_map}
+use Rattle.std.specs.Prelude.{◌≡◌, ◌⊎◌, ℕ, Bool, false, not, ◌&&◌, List, [], length, slice_index, slice_index_or, slice_set, drop, replicate, nat_le, ◌==◌, if◌then◌else◌, is_some, Option, Some, None, Result, Ok, Err, option_map}
 use Rattle.std.specs.Bool.{then_some}
 use Rattle.std.specs.List.{list_all, list_any}
 use Rattle.std.specs.Option.{option_or, option_map_or}
+use Rattle.std.specs.Result.{result_err}
 use Rattle.h41_words.specs.declared.rows.Bank.{Bank}
 use Rattle.h41_words.specs.declared.rows.Bank.TheVariants.{First, Second, Third, Fourth}
 use Rattle.h41_pages.specs.Addresses.{page_count, page_size, last_word, page_of, offset_of, is_pluggable, is_system}
@@ -119,6 +120,14 @@ word_in address (Some image) = Ok (slice_index image.words (offset_of address))
 unfoldable pub fetched : PageMap → ℕ → Result ℕ FetchRefusal
 fetched pages address =
     if is_system address then Err (SystemRom address) else word_in address (chosen_image pages (page_of address))
+
+-- why none is fetched there, and the words of the chosen bank from there to the page's end
+abbrev pub fetch_refusal : PageMap → ℕ → Option FetchRefusal
+fetch_refusal pages address = result_err (fetched pages address)
+
+abbrev pub words_from : PageMap → ℕ → List ℕ
+words_from pages address =
+    option_map_or (λ image. drop (offset_of address) image.words) (chosen_image pages (page_of address)) []
 
 -- whether microcode may write the words of an image: it is plugged, and as writable
 abbrev pub is_writable : Option PageImage → Bool

@@ -145,6 +145,18 @@ impl Pages {
         }
     }
 
+    /// The words from an address to its page's end, in the chosen bank of the page. Refused as `fetch` is.
+    pub fn words_from(&self, address: u16) -> Result<&[Word], FetchRefusal>
+        ensures refusal { result_err result ≡ spec.fetch_refusal self.now address }
+        ensures words { IfOk result (λ words. words.now ≡ spec.words_from self.now address) }
+    {
+        self.fetch(address)?;
+        match self.chosen_image(page_of(address)) {
+            None => Ok(&[]),
+            Some(image) => Ok(&image.words()[offset_of(address)..]),
+        }
+    }
+
     /// Writes the word at an address, in the chosen bank of its page. Refused as 12 where that is not plugged as writable.
     #[tactic(auto, unfolding(crate::specs::PageMap::written))]
     pub fn write(&mut self, address: u16, word: Word) -> Result<(), ReadOnly>

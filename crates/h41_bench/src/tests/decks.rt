@@ -136,6 +136,35 @@ fn plugs_and_unplugs_modules(rt: HostRuntime) -> Result<(), Fail> {
 }
 
 #[test]
+fn lists_words_of_one_page(rt: HostRuntime) -> Result<(), Fail> {
+    let cases = [
+        (
+            "list 8002 5\nlist 800C 1\n",
+            "8002  000      NOP\n8003  00B      ?FSET 5\n8004  000      NOP\n\
+             8005  010      LD@R 0\n8006  000      NOP\n800C  08C      ?FSET 7\n",
+        ),
+        (
+            "words 9\n130 123 226 3E0\nend\nlist 9000 4\nlist 9000 1\n",
+            "9000  130 123  LDI 123\n9002  226      C=C+1 S&X\n9003  3E0      RTN\n\
+             9000  130      CON 130\n",
+        ),
+        (
+            "list 0000 1\nlist 9000 4096\nlist 8FFF 2\nlist 8001 4096\n",
+            "! 08 SystemRom 0000\n! 09 EmptyPage 9000\n! 04 BadImage\n! 04 BadImage\n",
+        ),
+        (
+            "list 8000\nlist 8000 1 1\nlist 0000 0\nlist 8000 4097\nlist 800 1\n",
+            "! 50 BadCommand\n! 50 BadCommand\n! 51 BadNumber\n! 51 BadNumber\n! 51 BadNumber\n",
+        ),
+    ];
+    for (rest, text) in cases {
+        let deck = format!(in rt.alloc(); "{MODULE}{rest}")?;
+        prints(&rt, rt.alloc(), deck.as_str(), text)?;
+    }
+    Ok(())
+}
+
+#[test]
 fn shows_the_processor(rt: HostRuntime) -> Result<(), Fail> {
     let two = "00000000000002";
     let cases = [

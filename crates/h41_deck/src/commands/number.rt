@@ -1,7 +1,7 @@
 //! The numbers that words of a deck write.
 
 ghost use Rattle.std.specs.Prelude.{◌≡◌, ◌≤◌, ◌<◌, ◌^◌, IfOk};
-ghost use Rattle.h41_deck.specs.Numbers.{hexadecimal_within, number_up_to};
+ghost use Rattle.h41_deck.specs.Numbers.{count_up_to, hexadecimal_within, number_up_to};
 
 use crate::refusal::Refusal;
 
@@ -25,6 +25,19 @@ pub fn number_up_to(most: u32, radix: u32, word: &[u8]) -> Result<u32, Refusal>
         }
     }
     Ok(value)
+}
+
+/// The decimal number that a word writes, from 1 up: 51 BadNumber where it is none, or above `most`.
+pub fn count_up_to(most: u32, word: &[u8]) -> Result<u32, Refusal>
+    requires most_in { most ≤ 9999999 }
+    ensures small { IfOk result (λ number. number ≤ most) }
+    ensures value { result ≡ count_up_to most word.now }
+{
+    let count = number_up_to(most, 10, word)?;
+    if count == 0 {
+        return Err(Refusal::BadNumber);
+    }
+    Ok(count)
 }
 
 /// The number of a word of `least` to `most` hexadecimal digits, of either case: 51 BadNumber where it is none, or has

@@ -1,17 +1,20 @@
 //! The command that a line's words spell.
 
 ghost use Rattle.std.specs.Prelude.{◌≡◌};
-ghost use Rattle.h41_deck.specs.Commands.{call_command, machine_view, reset_command, setting_command, unplug_command, is_opening, opening_command, parsed, plain_command, plug_at, plug_command, show_command, step_command, view_named, view_of};
+ghost use Rattle.h41_deck.specs.Commands.{call_command, machine_view, reset_command, setting_command, unplug_command, is_opening, opening_command, parsed, plain_command, plug_at, plug_command, show_command, step_command, view_named, view_of, list_command};
 ghost use Rattle.h41_deck.specs.Lines.{words_of};
 ghost use Rattle.h41_deck.specs.Numbers as spec;
 
-use crate::commands::number::{hexadecimal, number_up_to};
+use crate::commands::number::{count_up_to, hexadecimal, number_up_to};
 use crate::commands::{BlockKind, Command, View};
 use crate::lines::words::LineWords;
 use crate::refusal::Refusal;
 
 /// The most single steps of one command.
 const MOST_STEPS: u32 = 9_999_999;
+
+/// The most words of one listing.
+const MOST_WORDS: u32 = 4_096;
 
 /// The command of a line: 50 BadCommand where its words are no command's, and else 51 BadNumber where a number is
 /// wrong.
@@ -55,6 +58,7 @@ fn plain(name: &[u8], operands: LineWords<'_>) -> Result<Command, Refusal>
         b"call" => call(operands),
         b"step" => step(operands),
         b"show" => show(operands),
+        b"list" => list(operands),
         _ => setting(name, operands),
     }
 }
@@ -140,6 +144,20 @@ fn step(mut operands: LineWords<'_>) -> Result<Command, Refusal>
     match (operands.next(), operands.next()) {
         (None, _) => Ok(Command::Step(1)),
         (Some(count), None) => Ok(Command::Step(number_up_to(MOST_STEPS, 10, count)?)),
+        _ => Err(Refusal::BadCommand),
+    }
+}
+
+/// `list hhhh n`.
+fn list(mut operands: LineWords<'_>) -> Result<Command, Refusal>
+    ensures { result ≡ list_command (words_of operands.entry.rest.now) }
+{
+    match (operands.next(), operands.next(), operands.next()) {
+        (Some(address), Some(count), None) => {
+            let address = hexadecimal(4, 4, address)?;
+            let count = count_up_to(MOST_WORDS, count)? as u16;
+            Ok(Command::List { address, count })
+        }
         _ => Err(Refusal::BadCommand),
     }
 }

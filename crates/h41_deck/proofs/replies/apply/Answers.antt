@@ -2,8 +2,10 @@ use Rattle.std.proofs.lemmas.Result.{err_from_is_err_and}
 use Rattle.std.specs.Result.{result_err}
 use Rattle.h41_deck.specs.Blocks.{judgement}
 use Rattle.h41_deck.specs.Items.{with_values}
+use Rattle.h41_deck.specs.Listings.{listed}
+use Rattle.h41_deck.specs.Views.{shown}
 use Rattle.h41_deck.specs.Replies.{ItemReply, ends_by}
-use Rattle.h41_deck.proofs.Commanded.{call_reply, part_by, plug_reply, refused_reply, replies_by, reset_reply, shows, step_reply, unplug_reply}
+use Rattle.h41_deck.proofs.Commanded.{call_reply, part_by, plug_reply, refused_reply, replies_by, list_reply, reset_reply, show_reply, step_reply, tells_made, unplug_reply}
 use Rattle.h41_deck.proofs.replies.apply.Goals as goal
 use Rattle.h41_deck.proofs.replies.apply.Goals.{in-Plug+in_ok-words-in-Plug+in_ok-ended-in-Plug, in-Call, in-Reset, in-Step, in-Unplug}
 
@@ -20,7 +22,15 @@ returns-in-Some-clause-reply g c =
 
 pub returns-in-Show-clause-reply : goal.returns-in-Show-clause-reply
 returns-in-Show-clause-reply g c =
-    shows (judgement c.args.block) c.args.command c.in-Show.view c.args.bench.now g.W.Sink.contents _ _ c.show.result c.in-Show.is c.in_default.ensures c.show.ensures.outcome c.show.ensures.written
+    let s = c.args.bench.now in
+    let reply = show_reply (judgement c.args.block) c.args.command c.in-Show.view s c.in-Show.is c.in_default.ensures in
+    tells_made _ (shown c.in-Show.view s) s g.W.Sink.contents _ _ c.show.result reply c.show.ensures.outcome c.show.ensures.written
+
+pub returns-in-List-clause-reply : goal.returns-in-List-clause-reply
+returns-in-List-clause-reply g c =
+    let s = c.args.bench.now in
+    let reply = list_reply (judgement c.args.block) c.args.command c.in-List.address c.in-List.count s c.in-List.is c.in_default.ensures in
+    tells_made _ (listed s.nut.pages c.in-List.address c.in-List.count) s g.W.Sink.contents _ _ c.list.result reply c.list.ensures.outcome c.list.ensures.written
 
 pub returns-in_err-print_ending-2-clause-reply : goal.returns-in_err-print_ending-2-clause-reply
 returns-in_err-print_ending-2-clause-reply g c =

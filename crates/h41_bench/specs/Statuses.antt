@@ -1,5 +1,5 @@
 -- The statuses that the program ends with, and what they tell.
-use Rattle.std.specs.Prelude.{◌≡◌, ◌≢◌, ◌⊎◌, ℕ, Bool, true, false, List, Option}
+use Rattle.std.specs.Prelude.{◌≡◌, ◌≢◌, ◌⊎◌, ℕ, true, false, List}
 use Rattle.std.specs.Io.KnownBytes.{Appends}
 use Rattle.h41_deck.specs.declared.ends.sink.Sink as sinks
 use Rattle.h41_deck.specs.declared.ends.source.Source as sources

@@ -12,7 +12,7 @@ ghost use Rattle.h41_bench.specs.Ending.{status_of};
 ghost use Rattle.h41_bench.specs.Statuses.{EndsDeck, IsOrFailed, IsStatus};
 
 use crate::arguments::{Ending, Job, read_words};
-use crate::serve::{FAILED, serve};
+use crate::serve::{serve, tell};
 use h41_deck::{Fault, FromRead, ToWrite};
 use std::alloc::{AllocError, Global};
 use std::env;
@@ -27,40 +27,38 @@ const NAME: &str = "bench";
 const MISTAKEN: u8 = 2;
 
 fn main(rt: HostRuntime) -> ExitCode {
-    ExitCode::from(run(&rt, rt.alloc()))
-}
-
-/// Does what the command line asks for, and answers the status.
-fn run(rt: &HostRuntime, alloc: Global) -> u8
-    ensures { result ≤ 3 }
-{
-    let arguments = match env::args(rt) {
-        Ok(arguments) => arguments,
-        Err(error) if error.kind() == ErrorKind::OutOfMemory => return fail(rt, Fault::OutOfMemory),
+    let status = match env::args(&rt) {
+        Ok(arguments) => match arguments.collect::<Vec<String>>(rt.alloc()) {
+            Ok(words) => run_words(&rt, rt.alloc(), words.as_slice()),
+            Err(_) => end(&rt, &Ending::OutOfMemory),
+        },
+        Err(error) if error.kind() == ErrorKind::OutOfMemory => end(&rt, &Ending::OutOfMemory),
         Err(_) => {
-            let _ = eprintln!(rt; "error: a word of the command line is not UTF-8");
-            return MISTAKEN;
+            let _ = eprintln!(&rt; "error: a word of the command line is not UTF-8");
+            MISTAKEN
         }
     };
-    match arguments.collect::<Vec<String>>(alloc) {
-        Ok(words) => run_words(rt, alloc, words.as_slice()),
-        Err(_) => fail(rt, Fault::OutOfMemory),
-    }
+    ExitCode::from(status)
 }
 
-/// Does what these words ask for.
+/// Does what the words of the command line ask for: runs the deck of a file, or of standard input where its name is `-`, or
+/// says why there is none. Answers the status.
 fn run_words(rt: &HostRuntime, alloc: Global, words: &[String]) -> u8
     ensures help { asks_help (named (map string_bytes words.now)) ≡ true → IsOrFailed 0 result }
     ensures mistake { is_mistake (named (map string_bytes words.now)) ≡ true → IsOrFailed 2 result }
     ensures run { IsSome (file_to_run (named (map string_bytes words.now))) → IsStatus result }
     ensures bound { result ≤ 3 }
 {
-    match named(alloc, words) {
-        Ok(words) => match read_words(alloc, words.as_slice()) {
-            Ok(job) => run_job(rt, alloc, job),
-            Err(ending) => end(rt, &ending),
+    let Ok(words) = named(alloc, words) else {
+        return end(rt, &Ending::OutOfMemory);
+    };
+    match read_words(alloc, words.as_slice()) {
+        Ok(job) if job.file == "-" => run_from(rt, alloc, job, rt.stdin()),
+        Ok(job) => match opened(File::open(rt, job.file)) {
+            Ok(file) => run_from(rt, alloc, job, file),
+            Err(fault) => tell(fault, &mut ToWrite::new(rt.stderr())),
         },
-        Err(_) => fail(rt, Fault::OutOfMemory),
+        Err(ending) => end(rt, &ending),
     }
 }
 
@@ -90,20 +88,7 @@ fn end(rt: &HostRuntime, ending: &Ending) -> u8
     };
     match printed {
         Ok(()) => ending.status(),
-        Err(_) => fail(rt, Fault::WriteFault),
-    }
-}
-
-/// Runs the deck of a file, or of standard input where its name is `-`.
-fn run_job(rt: &HostRuntime, alloc: Global, job: Job<'_>) -> u8
-    ensures { IsStatus result }
-{
-    if job.file == "-" {
-        return run_from(rt, alloc, job, rt.stdin());
-    }
-    match opened(File::open(rt, job.file)) {
-        Ok(file) => run_from(rt, alloc, job, file),
-        Err(fault) => fail(rt, fault),
+        Err(_) => tell(Fault::WriteFault, &mut ToWrite::new(rt.stderr())),
     }
 }
 
@@ -121,18 +106,10 @@ fn run_from<R: Read + Drop>(rt: &HostRuntime, alloc: Global, job: Job<'_>, reade
     ensures outcome { result ≢ 3 → IfSome (R.remaining reader) (EndsDeck result) }
 {
     let Ok(output) = BufWriter::new(alloc, rt.stdout()) else {
-        return fail(rt, Fault::OutOfMemory);
+        return tell(Fault::OutOfMemory, &mut ToWrite::new(rt.stderr()));
     };
     let mut reader = FromRead::new(reader);
     let mut writer = ToWrite::new(output);
     let mut faults = ToWrite::new(rt.stderr());
     serve(alloc, job, &mut reader, &mut writer, &mut faults)
-}
-
-/// Tells a fault on standard error, as far as that takes it.
-fn fail(rt: &HostRuntime, fault: Fault) -> u8
-    ensures { result ≡ 3 }
-{
-    let _ = eprintln!(rt; "{fault}");
-    FAILED
 }

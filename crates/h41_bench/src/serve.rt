@@ -50,11 +50,18 @@ pub fn serve<R: Source, W: Sink, E: Sink>(
     match ended {
         Ok(Outcome::Accepted) => ACCEPTED,
         Ok(Outcome::Refused) => REFUSED,
-        Err(fault) => {
-            let _ = report(fault, faults);
-            FAILED
-        }
+        Err(fault) => tell(fault, faults),
     }
+}
+
+/// Tells a fault, as far as the end for faults takes its line. Answers the status 3.
+pub fn tell<E: Sink>(fault: Fault, faults: &mut E) -> u8
+    requires { E.failed faults.old ≡ false }
+    ensures status { result ≡ 3 }
+    ensures line { E.failed faults.new ≡ false → Appended E.contents faults.old faults.new (fault_line fault) }
+{
+    let _ = report(fault, faults);
+    FAILED
 }
 
 /// Writes a fault's line.

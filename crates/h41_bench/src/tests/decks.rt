@@ -140,8 +140,8 @@ fn lists_words_of_one_page(rt: HostRuntime) -> Result<(), Fail> {
     let cases = [
         (
             "list 8002 5\nlist 800C 1\n",
-            "8002  000      NOP\n8003  00B      ?FSET 5\n8004  000      NOP\n\
-             8005  010      LD@R 0\n8006  000      NOP\n800C  08C      ?FSET 7\n",
+            "8002  000      NOP\n8003  00B      JNC +01\n8004  000      NOP\n\
+             8005  010      LD@R 0\n8006  000      NOP\n800C  08C      ?FSET 5\n",
         ),
         (
             "words 9\n130 123 226 3E0\nend\nlist 9000 4\nlist 9000 1\n",

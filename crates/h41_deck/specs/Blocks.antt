@@ -1,5 +1,5 @@
 -- What the lines of a block say, by the block's kind, or why they are refused. The language is this project's own.
-use Rattle.std.specs.Prelude.{◌≡◌, ℕ, ◌-◌, Bool, not, ◌||◌, List, [], ◌∷◌, ◌++◌, map, length, replicate, filter, flat_map, nat_lt, if◌then◌else◌, Option, Some, None, Result, Ok, Err, is_ok}
+use Rattle.std.specs.Prelude.{◌≡◌, ℕ, ◌-◌, Bool, not, ◌||◌, List, [], ◌∷◌, ◌++◌, map, length, replicate, filter, flat_map, nat_lt, if◌then◌else◌, Option, Some, None, Result, Ok, Err, is_ok, codes}
 use Rattle.std.specs.Result.{result_unwrap_or}
 use Rattle.std.specs.List.{list_any, list_all}
 use Rattle.std.specs.Str.Parse.{digits_value}
@@ -8,7 +8,7 @@ use Rattle.hex.specs.declared.error.FromHexError.{FromHexError}
 use Rattle.h41_pages.specs.Addresses.{last_word, page_size}
 use Rattle.h41_pages.specs.Images.{is_image_bytes, words_in}
 use Rattle.h41_deck.specs.declared.commands.BlockKind.{BlockKind}
-use Rattle.h41_deck.specs.declared.commands.BlockKind.TheVariants.{Words, Image}
+use Rattle.h41_deck.specs.declared.commands.BlockKind.TheVariants.{Words, Image, Asm}
 use Rattle.h41_deck.specs.declared.refusal.Refusal.{Refusal}
 use Rattle.h41_deck.specs.declared.refusal.Refusal.TheVariants.{BadImage, BadNumber, LineTooLong}
 use Rattle.h41_deck.specs.Lines.{is_blank, is_long, is_skipped, words_of}
@@ -50,17 +50,26 @@ abbrev pub image_content : Result (List ℕ) Refusal → Result (List ℕ) Refus
 image_content (Ok bytes) = if is_image_bytes bytes then Ok (words_in bytes) else Err BadImage
 image_content (Err refusal) = Err refusal
 
--- what the lines of a block say, before it is judged: values of words, or bytes; a command without a block has none
+-- the source that a block's lines are: each with its end, where those that say nothing are left empty
+abbrev pub source_line : List ℕ → List ℕ
+source_line line = (if is_skipped line then [] else line) ++ codes "\n"
+
+abbrev pub block_source : List (List ℕ) → List ℕ
+block_source lines = flat_map source_line lines
+
+-- what the lines of a block say, before it is judged: values of words, bytes, or a source; a command without a block has none
 abbrev pub said_by : Option BlockKind → List (List ℕ) → Result (List ℕ) Refusal
 said_by None lines = Ok []
 said_by (Some Words) lines = word_values (block_words lines)
 said_by (Some Image) lines = block_bytes lines
+said_by (Some Asm) lines = Ok (block_source lines)
 
--- the words of a page that they say
+-- the words of a page that they say, or the source of these
 abbrev pub words_said : Option BlockKind → Result (List ℕ) Refusal → Result (List ℕ) Refusal
 words_said None said = said
 words_said (Some Words) said = said
 words_said (Some Image) said = image_content said
+words_said (Some Asm) said = said
 
 abbrev pub content_of : Option BlockKind → List (List ℕ) → Result (List ℕ) Refusal
 content_of kind lines = words_said kind (said_by kind lines)

@@ -29,7 +29,7 @@ most_words = 4096
 abbrev pub plug_at : BlockKind → List ℕ → Bool → Result Command Refusal
 plug_at kind page writable = and_then (hexadecimal 1 page) (λ page. Ok (Plug kind page writable))
 
--- words P [rw] and image P [rw]: a block that fills a page, which microcode may write with rw
+-- words P [rw], image P [rw] and asm P [rw]: a block that fills a page, which microcode may write with rw
 abbrev pub plug_command : BlockKind → List (List ℕ) → Result Command Refusal
 plug_command kind (page ∷ []) = plug_at kind page false
 plug_command kind (page ∷ option ∷ []) =
@@ -93,12 +93,14 @@ abbrev pub kind_of_word : List ℕ → Option BlockKind
 kind_of_word name =
     if bytes_eq name (codes "words") then Some kinds.Words
     else (if bytes_eq name (codes "image") then Some kinds.Image
-    else None)
+    else (if bytes_eq name (codes "asm") then Some kinds.Asm
+    else None))
 
 -- the command of a line that opens a block
 abbrev pub opening_command : BlockKind → List (List ℕ) → Result Command Refusal
 opening_command kinds.Words operands = plug_command kinds.Words operands
 opening_command kinds.Image operands = plug_command kinds.Image operands
+opening_command kinds.Asm operands = plug_command kinds.Asm operands
 
 -- the command of a line that changes what is plugged, or begins anew
 unfoldable pub setting_command : List ℕ → List (List ℕ) → Result Command Refusal

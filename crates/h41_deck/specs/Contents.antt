@@ -6,10 +6,11 @@ use Rattle.h41_deck.specs.declared.blocks.Content.{Content}
 use Rattle.h41_deck.specs.declared.blocks.Content.TheVariants as contents
 use Rattle.h41_deck.specs.declared.blocks.page_words.PageWords.{PageWords}
 use Rattle.h41_deck.specs.declared.commands.BlockKind.{BlockKind}
-use Rattle.h41_deck.specs.declared.commands.BlockKind.TheVariants.{Words, Image}
+use Rattle.h41_deck.specs.declared.commands.BlockKind.TheVariants.{Words, Image, Asm}
 use Rattle.h41_deck.specs.declared.refusal.Refusal.{Refusal}
 use Rattle.h41_deck.specs.declared.blocks.page_bytes.PageBytes.{PageBytes}
-use Rattle.h41_deck.specs.Blocks.{block_bytes, block_words, line_bytes, word_values}
+use Rattle.h41_deck.specs.declared.blocks.page_source.PageSource.{PageSource}
+use Rattle.h41_deck.specs.Blocks.{block_bytes, block_source, block_words, line_bytes, word_values}
 
 abbrev pub unless_fault : Option Refusal → List ℕ → Result (List ℕ) Refusal
 unless_fault None values = Ok values
@@ -43,13 +44,24 @@ abbrev pub AreBytesOf : List ℕ → Option (Vec ℕ Global) → Type 0
 AreBytesOf line None = is_ok (line_bytes line) ≡ false
 AreBytesOf line (Some bytes) = line_bytes line ≡ Ok bytes.items
 
+-- the source of a page's words
+abbrev pub source_in : PageSource → List ℕ
+source_in page = page.text.items
+
+-- whatever lines the source was that of, it is now that of one line more
+abbrev pub TakesSource : PageSource → List ℕ → PageSource → Type 0
+TakesSource old line new =
+    (lines : List (List ℕ)) → source_in old ≡ block_source lines → source_in new ≡ block_source (lines ++ line ∷ [])
+
 -- what the content of a block says, and its kind
 abbrev pub content_in : Content → Result (List ℕ) Refusal
 content_in contents.Nothing = Ok []
 content_in (contents.Words words) = words_in words
 content_in (contents.Image bytes) = bytes_in bytes
+content_in (contents.Source source) = Ok (source_in source)
 
 abbrev pub kind_in : Content → Option BlockKind
 kind_in contents.Nothing = None
 kind_in (contents.Words words) = Some Words
 kind_in (contents.Image bytes) = Some Image
+kind_in (contents.Source source) = Some Asm

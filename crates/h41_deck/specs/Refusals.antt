@@ -1,8 +1,13 @@
--- The refusals, each with its number, its name and the address that it tells. Numbers, names and form are this project's own.
+-- The refusals, each with its number, its name and the address or the line that it tells. Numbers, names and form are this project's own.
 use Rattle.std.specs.Prelude.{ℕ, List, [], ◌++◌, Option, Some, None, codes}
+use Rattle.std.specs.Fmt.{decimal}
 use Rattle.h41_digits.specs.Register.{hexadecimal_text}
+use Rattle.h41_asm.specs.declared.fault.Fault as asm
+use Rattle.h41_asm.specs.declared.fault.Fault.TheVariants as asms
+use Rattle.h41_deck.specs.declared.refusal.Detail.{Detail}
+use Rattle.h41_deck.specs.declared.refusal.Detail.TheVariants.{Address, Line}
 use Rattle.h41_deck.specs.declared.refusal.Refusal.{Refusal}
-use Rattle.h41_deck.specs.declared.refusal.Refusal.TheVariants.{NoSuchPage, Occupied, NotPlugged, BadImage, UndefinedWord, WordNotInProfile, SystemRom, EmptyPage, PeripheralNotHeld, Asleep, ReadOnly, OutOfMemory, ReadFault, WriteFault, Busy, BadCommand, BadNumber, NoEnd, LineTooLong}
+use Rattle.h41_deck.specs.declared.refusal.Refusal.TheVariants.{NoSuchPage, Occupied, NotPlugged, BadImage, UndefinedWord, WordNotInProfile, SystemRom, EmptyPage, PeripheralNotHeld, Asleep, ReadOnly, OutOfMemory, ReadFault, WriteFault, Busy, BadLine, BadOperand, LabelTwice, NoLabel, TooFar, TooLong, BadCommand, BadNumber, NoEnd, LineTooLong}
 use Rattle.h41_deck.specs.declared.fault.Fault.{Fault}
 use Rattle.h41_deck.specs.declared.fault.Fault.TheVariants as faults
 
@@ -23,26 +28,39 @@ number_and_name OutOfMemory = codes "21 OutOfMemory"
 number_and_name ReadFault = codes "22 ReadFault"
 number_and_name WriteFault = codes "23 WriteFault"
 number_and_name Busy = codes "24 Busy"
+number_and_name (BadLine line) = codes "30 BadLine"
+number_and_name (BadOperand line) = codes "31 BadOperand"
+number_and_name (LabelTwice line) = codes "32 LabelTwice"
+number_and_name (NoLabel line) = codes "33 NoLabel"
+number_and_name (TooFar line) = codes "34 TooFar"
+number_and_name (TooLong line) = codes "35 TooLong"
 number_and_name BadCommand = codes "50 BadCommand"
 number_and_name BadNumber = codes "51 BadNumber"
 number_and_name NoEnd = codes "52 NoEnd"
 number_and_name LineTooLong = codes "53 LineTooLong"
 
--- the address that a refusal tells, where it tells one
-abbrev pub detail : Refusal → Option ℕ
-detail (UndefinedWord address) = Some address
-detail (WordNotInProfile address) = Some address
-detail (SystemRom address) = Some address
-detail (EmptyPage address) = Some address
-detail (PeripheralNotHeld address) = Some address
-detail (Asleep address) = Some address
-detail (ReadOnly address) = Some address
+-- the address, or the line of a source, that a refusal tells, where it tells one
+abbrev pub detail : Refusal → Option Detail
+detail (UndefinedWord address) = Some (Address address)
+detail (WordNotInProfile address) = Some (Address address)
+detail (SystemRom address) = Some (Address address)
+detail (EmptyPage address) = Some (Address address)
+detail (PeripheralNotHeld address) = Some (Address address)
+detail (Asleep address) = Some (Address address)
+detail (ReadOnly address) = Some (Address address)
+detail (BadLine line) = Some (Line line)
+detail (BadOperand line) = Some (Line line)
+detail (LabelTwice line) = Some (Line line)
+detail (NoLabel line) = Some (Line line)
+detail (TooFar line) = Some (Line line)
+detail (TooLong line) = Some (Line line)
 detail refusal = None
 
--- a blank and the address of four hexadecimal digits
-abbrev pub detail_text : Option ℕ → List ℕ
+-- a blank, and the address of four hexadecimal digits or the line's number
+abbrev pub detail_text : Option Detail → List ℕ
 detail_text None = []
-detail_text (Some address) = codes " " ++ hexadecimal_text 4 address
+detail_text (Some (Address address)) = codes " " ++ hexadecimal_text 4 address
+detail_text (Some (Line line)) = codes " " ++ decimal line
 
 -- how a refusal is printed: without its detail, whole, and with the line's end
 abbrev pub heading : Refusal → List ℕ
@@ -59,3 +77,12 @@ abbrev pub of_fault : Fault → Refusal
 of_fault faults.OutOfMemory = OutOfMemory
 of_fault faults.ReadFault = ReadFault
 of_fault faults.WriteFault = WriteFault
+
+-- the refusal of a source whose line with this number has a fault
+abbrev pub of_source_fault : asm.Fault → ℕ → Refusal
+of_source_fault asms.BadLine line = BadLine line
+of_source_fault asms.BadOperand line = BadOperand line
+of_source_fault asms.LabelTwice line = LabelTwice line
+of_source_fault asms.NoLabel line = NoLabel line
+of_source_fault asms.TooFar line = TooFar line
+of_source_fault asms.TooLong line = TooLong line

@@ -7,6 +7,7 @@ ghost use Rattle.h41_deck.specs.Blocks.{IsNew, Takes, judgement};
 ghost use Rattle.h41_deck.specs.Commands.{kind_of};
 
 use crate::blocks::page_bytes::PageBytes;
+use crate::blocks::page_source::PageSource;
 use crate::blocks::page_words::PageWords;
 use crate::commands::{BlockKind, Command};
 use crate::lines::line::is_long;
@@ -15,6 +16,7 @@ use std::alloc::{AllocError, Global};
 use std::marker::Model;
 
 pub mod page_bytes;
+pub mod page_source;
 pub mod page_words;
 
 /// The block of a command: what its lines have said so far. A command that has none has an empty one.
@@ -33,6 +35,8 @@ enum Content {
     Words(PageWords),
     /// The bytes of a page's image.
     Image(PageBytes),
+    /// The source of a page's words.
+    Source(PageSource),
 }
 
 impl Model for Block {
@@ -64,6 +68,7 @@ impl Block {
             None => Content::Nothing,
             Some(BlockKind::Words) => Content::Words(PageWords::new(alloc)),
             Some(BlockKind::Image) => Content::Image(PageBytes::new(alloc)),
+            Some(BlockKind::Asm) => Content::Source(PageSource::new(alloc)),
         };
         Block {
             content,
@@ -84,6 +89,7 @@ impl Block {
             Content::Nothing => Ok(()),
             Content::Words(words) => words.add_line(text),
             Content::Image(bytes) => bytes.add_line(text),
+            Content::Source(source) => source.add_line(text),
         }
     }
 
@@ -93,7 +99,7 @@ impl Block {
     {
         match &self.content {
             _ if self.has_long => Some(Refusal::LineTooLong),
-            Content::Nothing => None,
+            Content::Nothing | Content::Source(_) => None,
             Content::Words(words) => words.refusal(),
             Content::Image(bytes) => bytes.refusal(),
         }

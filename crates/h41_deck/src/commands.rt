@@ -12,6 +12,8 @@ pub enum BlockKind {
     Words,
     /// The bytes of a page's image, of 2 hexadecimal digits each.
     Image,
+    /// The source of a page's words, for the assembler.
+    Asm,
 }
 
 impl BlockKind {
@@ -24,6 +26,7 @@ impl BlockKind {
         match word {
             b"words" => Some(BlockKind::Words),
             b"image" => Some(BlockKind::Image),
+            b"asm" => Some(BlockKind::Asm),
             _ => None,
         }
     }
@@ -51,8 +54,8 @@ pub enum View {
 /// One command of a deck.
 #[derive(Clone, Copy, Debug, PartialEq, Eq)]
 pub enum Command {
-    /// `words P [rw]` or `image P [rw]`, with a block up to `end`: plugs what the block says at page P, 0 to 15, writable with `rw`. Pages 0
-    /// to 3 are refused when it is carried out.
+    /// `words P [rw]`, `image P [rw]` or `asm P [rw]`, with a block up to `end`: plugs what the block says at page P, 0 to 15,
+    /// writable with `rw`. Pages 0 to 3 are refused when it is carried out.
     Plug {
         kind: BlockKind,
         page: u8,

@@ -1,17 +1,20 @@
-//! The refusals, each with its number, its name and the address that it tells, and the line that prints it. Numbers, names
-//! and form are this project's own.
+//! The refusals, each with its number, its name and the address or the line that it tells, and the line that prints it.
+//! Numbers, names and form are this project's own.
 
 ghost use Rattle.std.specs.Prelude.{◌≡◌, ◌+◌, ◌≤◌, ◌<◌, ◌++◌, true, length};
 ghost use Rattle.std.specs.Fmt.{digit_glyph};
 ghost use Rattle.arrayvec.specs.ArrayString.{array_string_len};
 ghost use Rattle.h41_digits.specs.Register.{hexadecimal_text};
+ghost use Rattle.h41_deck.specs.Refusals.{detail_text};
 
 use arrayvec::ArrayString;
+use h41_asm::Fault as AsmFault;
 use h41_nut::Refusal as NutRefusal;
 use h41_pages::{FetchRefusal, ImageRefusal, PlugRefusal, UnplugRefusal};
+use itoa::Buffer;
 
-/// The most bytes of a refusal's line.
-const LINE: usize = 28;
+/// The most bytes of a refusal's line: 22 without its detail, a blank, the 20 digits of a line's number, and LF.
+const LINE: usize = 44;
 
 /// Why a command was refused, or what ends a deck (21 to 23). A refused command changes nothing, but for the steps before the
 /// one that is refused.
@@ -47,6 +50,18 @@ pub enum Refusal {
     WriteFault,
     /// 24: a function is running.
     Busy,
+    /// 30: the label, or the mnemonic or directive, of this line of a source cannot be read.
+    BadLine(usize),
+    /// 31: an operand in this line of a source is missing, one too many, or none that is taken.
+    BadOperand(usize),
+    /// 32: an earlier line has the label of this line of a source.
+    LabelTwice(usize),
+    /// 33: no line has the label that this line of a source refers to.
+    NoLabel(usize),
+    /// 34: the jump in this line of a source does not reach so far.
+    TooFar(usize),
+    /// 35: a word or the label of this line of a source is past FFFF.
+    TooLong(usize),
     /// 50: no command, or a word of it is missing or too many.
     BadCommand,
     /// 51: a number that is none, or is out of its range.
@@ -57,21 +72,27 @@ pub enum Refusal {
     LineTooLong,
 }
 
+/// What a refusal tells beside its name.
+#[derive(Clone, Copy, Debug, PartialEq, Eq)]
+pub enum Detail {
+    /// An address.
+    Address(u16),
+    /// The number of a line, counted from 1.
+    Line(usize),
+}
+
 impl Refusal {
     ghost use Rattle.std.specs.Prelude.{◌≡◌, ◌≤◌, length};
     ghost use Rattle.h41_deck.specs.Refusals.{detail, heading, refusal_line};
 
-    /// The line that prints it, with its end: `! NN Name`, and a blank and the address in four hexadecimal digits, where it
-    /// tells one. It takes no memory, so that a refusal can be told whatever else fails.
+    /// The line that prints it, with its end: `! NN Name`, and a blank and the address in four hexadecimal digits or the line's
+    /// number, where it tells one. It takes no memory, so that a refusal can be told whatever else fails.
     pub fn line(self) -> ArrayString<LINE>
         ensures { result.bytes ≡ refusal_line self }
     {
         let mut line = ArrayString::new();
         line.push_str(self.heading());
-        if let Some(address) = self.detail() {
-            line.push(' ');
-            push_address(&mut line, address);
-        }
+        push_detail(&mut line, self.detail());
         line.push('\n');
         line
     }
@@ -97,6 +118,12 @@ impl Refusal {
             Refusal::ReadFault => "! 22 ReadFault",
             Refusal::WriteFault => "! 23 WriteFault",
             Refusal::Busy => "! 24 Busy",
+            Refusal::BadLine(_) => "! 30 BadLine",
+            Refusal::BadOperand(_) => "! 31 BadOperand",
+            Refusal::LabelTwice(_) => "! 32 LabelTwice",
+            Refusal::NoLabel(_) => "! 33 NoLabel",
+            Refusal::TooFar(_) => "! 34 TooFar",
+            Refusal::TooLong(_) => "! 35 TooLong",
             Refusal::BadCommand => "! 50 BadCommand",
             Refusal::BadNumber => "! 51 BadNumber",
             Refusal::NoEnd => "! 52 NoEnd",
@@ -104,8 +131,8 @@ impl Refusal {
         }
     }
 
-    /// The address that it tells, where it tells one.
-    pub fn detail(self) -> Option<u16>
+    /// The address or the line that it tells, where it tells one.
+    pub fn detail(self) -> Option<Detail>
         ensures { result ≡ detail self }
     {
         match self {
@@ -115,7 +142,13 @@ impl Refusal {
             | Refusal::EmptyPage(address)
             | Refusal::PeripheralNotHeld(address)
             | Refusal::Asleep(address)
-            | Refusal::ReadOnly(address) => Some(address),
+            | Refusal::ReadOnly(address) => Some(Detail::Address(address)),
+            Refusal::BadLine(line)
+            | Refusal::BadOperand(line)
+            | Refusal::LabelTwice(line)
+            | Refusal::NoLabel(line)
+            | Refusal::TooFar(line)
+            | Refusal::TooLong(line) => Some(Detail::Line(line)),
             _ => None,
         }
     }
@@ -195,6 +228,44 @@ impl From<FetchRefusal> for Refusal {
         match refusal {
             FetchRefusal::SystemRom(address) => Refusal::SystemRom(address),
             FetchRefusal::EmptyPage(address) => Refusal::EmptyPage(address),
+        }
+    }
+}
+
+impl Refusal {
+    ghost use Rattle.std.specs.Prelude.{◌≡◌};
+    ghost use Rattle.h41_deck.specs.Refusals.{of_source_fault};
+
+    /// The refusal of a source whose line with this number has a fault.
+    pub fn of_source_line(fault: AsmFault, line: usize) -> Self
+        ensures { result ≡ of_source_fault fault line }
+    {
+        match fault {
+            AsmFault::BadLine => Refusal::BadLine(line),
+            AsmFault::BadOperand => Refusal::BadOperand(line),
+            AsmFault::LabelTwice => Refusal::LabelTwice(line),
+            AsmFault::NoLabel => Refusal::NoLabel(line),
+            AsmFault::TooFar => Refusal::TooFar(line),
+            AsmFault::TooLong => Refusal::TooLong(line),
+        }
+    }
+}
+
+/// Appends what a refusal tells.
+fn push_detail(line: &mut ArrayString<LINE>, detail: Option<Detail>)
+    requires { array_string_len line.old ≤ 22 }
+    ensures written { line.new.bytes ≡ line.old.bytes ++ detail_text detail }
+    ensures room { array_string_len line.new < LINE }
+{
+    match detail {
+        None => {}
+        Some(Detail::Address(address)) => {
+            line.push(' ');
+            push_address(line, address);
+        }
+        Some(Detail::Line(number)) => {
+            line.push(' ');
+            line.push_str(Buffer::new().format(number));
         }
     }
 }

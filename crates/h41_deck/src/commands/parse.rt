@@ -46,7 +46,7 @@ fn opening(kind: BlockKind, operands: LineWords<'_>) -> Result<Command, Refusal>
     ensures { result ≡ opening_command kind (words_of operands.entry.rest.now) }
 {
     match kind {
-        BlockKind::Words | BlockKind::Image => plug(kind, operands),
+        BlockKind::Words | BlockKind::Image | BlockKind::Asm => plug(kind, operands),
     }
 }
 
@@ -77,7 +77,7 @@ fn setting(name: &[u8], operands: LineWords<'_>) -> Result<Command, Refusal>
     }
 }
 
-/// `words P [rw]` and `image P [rw]`: a block that fills a page.
+/// `words P [rw]`, `image P [rw]` and `asm P [rw]`: a block that fills a page.
 fn plug(kind: BlockKind, mut operands: LineWords<'_>) -> Result<Command, Refusal>
     ensures { result ≡ plug_command kind (words_of operands.entry.rest.now) }
 {

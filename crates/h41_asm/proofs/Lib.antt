@@ -2,3 +2,5 @@ pub mod Decimals
 pub mod Digits
 pub mod FirstLine
 pub mod FirstWord
+pub mod LineCount
+pub mod Spelling

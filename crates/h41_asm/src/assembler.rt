@@ -3,20 +3,55 @@
 ghost use Rattle.std.specs.Prelude.{◌≡◌, ◌+◌, ◌≤◌, ◌<◌, ◌^◌, ◌++◌, [], ◌∷◌, None, IfOk, IfErr, OnOk, pos, ◌-ℤ◌, ℤ};
 ghost use Rattle.std.specs.Option.{ok_or};
 ghost use Rattle.h41_asm.specs.CodeStatements.{in_code};
-ghost use Rattle.h41_asm.specs.Faults.{reference_fault};
-ghost use Rattle.h41_asm.specs.Refusals.{IsFault, SpellsNext, jump_word, labels_in};
+ghost use Rattle.h41_asm.specs.Faults.{reference_fault, reference_faults};
+ghost use Rattle.h41_asm.specs.Placing.{LinesSpell};
+ghost use Rattle.h41_asm.specs.SourceLines.{source_lines};
+ghost use Rattle.h41_asm.specs.Refusals.{IsFault, IsReady, IsRefusal, SpellsNext, jump_word, labels_in};
 ghost use Rattle.h41_asm.specs.Statements as spec;
 
 use crate::emit::{entry_words, push_name};
-use crate::fault::{Fault, SpellError};
-use crate::statement::{Statement, long_jump_words};
+use crate::fault::{AssembleError, Fault, SpellError};
+use crate::lines::Lines;
+use crate::source::read_line;
+use crate::statement::{Statement, long_jump_words, read};
 use crate::table::EntryKind;
 use h41_words::{Condition, Displacement, LongJumpKind, Row, Word, word};
 use indexmap::IndexMap;
-use std::alloc::AllocError;
+use std::alloc::{AllocError, Global};
+
+/// How many addresses there are.
+const ADDRESSES: u32 = 0x10000;
 
 /// The addresses of the labels, in the order of their lines.
 type Labels<'a> = IndexMap<&'a [u8], u16>;
+
+/// The words of a source whose lines can be read and placed, or the first fault of a reference.
+fn spell(
+    alloc: Global,
+    text: &[u8],
+    origin: u16,
+    labels: &Labels<'_>,
+) -> Result<Vec<Word>, AssembleError>
+    requires { IsReady (labels_in labels.now) origin (source_lines text.now) }
+    ensures ok { OnOk result (reference_faults (labels_in labels.now) 1 origin (source_lines text.now) ≡ None) }
+    ensures words { IfOk result (λ words. LinesSpell (labels_in labels.now) origin (source_lines text.now) words.items) }
+    ensures err { IfErr result (λ error. IsRefusal error (reference_faults (labels_in labels.now) 1 origin (source_lines text.now))) }
+{
+    let mut words = Vec::new(alloc);
+    let mut address = u32::from(origin);
+    let mut number = 1;
+    for line in Lines::new(text) {
+        if let Ok(statement) = read(read_line(line).code) {
+            match push_statement(&mut words, labels, address, &statement) {
+                Ok(()) => {}
+                Err(error) => return Err(error.at_line(number)),
+            }
+            address += statement.length() as u32;
+        }
+        number += 1;
+    }
+    Ok(words)
+}
 
 /// Appends the words of a statement at an address.
 fn push_statement(

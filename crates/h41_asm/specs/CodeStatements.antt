@@ -1,8 +1,10 @@
--- What the code's statements say, in the words of a source.
+-- What the code's lines and statements say, in the words of a source.
 use Rattle.std.specs.Prelude.{ℕ, map, List, [], ◌∷◌, Option, Some, None, Result, Ok, Err}
 use Rattle.std.specs.Borrow.{Bor}
+use Rattle.std.specs.Option.{option_map}
 use Rattle.h41_words.specs.declared.rows.Row.{Row}
 use Rattle.h41_asm.specs.declared.fault.Fault.{Fault}
+use Rattle.h41_asm.specs.declared.source.SourceLine as lines
 use Rattle.h41_asm.specs.declared.statement.Statement as code
 use Rattle.h41_asm.specs.declared.statement.Statement.TheVariants as codes_of
 use Rattle.h41_asm.specs.declared.table.EntryKind as entry
@@ -11,6 +13,7 @@ use Rattle.h41_asm.specs.declared.table.Numbered as numbered
 use Rattle.h41_asm.specs.declared.table.Numbered.TheVariants as numbers
 use Rattle.h41_asm.specs.declared.table.Taking as table
 use Rattle.h41_asm.specs.declared.table.Taking.TheVariants as takings
+use Rattle.h41_asm.specs.SourceLines.{SourceLine, words_of}
 use Rattle.h41_asm.specs.Statements.{Statement, Words, OutOfReach, LongJumpTo, ShortJumpTo, EntryAt, Taking, name_words, takes_field, takes_number, takes_immediate, takes_constant, takes_address, takes_displacement, takes_name, takes_entry}
 use Rattle.h41_words.specs.Counts.{status_bit_count, place_count, digit_count, block_register_count}
 use Rattle.h41_words.specs.declared.rows.Row.TheVariants.{ClearStatus, SetStatus, TestStatus, TestPointer, SetPointer, RotateRight, LoadDigit, Write, Read}
@@ -72,3 +75,7 @@ takers_in entries = map (λ entry. (entry.0.now, takes_in_code entry.1)) entries
 abbrev pub taken_in_code : Option (Result code.Statement Fault) → Option (Result Statement Fault)
 taken_in_code None = None
 taken_in_code (Some read) = Some (read_in_code read)
+
+-- a line of the code
+abbrev pub in_line : lines.SourceLine → SourceLine
+in_line line = record { label = option_map (λ name. name.now) line.label; code = words_of line.code.rest.now }

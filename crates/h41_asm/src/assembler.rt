@@ -2,17 +2,18 @@
 
 ghost use Rattle.std.specs.Prelude.{◌≡◌, ◌+◌, ◌≤◌, ◌<◌, ◌^◌, ◌++◌, [], ◌∷◌, None, IfOk, IfErr, OnOk, pos, ◌-ℤ◌, ℤ};
 ghost use Rattle.std.specs.Option.{ok_or};
-ghost use Rattle.h41_asm.specs.CodeStatements.{in_code};
-ghost use Rattle.h41_asm.specs.Faults.{reference_fault, reference_faults};
+ghost use Rattle.h41_asm.specs.Assembly.{address_count};
+ghost use Rattle.h41_asm.specs.CodeStatements.{in_code, in_line};
+ghost use Rattle.h41_asm.specs.Faults.{line_length, own_faults, reference_fault, reference_faults};
 ghost use Rattle.h41_asm.specs.Placing.{LinesSpell};
 ghost use Rattle.h41_asm.specs.SourceLines.{source_lines};
-ghost use Rattle.h41_asm.specs.Refusals.{IsFault, IsReady, IsRefusal, SpellsNext, jump_word, labels_in};
+ghost use Rattle.h41_asm.specs.Refusals.{AddressAdded, AreLabelsOf, IsFault, IsReady, IsRefusal, LabelAdded, label_fault, placing_fault, SpellsNext, jump_word, labels_in};
 ghost use Rattle.h41_asm.specs.Statements as spec;
 
 use crate::emit::{entry_words, push_name};
 use crate::fault::{AssembleError, Fault, SpellError};
 use crate::lines::Lines;
-use crate::source::read_line;
+use crate::source::{SourceLine, read_line};
 use crate::statement::{Statement, long_jump_words, read};
 use crate::table::EntryKind;
 use h41_words::{Condition, Displacement, LongJumpKind, Row, Word, word};
@@ -24,6 +25,70 @@ const ADDRESSES: u32 = 0x10000;
 
 /// The addresses of the labels, in the order of their lines.
 type Labels<'a> = IndexMap<&'a [u8], u16>;
+
+/// The addresses of the labels of a source, or the first fault that a line has whatever these are.
+fn place<'a>(
+    alloc: Global,
+    text: &'a [u8],
+    origin: u16,
+) -> Result<Labels<'a>, AssembleError>
+    ensures ok { OnOk result (own_faults 1 origin [] (source_lines text.now) ≡ None) }
+    ensures labels { IfOk result (λ labels. AreLabelsOf labels origin (source_lines text.now)) }
+    ensures err { IfErr result (λ error. IsRefusal error (own_faults 1 origin [] (source_lines text.now))) }
+{
+    let mut labels = IndexMap::new(alloc);
+    let mut address = u32::from(origin);
+    let mut number = 1;
+    for line in Lines::new(text) {
+        match place_line(&mut labels, address, read_line(line)) {
+            Ok(length) => address += length,
+            Err(error) => return Err(error.at_line(number)),
+        }
+        number += 1;
+    }
+    Ok(labels)
+}
+
+/// Notes the label of a line at an address, and answers how many words the line takes.
+fn place_line<'a>(
+    labels: &mut Labels<'a>,
+    address: u32,
+    line: SourceLine<'a>,
+) -> Result<u32, SpellError>
+    requires { address ≤ address_count }
+    ensures ok { OnOk result (placing_fault (labels_in labels.old) address (in_line line.entry) ≡ None) }
+    ensures length { IfOk result (λ length. length ≡ line_length (in_line line.entry)) }
+    ensures labels { OnOk result (LabelAdded labels.old labels.new address (in_line line.entry)) }
+    ensures err { IfErr result (λ error. IsFault error (placing_fault (labels_in labels.old) address (in_line line.entry))) }
+{
+    let length = match read(line.code) {
+        Ok(statement) => statement.length(),
+        Err(fault) => return Err(SpellError::Fault(fault)),
+    };
+    if let Some(name) = line.label {
+        note(labels, name, address)?;
+    }
+    if length > (ADDRESSES - address) as usize {
+        return Err(SpellError::Fault(Fault::TooLong));
+    }
+    Ok(length as u32)
+}
+
+/// Notes the address of a label.
+fn note<'a>(labels: &mut Labels<'a>, name: &'a [u8], address: u32) -> Result<(), SpellError>
+    ensures ok { OnOk result (label_fault (labels_in labels.old) address name.now ≡ None) }
+    ensures labels { OnOk result (AddressAdded labels.old labels.new address name.now) }
+    ensures err { IfErr result (λ error. IsFault error (label_fault (labels_in labels.old) address name.now)) }
+{
+    if labels.contains_key(name) {
+        return Err(SpellError::Fault(Fault::LabelTwice));
+    }
+    if ADDRESSES <= address {
+        return Err(SpellError::Fault(Fault::TooLong));
+    }
+    labels.insert(name, address as u16)?;
+    Ok(())
+}
 
 /// The words of a source whose lines can be read and placed, or the first fault of a reference.
 fn spell(

@@ -1,0 +1,81 @@
+-- What the code's lines and statements say, in the words of a source.
+use Rattle.std.specs.Prelude.{ℕ, map, List, [], ◌∷◌, Option, Some, None, Result, Ok, Err}
+use Rattle.std.specs.Borrow.{Bor}
+use Rattle.std.specs.Option.{option_map}
+use Rattle.h41_words.specs.declared.rows.Row.{Row}
+use Rattle.h41_asm.specs.declared.fault.Fault.{Fault}
+use Rattle.h41_asm.specs.declared.source.SourceLine as lines
+use Rattle.h41_asm.specs.declared.statement.Statement as code
+use Rattle.h41_asm.specs.declared.statement.Statement.TheVariants as codes_of
+use Rattle.h41_asm.specs.declared.table.EntryKind as entry
+use Rattle.h41_asm.specs.declared.table.EntryKind.TheVariants as kinds
+use Rattle.h41_asm.specs.declared.table.Numbered as numbered
+use Rattle.h41_asm.specs.declared.table.Numbered.TheVariants as numbers
+use Rattle.h41_asm.specs.declared.table.Taking as table
+use Rattle.h41_asm.specs.declared.table.Taking.TheVariants as takings
+use Rattle.h41_asm.specs.SourceLines.{SourceLine, words_of}
+use Rattle.h41_asm.specs.Statements.{Statement, Words, OutOfReach, LongJumpTo, ShortJumpTo, EntryAt, Taking, name_words, takes_field, takes_number, takes_immediate, takes_constant, takes_address, takes_displacement, takes_name, takes_entry}
+use Rattle.h41_words.specs.Counts.{status_bit_count, place_count, digit_count, block_register_count}
+use Rattle.h41_words.specs.declared.rows.Row.TheVariants.{ClearStatus, SetStatus, TestStatus, TestPointer, SetPointer, RotateRight, LoadDigit, Write, Read}
+
+-- the bits of an entry's first word
+abbrev pub entry_bits : entry.EntryKind → ℕ
+entry_bits kinds.Microcode = 0
+entry_bits kinds.Keystroke = 0x200
+
+-- what a statement of the code says
+abbrev pub in_code : code.Statement → Statement
+in_code codes_of.Nothing = Words []
+in_code (codes_of.One word) = Words (word ∷ [])
+in_code (codes_of.Two first second) = Words (first ∷ second ∷ [])
+in_code (codes_of.Name text) = Words (name_words text.now)
+in_code codes_of.OutOfReach = OutOfReach
+in_code (codes_of.LongJumpTo condition kind name) = LongJumpTo condition kind name.now
+in_code (codes_of.ShortJumpTo condition name) = ShortJumpTo condition name.now
+in_code (codes_of.EntryAt kind name) = EntryAt (entry_bits kind) name.now
+
+abbrev pub read_in_code : Result code.Statement Fault → Result Statement Fault
+read_in_code (Ok statement) = Ok (in_code statement)
+read_in_code (Err fault) = Err fault
+
+abbrev pub found_in_code : Option code.Statement → Option Statement
+found_in_code None = None
+found_in_code (Some statement) = Some (in_code statement)
+
+-- what a mnemonic of the code takes
+abbrev pub takes_numbered : numbered.Numbered → Taking
+takes_numbered numbers.ClearStatus = takes_number 0 status_bit_count (λ n. ClearStatus n)
+takes_numbered numbers.SetStatus = takes_number 0 status_bit_count (λ n. SetStatus n)
+takes_numbered numbers.TestStatus = takes_number 0 status_bit_count (λ n. TestStatus n)
+takes_numbered numbers.TestPointer = takes_number 0 place_count (λ n. TestPointer n)
+takes_numbered numbers.SetPointer = takes_number 0 place_count (λ n. SetPointer n)
+takes_numbered numbers.RotateRight = takes_number 0 place_count (λ n. RotateRight n)
+takes_numbered numbers.LoadDigit = takes_number 0 digit_count (λ n. LoadDigit n)
+takes_numbered numbers.Write = takes_number 0 block_register_count (λ n. Write n)
+takes_numbered numbers.Read = takes_number 1 15 (λ n. Read n)
+
+abbrev pub takes_in_code : table.Taking → Taking
+takes_in_code (takings.Field operation) = takes_field operation
+takes_in_code (takings.Number numbered) = takes_numbered numbered
+takes_in_code takings.Immediate = takes_immediate
+takes_in_code takings.Constant = takes_constant
+takes_in_code (takings.LongJump condition kind) = takes_address condition kind
+takes_in_code (takings.ShortJump condition) = takes_displacement condition
+takes_in_code takings.Name = takes_name
+takes_in_code (takings.Entry kind) = takes_entry (entry_bits kind)
+
+-- the tables of the code
+abbrev pub singles_in : List (Bor (List ℕ) × Row) → List (List ℕ × Row)
+singles_in entries = map (λ entry. (entry.0.now, entry.1)) entries
+
+abbrev pub takers_in : List (Bor (List ℕ) × table.Taking) → List (List ℕ × Taking)
+takers_in entries = map (λ entry. (entry.0.now, takes_in_code entry.1)) entries
+
+-- what was found in one
+abbrev pub taken_in_code : Option (Result code.Statement Fault) → Option (Result Statement Fault)
+taken_in_code None = None
+taken_in_code (Some read) = Some (read_in_code read)
+
+-- a line of the code
+abbrev pub in_line : lines.SourceLine → SourceLine
+in_line line = record { label = option_map (λ name. name.now) line.label; code = words_of line.code.rest.now }

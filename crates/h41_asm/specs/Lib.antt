@@ -1,0 +1,9 @@
+pub mod Assembly
+pub mod AssemblyLaws
+pub mod CodeStatements
+pub mod Faults
+pub mod Operands
+pub mod Placing
+pub mod Refusals
+pub mod SourceLines
+pub mod Statements

@@ -1,0 +1,208 @@
+-- What a line of a source says behind its label: the words of an instruction or of a directive, some by an address that a
+-- label stands for; or that it cannot be read. Instructions are the mnemonics of HP's VASM listings; the directives CON, NAME,
+-- ENTRY and FOCAL, and which faults there are, are this project's own.
+use Rattle.std.specs.Prelude.{ℕ, ◌+◌, ◌/◌, ◌%◌, ℤ, Bool, false, ◌&&◌, List, [], ◌∷◌, ◌++◌, length, map, filter, reverse, ◌==◌, is_some, is_none, if◌then◌else◌, Option, Some, None, Result, Ok, Err, bytes_eq, codes}
+use Rattle.std.specs.Prelude.{int_le}
+use Rattle.std.specs.List.{list_any}
+use Rattle.std.specs.Option.{ok_or}
+use Rattle.h41_words.specs.declared.operation.Operation.{Operation}
+use Rattle.h41_words.specs.declared.rows.Condition.{Condition}
+use Rattle.h41_words.specs.declared.rows.Condition.TheVariants.{NoCarry, Carry}
+use Rattle.h41_words.specs.declared.rows.Row.{Row}
+use Rattle.h41_words.specs.declared.rows.Row.TheVariants.{Arithmetic, LongJump, ShortJump, ClearStatus, SetStatus, TestStatus, TestPointer, SetPointer, RotateRight, LoadDigit, Write, Read, LoadImmediate}
+use Rattle.h41_words.specs.declared.second_word.LongJumpKind.{LongJumpKind}
+use Rattle.h41_words.specs.declared.second_word.LongJumpKind.TheVariants.{Execute, Go}
+use Rattle.h41_words.specs.Counts.{status_bit_count, place_count, digit_count, block_register_count, least_displacement, greatest_displacement}
+use Rattle.h41_words.specs.Mnemonics.{mnemonic, operand, operation_text, long_jump_text, short_jump_text}
+use Rattle.h41_words.specs.SecondWord.{second_number_of}
+use Rattle.h41_words.specs.Listing.{operations, single_rows}
+use Rattle.h41_words.specs.WordTable.{number_of}
+use Rattle.h41_asm.specs.declared.fault.Fault.{Fault}
+use Rattle.h41_asm.specs.declared.fault.Fault.TheVariants.{BadLine, BadOperand}
+use Rattle.h41_asm.specs.Operands.{address_in, displacement_in, field_in, number_in, text_in, word_in}
+use Rattle.h41_asm.specs.SourceLines.{reference_in, words_of}
+
+-- what a line says
+pub data Statement : Type 0 where
+  -- these words, whatever the labels
+  Words : List ℕ → Statement
+  -- a short jump by a displacement that no word has
+  OutOfReach : Statement
+  -- a jump to a label
+  LongJumpTo : Condition → LongJumpKind → List ℕ → Statement
+  ShortJumpTo : Condition → List ℕ → Statement
+  -- the two words of a function that begins at a label, the first with these bits too
+  EntryAt : ℕ → List ℕ → Statement
+
+-- how many words it takes
+abbrev pub statement_length : Statement → ℕ
+statement_length (Words words) = length words
+statement_length OutOfReach = 1
+statement_length (LongJumpTo condition kind name) = 2
+statement_length (ShortJumpTo condition name) = 1
+statement_length (EntryAt bits name) = 2
+
+-- the word of a row alone
+abbrev pub one_word : Row → Statement
+one_word row = Words (number_of row ∷ [])
+
+-- the two words of a jump to an address
+abbrev pub long_jump_words : Condition → LongJumpKind → ℕ → List ℕ
+long_jump_words condition kind address =
+    number_of (LongJump (address % 256))
+    ∷ second_number_of (record { condition = condition; kind = kind; high_byte = address / 256 }) ∷ []
+
+-- whether a short jump has this displacement
+abbrev pub is_in_reach : ℤ → Bool
+is_in_reach displacement = int_le least_displacement displacement && int_le displacement greatest_displacement
+
+abbrev pub short_jump_by : Condition → ℤ → Statement
+short_jump_by condition displacement =
+    if is_in_reach displacement then one_word (ShortJump condition displacement) else OutOfReach
+
+-- the words of a name: a word for each character, the last first and with bit 7 set; a character is its code modulo 64
+abbrev pub with_mark : List ℕ → List ℕ
+with_mark [] = []
+with_mark (last ∷ others) = (last + 0x80) ∷ others
+
+abbrev pub name_words : List ℕ → List ℕ
+name_words text = with_mark (reverse (map (λ byte. byte % 64) text))
+
+-- what a mnemonic or a directive takes as its one operand: what the operand's word says with it, where it is one
+abbrev pub Taking : Type 0
+Taking = List ℕ → Option Statement
+
+-- a value that the word is, as a statement
+abbrev pub said : {T : Type 0} → (T → Statement) → Option T → Option Statement
+said says None = None
+said says (Some value) = Some (says value)
+
+-- one of two, where the first is none
+abbrev pub or_else : Option Statement → Option Statement → Option Statement
+or_else None other = other
+or_else (Some statement) other = Some statement
+
+abbrev pub takes_field : Operation → Taking
+takes_field operation word = said (λ field. one_word (Arithmetic operation field)) (field_in word)
+
+abbrev pub takes_number : ℕ → ℕ → (ℕ → Row) → Taking
+takes_number least count row word = said (λ number. one_word (row number)) (number_in least count word)
+
+abbrev pub takes_address : Condition → LongJumpKind → Taking
+takes_address condition kind word =
+    or_else (said (λ address. Words (long_jump_words condition kind address)) (address_in word))
+    (said (λ name. LongJumpTo condition kind name) (reference_in word))
+
+abbrev pub takes_displacement : Condition → Taking
+takes_displacement condition word =
+    or_else (said (short_jump_by condition) (displacement_in word)) (said (λ name. ShortJumpTo condition name) (reference_in word))
+
+abbrev pub takes_immediate : Taking
+takes_immediate word = said (λ number. Words (number_of LoadImmediate ∷ number ∷ [])) (word_in word)
+
+abbrev pub takes_constant : Taking
+takes_constant word = said (λ number. Words (number ∷ [])) (word_in word)
+
+abbrev pub takes_name : Taking
+takes_name word = said (λ text. Words (name_words text)) (text_in word)
+
+abbrev pub takes_entry : ℕ → Taking
+takes_entry bits word = said (λ name. EntryAt bits name) (reference_in word)
+
+-- the instructions and directives with an operand: what they begin with, and how they take it
+unfoldable pub takers : List (List ℕ × Taking)
+takers =
+    map (λ operation. (operation_text operation, takes_field operation)) operations
+    ++ (codes "CLRF", takes_number 0 status_bit_count (λ n. ClearStatus n))
+    ∷ (codes "SETF", takes_number 0 status_bit_count (λ n. SetStatus n))
+    ∷ (codes "?FSET", takes_number 0 status_bit_count (λ n. TestStatus n))
+    ∷ (codes "?R=", takes_number 0 place_count (λ n. TestPointer n))
+    ∷ (codes "R=", takes_number 0 place_count (λ n. SetPointer n))
+    ∷ (codes "RCR", takes_number 0 place_count (λ n. RotateRight n))
+    ∷ (codes "LD@R", takes_number 0 digit_count (λ n. LoadDigit n))
+    ∷ (codes "WRIT", takes_number 0 block_register_count (λ n. Write n))
+    ∷ (codes "READ", takes_number 1 15 (λ n. Read n))
+    ∷ (codes "LDI", takes_immediate)
+    ∷ (codes "CON", takes_constant)
+    ∷ (long_jump_text NoCarry Execute, takes_address NoCarry Execute)
+    ∷ (long_jump_text Carry Execute, takes_address Carry Execute)
+    ∷ (long_jump_text NoCarry Go, takes_address NoCarry Go)
+    ∷ (long_jump_text Carry Go, takes_address Carry Go)
+    ∷ (short_jump_text NoCarry, takes_displacement NoCarry)
+    ∷ (short_jump_text Carry, takes_displacement Carry)
+    ∷ (codes "NAME", takes_name)
+    ∷ (codes "ENTRY", takes_entry 0)
+    ∷ (codes "FOCAL", takes_entry 0x200)
+    ∷ []
+
+-- the instructions without an operand, and the row of each
+unfoldable pub singles : List (List ℕ × Row)
+singles = map (λ row. (mnemonic row, row)) (filter (λ row. is_none (operand row)) single_rows)
+
+-- the words behind some, where they begin with these
+abbrev pub after : List (List ℕ) → List (List ℕ) → Option (List (List ℕ))
+after [] words = Some words
+after (part ∷ parts) [] = None
+after (part ∷ parts) (word ∷ words) = if bytes_eq word part then after parts words else None
+
+-- the words behind a mnemonic, where they begin with it
+abbrev pub behind : List ℕ → List (List ℕ) → Option (List (List ℕ))
+behind name words = after (words_of name) words
+
+-- whether these are none
+abbrev pub is_nothing : Option (List (List ℕ)) → Bool
+is_nothing None = false
+is_nothing (Some words) = length words == 0
+
+-- whether words are just a mnemonic, or begin with it
+abbrev pub is_whole : List (List ℕ) → List ℕ → Bool
+is_whole words name = is_nothing (behind name words)
+
+abbrev pub begins : List (List ℕ) → List ℕ → Bool
+begins words name = is_some (behind name words)
+
+-- the words behind a mnemonic: its operand is one word, and nothing else stands there
+abbrev pub taken : Taking → List (List ℕ) → Result Statement Fault
+taken takes [] = Err BadOperand
+taken takes (word ∷ []) = ok_or (takes word) BadOperand
+taken takes (word ∷ other ∷ others) = Err BadOperand
+
+-- the row of the single mnemonic that words are
+abbrev pub single_among : List (List ℕ × Row) → List (List ℕ) → Option Row
+single_among [] words = None
+single_among (single ∷ others) words = if is_whole words single.0 then Some single.1 else single_among others words
+
+-- whether words begin with one
+abbrev pub is_begun : List (List ℕ × Row) → List (List ℕ) → Bool
+is_begun some words = list_any (λ single. begins words single.0) some
+
+-- what the words behind the first mnemonic that they begin with say as its operand
+abbrev pub taken_or : Option (List (List ℕ)) → Taking → Option (Result Statement Fault) → Option (Result Statement Fault)
+taken_or None takes other = other
+taken_or (Some words) takes other = Some (taken takes words)
+
+abbrev pub taken_among : List (List ℕ × Taking) → List (List ℕ) → Option (Result Statement Fault)
+taken_among [] words = None
+taken_among (taker ∷ others) words = taken_or (behind taker.0 words) taker.1 (taken_among others words)
+
+-- the fault of words that begin with none of these: a single mnemonic with something behind it, or nothing that is known
+abbrev pub unread : List (List ℕ) → Fault
+unread words = if is_begun singles words then BadOperand else BadLine
+
+abbrev pub taken_or_unread : Option (Result Statement Fault) → List (List ℕ) → Result Statement Fault
+taken_or_unread (Some read) words = read
+taken_or_unread None words = Err (unread words)
+
+-- words that are not a single mnemonic
+abbrev pub not_single : List (List ℕ) → Result Statement Fault
+not_single words = taken_or_unread (taken_among takers words) words
+
+abbrev pub single_or_not : Option Row → List (List ℕ) → Result Statement Fault
+single_or_not (Some row) words = Ok (one_word row)
+single_or_not None words = not_single words
+
+-- What the words behind a label say: nothing, a single mnemonic, or one that takes an operand. BadOperand is a known mnemonic
+-- or directive with an operand that is missing, too many, or not one that it takes; BadLine is everything else.
+abbrev pub reading : List (List ℕ) → Result Statement Fault
+reading [] = Ok (Words [])
+reading (first ∷ others) = single_or_not (single_among singles (first ∷ others)) (first ∷ others)

@@ -1,0 +1,195 @@
+//! From lines to words, in two passes: first the addresses of the labels, then the words.
+
+ghost use Rattle.std.specs.Prelude.{◌≡◌, ◌+◌, ◌≤◌, ◌<◌, ◌^◌, ◌++◌, [], ◌∷◌, None, IfOk, IfErr, OnOk, pos, ◌-ℤ◌, ℤ};
+ghost use Rattle.std.specs.Option.{ok_or};
+ghost use Rattle.h41_asm.specs.Assembly.{Assembles, address_count};
+ghost use Rattle.h41_asm.specs.CodeStatements.{in_code, in_line};
+ghost use Rattle.h41_asm.specs.Faults.{assembly_fault, line_length, own_faults, reference_fault, reference_faults};
+ghost use Rattle.h41_asm.specs.Placing.{LinesSpell};
+ghost use Rattle.h41_asm.specs.SourceLines.{source_lines};
+ghost use Rattle.h41_asm.specs.Refusals.{AddressAdded, AreLabelsOf, IsFault, IsReady, IsRefusal, LabelAdded, label_fault, placing_fault, SpellsNext, jump_word, labels_in};
+ghost use Rattle.h41_asm.specs.Statements as spec;
+
+use crate::emit::{entry_words, push_name};
+use crate::fault::{AssembleError, Fault, SpellError};
+use crate::lines::Lines;
+use crate::source::{SourceLine, read_line};
+use crate::statement::{Statement, long_jump_words, read};
+use crate::table::EntryKind;
+use h41_words::{Condition, Displacement, LongJumpKind, Row, Word, word};
+use indexmap::IndexMap;
+use std::alloc::{AllocError, Global};
+
+/// How many addresses there are.
+const ADDRESSES: u32 = 0x10000;
+
+/// The addresses of the labels, in the order of their lines.
+type Labels<'a> = IndexMap<&'a [u8], u16>;
+
+/// The words that a source spells, the first of them at the origin. A refusal is the first fault: lines that cannot be read,
+/// labels that stand twice and words past FFFF (30, 31, 32, 35) by lines, and then references (33, 34) by lines; or 21, where no
+/// memory is left.
+pub fn assemble(alloc: Global, text: &[u8], origin: u16) -> Result<Vec<Word>, AssembleError>
+    ensures words { IfOk result (λ words. Assembles text.now origin words.items) }
+    ensures ok { OnOk result (assembly_fault text.now origin ≡ None) }
+    ensures err { IfErr result (λ error. IsRefusal error (assembly_fault text.now origin)) }
+{
+    let labels = place(alloc, text, origin)?;
+    spell(alloc, text, origin, &labels)
+}
+
+/// The addresses of the labels of a source, or the first fault that a line has whatever these are.
+fn place<'a>(alloc: Global, text: &'a [u8], origin: u16) -> Result<Labels<'a>, AssembleError>
+    ensures ok { OnOk result (own_faults 1 origin [] (source_lines text.now) ≡ None) }
+    ensures labels { IfOk result (λ labels. AreLabelsOf labels origin (source_lines text.now)) }
+    ensures err { IfErr result (λ error. IsRefusal error (own_faults 1 origin [] (source_lines text.now))) }
+{
+    let mut labels = IndexMap::new(alloc);
+    let mut address = u32::from(origin);
+    let mut number = 1;
+    for line in Lines::new(text) {
+        match place_line(&mut labels, address, read_line(line)) {
+            Ok(length) => address += length,
+            Err(error) => return Err(error.at_line(number)),
+        }
+        number += 1;
+    }
+    Ok(labels)
+}
+
+/// Notes the label of a line at an address, and answers how many words the line takes.
+fn place_line<'a>(
+    labels: &mut Labels<'a>,
+    address: u32,
+    line: SourceLine<'a>,
+) -> Result<u32, SpellError>
+    requires { address ≤ address_count }
+    ensures ok { OnOk result (placing_fault (labels_in labels.old) address (in_line line.entry) ≡ None) }
+    ensures length { IfOk result (λ length. length ≡ line_length (in_line line.entry)) }
+    ensures labels { OnOk result (LabelAdded labels.old labels.new address (in_line line.entry)) }
+    ensures err { IfErr result (λ error. IsFault error (placing_fault (labels_in labels.old) address (in_line line.entry))) }
+{
+    let length = match read(line.code) {
+        Ok(statement) => statement.length(),
+        Err(fault) => return Err(SpellError::Fault(fault)),
+    };
+    if let Some(name) = line.label {
+        note(labels, name, address)?;
+    }
+    if length > (ADDRESSES - address) as usize {
+        return Err(SpellError::Fault(Fault::TooLong));
+    }
+    Ok(length as u32)
+}
+
+/// Notes the address of a label.
+fn note<'a>(labels: &mut Labels<'a>, name: &'a [u8], address: u32) -> Result<(), SpellError>
+    ensures ok { OnOk result (label_fault (labels_in labels.old) address name.now ≡ None) }
+    ensures labels { OnOk result (AddressAdded labels.old labels.new address name.now) }
+    ensures err { IfErr result (λ error. IsFault error (label_fault (labels_in labels.old) address name.now)) }
+{
+    if labels.contains_key(name) {
+        return Err(SpellError::Fault(Fault::LabelTwice));
+    }
+    if ADDRESSES <= address {
+        return Err(SpellError::Fault(Fault::TooLong));
+    }
+    labels.insert(name, address as u16)?;
+    Ok(())
+}
+
+/// The words of a source whose lines can be read and placed, or the first fault of a reference.
+fn spell(
+    alloc: Global,
+    text: &[u8],
+    origin: u16,
+    labels: &Labels<'_>,
+) -> Result<Vec<Word>, AssembleError>
+    requires { IsReady (labels_in labels.now) origin (source_lines text.now) }
+    ensures ok { OnOk result (reference_faults (labels_in labels.now) 1 origin (source_lines text.now) ≡ None) }
+    ensures words { IfOk result (λ words. LinesSpell (labels_in labels.now) origin (source_lines text.now) words.items) }
+    ensures err { IfErr result (λ error. IsRefusal error (reference_faults (labels_in labels.now) 1 origin (source_lines text.now))) }
+{
+    let mut words = Vec::new(alloc);
+    let mut address = u32::from(origin);
+    let mut number = 1;
+    for line in Lines::new(text) {
+        if let Ok(statement) = read(read_line(line).code) {
+            match push_statement(&mut words, labels, address, &statement) {
+                Ok(()) => {}
+                Err(error) => return Err(error.at_line(number)),
+            }
+            address += statement.length() as u32;
+        }
+        number += 1;
+    }
+    Ok(words)
+}
+
+/// Appends the words of a statement at an address.
+fn push_statement(
+    words: &mut Vec<Word>,
+    labels: &Labels<'_>,
+    address: u32,
+    statement: &Statement<'_>,
+) -> Result<(), SpellError>
+    requires { address ≤ 65536 }
+    ensures ok { OnOk result (reference_fault (labels_in labels.now) address (in_code statement.now) ≡ None) }
+    ensures words { OnOk result (SpellsNext (labels_in labels.now) address (in_code statement.now) words.old.items words.new.items) }
+    ensures err { IfErr result (λ error. IsFault error (reference_fault (labels_in labels.now) address (in_code statement.now))) }
+{
+    match statement {
+        Statement::Nothing => {}
+        Statement::One(word) => words.push(*word)?,
+        Statement::Two(first, second) => push_two(words, *first, *second)?,
+        Statement::Name(text) => push_name(words, text)?,
+        Statement::OutOfReach => return Err(SpellError::Fault(Fault::TooFar)),
+        Statement::LongJumpTo(condition, kind, name) => {
+            let target = label_address(labels, name)?;
+            let (first, second) = long_jump_words(*condition, *kind, target);
+            push_two(words, first, second)?;
+        }
+        Statement::ShortJumpTo(condition, name) => {
+            let target = label_address(labels, name)?;
+            let word = short_jump(*condition, i32::from(target) - address as i32)?;
+            words.push(word)?;
+        }
+        Statement::EntryAt(kind, name) => {
+            let target = label_address(labels, name)?;
+            let (first, second) = entry_words(*kind, target);
+            push_two(words, first, second)?;
+        }
+    }
+    Ok(())
+}
+
+/// Appends two words.
+fn push_two(words: &mut Vec<Word>, first: Word, second: Word) -> Result<(), AllocError>
+    ensures { OnOk result (words.new.items ≡ words.old.items ++ first ∷ second ∷ []) }
+{
+    words.push(first)?;
+    words.push(second)?;
+    Ok(())
+}
+
+/// The address of a label.
+fn label_address(labels: &Labels<'_>, name: &[u8]) -> Result<u16, Fault>
+    ensures { result ≡ ok_or (labels_in labels.now name.now) Fault.NoLabel }
+{
+    match labels.get(name) {
+        Some(address) => Ok(*address),
+        None => Err(Fault::NoLabel),
+    }
+}
+
+/// The word of a short jump by a displacement.
+fn short_jump(condition: Condition, displacement: i32) -> Result<Word, Fault>
+    ensures { result ≡ jump_word condition displacement }
+{
+    if -64 <= displacement && displacement <= 63 {
+        let displacement = Displacement::new(displacement as i8);
+        Ok(word(Row::ShortJump(condition, displacement)))
+    } else {
+        Err(Fault::TooFar)
+    }
+}

@@ -1,0 +1,52 @@
+//! The words of the directives: names, and entries of functions.
+
+ghost use Rattle.std.specs.Prelude.{◌≡◌, ◌%◌, ◌<◌, [], ◌∷◌, ◌++◌, map, reverse, OnOk};
+ghost use Rattle.h41_words.specs.Counts.{word_count};
+ghost use Rattle.h41_asm.specs.CodeStatements.{entry_bits};
+ghost use Rattle.h41_asm.specs.Placing.{entry_words as words_of_entry};
+ghost use Rattle.h41_asm.specs.Statements.{name_words};
+
+use crate::table::EntryKind;
+use h41_words::Word;
+use std::alloc::AllocError;
+
+/// The two words of a function's entry: its place in its page, and above its highest digit the bits of its kind.
+pub(crate) fn entry_words(kind: EntryKind, address: u16) -> (Word, Word)
+    ensures { result.0 ∷ result.1 ∷ [] ≡ words_of_entry (entry_bits kind) address }
+{
+    let place = address % 0x1000;
+    let bits = match kind {
+        EntryKind::Microcode => 0,
+        EntryKind::Keystroke => 0x200,
+    };
+    (rom_word(bits + place / 0x100), rom_word(place % 0x100))
+}
+
+/// Appends the words of a name: the last character first, with bit 7.
+pub(crate) fn push_name(words: &mut Vec<Word>, text: &[u8]) -> Result<(), AllocError>
+    ensures { OnOk result (words.new.items ≡ words.old.items ++ name_words text.now) }
+{
+    if let Some((last, others)) = text.split_last() {
+        words.push(rom_word(u16::from(*last % 64) + 0x80))?;
+        push_codes(words, others)?;
+    }
+    Ok(())
+}
+
+/// Appends the codes of characters, the last first.
+fn push_codes(words: &mut Vec<Word>, text: &[u8]) -> Result<(), AllocError>
+    ensures { OnOk result (words.new.items ≡ words.old.items ++ reverse (map (λ byte. byte % 64) text.now)) }
+{
+    for byte in text.iter().rev() {
+        words.push(rom_word(u16::from(*byte % 64)))?;
+    }
+    Ok(())
+}
+
+/// The word with this number.
+fn rom_word(number: u16) -> Word
+    requires { number < word_count }
+    ensures { result ≡ number }
+{
+    Word::new(number).unwrap()
+}

@@ -1,0 +1,18 @@
+//! The assembler: from the text of a source to the words that it spells. Mnemonics are those of HP's VASM listings, the
+//! directives this project's own.
+#![tactic(auto)]
+
+mod assembler;
+mod emit;
+mod fault;
+pub mod laws;
+mod lines;
+mod names;
+mod operands;
+mod source;
+mod statement;
+mod table;
+mod words;
+
+pub use assembler::assemble;
+pub use fault::{AssembleError, Fault};

@@ -1,0 +1,66 @@
+//! Names of addresses: labels, and references to them.
+
+ghost use Rattle.std.specs.Prelude.{◌≡◌};
+ghost use Rattle.std.specs.List.{list_all};
+ghost use Rattle.std.specs.Option.{option_map};
+ghost use Rattle.h41_asm.specs.SourceLines.{is_letter, is_name, is_name_byte, label_in, reference_in};
+
+/// The most bytes behind the first letter of a name.
+const MOST_BEHIND: usize = 11;
+
+/// A letter, of either case.
+fn is_letter(byte: u8) -> bool
+    ensures { result ≡ is_letter byte }
+{
+    matches!(byte, b'A'..=b'Z' | b'a'..=b'z')
+}
+
+/// A byte that a name can have behind its first letter.
+fn is_name_byte(byte: u8) -> bool
+    ensures { result ≡ is_name_byte byte }
+{
+    is_letter(byte) || matches!(byte, b'0'..=b'9' | b'_')
+}
+
+/// Whether all these bytes can stand behind the first letter of a name.
+fn are_name_bytes(bytes: &[u8]) -> bool
+    ensures { result ≡ list_all is_name_byte bytes.now }
+{
+    bytes.iter().all(|byte| is_name_byte(*byte))
+}
+
+/// A name: a letter, and up to eleven letters, digits or `_`.
+fn is_name(word: &[u8]) -> bool
+    ensures { result ≡ is_name word.now }
+{
+    match word.split_first() {
+        Some((first, behind)) => {
+            is_letter(*first) && are_name_bytes(behind) && behind.len() <= MOST_BEHIND
+        }
+        None => false,
+    }
+}
+
+/// The name of a word `name:`.
+pub(crate) fn label_in(word: &[u8]) -> Option<&[u8]>
+    ensures { option_map (λ name. name.now) result ≡ label_in word.now }
+{
+    let (last, name) = word.split_last()?;
+    if *last == b':' && is_name(name) {
+        Some(name)
+    } else {
+        None
+    }
+}
+
+/// The name of a word `:name`.
+pub(crate) fn reference_in(word: &[u8]) -> Option<&[u8]>
+    ensures { option_map (λ name. name.now) result ≡ reference_in word.now }
+{
+    let (first, name) = word.split_first()?;
+    if *first == b':' && is_name(name) {
+        Some(name)
+    } else {
+        None
+    }
+}

@@ -1,0 +1,154 @@
+//! The operands of a line.
+
+ghost use Rattle.std.specs.Prelude.{◌≡◌, ◌<◌, ◌≤◌, ◌+◌, ◌^◌, IfSome, bytes_eq, length};
+ghost use Rattle.std.specs.Fmt.{decimal};
+ghost use Rattle.std.specs.List.{list_all};
+ghost use Rattle.std.specs.Option.{option_map};
+ghost use Rattle.h41_asm.specs.Operands as spec;
+
+use h41_fields::Field;
+use h41_words::Word;
+
+/// The most characters of a text.
+const MOST_CHARACTERS: usize = 11;
+
+/// The number that up to four hexadecimal digits write, of either case.
+fn digits_in(word: &[u8]) -> Option<u16>
+    requires { length word.now ≤ 4 }
+    ensures value { result ≡ spec.digits_in word.now }
+    ensures small { IfSome result (λ number. number < 16 ^ length word.now) }
+{
+    let mut value = 0;
+    for byte in word {
+        let digit = char::from(*byte).to_digit(16)?;
+        value = value * 16 + digit;
+    }
+    Some(value as u16)
+}
+
+/// The number of a word of just so many hexadecimal digits, of either case.
+fn hexadecimal_in(count: usize, word: &[u8]) -> Option<u16>
+    requires { count ≤ 4 }
+    ensures value { result ≡ spec.hexadecimal_in count word.now }
+    ensures small { IfSome result (λ number. number < 16 ^ count) }
+{
+    if word.len() == count {
+        digits_in(word)
+    } else {
+        None
+    }
+}
+
+/// A word of a ROM: three digits, up to 3FF.
+pub(crate) fn word_in(word: &[u8]) -> Option<Word>
+    ensures { result ≡ spec.word_in word.now }
+{
+    let number = hexadecimal_in(3, word)?;
+    Word::new(number)
+}
+
+/// An address: four digits.
+pub(crate) fn address_in(word: &[u8]) -> Option<u16>
+    ensures { result ≡ spec.address_in word.now }
+{
+    hexadecimal_in(4, word)
+}
+
+/// A displacement: its sign and two digits. Zero is `+00` alone.
+pub(crate) fn displacement_in(word: &[u8]) -> Option<i16>
+    ensures { result ≡ spec.displacement_in word.now }
+{
+    match word.split_first()? {
+        (b'+', digits) => forward(digits),
+        (b'-', digits) => backward(digits),
+        _ => None,
+    }
+}
+
+/// A displacement forward, by its two digits.
+fn forward(digits: &[u8]) -> Option<i16>
+    ensures { result ≡ spec.forward (spec.hexadecimal_in 2 digits.now) }
+{
+    let size = hexadecimal_in(2, digits)?;
+    Some(size as i16)
+}
+
+/// A displacement backward, by its two digits, which are not both zero.
+fn backward(digits: &[u8]) -> Option<i16>
+    ensures { result ≡ spec.backward (spec.hexadecimal_in 2 digits.now) }
+{
+    let size = hexadecimal_in(2, digits)?;
+    if size == 0 {
+        None
+    } else {
+        Some(-(size as i16))
+    }
+}
+
+/// A decimal number without leading zeros: one of `count` numbers from `least` on, below 16.
+pub(crate) fn number_in(least: u8, count: u8, word: &[u8]) -> Option<u8>
+    requires { least + count ≤ 16 }
+    ensures { result ≡ spec.number_in least count word.now }
+{
+    (least..least + count).find(|number| is_decimal(*number, word))
+}
+
+/// Whether a word is this decimal number, which is below 16.
+fn is_decimal(number: u8, word: &[u8]) -> bool
+    requires { number < 16 }
+    ensures { result ≡ bytes_eq word.now (decimal number) }
+{
+    if number < 10 {
+        word == [b'0' + number].as_slice()
+    } else {
+        word == [b'1', b'0' + number % 10].as_slice()
+    }
+}
+
+/// A field, by its name.
+pub(crate) fn field_in(word: &[u8]) -> Option<Field>
+    ensures { result ≡ spec.field_in word.now }
+{
+    match word {
+        b"@R" => Some(Field::AtPointer),
+        b"S&X" => Some(Field::SignAndExponent),
+        b"R<" => Some(Field::ToPointer),
+        b"ALL" => Some(Field::All),
+        b"P-Q" => Some(Field::PToQ),
+        b"XS" => Some(Field::ExponentSign),
+        b"M" => Some(Field::Mantissa),
+        b"MS" => Some(Field::MantissaSign),
+        _ => None,
+    }
+}
+
+/// The text of a word between two quotes: 1 to 11 characters from 20 to 5F but the quote.
+pub(crate) fn text_in(word: &[u8]) -> Option<&[u8]>
+    ensures { option_map (λ text. text.now) result ≡ spec.text_in word.now }
+{
+    match word {
+        [b'"', text @ .., b'"'] if is_text(text) => Some(text),
+        _ => None,
+    }
+}
+
+/// A text: one to eleven characters.
+fn is_text(text: &[u8]) -> bool
+    ensures { result ≡ spec.is_text text.now }
+{
+    !text.is_empty() && text.len() <= MOST_CHARACTERS && are_text_bytes(text)
+}
+
+/// Whether all these bytes are characters of a text.
+fn are_text_bytes(bytes: &[u8]) -> bool
+    ensures { result ≡ list_all spec.is_text_byte bytes.now }
+{
+    bytes.iter().all(|byte| is_text_byte(*byte))
+}
+
+/// A character of a text.
+fn is_text_byte(byte: u8) -> bool
+    ensures { result ≡ spec.is_text_byte byte }
+{
+    matches!(byte, 0x20..=0x5F) && byte != b'"'
+}

@@ -1,0 +1,72 @@
+//! The words of a line.
+
+ghost use Rattle.std.specs.Iterator.{YieldsFirstRef, item_count};
+ghost use Rattle.std.specs.List.{position};
+ghost use Rattle.std.specs.Prelude.{◌≡◌, ◌≤◌, false, not, length};
+ghost use Rattle.h41_asm.specs.SourceLines.{is_blank, part_length, words_of};
+
+/// The words that are left of a line. Blanks and tabs outside quotes part them, and a `;` outside quotes begins a comment.
+#[derive(Clone, Copy, Debug)]
+pub struct LineWords<'a> {
+    /// The bytes that are left of the line, which begin outside quotes.
+    pub rest: &'a [u8],
+}
+
+impl<'a> LineWords<'a> {
+    /// All words of a line.
+    pub fn new(line: &'a [u8]) -> Self
+        ensures { result.rest.now ≡ line.now }
+    {
+        LineWords { rest: line }
+    }
+}
+
+impl<'a> Iterator for LineWords<'a> {
+    type Item = &'a [u8];
+
+    ghost next_gives = { YieldsFirstRef (λ s. words_of s.rest.now) };
+
+    ghost remaining = { item_count (λ s. words_of s.rest.now) };
+
+    fn next(&mut self) -> Option<&'a [u8]> {
+        let start = word_start(self.rest)?;
+        let rest = &self.rest[start..];
+        let (word, rest) = rest.split_at(word_end(rest));
+        if word.is_empty() {
+            return None;
+        }
+        self.rest = rest;
+        Some(word)
+    }
+}
+
+/// A byte that parts words: a blank or a tab.
+fn is_blank(byte: u8) -> bool
+    ensures { result ≡ is_blank byte }
+{
+    matches!(byte, b' ' | b'\t')
+}
+
+/// Where the first byte of a line that is no blank stands.
+fn word_start(line: &[u8]) -> Option<usize>
+    ensures { result ≡ position (λ byte. not (is_blank byte)) line.now }
+{
+    line.iter().position(|byte| !is_blank(*byte))
+}
+
+/// How many bytes of a line stand before its first blank, or before its comment, outside quotes.
+fn word_end(line: &[u8]) -> usize
+    ensures value { result ≡ part_length false line.now }
+    ensures bound { result ≤ length line.now }
+{
+    let mut quoted = false;
+    for (i, byte) in line.iter().enumerate() {
+        if !quoted && (is_blank(*byte) || *byte == b';') {
+            return i;
+        }
+        if *byte == b'"' {
+            quoted = !quoted;
+        }
+    }
+    line.len()
+}

@@ -6,6 +6,7 @@ pub mod Deck
 pub mod Ends
 pub mod Entries
 pub mod Faults
+pub mod Fillings
 pub mod Items
 pub mod Lines
 pub mod Listings

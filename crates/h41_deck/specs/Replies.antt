@@ -2,6 +2,7 @@
 use Rattle.std.specs.Prelude.{◌≡◌, ℕ, Bool, true, false, List, [], ◌++◌, Option, Some, None, Result, Ok, Err}
 use Rattle.std.specs.Io.KnownBytes.{Appends, Keeps}
 use Rattle.std.specs.Result.{result_err}
+use Rattle.h41_deck.specs.declared.commands.BlockKind.{BlockKind}
 use Rattle.h41_deck.specs.declared.commands.Command.{Command}
 use Rattle.h41_deck.specs.declared.commands.Command.TheVariants.{Plug, Unplug, Reset, Call, Step, Show}
 use Rattle.h41_deck.specs.declared.commands.Command.TheVariants as commands
@@ -13,6 +14,7 @@ use Rattle.h41_deck.specs.declared.refusal.Refusal.{Refusal}
 use Rattle.h41_deck.specs.Blocks.{TakenBlock, filled, judgement}
 use Rattle.h41_deck.specs.Calculator.{State, block_bank, page_refusal, with_page, unplug_refusal, without_page, restarted, call_refusal, called, Steps}
 use Rattle.h41_deck.specs.Ends.{AppendsPart}
+use Rattle.h41_deck.specs.Fillings.{Fills}
 use Rattle.h41_deck.specs.Items.{Spelled, with_values}
 use Rattle.h41_deck.specs.Refusals.{refusal_line}
 use Rattle.h41_deck.specs.Listings.{listed}
@@ -56,11 +58,21 @@ with_block page writable words s = unless (block_refusal s page words) (with_pag
 abbrev pub RefusedAs : {A : Type 0} → Option Refusal → Result A Refusal → Type 0
 RefusedAs refusal ended = result_err ended ≡ refusal
 
+-- a page is plugged with these words, filled with 000, or refused as 1 or 2; nothing changes where there are none
+abbrev pub PlugsWords : ℕ → Bool → Result (List ℕ) Refusal → State → State → Answer → Type 0
+PlugsWords page writable (Ok words) s t answer =
+    ChangesUnless (block_refusal s page words) (with_page page block_bank writable (filled words) s) s t answer
+PlugsWords page writable (Err refusal) s t answer = (t ≡ s) × (answer ≡ ends_by (Some refusal))
+
+-- with the words that a block's values say for it
+abbrev pub Plugs : Option BlockKind → ℕ → Bool → List ℕ → State → State → Answer → Type 0
+Plugs kind page writable values s t answer =
+    (words : Result (List ℕ) Refusal) × Fills kind page values words × PlugsWords page writable words s t answer
+
 -- each command's change of the calculator, from s to t, and its answer; a command with a block has its block's values
 abbrev pub Reply : Command → List ℕ → State → State → Answer → Type 0
--- words P [rw] .. end: the page is plugged, or refused as 1 or 2
-Reply (Plug kind page writable) values s t answer =
-    ChangesUnless (block_refusal s page values) (with_page page block_bank writable (filled values) s) s t answer
+-- words P [rw], image P [rw], asm P [rw] .. end: the page is plugged with what the block says, or refused
+Reply (Plug kind page writable) values s t answer = Plugs (Some kind) page writable values s t answer
 -- unplug P: all banks of the page are taken out, or 1 or 3
 Reply (Unplug page) values s t answer = ChangesUnless (unplug_refusal s page) (without_page page s) s t answer
 -- reset: as at the start, but that the pages stay plugged
@@ -88,6 +100,11 @@ takes_memory (Call address) = false
 takes_memory (Step count) = false
 takes_memory (commands.List address count) = true
 takes_memory (Show view) = true
+
+-- what a block leaves that fills a page, and the refusal that ended it
+abbrev pub PlugsBlock : TakenBlock → ℕ → Bool → State → State → Result (Unit {0}) Refusal → Type 0
+PlugsBlock block page writable s t ended =
+    (values : List ℕ) × (judgement block ≡ Ok values) × Plugs block.kind page writable values s t (ends_by (result_err ended))
 
 -- how an answer is printed
 abbrev pub ending_line : Option Refusal → List ℕ

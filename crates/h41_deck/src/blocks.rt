@@ -1,10 +1,11 @@
 //! The block of a command: one mechanism for all kinds, which takes the lines one at a time and is judged in one place.
 
-ghost use Rattle.std.specs.Prelude.{◌≡◌, ◌≤◌, IfOk, IsSome, None, Ok, vec_len};
+ghost use Rattle.std.specs.Prelude.{◌≡◌, ◌≤◌, IfOk, IsSome, None, vec_len};
 ghost use Rattle.std.specs.Result.{result_err};
 ghost use Rattle.h41_pages.specs.Addresses.{page_size};
 ghost use Rattle.h41_deck.specs.Blocks.{IsNew, Takes, judgement};
 ghost use Rattle.h41_deck.specs.Commands.{kind_of};
+ghost use Rattle.h41_deck.specs.Fillings.{FillsBy};
 
 use crate::blocks::page_bytes::PageBytes;
 use crate::blocks::page_source::PageSource;
@@ -105,16 +106,21 @@ impl Block {
         }
     }
 
-    /// The words of a page that its lines say. 21 where memory is refused.
-    pub(crate) fn into_words(self, alloc: Global) -> Result<Vec<u16>, AllocError>
+    /// The words of a page that its lines say, or why they say none. 21 where memory is refused.
+    pub(crate) fn into_words(
+        self,
+        alloc: Global,
+        page: u8,
+    ) -> Result<Result<Vec<u16>, Refusal>, AllocError>
         requires kind { IsSome self.kind }
         requires accepted { result_err (judgement self) ≡ None }
-        ensures words { IfOk result (λ words. judgement self ≡ Ok words.items) }
-        ensures bound { IfOk result (λ words. vec_len words ≤ page_size) }
+        ensures words { IfOk result (FillsBy self page) }
+        ensures bound { IfOk result (λ made. IfOk made (λ words. vec_len words ≤ page_size)) }
     {
         match self.content {
-            Content::Words(words) => Ok(words.into_words()),
-            Content::Image(bytes) => bytes.into_words(alloc),
+            Content::Words(words) => Ok(Ok(words.into_words())),
+            Content::Image(bytes) => Ok(Ok(bytes.into_words(alloc)?)),
+            Content::Source(source) => source.into_words(alloc, page),
             Content::Nothing => unreachable!(),
         }
     }

@@ -1,12 +1,13 @@
 //! The replies to commands: what each does to the calculator, and what it prints.
 
-ghost use Rattle.std.specs.Prelude.{◌≡◌, ◌≢◌, true, false, Err, IfOk, OnOk, OnErr, vec_len, ◌≤◌};
+ghost use Rattle.std.specs.Prelude.{◌≡◌, ◌≢◌, true, false, Err, IfOk, IsSome, None, OnOk, OnErr, vec_len, ◌≤◌};
 ghost use Rattle.std.specs.Result.{result_err};
 ghost use Rattle.h41_pages.specs.Addresses.{page_size};
+ghost use Rattle.h41_deck.specs.Blocks.{judgement};
 ghost use Rattle.h41_deck.specs.Calculator.{unplug_refusal, without_page};
 ghost use Rattle.h41_deck.specs.Commands.{kind_of};
 ghost use Rattle.h41_deck.specs.Ends.{Writes};
-ghost use Rattle.h41_deck.specs.Replies.{Does, EndsAs, RefusedAs, Tells, block_refusal, ending_text, lists, shown_text, shows, takes_memory, with_block};
+ghost use Rattle.h41_deck.specs.Replies.{Does, EndsAs, PlugsBlock, RefusedAs, Tells, block_refusal, ending_text, lists, shown_text, shows, takes_memory, with_block};
 ghost use Rattle.h41_deck.specs.Listings.{listed};
 ghost use Rattle.h41_deck.specs.Views.{shown, text_in};
 
@@ -91,8 +92,7 @@ pub fn apply<W: Sink>(
     }
     let ended = match command {
         Command::Plug { page, writable, .. } => {
-            let words = block.into_words(alloc)?;
-            plug(alloc, bench, page, writable, words)?
+            plug(alloc, bench, block, page, writable)?
         }
         Command::Unplug(page) => unplug(bench, page),
         Command::Reset => {
@@ -107,8 +107,27 @@ pub fn apply<W: Sink>(
     Ok(print_ending(ended, writer)?)
 }
 
-/// Plugs words, filled with 000 to a page. 21 where memory is refused: nothing is changed then.
+/// Plugs what a block says at a page. 21 where memory is refused: nothing is changed then.
 fn plug(
+    alloc: Global,
+    bench: &mut Bench,
+    block: Block,
+    page: u8,
+    writable: bool,
+) -> Result<Result<(), Refusal>, AllocError>
+    requires kind { IsSome block.kind }
+    requires accepted { result_err (judgement block) ≡ None }
+    ensures plugs { IfOk result (PlugsBlock block page writable bench.old bench.new) }
+    ensures err { OnErr result (bench.new ≡ bench.old) }
+{
+    match block.into_words(alloc, page)? {
+        Ok(words) => plug_words(alloc, bench, page, writable, words),
+        Err(refusal) => Ok(Err(refusal)),
+    }
+}
+
+/// Plugs words, filled with 000 to a page. 21 where memory is refused: nothing is changed then.
+fn plug_words(
     alloc: Global,
     bench: &mut Bench,
     page: u8,

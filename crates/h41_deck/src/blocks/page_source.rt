@@ -1,9 +1,16 @@
 //! The source of a page's words, as the lines of an `asm` block are.
 
+ghost use Rattle.std.specs.Prelude.{◌≡◌, IfOk};
+
+use crate::blocks::page_words::PAGE_WORDS;
 use crate::lines::line::is_skipped;
 use crate::refusal::Refusal;
 use h41_asm::{AssembleError, assemble};
+use h41_words::Word;
 use std::alloc::{AllocError, Global};
+
+/// How many pages there are.
+const PAGES: u8 = 16;
 
 /// The source of a page's words so far.
 #[derive(Debug, Drop)]
@@ -12,9 +19,11 @@ pub struct PageSource {
 }
 
 impl PageSource {
-    ghost use Rattle.std.specs.Prelude.{◌≡◌, [], IfOk};
+    ghost use Rattle.std.specs.Prelude.{◌≡◌, ◌≤◌, [], IfOk, Some, vec_len};
+    ghost use Rattle.h41_pages.specs.Addresses.{page_size};
     ghost use Rattle.h41_deck.specs.Blocks.{block_source};
     ghost use Rattle.h41_deck.specs.Contents.{TakesSource, source_in};
+    ghost use Rattle.h41_deck.specs.Fillings.{Fills, values_in};
 
     /// A source of no lines.
     pub fn new(alloc: Global) -> Self
@@ -35,4 +44,35 @@ impl PageSource {
         self.text.push(b'\n')?;
         Ok(())
     }
+
+    /// The words that it spells at a page's first address. Refused as 30 to 35 by its first fault, as 4 where there are more
+    /// words than a page has. 21 where memory is refused.
+    pub fn into_words(
+        self,
+        alloc: Global,
+        page: u8,
+    ) -> Result<Result<Vec<u16>, Refusal>, AllocError>
+        ensures words { IfOk result (λ made. Fills (Some BlockKind.Asm) page (source_in self) (values_in made)) }
+        ensures bound { IfOk result (λ made. IfOk made (λ words. vec_len words ≤ page_size)) }
+    {
+        match assemble(alloc, &self.text, u16::from(page % PAGES) * PAGE_WORDS as u16) {
+            Ok(words) if words.len() > PAGE_WORDS => Ok(Err(Refusal::BadImage)),
+            Ok(words) => Ok(Ok(numbers_of(alloc, &words)?)),
+            Err(AssembleError::Line { fault, line }) => {
+                Ok(Err(Refusal::of_source_line(fault, line)))
+            }
+            Err(AssembleError::OutOfMemory) => Err(AllocError),
+        }
+    }
+}
+
+/// The numbers of words. 21 where memory is refused.
+fn numbers_of(alloc: Global, words: &[Word]) -> Result<Vec<u16>, AllocError>
+    ensures { IfOk result (λ numbers. numbers.items ≡ words.now) }
+{
+    let mut numbers = Vec::new(alloc);
+    for word in words {
+        numbers.push(word.number())?;
+    }
+    Ok(numbers)
 }

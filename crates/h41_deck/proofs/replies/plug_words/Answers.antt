@@ -4,7 +4,7 @@ use Rattle.h41_deck.specs.Calculator.{with_page}
 use Rattle.h41_deck.specs.Replies.{unless}
 use Rattle.h41_deck.proofs.Plugging.{accepted_page, refused_page}
 use Rattle.h41_deck.proofs.WordValues.{resized}
-use Rattle.h41_deck.proofs.replies.plug.Goals as goal
+use Rattle.h41_deck.proofs.replies.plug_words.Goals as goal
 
 pub returns-in-Ok-clause-refusal : goal.returns-in-Ok-clause-refusal
 returns-in-Ok-clause-refusal c =

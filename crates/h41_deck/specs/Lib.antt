@@ -8,6 +8,7 @@ pub mod Entries
 pub mod Faults
 pub mod Items
 pub mod Lines
+pub mod ListingRoundTrip
 pub mod Numbers
 pub mod PageViews
 pub mod Refusals

@@ -1,9 +1,9 @@
 -- The lines of a text whose lines have no byte that would end them or be dropped.
-use Rattle.std.proofs.Common.{◌≡◌, ℕ, ◌+◌, ◌-◌, ◌<◌, Bool, true, false, not, ◌&&◌, List, [], ◌∷◌, ◌++◌, length, nat_lt, ◌==◌, refl, sym, ap, ◌∙◌, arith, All}
+use Rattle.std.proofs.Common.{◌≡◌, ℕ, ◌-◌, ◌<◌, Bool, true, false, not, ◌&&◌, List, [], ◌∷◌, ◌++◌, length, nat_lt, ◌==◌, refl, ap, ◌∙◌, arith, All}
 use Rattle.std.specs.Prelude.{slice_index}
 use Rattle.std.specs.List.{list_all, slice_split}
 use Rattle.std.specs.Str.Lines.{lines_of_parts, strip_carriage_return}
-use Rattle.std.proofs.lemmas.Bool.{and_parts, and_from, ltb-true, not-true, ne_eqb, cond-false}
+use Rattle.std.proofs.lemmas.Bool.{and_parts, ltb-true, not-true, ne_eqb}
 use Rattle.std.proofs.lemmas.List.Splits.{slice_split_at, length-slice_split}
 use Rattle.std.proofs.lemmas.List.Sums.{AllPass-from_list_all}
 use Rattle.h41_asm.specs.SourceLines.{lines}

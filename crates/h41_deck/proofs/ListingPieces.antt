@@ -1,12 +1,12 @@
 -- The lines of words say these words: piece by piece, and of one word or two.
-use Rattle.std.proofs.Common.{◌≡◌, ℕ, ◌+◌, ◌*◌, ◌/◌, ◌%◌, ◌<◌, ◌≤◌, Bool, true, false, ◌||◌, ◌==◌, List, [], ◌∷◌, ◌++◌, Option, Some, None, flat_map, refl, sym, ap, ◌∙◌, subst, arith, append_assoc, inl, inr}
+use Rattle.std.proofs.Common.{◌≡◌, ℕ, ◌+◌, ◌*◌, ◌/◌, ◌%◌, ◌<◌, true, false, ◌||◌, ◌==◌, List, [], ◌∷◌, ◌++◌, Option, Some, None, flat_map, refl, sym, ap, ◌∙◌, subst, arith, append_assoc, inl, inr}
 use Rattle.std.specs.Prelude.{codes}
 use Rattle.std.specs.List.{AllByRecursion}
-use Rattle.std.proofs.lemmas.Bool.{cases_Bool, cond_both, cond-false, eqb-true, or_cases}
+use Rattle.std.proofs.lemmas.Bool.{cases_Bool, cond_both, eqb-true, or_cases}
 use Rattle.h41_digits.specs.Register.{hexadecimal_text}
 use Rattle.h41_words.specs.declared.rows.Row.TheVariants.{LongJump, LoadImmediate}
 use Rattle.h41_words.specs.declared.second_word.SecondWord.{SecondWord}
-use Rattle.h41_words.specs.Mnemonics.{address_text, instruction_text, long_jump_text, row_text}
+use Rattle.h41_words.specs.Mnemonics.{address_text, instruction_text, long_jump_text}
 use Rattle.h41_words.specs.SecondWord.{second_of, second_number_of, SaidByWord}
 use Rattle.h41_words.specs.WordTable.{length_of, number_of, row_of, OneWordOfRow, WordOfRow}
 use Rattle.h41_dis.specs.declared.cut.Piece.{Piece}
@@ -63,9 +63,11 @@ module _ (word_of_row : WordOfRow) (one_word_of_row : OneWordOfRow) (said_by_wor
       let number : first / 4 * 4 + 1 ≡ first = omega arith in
       let row : row_of first ≡ LongJump (first / 4) = (one_word_of_row (LongJump (first / 4)) low_fits first).1 (sym number) in
       let high_fits : second / 4 < 256 = omega arith in
-      let line : Reads (instruction_text (LongJump (first / 4)) second) ((first / 4 * 4 + 1) ∷ second_number_of (second_of second) ∷ []) = reads_jump (first / 4) (second_of second) low_fits high_fits in
-      let words : (first / 4 * 4 + 1) ∷ second_number_of (second_of second) ∷ [] ≡ first ∷ second ∷ [] = ap (λ (n : ℕ). n ∷ second_number_of (second_of second) ∷ []) number ∙ ap (λ (n : ℕ). first ∷ n ∷ []) (said_by_word second) in
-      subst (λ r. Reads (instruction_text r second) (first ∷ second ∷ [])) (sym row) (subst (λ (w : List ℕ). Reads (instruction_text (LongJump (first / 4)) second) w) words line)
+      let said : (first / 4 * 4 + 1) ∷ second_number_of (second_of second) ∷ [] ≡ first ∷ second ∷ [] =
+      ap (λ (n : ℕ). n ∷ second_number_of (second_of second) ∷ []) number ∙ ap (λ (n : ℕ). first ∷ n ∷ []) (said_by_word second) in
+      subst (λ r. Reads (instruction_text r second) (first ∷ second ∷ [])) (sym row)
+      (subst (λ (words : List ℕ). Reads (instruction_text (LongJump (first / 4)) second) words) said
+      (reads_jump (first / 4) (second_of second) low_fits high_fits))
 
   reads_immediate_pair : (first second : ℕ) → second < 1024 → first ≡ 0x130 → Reads (instruction_text (row_of first) second) (first ∷ second ∷ [])
   unfolding number_of

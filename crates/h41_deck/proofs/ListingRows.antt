@@ -1,5 +1,5 @@
 -- The line of each row, family by family, says the word of the row.
-use Rattle.std.proofs.Common.{◌≡◌, ℕ, zero, suc, ◌+◌, ◌-◌, ◌*◌, ◌/◌, ◌%◌, ◌<◌, ◌≤◌, ℤ, pos, negsuc, Bool, true, false, not, ◌&&◌, ◌||◌, nat_lt, ◌==◌, List, [], ◌∷◌, ◌++◌, length, Option, Some, None, refl, sym, ap, ◌∙◌, subst, arith}
+use Rattle.std.proofs.Common.{◌≡◌, ℕ, ◌+◌, ◌<◌, pos, negsuc, Bool, true, false, not, ◌&&◌, nat_lt, ◌==◌, List, [], ◌∷◌, ◌++◌, length, Option, Some, None, refl, ap, arith}
 use Rattle.std.specs.Prelude.{codes, bytes_eq}
 use Rattle.std.specs.Fmt.{decimal, digits}
 use Rattle.std.specs.List.{list_all}
@@ -10,12 +10,12 @@ use Rattle.h41_fields.specs.declared.field.Field.TheVariants.{AtPointer}
 use Rattle.h41_words.specs.declared.operation.Operation.{Operation}
 use Rattle.h41_words.specs.declared.rows.Condition.{Condition}
 use Rattle.h41_words.specs.declared.rows.Row.{Row}
-use Rattle.h41_words.specs.declared.rows.Row.TheVariants.{Arithmetic, LongJump, ShortJump, ClearStatus, SetStatus, TestStatus, TestPointer, SetPointer, RotateRight, LoadDigit, Write, Read, LoadImmediate}
+use Rattle.h41_words.specs.declared.rows.Row.TheVariants.{Arithmetic, ShortJump, ClearStatus, SetStatus, TestStatus, TestPointer, SetPointer, RotateRight, LoadDigit, Write, Read, LoadImmediate}
 use Rattle.h41_words.specs.declared.second_word.LongJumpKind.{LongJumpKind}
 use Rattle.h41_words.specs.Mnemonics.{field_text, operation_text, long_jump_text, short_jump_text, displacement_text, row_text}
 use Rattle.h41_words.specs.WordTable.{number_of}
 use Rattle.h41_asm.specs.Operands.{field_in, number_in}
-use Rattle.h41_asm.specs.Statements.{Statement, Taking, is_in_reach, long_jump_words, one_word, or_else, said, short_jump_by, takes_number, takes_field, takes_displacement, takes_address, takes_immediate, takes_constant}
+use Rattle.h41_asm.specs.Statements.{is_in_reach, long_jump_words, one_word, said, takes_number, takes_field, takes_displacement, takes_address, takes_immediate, takes_constant}
 use Rattle.h41_deck.proofs.ListingNumbers.{length-hexadecimal, solid_hexadecimal, read_address, read_word, read_forward, read_backward}
 use Rattle.h41_deck.proofs.ListingTexts.{Reads, IsTaken, IsOperand, reads_operand, constant_taken, immediate_taken, long_jump_taken, short_jump_taken, operation_taken, clear_status_taken, set_status_taken, test_status_taken, test_pointer_taken, set_pointer_taken, rotate_taken, load_digit_taken, write_taken, read_taken}
 use Rattle.h41_deck.proofs.ListingWords.{is_solid}

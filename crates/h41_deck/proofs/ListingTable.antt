@@ -1,5 +1,5 @@
 -- The line of each word says that word: of a row of the listing, and of a word that stands for none.
-use Rattle.std.proofs.Common.{◌≡◌, ℕ, zero, suc, ◌+◌, ◌*◌, ◌<◌, ◌≤◌, ℤ, pos, negsuc, Bool, true, false, ◌==◌, List, [], ◌∷◌, ◌++◌, map, refl, sym, ap, ◌∙◌, subst, arith}
+use Rattle.std.proofs.Common.{◌≡◌, ℕ, zero, suc, ◌+◌, ◌*◌, ◌<◌, ◌≤◌, ℤ, pos, negsuc, Bool, true, false, ◌==◌, List, [], ◌∷◌, ◌++◌, map, refl, subst, arith}
 use Rattle.std.specs.List.{AllByRecursion, flat_map, range_with_len, list_all}
 use Rattle.std.proofs.lemmas.Bool.{cond_both, and_parts}
 use Rattle.h41_words.specs.declared.rows.Row.{Row}
@@ -39,7 +39,8 @@ module _ {A : Type 0} (Holds : A → Type 0) where
   each_flat_map f [] each = tt
   each_flat_map f (x ∷ xs) each = each_append (f x) (flat_map f xs) each.0 (each_flat_map f xs each.1)
 
-  each_number : (f : ℕ → A) (first count : ℕ) → ((number : ℕ) → first ≤ number → number < first + count → Holds (f number)) → AllByRecursion Holds (map f (range_with_len first count))
+  each_number : (f : ℕ → A) (first count : ℕ) → ((number : ℕ) → first ≤ number → number < first + count → Holds (f number))
+      → AllByRecursion Holds (map f (range_with_len first count))
   each_number f first zero holds = tt
   each_number f first (suc count) holds =
       (holds first (omega arith) (omega arith), each_number f (first + 1) count (λ number low high. holds number (omega arith) (omega arith)))

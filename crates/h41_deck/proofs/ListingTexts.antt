@@ -1,5 +1,5 @@
 -- What a line says that is a mnemonic and an operand.
-use Rattle.std.proofs.Common.{◌≡◌, ℕ, ◌+◌, ◌<◌, Bool, true, false, ◌&&◌, List, [], ◌∷◌, ◌++◌, length, Option, Some, None, Ok, refl, sym, ap, ◌∙◌, subst, arith}
+use Rattle.std.proofs.Common.{◌≡◌, ℕ, ◌<◌, true, false, List, [], ◌∷◌, ◌++◌, length, Some, None, Ok, refl, ap, ◌∙◌}
 use Rattle.std.specs.Prelude.{codes, bytes_eq}
 use Rattle.std.specs.List.{list_all}
 use Rattle.std.specs.Option.{ok_or}
@@ -9,12 +9,10 @@ use Rattle.h41_words.specs.declared.operation.Operation.{Operation}
 use Rattle.h41_words.specs.declared.operation.Operation.TheVariants.{ClearA}
 use Rattle.h41_words.specs.declared.rows.Condition.{Condition}
 use Rattle.h41_words.specs.declared.rows.Condition.TheVariants.{NoCarry, Carry}
-use Rattle.h41_words.specs.declared.rows.Row.{Row}
 use Rattle.h41_words.specs.declared.rows.Row.TheVariants.{ClearStatus, SetStatus, TestStatus, TestPointer, SetPointer, RotateRight, LoadDigit, Write, Read}
 use Rattle.h41_words.specs.declared.second_word.LongJumpKind.{LongJumpKind}
 use Rattle.h41_words.specs.declared.second_word.LongJumpKind.TheVariants.{Execute, Go}
 use Rattle.h41_words.specs.Mnemonics.{operation_text, long_jump_text, short_jump_text}
-use Rattle.h41_asm.specs.declared.fault.Fault.{Fault}
 use Rattle.h41_asm.specs.declared.fault.Fault.TheVariants.{BadOperand}
 use Rattle.h41_asm.specs.SourceLines.{line_of, words_of}
 use Rattle.h41_asm.specs.Statements.{Words, Taking, reading, not_single, single_or_not, single_among, singles, takers, takes_field, takes_number, takes_address, takes_displacement, takes_immediate, takes_constant}

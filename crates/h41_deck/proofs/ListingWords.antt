@@ -1,7 +1,7 @@
 -- The words of a mnemonic and an operand behind a blank.
-use Rattle.std.proofs.Common.{◌≡◌, ℕ, ◌+◌, ◌<◌, ◌≤◌, Bool, true, false, not, ◌&&◌, ◌||◌, List, [], ◌∷◌, ◌++◌, length, nat_lt, ◌==◌, filter, refl, sym, ap, ◌∙◌, arith, inl, inr}
+use Rattle.std.proofs.Common.{◌≡◌, ℕ, ◌<◌, Bool, true, false, not, ◌&&◌, List, [], ◌∷◌, ◌++◌, length, nat_lt, ◌==◌, filter, refl, ap, ◌∙◌, arith, inl, inr}
 use Rattle.std.specs.List.{list_all, onto_first}
-use Rattle.std.proofs.lemmas.Bool.{cases_Bool, and_parts, lt-ltb, cond_both, cond-true, not-true, or_parts}
+use Rattle.std.proofs.lemmas.Bool.{cases_Bool, and_parts, lt-ltb, cond_both, cond-true, not-true}
 use Rattle.std.proofs.lemmas.List.Elements.{filter-append}
 use Rattle.h41_asm.specs.SourceLines.{is_blank, parts_from, quoted_after, words_of}
 use Rattle.h41_deck.proofs.ListingLines.{is_plain, not_below, not_special}

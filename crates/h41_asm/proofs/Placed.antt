@@ -1,5 +1,5 @@
 -- The first pass: what its loop keeps over the lines.
-use Rattle.std.proofs.Common.{◌≡◌, ℕ, suc, ◌+◌, ◌≤◌, Bool, true, false, ◌||◌, List, [], ◌∷◌, ◌++◌, length, refl, sym, ap, ◌∙◌, subst, append_assoc, append-nil, IfSome, Some, None, Option, Ok, Err, Result, arith, is_some, add-one, nat_le, nat_lt, cond, bytes_eq, inl, inr, if◌then◌else◌}
+use Rattle.std.proofs.Common.{◌≡◌, ℕ, suc, ◌+◌, ◌≤◌, Bool, true, false, ◌||◌, List, [], ◌∷◌, ◌++◌, refl, sym, ap, ◌∙◌, Some, None, Option, is_some, add-one, nat_le, nat_lt, bytes_eq, inl, inr, if◌then◌else◌}
 use Rattle.std.specs.Bool.{then_some}
 use Rattle.std.specs.List.{list_any}
 use Rattle.std.specs.Option.{option_or}
@@ -14,9 +14,10 @@ use Rattle.h41_asm.specs.declared.fault.Fault.TheVariants.{LabelTwice, TooLong}
 use Rattle.h41_asm.specs.Assembly.{address_count}
 use Rattle.h41_asm.specs.Faults.{at_line, has_label, label_address, labelled_fault, line_length, own_fault, own_faults, twice_fault}
 use Rattle.h41_asm.specs.Placing.{Labels}
-use Rattle.h41_asm.specs.Refusals.{label_fault, placed_fault, placing_fault, with_address, with_label}
+use Rattle.h41_asm.specs.Refusals.{placed_fault, placing_fault, with_label}
 use Rattle.h41_asm.specs.SourceLines.{SourceLine}
 use Rattle.h41_asm.specs.Statements.{reading}
+use Rattle.h41_asm.proofs.Found.{not_then_some, or_none, or_nothing}
 
 -- a line is its label and its words
 pub same_line : (line : SourceLine) (label : Option (List ℕ)) (code : List (List ℕ)) → label ≡ line.label → code ≡ line.code → record { label = label; code = code } ≡ line
@@ -96,14 +97,6 @@ addresses_next labels address behind (Some own) none name =
       | inr other ↦ rw (turned, other) refl
     ]
 
-or_none : {T : Type 0} (first second : Option T) → option_or first second ≡ None → (first ≡ None) × (second ≡ None)
-or_none None second none = (refl, none)
-or_none (Some found) second none = let no : Some found ≡ None = none in cc
-
-not_then_some : {T : Type 0} (test : Bool) (found : T) → then_some test found ≡ None → test ≡ false
-not_then_some true found none = let no : Some found ≡ None = none in cc
-not_then_some false found none = refl
-
 -- a line without a fault ends within the addresses
 pub placed_within : (labels : Labels) (address : ℕ) (line : SourceLine) → placing_fault labels address line ≡ None → address + line_length line ≤ address_count
 placed_within labels address line none =
@@ -127,10 +120,6 @@ placed_next labels after all origin number address line rest placed none added =
       addresses = λ name. ap (λ found. option_or found (label_address (address + line_length line) rest name)) (added name)
           ∙ addresses_next labels address (label_address (address + line_length line) rest) line.label new.0 name ∙ placed.addresses name;
     }
-
-or_nothing : {T : Type 0} (found : Option T) → option_or found None ≡ found
-or_nothing None = refl
-or_nothing (Some found) = refl
 
 -- where none are left, the addresses are those of all
 pub placed_all : (labels : Labels) (all : List SourceLine) (origin number address : ℕ) → IsPlaced labels all origin number address []

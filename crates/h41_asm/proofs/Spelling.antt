@@ -1,10 +1,10 @@
 -- The second pass: what its loop keeps over the lines.
-use Rattle.std.proofs.Common.{◌≡◌, ℕ, ◌+◌, ◌≤◌, List, [], ◌∷◌, ◌++◌, length, refl, sym, ap, ◌∙◌, subst, append_assoc, append-nil, IfSome, Some, None, Option, Ok, Err, Result, arith, IsOk, is_ok, true, false, add-one}
+use Rattle.std.proofs.Common.{◌≡◌, ℕ, ◌+◌, ◌≤◌, List, ◌∷◌, ◌++◌, length, refl, sym, ap, ◌∙◌, subst, append_assoc, IfSome, Some, None, Ok, Err, Result, is_ok, true, false, add-one}
 use Rattle.h41_asm.specs.declared.fault.Fault.{Fault}
 use Rattle.h41_asm.specs.declared.statement.Statement as code
 use Rattle.h41_asm.specs.CodeStatements.{read_in_code}
-use Rattle.h41_asm.specs.Faults.{line_length, read_length, read_fault, reference_fault, reference_faults}
-use Rattle.h41_asm.specs.Placing.{Labels, LineSpells, LinesSpell, Spells, SpellsRead}
+use Rattle.h41_asm.specs.Faults.{line_length, read_length, reference_fault, reference_faults}
+use Rattle.h41_asm.specs.Placing.{Labels, LinesSpell, Spells, SpellsRead}
 use Rattle.h41_asm.specs.Refusals.{IsReady, SpellsNext}
 use Rattle.h41_asm.specs.SourceLines.{SourceLine}
 use Rattle.h41_asm.specs.Statements.{Statement, Words, OutOfReach, LongJumpTo, ShortJumpTo, EntryAt, reading, statement_length}

@@ -1,4 +1,5 @@
 pub mod Assembly
+pub mod AssemblyLaws
 pub mod CodeStatements
 pub mod Faults
 pub mod Operands

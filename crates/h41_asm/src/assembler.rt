@@ -2,9 +2,9 @@
 
 ghost use Rattle.std.specs.Prelude.{◌≡◌, ◌+◌, ◌≤◌, ◌<◌, ◌^◌, ◌++◌, [], ◌∷◌, None, IfOk, IfErr, OnOk, pos, ◌-ℤ◌, ℤ};
 ghost use Rattle.std.specs.Option.{ok_or};
-ghost use Rattle.h41_asm.specs.Assembly.{address_count};
+ghost use Rattle.h41_asm.specs.Assembly.{Assembles, address_count};
 ghost use Rattle.h41_asm.specs.CodeStatements.{in_code, in_line};
-ghost use Rattle.h41_asm.specs.Faults.{line_length, own_faults, reference_fault, reference_faults};
+ghost use Rattle.h41_asm.specs.Faults.{assembly_fault, line_length, own_faults, reference_fault, reference_faults};
 ghost use Rattle.h41_asm.specs.Placing.{LinesSpell};
 ghost use Rattle.h41_asm.specs.SourceLines.{source_lines};
 ghost use Rattle.h41_asm.specs.Refusals.{AddressAdded, AreLabelsOf, IsFault, IsReady, IsRefusal, LabelAdded, label_fault, placing_fault, SpellsNext, jump_word, labels_in};
@@ -26,12 +26,20 @@ const ADDRESSES: u32 = 0x10000;
 /// The addresses of the labels, in the order of their lines.
 type Labels<'a> = IndexMap<&'a [u8], u16>;
 
+/// The words that a source spells, the first of them at the origin. A refusal is the first fault: lines that cannot be read,
+/// labels that stand twice and words past FFFF (30, 31, 32, 35) by lines, and then references (33, 34) by lines; or 21, where no
+/// memory is left.
+pub fn assemble(alloc: Global, text: &[u8], origin: u16) -> Result<Vec<Word>, AssembleError>
+    ensures words { IfOk result (λ words. Assembles text.now origin words.items) }
+    ensures ok { OnOk result (assembly_fault text.now origin ≡ None) }
+    ensures err { IfErr result (λ error. IsRefusal error (assembly_fault text.now origin)) }
+{
+    let labels = place(alloc, text, origin)?;
+    spell(alloc, text, origin, &labels)
+}
+
 /// The addresses of the labels of a source, or the first fault that a line has whatever these are.
-fn place<'a>(
-    alloc: Global,
-    text: &'a [u8],
-    origin: u16,
-) -> Result<Labels<'a>, AssembleError>
+fn place<'a>(alloc: Global, text: &'a [u8], origin: u16) -> Result<Labels<'a>, AssembleError>
     ensures ok { OnOk result (own_faults 1 origin [] (source_lines text.now) ≡ None) }
     ensures labels { IfOk result (λ labels. AreLabelsOf labels origin (source_lines text.now)) }
     ensures err { IfErr result (λ error. IsRefusal error (own_faults 1 origin [] (source_lines text.now))) }

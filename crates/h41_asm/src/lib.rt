@@ -5,6 +5,7 @@
 mod assembler;
 mod emit;
 mod fault;
+pub mod laws;
 mod lines;
 mod names;
 mod operands;
@@ -13,4 +14,5 @@ mod statement;
 mod table;
 mod words;
 
+pub use assembler::assemble;
 pub use fault::{AssembleError, Fault};

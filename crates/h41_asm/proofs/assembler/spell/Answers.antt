@@ -1,8 +1,8 @@
-use Rattle.std.proofs.Common.{[], append-nil, refl, ◌≡◌, ◌+◌, ◌∷◌, List, Ok, None, arith, sym, ◌∙◌, ap, subst, length, map}
+use Rattle.std.proofs.Common.{[], append-nil, refl, ◌≡◌, ◌+◌, ◌∷◌, List, Ok, arith, sym, ◌∙◌, ap, length, map}
 use Rattle.h41_asm.specs.CodeStatements.{in_code}
-use Rattle.h41_asm.specs.SourceLines.{SourceLine, line_of, lines, source_lines, words_of}
+use Rattle.h41_asm.specs.SourceLines.{SourceLine, line_of, source_lines, words_of}
 use Rattle.h41_asm.specs.Faults.{reference_faults}
-use Rattle.h41_asm.specs.Placing.{Labels, LinesSpell}
+use Rattle.h41_asm.specs.Placing.{Labels}
 use Rattle.h41_asm.specs.Refusals.{IsReady, labels_in}
 use Rattle.h41_asm.specs.Statements.{reading, statement_length}
 use Rattle.h41_asm.proofs.LineCount.{length-lines}

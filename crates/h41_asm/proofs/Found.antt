@@ -1,0 +1,21 @@
+-- The first of two that are found, and what a test finds.
+use Rattle.std.proofs.Common.{◌≡◌, Bool, true, false, refl, Some, None, Option, is_some}
+use Rattle.std.specs.Bool.{then_some}
+use Rattle.std.specs.Option.{option_or}
+
+pub or_none : {T : Type 0} (first second : Option T) → option_or first second ≡ None → (first ≡ None) × (second ≡ None)
+or_none None second none = (refl, none)
+or_none (Some found) second none = let no : Some found ≡ None = none in cc
+
+pub or_nothing : {T : Type 0} (found : Option T) → option_or found None ≡ found
+or_nothing None = refl
+or_nothing (Some found) = refl
+
+pub not_then_some : {T : Type 0} (test : Bool) (found : T) → then_some test found ≡ None → test ≡ false
+not_then_some true found none = let no : Some found ≡ None = none in cc
+not_then_some false found none = refl
+
+-- what is not found is none
+pub unfound : {T : Type 0} (found : Option T) → (is_some found ≡ false) → found ≡ None
+unfound None none = refl
+unfound (Some found) none = let no : true ≡ false = none in cc

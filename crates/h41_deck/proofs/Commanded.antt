@@ -12,11 +12,13 @@ use Rattle.h41_deck.specs.declared.fault.CommandFault.TheVariants.{OutOfMemory, 
 use Rattle.h41_deck.specs.declared.refusal.Refusal.{Refusal}
 use Rattle.h41_deck.specs.declared.replies.Outcome.{Outcome}
 use Rattle.h41_deck.specs.Calculator.{State, Steps, call_refusal, called, restarted, unplug_refusal, without_page}
+use Rattle.h41_deck.specs.Blocks.{TakenBlock, judgement}
+use Rattle.h41_deck.specs.Commands.{kind_of}
 use Rattle.h41_deck.specs.Ends.{AppendsPart}
 use Rattle.h41_deck.specs.Items.{Spelled, with_values}
 use Rattle.h41_deck.specs.Listings.{listed}
 use Rattle.h41_deck.specs.Views.{shown}
-use Rattle.h41_deck.specs.Replies.{Answer, ChangesUnless, EndsAs, ItemReply, Leaves, Replies, RepliesInPart, Reply, Tells, block_refusal, ending_line, ends_by, outcome_in, printed, says_or_ends, shown_text, with_block}
+use Rattle.h41_deck.specs.Replies.{Answer, ChangesUnless, EndsAs, ItemReply, Leaves, Plugs, PlugsBlock, Replies, RepliesInPart, Reply, Tells, ending_line, ends_by, outcome_in, printed, says_or_ends, shown_text}
 
 -- a block that is refused is answered by its refusal
 pub refused_reply : (values : Result (List ℕ) Refusal) (command : Command) (refusal : Refusal) (s : State) → Some refusal ≡ result_err values
@@ -52,12 +54,12 @@ pub part_by : (item : Spelled) (s t : State) (old new : Option (List ℕ)) (refu
 part_by item s t old new refusal reply written = record { answer = ends_by refusal; reply = reply; written = written }
 
 -- each command's reply
-pub plug_reply : (values : Result (List ℕ) Refusal) (command : Command) (kind : BlockKind) (page : ℕ) (writable : Bool) (words : List ℕ)
-    (ended : Result (Unit {0}) Refusal) (s t : State) → command ≡ Plug kind page writable → values ≡ Ok words
-    → result_err ended ≡ block_refusal s page words → t ≡ with_block page writable words s
-    → ItemReply (with_values values command) s t (ends_by (result_err ended))
-plug_reply values command kind page writable words ended s t spelt said refusal change =
-    rw (spelt, said) (change, ap ends_by refusal)
+pub plug_reply : (block : TakenBlock) (command : Command) (kind : BlockKind) (page : ℕ) (writable : Bool) (ended : Result (Unit {0}) Refusal)
+    (s t : State) → command ≡ Plug kind page writable → block.kind ≡ kind_of command → PlugsBlock block page writable s t ended
+    → ItemReply (with_values (judgement block) command) s t (ends_by (result_err ended))
+plug_reply block command kind page writable ended s t spelt own plugs =
+    let kind_is : block.kind ≡ Some kind = own ∙ ap kind_of spelt in
+    rw (spelt, plugs.1) (subst (λ of. Plugs of page writable plugs.0 s t (ends_by (result_err ended))) kind_is plugs.2)
 
 pub call_reply : (values : Result (List ℕ) Refusal) (command : Command) (address : ℕ) (ended : Result (Unit {0}) Refusal) (s t : State)
     → command ≡ Call address → None ≡ result_err values → result_err ended ≡ call_refusal s address → OnOk ended (t ≡ called address s)

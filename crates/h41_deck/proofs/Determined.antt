@@ -1,7 +1,15 @@
--- Why a deck determines what it prints, where a word's change is determined.
-use Rattle.std.proofs.Common.{◌≡◌, ℕ, zero, suc, Option, Some, None, Ok, Err, List, [], ◌∷◌, flat_map, refl, sym, ap, subst, ◌∙◌}
+-- Why a deck determines what it prints, where a word's change is determined, and a source's words are.
+use Rattle.std.proofs.Common.{◌≡◌, ℕ, zero, suc, Bool, Result, option_map, IsSome, Option, Some, None, Ok, Err, List, [], ◌∷◌, flat_map, refl, sym, ap, subst, ◌∙◌}
 use Rattle.std.specs.Prelude.{MatchOption}
+use Rattle.h41_asm.specs.AssemblyLaws.{NeverBoth, WordsAreDetermined}
+use Rattle.h41_asm.specs.Faults.{assembly_fault}
+use Rattle.h41_asm.specs.declared.fault.Fault as asm
 use Rattle.h41_nut.specs.ProcessorLaws.{MicroIsDetermined}
+use Rattle.h41_deck.specs.declared.commands.BlockKind.{BlockKind}
+use Rattle.h41_deck.specs.declared.commands.BlockKind.TheVariants as kinds
+use Rattle.h41_deck.specs.Commands.{and_then}
+use Rattle.h41_deck.specs.Fillings.{Fills, Gives, fitting, page_address}
+use Rattle.h41_deck.specs.Refusals.{of_source_fault}
 use Rattle.h41_deck.specs.declared.calculator.Mode.{Mode}
 use Rattle.h41_deck.specs.declared.calculator.Mode.TheVariants as modes
 use Rattle.h41_deck.specs.declared.commands.Command.{Command}
@@ -10,9 +18,33 @@ use Rattle.h41_deck.specs.declared.refusal.Refusal.{Refusal}
 use Rattle.h41_deck.specs.Calculator.{State, start, StepIn, Step, Steps, step_refusal, mode_at}
 use Rattle.h41_deck.specs.Deck.{Answers, DeckDeterminesOutcome, DeckDeterminesText, LongDeckDeterminesText, outcome_of}
 use Rattle.h41_deck.specs.Items.{Spelled}
-use Rattle.h41_deck.specs.Replies.{Answer, Reply, ItemReply, printed}
+use Rattle.h41_deck.specs.Replies.{Answer, PlugsWords, Reply, ItemReply, printed}
 
-module _ (same_micro : MicroIsDetermined) where
+same_fault : (fault other : Option (asm.Fault × ℕ)) (why : Refusal) → option_map (λ found. of_source_fault found.0 found.1) fault ≡ Some why → fault ≡ other → IsSome other
+same_fault None other why e same = cc
+same_fault (Some found) other why e same = rw (sym same) tt
+
+module _ (same_micro : MicroIsDetermined) (never_both : NeverBoth) (same_words : WordsAreDetermined) where
+  -- what a source gives
+  same_given : (source : List ℕ) (origin : ℕ) (one other : Result (List ℕ) Refusal) → Gives source origin one → Gives source origin other → one ≡ other
+  same_given source origin (Ok one) (Ok other) p q = ap Ok (same_words source origin one other p q)
+  same_given source origin (Ok one) (Err why) p q = absurd (never_both source origin (one, p) (same_fault (assembly_fault source origin) _ why q refl))
+  same_given source origin (Err why) (Ok other) p q = absurd (never_both source origin (other, q) (same_fault (assembly_fault source origin) _ why p refl))
+  same_given source origin (Err why) (Err other) p q = let same : why ≡ other = cc in ap Err same
+
+  same_filling : (kind : Option BlockKind) (page : ℕ) (values : List ℕ) (one other : Result (List ℕ) Refusal)
+      → Fills kind page values one → Fills kind page values other → one ≡ other
+  same_filling None page values one other p q = p ∙ sym q
+  same_filling (Some kinds.Words) page values one other p q = p ∙ sym q
+  same_filling (Some kinds.Image) page values one other p q = p ∙ sym q
+  same_filling (Some kinds.Asm) page values one other p q =
+      p.2 ∙ ap (λ given. and_then given fitting) (same_given values (page_address page) p.0 q.0 p.1 q.1) ∙ sym q.2
+
+  same_plug : (page : ℕ) (writable : Bool) (words : Result (List ℕ) Refusal) (s t u : State) (a b : Answer)
+      → PlugsWords page writable words s t a → PlugsWords page writable words s u b → (t ≡ u) × (a ≡ b)
+  same_plug page writable (Ok words) s t u a b p q = (p.0 ∙ sym q.0, p.1 ∙ sym q.1)
+  same_plug page writable (Err why) s t u a b p q = (p.0 ∙ sym q.0, p.1 ∙ sym q.1)
+
   same_step : (mode : Mode) (s t u : State) → StepIn mode s t → StepIn mode s u → t ≡ u
   same_step modes.Idle s t u p q = p ∙ sym q
   same_step modes.Micro s t u p q =
@@ -35,7 +67,9 @@ module _ (same_micro : MicroIsDetermined) where
   same_steps (suc count) s t u a b p q = same_more count (same_steps count) (step_refusal s) s t u a b p q
 
   same_reply : (command : Command) (words : List ℕ) (s t u : State) (a b : Answer) → Reply command words s t a → Reply command words s u b → (t ≡ u) × (a ≡ b)
-  same_reply (commands.Plug kind page writable) words s t u a b p q = (p.0 ∙ sym q.0, p.1 ∙ sym q.1)
+  same_reply (commands.Plug kind page writable) words s t u a b p q =
+      let same : p.0 ≡ q.0 = same_filling (Some kind) page words p.0 q.0 p.1 q.1 in
+      same_plug page writable q.0 s t u a b (subst (λ made. PlugsWords page writable made s t a) same p.2) q.2
   same_reply (commands.Unplug page) words s t u a b p q = (p.0 ∙ sym q.0, p.1 ∙ sym q.1)
   same_reply commands.Reset words s t u a b p q = (p.0 ∙ sym q.0, p.1 ∙ sym q.1)
   same_reply (commands.Call address) words s t u a b p q = (p.0 ∙ sym q.0, p.1 ∙ sym q.1)

@@ -9,6 +9,14 @@ pub mod EndsLemmas
 pub mod FlagTexts
 pub mod ImageLines
 pub mod Inputs
+pub mod ListingLines
+pub mod ListingNumbers
+pub mod ListingPieces
+pub mod ListingRows
+pub mod ListingSource
+pub mod ListingTable
+pub mod ListingTexts
+pub mod ListingWords
 pub mod Numbers
 pub mod Plugging
 pub mod StepsInTurn

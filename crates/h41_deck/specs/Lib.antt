@@ -10,6 +10,7 @@ pub mod Fillings
 pub mod Items
 pub mod Lines
 pub mod Listings
+pub mod ListingRoundTrip
 pub mod Numbers
 pub mod PageViews
 pub mod Refusals

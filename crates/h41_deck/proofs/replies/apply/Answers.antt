@@ -7,7 +7,7 @@ use Rattle.h41_deck.specs.Views.{shown}
 use Rattle.h41_deck.specs.Replies.{ItemReply, ends_by}
 use Rattle.h41_deck.proofs.Commanded.{call_reply, part_by, plug_reply, refused_reply, replies_by, list_reply, reset_reply, show_reply, step_reply, tells_made, unplug_reply}
 use Rattle.h41_deck.proofs.replies.apply.Goals as goal
-use Rattle.h41_deck.proofs.replies.apply.Goals.{in-Plug+in_ok-words-in-Plug+in_ok-ended-in-Plug, in-Call, in-Reset, in-Step, in-Unplug}
+use Rattle.h41_deck.proofs.replies.apply.Goals.{in-Plug+in_ok-ended-in-Plug, in-Call, in-Reset, in-Step, in-Unplug}
 
 pub returns-in_err-print_ending-clause-reply : goal.returns-in_err-print_ending-clause-reply
 returns-in_err-print_ending-clause-reply g c =
@@ -36,8 +36,8 @@ pub returns-in_err-print_ending-2-clause-reply : goal.returns-in_err-print_endin
 returns-in_err-print_ending-2-clause-reply g c =
     let reply : ItemReply (with_values (judgement c.args.block) c.args.command) c.args.bench.now c.match-command.bench (ends_by (result_err c.match-command.ended)) =
     elim c.match-command.branch [
-      | in-Plug+in_ok-words-in-Plug+in_ok-ended-in-Plug w ↦ rw (w.bench-is, w.ended-is) (plug_reply (judgement c.args.block) c.args.command w.in-Plug.kind w.in-Plug.page w.in-Plug.writable _ w.in_ok-ended-in-Plug.ended c.args.bench.now _
-          w.in-Plug.is w.in_ok-words-in-Plug.ensures.words w.in_ok-ended-in-Plug.ensures.refusal w.in_ok-ended-in-Plug.ensures.change)
+      | in-Plug+in_ok-ended-in-Plug w ↦ rw (w.bench-is, w.ended-is) (plug_reply c.args.block c.args.command w.in-Plug.kind w.in-Plug.page w.in-Plug.writable w.in_ok-ended-in-Plug.ended c.args.bench.now _
+          w.in-Plug.is c.requires.block w.in_ok-ended-in-Plug.ensures.plugs)
       | in-Unplug w ↦ rw (w.bench-is, w.ended-is) (unplug_reply (judgement c.args.block) c.args.command w.in-Unplug.page w.unplug-ended.result c.args.bench.now _
           w.in-Unplug.is c.in_default.ensures w.unplug-ended.ensures.refusal w.unplug-ended.ensures.change w.unplug-ended.ensures.err)
       | in-Reset w ↦ rw (w.bench-is, w.ended-is) (reset_reply (judgement c.args.block) c.args.command c.args.bench.now _
@@ -53,8 +53,8 @@ pub returns-clause-reply : goal.returns-clause-reply
 returns-clause-reply g c =
     let reply : ItemReply (with_values (judgement c.args.block) c.args.command) c.args.bench.now c.match-command.bench (ends_by (result_err c.match-command.ended)) =
     elim c.match-command.branch [
-      | in-Plug+in_ok-words-in-Plug+in_ok-ended-in-Plug w ↦ rw (w.bench-is, w.ended-is) (plug_reply (judgement c.args.block) c.args.command w.in-Plug.kind w.in-Plug.page w.in-Plug.writable _ w.in_ok-ended-in-Plug.ended c.args.bench.now _
-          w.in-Plug.is w.in_ok-words-in-Plug.ensures.words w.in_ok-ended-in-Plug.ensures.refusal w.in_ok-ended-in-Plug.ensures.change)
+      | in-Plug+in_ok-ended-in-Plug w ↦ rw (w.bench-is, w.ended-is) (plug_reply c.args.block c.args.command w.in-Plug.kind w.in-Plug.page w.in-Plug.writable w.in_ok-ended-in-Plug.ended c.args.bench.now _
+          w.in-Plug.is c.requires.block w.in_ok-ended-in-Plug.ensures.plugs)
       | in-Unplug w ↦ rw (w.bench-is, w.ended-is) (unplug_reply (judgement c.args.block) c.args.command w.in-Unplug.page w.unplug-ended.result c.args.bench.now _
           w.in-Unplug.is c.in_default.ensures w.unplug-ended.ensures.refusal w.unplug-ended.ensures.change w.unplug-ended.ensures.err)
       | in-Reset w ↦ rw (w.bench-is, w.ended-is) (reset_reply (judgement c.args.block) c.args.command c.args.bench.now _

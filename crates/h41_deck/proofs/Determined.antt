@@ -22,7 +22,7 @@ use Rattle.h41_deck.specs.Replies.{Answer, PlugsWords, Reply, ItemReply, printed
 
 same_fault : (fault other : Option (asm.Fault × ℕ)) (why : Refusal) → option_map (λ found. of_source_fault found.0 found.1) fault ≡ Some why → fault ≡ other → IsSome other
 same_fault None other why e same = cc
-same_fault (Some found) other why e same = rw (sym same) tt
+same_fault (Some found) other why e same = rw (sym same) refl
 
 module _ (same_micro : MicroIsDetermined) (never_both : NeverBoth) (same_words : WordsAreDetermined) where
   -- what a source gives

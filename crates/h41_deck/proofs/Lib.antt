@@ -6,6 +6,7 @@ pub mod DeckLines
 pub mod DeckWords
 pub mod Determined
 pub mod EndsLemmas
+pub mod Filling
 pub mod FlagTexts
 pub mod ImageLines
 pub mod Inputs

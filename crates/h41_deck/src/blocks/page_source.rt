@@ -1,6 +1,8 @@
 //! The source of a page's words, as the lines of an `asm` block are.
 
-ghost use Rattle.std.specs.Prelude.{◌≡◌, IfOk};
+ghost use Rattle.std.specs.Prelude.{◌≡◌, ◌≤◌, IfOk, vec_len};
+ghost use Rattle.h41_pages.specs.Addresses.{page_size};
+ghost use Rattle.h41_deck.specs.Fillings.{fitting, values_in};
 
 use crate::blocks::page_words::PAGE_WORDS;
 use crate::lines::line::is_skipped;
@@ -57,8 +59,7 @@ impl PageSource {
         ensures bound { IfOk result (λ made. IfOk made (λ words. vec_len words ≤ page_size)) }
     {
         match assemble(alloc, &self.text, u16::from(page % PAGES) * PAGE_WORDS as u16) {
-            Ok(words) if words.len() > PAGE_WORDS => Ok(Err(Refusal::BadImage)),
-            Ok(words) => Ok(Ok(numbers_of(alloc, &words)?)),
+            Ok(words) => page_numbers(alloc, &words),
             Err(AssembleError::Line { fault, line }) => {
                 Ok(Err(Refusal::of_source_line(fault, line)))
             }
@@ -67,13 +68,17 @@ impl PageSource {
     }
 }
 
-/// The numbers of words. 21 where memory is refused.
-fn numbers_of(alloc: Global, words: &[Word]) -> Result<Vec<u16>, AllocError>
-    ensures { IfOk result (λ numbers. numbers.items ≡ words.now) }
+/// The numbers of words for a page. Refused as 4 where there are more than it has. 21 where memory is refused.
+fn page_numbers(alloc: Global, words: &[Word]) -> Result<Result<Vec<u16>, Refusal>, AllocError>
+    ensures fitting { IfOk result (λ made. values_in made ≡ fitting words.now) }
+    ensures bound { IfOk result (λ made. IfOk made (λ words. vec_len words ≤ page_size)) }
 {
+    if words.len() > PAGE_WORDS {
+        return Ok(Err(Refusal::BadImage));
+    }
     let mut numbers = Vec::new(alloc);
     for word in words {
         numbers.push(word.number())?;
     }
-    Ok(numbers)
+    Ok(Ok(numbers))
 }

@@ -74,6 +74,7 @@ A deck is a text file of commands, one a line. Such as:
 
   words P [rw]  fills page P, 4 to F, with the words on the lines up to `end`
   image P [rw]  likewise with the bytes of an image file, in hexadecimal
+  asm P [rw]    likewise with the words that the block's source spells
   unplug P      takes the page out again
   reset         begins anew; pages stay plugged
   call hhhh     begins the function at an address

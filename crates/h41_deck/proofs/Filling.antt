@@ -1,5 +1,5 @@
 -- The words that a source gives for a page.
-use Rattle.std.proofs.Common.{◌≡◌, ℕ, List, Option, Some, None, Ok, Err, Result, Vec, IfOk, refl, sym}
+use Rattle.std.proofs.Common.{◌≡◌, ℕ, List, Some, Ok, Err, Result, Vec, IfOk, refl, sym}
 use Rattle.std.specs.Global.{Global}
 use Rattle.h41_asm.specs.Assembly.{Assembles}
 use Rattle.h41_asm.specs.Faults.{assembly_fault}

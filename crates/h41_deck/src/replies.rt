@@ -91,9 +91,7 @@ pub fn apply<W: Sink>(
         return Ok(print_ending(Err(refusal), writer)?);
     }
     let ended = match command {
-        Command::Plug { page, writable, .. } => {
-            plug(alloc, bench, block, page, writable)?
-        }
+        Command::Plug { page, writable, .. } => { plug(alloc, bench, block, page, writable)? }
         Command::Unplug(page) => unplug(bench, page),
         Command::Reset => {
             bench.calculator.reset();

@@ -165,6 +165,47 @@ fn lists_words_of_one_page(rt: HostRuntime) -> Result<(), Fail> {
 }
 
 #[test]
+fn assembles_pages(rt: HostRuntime) -> Result<(), Fail> {
+    let cases = [
+        (
+            "asm 8\nCON 005\n\nCON 002\nENTRY :H\nENTRY :K\nCON 000\nCON 000\nNAME \"KIT\"\nH: RTN\n\
+             # the second\nNAME \"KILL\" ; from its end\nK: LDI 19A\nRAM SLCT\nRTN\nend\n\
+             show functions\nlist 8010 3\n",
+            "XROM 05,00 KIT\nXROM 05,01 KILL\n8010  130 19A  LDI 19A\n8012  270      RAM SLCT\n",
+        ),
+        (
+            "asm 8\nJNC -01\nJNC -40\nJC +3F\n?NC XQ 8010\n?C GO 8FFE\nend\nlist 8000 7\n",
+            "8000  3FB      JNC -01\n8001  203      JNC -40\n8002  1FF      JC +3F\n\
+             8003  041 200  ?NC XQ 8010\n8005  3F9 23F  ?C GO 8FFE\n",
+        ),
+        (
+            "asm 8\n# one\n\nHOP\nend\nasm 8\nR= 14\nend\nasm 8\nA: NOP\nA: NOP\nend\n\
+             asm 8\n?NC GO :B\nend\nasm 8\nJC +40\nend\nasm 8\n?NC GO :B\nHOP\nend\n",
+            "! 30 BadLine 3\n! 31 BadOperand 1\n! 32 LabelTwice 2\n! 33 NoLabel 1\n! 34 TooFar 1\n\
+             ! 30 BadLine 2\n",
+        ),
+        (
+            "asm 3\nHOP\nend\nasm 3\nNOP\nend\nasm 8\nend\nasm 8\nend\nasm g\nHOP\nend\nasm\nend\n",
+            "! 30 BadLine 1\n! 01 NoSuchPage\n! 02 Occupied\n! 51 BadNumber\n! 50 BadCommand\n",
+        ),
+    ];
+    for (deck, text) in cases {
+        prints(&rt, rt.alloc(), deck, text)?;
+    }
+    Ok(())
+}
+
+#[test]
+fn judges_the_size_of_sources(rt: HostRuntime) -> Result<(), Fail> {
+    let words = "NOP\n".repeat(rt.alloc(), 4097)?;
+    for (page, text) in [("8", "! 04 BadImage\n"), ("F", "! 35 TooLong 4097\n")] {
+        let deck = format!(in rt.alloc(); "asm {page}\n{words}end\n")?;
+        prints(&rt, rt.alloc(), deck.as_str(), text)?;
+    }
+    Ok(())
+}
+
+#[test]
 fn shows_the_processor(rt: HostRuntime) -> Result<(), Fail> {
     let two = "00000000000002";
     let cases = [

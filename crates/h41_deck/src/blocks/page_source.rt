@@ -58,7 +58,11 @@ impl PageSource {
         ensures words { IfOk result (λ made. Fills (Some Asm) page (source_in self) (values_in made)) }
         ensures bound { IfOk result (λ made. IfOk made (λ words. vec_len words ≤ page_size)) }
     {
-        match assemble(alloc, &self.text, u16::from(page % PAGES) * PAGE_WORDS as u16) {
+        match assemble(
+            alloc,
+            &self.text,
+            u16::from(page % PAGES) * PAGE_WORDS as u16,
+        ) {
             Ok(words) => page_numbers(alloc, &words),
             Err(AssembleError::Line { fault, line }) => {
                 Ok(Err(Refusal::of_source_line(fault, line)))

@@ -1,4 +1,4 @@
-use Rattle.std.proofs.Common.{◌≡◌, ℕ, arith}
+use Rattle.std.proofs.Common.{◌≡◌, arith}
 use Rattle.h41_deck.specs.Refusals.{of_source_fault}
 use Rattle.h41_deck.proofs.Filling.{fills_fault, fills_words}
 use Rattle.h41_deck.proofs.blocks.page_source.PageSource.into_words.Goals as goal

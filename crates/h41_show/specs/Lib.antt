@@ -1,0 +1,5 @@
+pub mod DisplayFormat
+pub mod Digits
+pub mod Rounding
+pub mod NumberText
+pub mod RegisterText

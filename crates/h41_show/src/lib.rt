@@ -1,0 +1,17 @@
+//! The texts that the HP-41's display shows for numbers, registers and ALPHA.
+#![tactic(auto)]
+
+mod digits;
+mod flags;
+pub mod format;
+mod number;
+mod register;
+mod rounding;
+
+pub use digits::WIDTH;
+pub use format::{Format, Notation, RadixMark};
+pub use number::number_text;
+pub use register::{alpha_text, register_text};
+
+#[cfg(test)]
+mod tests;

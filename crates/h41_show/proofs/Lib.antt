@@ -1,1 +1,4 @@
 pub mod DecimalTexts
+pub mod Held
+pub mod Powers
+pub mod Roundings

@@ -1,9 +1,9 @@
 //! The texts of registers and of ALPHA.
 
-ghost use Rattle.std.specs.Prelude.{◌≡◌, ◌+◌, ◌*◌, ◌<◌, ◌≤◌, ◌++◌, [], ◌∷◌, length, true};
+ghost use Rattle.std.specs.Prelude.{◌≡◌, ◌+◌, ◌*◌, ◌<◌, ◌≤◌, ◌++◌, [], ◌∷◌, length, map, true};
 ghost use Rattle.std.specs.Fmt.{digit_glyph};
 ghost use Rattle.arrayvec.specs.ArrayString.{array_string_len};
-ghost use Rattle.h41_digits.specs.Register.{text, hexadecimal_text};
+ghost use Rattle.h41_digits.specs.Register as digits;
 ghost use Rattle.h41_decimal.specs.Holding as holding;
 ghost use Rattle.h41_show.specs.RegisterText as spec;
 
@@ -31,7 +31,7 @@ pub fn register_text(register: Reg, format: Format) -> ArrayString<WIDTH>
     if register.get(13) == ALPHA_DATA {
         push_bytes(&mut text, after_nulls(&alpha_data(register)));
     } else {
-        push_hexadecimal(&mut text, register.to_u64(), PLACES);
+        push_register(&mut text, register);
     }
     text
 }
@@ -46,7 +46,9 @@ pub fn alpha_text<const REGS: usize>(ram: &Ram<REGS>) -> ArrayString<WIDTH>
 }
 
 /// The six bytes at the right of a register, the leftmost first.
-fn alpha_data(register: Reg) -> [u8; 6] {
+fn alpha_data(register: Reg) -> [u8; 6]
+    ensures { result ≡ map (digits.byte_at register) (5 ∷ 4 ∷ 3 ∷ 2 ∷ 1 ∷ 0 ∷ []) }
+{
     [
         register.byte(5),
         register.byte(4),
@@ -59,7 +61,8 @@ fn alpha_data(register: Reg) -> [u8; 6] {
 
 /// Bytes without the leading ones that are zero.
 fn after_nulls(bytes: &[u8]) -> &[u8]
-    ensures { result.now ≡ holding.after_nulls bytes.now }
+    ensures bytes { result.now ≡ holding.after_nulls bytes.now }
+    ensures most { length result.now ≤ length bytes.now }
 {
     let mut shown = bytes;
     while let [0, rest @ ..] = shown {
@@ -89,7 +92,8 @@ fn push_shown(text: &mut Text, byte: u8)
         push_byte(text, byte);
     } else {
         push_byte(text, b'\\');
-        push_hexadecimal(text, u64::from(byte), 2);
+        push_byte(text, glyph(byte / 16));
+        push_byte(text, glyph(byte % 16));
     }
 }
 
@@ -100,15 +104,13 @@ fn is_plain(byte: u8) -> bool
     byte >= 0x20 && byte <= 0x7E && byte != b'\\'
 }
 
-/// Appends so many hexadecimal digits of a number, in upper case, the lowest last.
-fn push_hexadecimal(text: &mut Text, number: u64, count: usize)
-    requires { array_string_len text.old + count ≤ 80 }
-    ensures bytes { text.new.bytes ≡ text.old.bytes ++ hexadecimal_text count number }
-    ensures size { array_string_len text.new ≡ array_string_len text.old + count }
+/// Appends the digits of a register in hexadecimal, place 13 first.
+fn push_register(text: &mut Text, register: Reg)
+    requires { array_string_len text.old ≡ 0 }
+    ensures { text.new.bytes ≡ text.old.bytes ++ digits.text register }
 {
-    if count > 0 {
-        push_hexadecimal(text, number / 16, count - 1);
-        push_byte(text, glyph((number % 16) as u8));
+    for place in (0..PLACES).rev() {
+        push_byte(text, glyph(register.get(place)));
     }
 }
 

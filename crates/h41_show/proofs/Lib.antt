@@ -1,4 +1,5 @@
 pub mod DecimalTexts
+pub mod Fixed
 pub mod Held
 pub mod Powers
 pub mod Roundings

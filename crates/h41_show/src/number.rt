@@ -1,6 +1,6 @@
 //! The text of a number.
 
-ghost use Rattle.std.specs.Prelude.{◌≡◌, ◌+◌, ◌-◌, ◌*◌, ◌^◌, ◌<◌, ◌≤◌, ◌++◌, [], ◌∷◌, true, false, IfSome};
+ghost use Rattle.std.specs.Prelude.{◌≡◌, ◌+◌, ◌-◌, ◌*◌, ◌^◌, ◌<◌, ◌≤◌, ◌++◌, [], ◌∷◌, min, is_some, IfSome};
 ghost use Rattle.arrayvec.specs.ArrayString.{array_string_len};
 ghost use Rattle.h41_decimal.specs.Units.{size, units};
 ghost use Rattle.h41_show.specs.NumberText as spec;
@@ -75,19 +75,23 @@ fn push_size(text: &mut Text, x: Size, format: Format)
 struct Steps {
     /// How many decimals there are: 0 to 9.
     decimals: u32,
-    /// The number of steps: below 10^10.
+    /// The number of steps.
     count: u64,
+    ghost few: { decimals ≤ 9 },
 }
 
 /// A size as FIX shows it, or nothing where it shows it as SCI does.
-fn fixed(x: Size, digits: u8) -> Option<Steps> {
+fn fixed(x: Size, digits: u8) -> Option<Steps>
+    ensures fixed { is_some result ≡ spec.is_fixed digits (size x) }
+    ensures decimals { IfSome result (λ steps. steps.decimals ≡ spec.fixed_decimals digits (size x)) }
+    ensures count { IfSome result (λ steps. steps.count ≡ spec.fixed_count digits (size x)) }
+{
     let above_least = x.steps();
     if above_least >= EXPONENT_ZERO + DIGITS {
         return None;
     }
-    let whole = above_least.saturating_sub(EXPONENT_ZERO);
-    let decimals = fixed_decimals(whole, digits);
-    let dropped = EXPONENT_ZERO + 9 - decimals - above_least;
+    let decimals = fixed_decimals(above_least.saturating_sub(EXPONENT_ZERO), digits);
+    let dropped = EXPONENT_ZERO + DIGITS - 1 - above_least - decimals;
     if dropped > DIGITS {
         return None;
     }
@@ -101,6 +105,7 @@ fn fixed(x: Size, digits: u8) -> Option<Steps> {
 /// How many decimals FIX shows beside so many digits before the radix mark, not counting the first.
 fn fixed_decimals(whole: u32, digits: u8) -> u32
     requires { whole ≤ 9 }
+    ensures { result ≡ min digits (9 - whole) }
 {
     u32::from(digits).min(9 - whole)
 }
@@ -119,16 +124,33 @@ fn push_steps(text: &mut Text, format: Format, count: u64, decimals: u32)
     requires decimals { decimals ≤ 9 }
     ensures { text.new.bytes ≡ text.old.bytes ++ spec.steps_text format decimals count }
 {
-    let whole = count / power_of_ten(decimals);
+    push_integer(text, format, count / power_of_ten(decimals));
+    push_fixed_mark(text, format);
+    push_digits(text, count, decimals as usize);
+}
+
+/// Appends the digits before the radix mark in FIX.
+fn push_integer(text: &mut Text, format: Format, whole: u64)
+    requires { array_string_len text.old ≤ 1 }
+    ensures bytes { text.new.bytes ≡ text.old.bytes ++ spec.integer_text format whole }
+    ensures most { array_string_len text.new ≤ 41 }
+{
     if format.grouping {
         push_grouped(text, whole, group_byte(format.radix));
     } else {
         push_decimal(text, whole);
     }
+}
+
+/// Appends the radix mark of FIX, where it has one.
+fn push_fixed_mark(text: &mut Text, format: Format)
+    requires { array_string_len text.old ≤ 41 }
+    ensures bytes { text.new.bytes ≡ text.old.bytes ++ spec.fixed_mark format }
+    ensures most { array_string_len text.new ≤ 42 }
+{
     if format.digits > 0 || format.grouping {
         push_byte(text, radix_byte(format.radix));
     }
-    push_digits(text, count, decimals as usize);
 }
 
 /// Appends a size as SCI and ENG show it.
@@ -154,7 +176,8 @@ fn push_scientific(text: &mut Text, x: Size, format: Format)
 fn push_mantissa(text: &mut Text, radix: RadixMark, count: u64, decimals: u32)
     requires room { array_string_len text.old ≤ 1 }
     requires decimals { decimals ≤ 7 }
-    ensures { text.new.bytes ≡ text.old.bytes ++ spec.mantissa_text radix decimals count }
+    ensures bytes { text.new.bytes ≡ text.old.bytes ++ spec.mantissa_text radix decimals count }
+    ensures most { array_string_len text.new ≤ 29 }
 {
     push_decimal(text, count / power_of_ten(decimals));
     push_byte(text, radix_byte(radix));
@@ -163,7 +186,7 @@ fn push_mantissa(text: &mut Text, radix: RadixMark, count: u64, decimals: u32)
 
 /// Appends an exponent, counted from -99.
 fn push_exponent(text: &mut Text, above_least: u32)
-    requires room { array_string_len text.old ≤ 70 }
+    requires room { array_string_len text.old ≤ 29 }
     requires range { above_least ≤ 198 }
     ensures { text.new.bytes ≡ text.old.bytes ++ spec.exponent_text (above_least + 9) }
 {

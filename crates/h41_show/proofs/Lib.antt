@@ -3,3 +3,4 @@ pub mod Fixed
 pub mod Held
 pub mod Powers
 pub mod Roundings
+pub mod Scientific

@@ -1,8 +1,11 @@
 -- The text of a number in a display format. The forms are the Owner's Handbook's; how many digits SCI and ENG show at most, what
 -- zero shows there and how ENG fills its digits are this project's choices.
-use Rattle.std.specs.Prelude.{ℕ, ◌+◌, ◌-◌, ◌*◌, ◌/◌, ◌%◌, ◌^◌, min, Bool, not, ◌&&◌, ◌||◌, ◌==◌, nat_le, nat_lt, List, [], ◌∷◌, ◌++◌, length, if◌then◌else◌, ℤ, pos, negsuc}
+use Rattle.std.specs.Prelude.{ℕ, ◌+◌, ◌-◌, ◌*◌, ◌/◌, ◌%◌, ◌^◌, min, Bool, not, ◌&&◌, ◌||◌, ◌==◌, nat_le, nat_lt, List, [], ◌∷◌, ◌++◌, length, if◌then◌else◌, ℤ, unsigned_abs}
 use Rattle.std.specs.Fmt.{decimal}
 use Rattle.h41_decimal.specs.Units.{one}
+use Rattle.h41_decimal.specs.Signs.{sign_of}
+use Rattle.h41_decimal.specs.declared.sign.Sign.{Sign}
+use Rattle.h41_decimal.specs.declared.sign.Sign.TheVariants.{Plus, Minus}
 use Rattle.h41_show.specs.Digits.{digits_text, grouped}
 use Rattle.h41_show.specs.Rounding.{nearest, exponent_of, rounded}
 use Rattle.h41_show.specs.declared.format.Format.{Format}
@@ -94,7 +97,11 @@ notation_text Fixed format size = if is_fixed format.digits size then fixed_text
 notation_text Scientific format size = scientific_text format size
 notation_text Engineering format size = scientific_text format size
 
--- a number, with a minus where it is negative, and no blank where it is not
+-- a minus in front of a negative number, and no blank in front of another
+abbrev pub sign_text : Sign → List ℕ
+sign_text Plus = []
+sign_text Minus = 0x2D ∷ []
+
+-- a number
 unfoldable pub number_text : Format → ℤ → List ℕ
-number_text format (pos size) = notation_text format.notation format size
-number_text format (negsuc size) = 0x2D ∷ notation_text format.notation format (size + 1)
+number_text format value = sign_text (sign_of value) ++ notation_text format.notation format (unsigned_abs value)

@@ -33,13 +33,23 @@ pub fn number_text(number: Ten, format: Format) -> ArrayString<WIDTH>
     match number {
         Ten::Zero => push_zero(&mut text, format),
         Ten::Nonzero(sign, x) => {
-            if sign == Sign::Minus {
-                push_byte(&mut text, b'-');
-            }
+            push_sign(&mut text, sign);
             push_size(&mut text, x, format);
         }
     }
     text
+}
+
+/// Appends a minus for a negative number.
+fn push_sign(text: &mut Text, sign: Sign)
+    requires { array_string_len text.old ≡ 0 }
+    ensures bytes { text.new.bytes ≡ text.old.bytes ++ spec.sign_text sign }
+    ensures most { array_string_len text.new ≤ 1 }
+{
+    match sign {
+        Sign::Plus => {}
+        Sign::Minus => push_byte(text, b'-'),
+    }
 }
 
 /// Appends zero.
@@ -49,7 +59,7 @@ fn push_zero(text: &mut Text, format: Format)
 {
     match format.notation {
         Notation::Fixed => push_steps(text, format, 0, fixed_decimals(0, format.digits)),
-        _ => {
+        Notation::Scientific | Notation::Engineering => {
             push_mantissa(text, format.radix, 0, mantissa_decimals(format.digits));
             push_exponent(text, EXPONENT_ZERO);
         }
@@ -124,7 +134,8 @@ fn push_steps(text: &mut Text, format: Format, count: u64, decimals: u32)
     requires decimals { decimals ≤ 9 }
     ensures { text.new.bytes ≡ text.old.bytes ++ spec.steps_text format decimals count }
 {
-    push_integer(text, format, count / power_of_ten(decimals));
+    let whole = count / power_of_ten(decimals);
+    push_integer(text, format, whole);
     push_fixed_mark(text, format);
     push_digits(text, count, decimals as usize);
 }
@@ -163,13 +174,22 @@ fn push_scientific(text: &mut Text, x: Size, format: Format)
         digits,
         above_least,
     } = round(x, decimals);
-    let extra = match format.notation {
-        Notation::Engineering => above_least % 3,
-        Notation::Fixed | Notation::Scientific => 0,
-    };
+    let extra = extra_digits(format.notation, above_least);
     let filled = digits * power_of_ten(extra.saturating_sub(decimals));
     push_mantissa(text, format.radix, filled, decimals.saturating_sub(extra));
     push_exponent(text, above_least - extra);
+}
+
+/// How many digits beyond the first stand before the radix mark: with ENG the exponent is a multiple of 3.
+fn extra_digits(notation: Notation, above_least: u32) -> u32
+    ensures value { result ≡ spec.extra_digits notation (above_least + 9) }
+    ensures most { result ≤ 2 }
+    ensures within { result ≤ above_least }
+{
+    match notation {
+        Notation::Engineering => above_least % 3,
+        Notation::Fixed | Notation::Scientific => 0,
+    }
 }
 
 /// Appends a mantissa, given as a number of steps of its last decimal.

@@ -57,7 +57,7 @@ module _ (d s : ℕ) (low : 10 ^ 9 ≤ d) (high : d < 10 ^ 10) where
   fixed_decimals-size digits most =
       ap (min digits) (let e = integer_digits-size most in let f : 9 - (s - 99) ≡ 10 - integer_digits (d * 10 ^ s) = omega arith in f)
 
-  pub fixed_count-size : (digits decimals dropped : ℕ) → s ≤ 108 → decimals ≡ min digits (9 - (s - 99)) → dropped ≡ 108 - s - decimals
+  fixed_count-size : (digits decimals dropped : ℕ) → s ≤ 108 → decimals ≡ min digits (9 - (s - 99)) → dropped ≡ 108 - s - decimals
       → nearest d (10 ^ dropped) ≡ fixed_count digits (d * 10 ^ s)
   fixed_count-size digits decimals dropped most are drop =
       let same = are ∙ fixed_decimals-size digits most in
@@ -65,6 +65,13 @@ module _ (d s : ℕ) (low : 10 ^ 9 ≤ d) (high : d < 10 ^ 10) where
       sym (ap (λ k. nearest (d * 10 ^ s) (10 ^ (108 - k))) (sym same)
       ∙ ap (nearest (d * 10 ^ s)) (power_split (108 - decimals) dropped s sum)
       ∙ nearest_scaled d (10 ^ dropped) (10 ^ s) (power_pos s))
+
+  -- the same, as the code has it
+  pub fixed_count-code : (digits steps whole decimals : ℕ) → s ≤ 108 → steps ≡ s → whole ≡ steps - 99 → decimals ≡ min digits (9 - whole)
+      → nearest d (10 ^ (108 - steps - decimals)) ≡ fixed_count digits (d * 10 ^ s)
+  fixed_count-code digits steps whole decimals most same front are =
+      let places : whole ≡ s - 99 = omega arith in
+      fixed_count-size digits decimals (108 - steps - decimals) most (are ∙ ap (λ w. min digits (9 - w)) places) (omega arith)
 
   pub size_positive : 0 < d * 10 ^ s
   size_positive = let some : 0 < d = omega arith in mul-pos some (power_pos s)

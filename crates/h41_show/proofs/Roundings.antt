@@ -34,6 +34,18 @@ nearest_scaled d p q some =
     let below : 2 * (p * q) ≡ (2 * p) * q = omega arith in
     rw (above, below) (mul-div-mul_right (2 * d + p) (2 * p) some)
 
+-- half a power of ten is added before the quotient
+pub nearest-half : (d k : ℕ) → (d + 10 ^ k / 2) / 10 ^ k ≡ nearest d (10 ^ k)
+nearest-half d zero = omega arith
+nearest-half d (suc j) =
+    let h = 10 ^ j * 5 in
+    let power : 10 ^ suc j ≡ 2 * h = pow-suc 10 j ∙ (omega arith) in
+    let half : 2 * h / 2 ≡ h = omega arith in
+    let above : 2 * d + 2 * h ≡ (d + h) * 2 = omega arith in
+    let below : 2 * (2 * h) ≡ (2 * h) * 2 = omega arith in
+    let cancel : (d + h) * 2 / ((2 * h) * 2) ≡ (d + h) / (2 * h) = mul-div-mul_right (d + h) (2 * h) (omega arith) in
+    rw (power, half, above, below) (sym cancel)
+
 -- how large the nearest number of steps is
 pub nearest_low : (d p c : ℕ) → 0 < p → c * p ≤ d → c ≤ nearest d p
 nearest_low d p c some low = le-div c (2 * d + p) (2 * p) (omega arith) (omega arith)

@@ -30,7 +30,7 @@ radix_of true = Point
 radix_of false = Comma
 
 -- the format: the notation, the display digit, the radix mark, and by flag 29 whether digits are grouped
-abbrev pub format_of : RegisterMap → Format
+unfoldable pub format_of : RegisterMap → Format
 format_of memory = record {
   notation = notation_of (flag_of memory 40) (flag_of memory 41);
   digits = min (display_digit memory) 9;

@@ -3,3 +3,4 @@ pub mod Digits
 pub mod Rounding
 pub mod NumberText
 pub mod RegisterText
+pub mod Laws

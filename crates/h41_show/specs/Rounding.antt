@@ -16,6 +16,10 @@ greatest_power (suc bound) size = if nat_le (10 ^ suc bound) size then suc bound
 unfoldable pub exponent_of : ℕ → ℕ
 exponent_of size = greatest_power 207 size
 
+-- what digits are worth, so many of them behind the first, which stands at an exponent counted from -99
+abbrev pub worth_at : ℕ → ℕ → ℕ → ℕ
+worth_at digits exponent decimals = digits * 10 ^ (exponent + 9 - decimals)
+
 -- a size rounded to its first digit and so many behind it; where that would give exponent 100, the others are cut off instead
 -- (this project's choice)
 unfoldable pub rounded : ℕ → ℕ → ℕ

@@ -7,11 +7,11 @@ ghost use Rattle.h41_show.specs.Digits.{digits_text, grouped};
 
 use arrayvec::ArrayString;
 
-/// The most bytes of a text.
-pub const WIDTH: usize = 80;
+/// How many bytes a text has room for. None takes more than 72: ALPHA's 24 bytes, each in hexadecimal.
+pub const TEXT_CAPACITY: usize = 80;
 
 /// A text in the making.
-pub(crate) type Text = ArrayString<WIDTH>;
+pub(crate) type Text = ArrayString<TEXT_CAPACITY>;
 
 /// Appends an ASCII character.
 pub(crate) fn push_byte(text: &mut Text, byte: u8)
@@ -50,7 +50,7 @@ pub(crate) fn push_grouped(text: &mut Text, number: u64, mark: u8)
     requires room { array_string_len text.old + 2 * length (decimal number) ≤ 80 }
     requires mark { mark < 128 }
     ensures bytes { text.new.bytes ≡ text.old.bytes ++ grouped mark (decimal number) }
-    ensures most { array_string_len text.new ≤ array_string_len text.old + 2 * length (decimal number) }
+    ensures most { length text.new.bytes ≤ length text.old.bytes + 2 * length (decimal number) }
 {
     if number >= 1000 {
         push_grouped(text, number / 1000, mark);

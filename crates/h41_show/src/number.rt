@@ -5,7 +5,7 @@ ghost use Rattle.arrayvec.specs.ArrayString.{array_string_len};
 ghost use Rattle.h41_decimal.specs.Units.{size, units};
 ghost use Rattle.h41_show.specs.NumberText as spec;
 
-use crate::digits::{Text, WIDTH, push_byte, push_decimal, push_digits, push_grouped};
+use crate::digits::{TEXT_CAPACITY, Text, push_byte, push_decimal, push_digits, push_grouped};
 use crate::format::{Format, Notation, RadixMark};
 use crate::rounding::{Rounded, power_of_ten, round, without_last};
 use arrayvec::ArrayString;
@@ -17,7 +17,7 @@ const DIGITS: u32 = 10;
 /// How far exponent 0 is above the least exponent, -99.
 const EXPONENT_ZERO: u32 = 99;
 
-/// The text of a number in a display format: at most 24 characters.
+/// The text of a number in a display format: at most 15 characters.
 ///
 /// FIX rounds to the display digit's decimals, as far as ten digits allow, and groups the digits before the radix mark where the
 /// format says so. A number from 10^10 up, and one other than zero that would show as zero, shows as in SCI. SCI and ENG show up
@@ -26,7 +26,7 @@ const EXPONENT_ZERO: u32 = 99;
 ///
 /// From the Owner's Handbook; the eight digits, the cut, zeros that fill ENG's missing digits and zero's exponent are this
 /// project's own choice.
-pub fn number_text(number: Ten, format: Format) -> ArrayString<WIDTH>
+pub fn number_text(number: Ten, format: Format) -> ArrayString<TEXT_CAPACITY>
     ensures { result.bytes ≡ spec.number_text format (units number) }
 {
     let mut text = Text::new();
@@ -93,8 +93,8 @@ struct Steps {
 /// A size as FIX shows it, or nothing where it shows it as SCI does.
 fn fixed(x: Size, digits: u8) -> Option<Steps>
     ensures fixed { is_some result ≡ spec.is_fixed digits (size x) }
-    ensures decimals { IfSome result (λ steps. steps.decimals ≡ spec.fixed_decimals digits (size x)) }
-    ensures count { IfSome result (λ steps. steps.count ≡ spec.fixed_count digits (size x)) }
+    ensures decimals { IfSome result (λ s. s.decimals ≡ spec.fixed_decimals digits (size x)) }
+    ensures count { IfSome result (λ s. s.count ≡ spec.fixed_count digits (size x)) }
 {
     let above_least = x.steps();
     if above_least >= EXPONENT_ZERO + DIGITS {

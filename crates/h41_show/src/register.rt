@@ -7,7 +7,7 @@ ghost use Rattle.h41_digits.specs.Register as digits;
 ghost use Rattle.h41_decimal.specs.Holding as holding;
 ghost use Rattle.h41_show.specs.RegisterText as spec;
 
-use crate::digits::{Text, WIDTH, push_byte};
+use crate::digits::{TEXT_CAPACITY, Text, push_byte};
 use crate::format::Format;
 use crate::number::number_text;
 use arrayvec::ArrayString;
@@ -21,7 +21,7 @@ const ALPHA_DATA: u8 = 1;
 /// The text of a register: its number in the display format, its ALPHA data as characters, and another pattern as its 14 digits
 /// in upper-case hexadecimal. Leading nulls of ALPHA data are not shown; of its bytes 20 to 7E but `\` are ASCII characters, and
 /// another is `\` and two hexadecimal digits (this project's own choice).
-pub fn register_text(register: Reg, format: Format) -> ArrayString<WIDTH>
+pub fn register_text(register: Reg, format: Format) -> ArrayString<TEXT_CAPACITY>
     ensures { result.bytes ≡ spec.register_text format register }
 {
     if let Some(number) = Ten::from_reg(register) {
@@ -37,7 +37,7 @@ pub fn register_text(register: Reg, format: Format) -> ArrayString<WIDTH>
 }
 
 /// The text of ALPHA: its bytes but for leading nulls, as those of ALPHA data in a register.
-pub fn alpha_text<const REGS: usize>(ram: &Ram<REGS>) -> ArrayString<WIDTH>
+pub fn alpha_text<const REGS: usize>(ram: &Ram<REGS>) -> ArrayString<TEXT_CAPACITY>
     ensures { result.bytes ≡ spec.alpha_text ram.now }
 {
     let mut text = Text::new();

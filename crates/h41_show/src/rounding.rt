@@ -37,7 +37,7 @@ pub(crate) fn without_last(digits: u64, dropped: u32) -> u64
     ensures { result ≡ spec.nearest digits (10 ^ dropped) }
 {
     let step = power_of_ten(dropped);
-    (2 * digits + step) / (2 * step)
+    (digits + step / 2) / step
 }
 
 /// A size rounded to a number of digits: a whole number of that many, the first of them not zero, and the exponent of the
@@ -53,7 +53,7 @@ pub(crate) struct Rounded {
 /// A size, rounded to its first digit and so many behind it. Where that would give exponent 100, the others are cut off instead.
 pub(crate) fn round(x: Size, decimals: u32) -> Rounded
     requires { decimals ≤ 7 }
-    ensures value { result.digits * 10 ^ (result.above_least + 9 - decimals) ≡ spec.rounded decimals (size x) }
+    ensures value { spec.worth_at result.digits result.above_least decimals ≡ spec.rounded decimals (size x) }
     ensures least { 10 ^ decimals ≤ result.digits }
     ensures most { result.digits < 10 ^ (decimals + 1) }
     ensures exponent { result.above_least ≤ 198 }

@@ -1,8 +1,8 @@
--- A size from 10^10 up, one that shows as zero, and one that FIX shows.
-use Rattle.std.proofs.Common.{◌≡◌, ◌≢◌, ◌-◌, ◌*◌, ◌^◌, ◌<◌, ◌≤◌, min, arith, ap, sym, ◌∙◌, subst}
+-- A size from 10^10 up, one that would show as zero, and one that FIX shows.
+use Rattle.std.proofs.Common.{◌≡◌, ℕ, ◌-◌, ◌*◌, ◌^◌, ◌<◌, ◌≤◌, min, arith, ap, sym, ◌∙◌, subst}
 use Rattle.h41_show.specs.Rounding.{nearest}
 use Rattle.h41_show.specs.NumberText.{fixed_count}
-use Rattle.h41_show.proofs.Fixed.{fixed_decimals-size, fixed_count-size, size_positive, size_below, size_above, is_fixed-shown, is_fixed-large, is_fixed-tiny, nearest_none}
+use Rattle.h41_show.proofs.Fixed.{fixed_decimals-size, fixed_count-code, size_positive, size_below, size_above, is_fixed-shown, is_fixed-large, is_fixed-tiny, nearest_none}
 use Rattle.h41_show.proofs.number.fixed.Goals as goal
 
 pub returns-then-above_least-clause-fixed : goal.returns-then-above_least-clause-fixed
@@ -17,13 +17,9 @@ returns-then-dropped-gt-DIGITS-clause-fixed c =
     let s = c.args.x.exponent.above_least in
     let low = c.args.x.mantissa.at_least in
     let high = c.args.x.mantissa.below in
-    let decimals = c.fixed_decimals-decimals.result in
     let most : s ≤ 108 = omega arith in
-    let are : decimals ≡ min c.args.digits (9 - (s - 99)) =
-    c.fixed_decimals-decimals.ensures ∙ ap (λ w. min c.args.digits (9 - w)) (c.saturating_sub.ensures ∙ ap (λ t. t - 99) c.steps-above_least.ensures) in
-    let many : 10 < 108 - s - decimals = omega arith in
-    let count = fixed_count-size d s low high c.args.digits decimals (108 - s - decimals) most are (omega arith) in
-    let none = nearest_none d (108 - s - decimals) high many in
+    let count = fixed_count-code d s low high c.args.digits _ _ _ most c.steps-above_least.ensures c.saturating_sub.ensures c.fixed_decimals-decimals.ensures in
+    let none = nearest_none d (108 - c.steps-above_least.result - c.fixed_decimals-decimals.result) high (omega arith) in
     sym (is_fixed-tiny c.args.digits (d * 10 ^ s) (size_positive d s low high) (size_below d s low high most) (sym count ∙ none))
 
 pub returns-then-count-eq0-clause-fixed : goal.returns-then-count-eq0-clause-fixed
@@ -32,13 +28,10 @@ returns-then-count-eq0-clause-fixed c =
     let s = c.args.x.exponent.above_least in
     let low = c.args.x.mantissa.at_least in
     let high = c.args.x.mantissa.below in
-    let decimals = c.fixed_decimals-decimals.result in
     let most : s ≤ 108 = omega arith in
-    let are : decimals ≡ min c.args.digits (9 - (s - 99)) =
-    c.fixed_decimals-decimals.ensures ∙ ap (λ w. min c.args.digits (9 - w)) (c.saturating_sub.ensures ∙ ap (λ t. t - 99) c.steps-above_least.ensures) in
-    let count = fixed_count-size d s low high c.args.digits decimals (108 - c.steps-above_least.result - decimals) most are (omega arith) in
-    let none : c.without_last-count.result ≡ fixed_count c.args.digits (d * 10 ^ s) = c.without_last-count.ensures ∙ count in
-    sym (is_fixed-tiny c.args.digits (d * 10 ^ s) (size_positive d s low high) (size_below d s low high most) (sym none ∙ c.if-count-eq0.true))
+    let count = fixed_count-code d s low high c.args.digits _ _ _ most c.steps-above_least.ensures c.saturating_sub.ensures c.fixed_decimals-decimals.ensures in
+    let same = c.without_last-count.ensures ∙ count in
+    sym (is_fixed-tiny c.args.digits (d * 10 ^ s) (size_positive d s low high) (size_below d s low high most) (sym same ∙ c.if-count-eq0.true))
 
 pub returns-clause-fixed : goal.returns-clause-fixed
 returns-clause-fixed c =
@@ -46,12 +39,9 @@ returns-clause-fixed c =
     let s = c.args.x.exponent.above_least in
     let low = c.args.x.mantissa.at_least in
     let high = c.args.x.mantissa.below in
-    let decimals = c.fixed_decimals-decimals.result in
     let most : s ≤ 108 = omega arith in
-    let are : decimals ≡ min c.args.digits (9 - (s - 99)) =
-    c.fixed_decimals-decimals.ensures ∙ ap (λ w. min c.args.digits (9 - w)) (c.saturating_sub.ensures ∙ ap (λ t. t - 99) c.steps-above_least.ensures) in
-    let count = fixed_count-size d s low high c.args.digits decimals (108 - c.steps-above_least.result - decimals) most are (omega arith) in
-    let same : c.without_last-count.result ≡ fixed_count c.args.digits (d * 10 ^ s) = c.without_last-count.ensures ∙ count in
+    let count = fixed_count-code d s low high c.args.digits _ _ _ most c.steps-above_least.ensures c.saturating_sub.ensures c.fixed_decimals-decimals.ensures in
+    let same = c.without_last-count.ensures ∙ count in
     let not_zero = c.if-count-eq0.false in
     let some : 0 < c.without_last-count.result = omega arith in
     sym (is_fixed-shown c.args.digits (d * 10 ^ s) (size_below d s low high most) (subst (λ t. 0 < t) same some))
@@ -67,10 +57,5 @@ pub returns-clause-count : goal.returns-clause-count
 returns-clause-count c =
     let d = c.args.x.mantissa.digits in
     let s = c.args.x.exponent.above_least in
-    let low = c.args.x.mantissa.at_least in
-    let high = c.args.x.mantissa.below in
-    let decimals = c.fixed_decimals-decimals.result in
-    let most : s ≤ 108 = omega arith in
-    let are : decimals ≡ min c.args.digits (9 - (s - 99)) =
-    c.fixed_decimals-decimals.ensures ∙ ap (λ w. min c.args.digits (9 - w)) (c.saturating_sub.ensures ∙ ap (λ t. t - 99) c.steps-above_least.ensures) in
-    c.without_last-count.ensures ∙ fixed_count-size d s low high c.args.digits decimals (108 - c.steps-above_least.result - decimals) most are (omega arith)
+    c.without_last-count.ensures
+    ∙ fixed_count-code d s c.args.x.mantissa.at_least c.args.x.mantissa.below c.args.digits _ _ _ (omega arith) c.steps-above_least.ensures c.saturating_sub.ensures c.fixed_decimals-decimals.ensures

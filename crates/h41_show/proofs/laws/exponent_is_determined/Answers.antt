@@ -1,0 +1,5 @@
+use Rattle.h41_show.proofs.Nearest as lemma
+use Rattle.h41_show.proofs.laws.exponent_is_determined.Goals as goal
+
+pub returns : goal.returns
+returns c = lemma.exponent_is_determined

@@ -1,0 +1,16 @@
+-- Decimal digits as they are written.
+use Rattle.std.specs.Prelude.{ℕ, zero, suc, ◌+◌, ◌/◌, ◌%◌, Bool, ◌&&◌, ◌==◌, nat_lt, List, [], ◌∷◌, ◌++◌, length, if◌then◌else◌}
+
+-- so many decimal digits of a number, the lowest last
+abbrev pub digits_text : ℕ → ℕ → List ℕ
+digits_text zero number = []
+digits_text (suc count) number = digits_text count (number / 10) ++ (48 + number % 10) ∷ []
+
+-- whether whole groups of three digits stand behind a digit, and not none
+abbrev pub ends_group : List ℕ → Bool
+ends_group behind = nat_lt 0 (length behind) && length behind % 3 == 0
+
+-- digits in groups of three, counted from the right, with a mark between two groups
+abbrev pub grouped : ℕ → List ℕ → List ℕ
+grouped mark [] = []
+grouped mark (digit ∷ behind) = if ends_group behind then digit ∷ mark ∷ grouped mark behind else digit ∷ grouped mark behind

@@ -1,0 +1,6 @@
+pub mod DisplayFormat
+pub mod Digits
+pub mod Rounding
+pub mod NumberText
+pub mod RegisterText
+pub mod Laws

@@ -1,0 +1,62 @@
+//! Decimal digits, as they are written into texts.
+
+ghost use Rattle.std.specs.Prelude.{◌≡◌, ◌+◌, ◌*◌, ◌<◌, ◌≤◌, ◌++◌, [], ◌∷◌, length};
+ghost use Rattle.std.specs.Fmt.{decimal};
+ghost use Rattle.arrayvec.specs.ArrayString.{array_string_len};
+ghost use Rattle.h41_show.specs.Digits.{digits_text, grouped};
+
+use arrayvec::ArrayString;
+
+/// How many bytes a text has room for. None takes more than 72: ALPHA's 24 bytes, each in hexadecimal.
+pub const TEXT_CAPACITY: usize = 80;
+
+/// A text in the making.
+pub(crate) type Text = ArrayString<TEXT_CAPACITY>;
+
+/// Appends an ASCII character.
+pub(crate) fn push_byte(text: &mut Text, byte: u8)
+    requires room { array_string_len text.old < 80 }
+    requires ascii { byte < 128 }
+    ensures { text.new.bytes ≡ text.old.bytes ++ byte ∷ [] }
+{
+    text.push(char::from(byte));
+}
+
+/// Appends so many decimal digits of a number, the lowest last.
+pub(crate) fn push_digits(text: &mut Text, number: u64, count: usize)
+    requires { array_string_len text.old + count ≤ 80 }
+    ensures bytes { text.new.bytes ≡ text.old.bytes ++ digits_text count number }
+    ensures size { array_string_len text.new ≡ array_string_len text.old + count }
+{
+    if count > 0 {
+        push_digits(text, number / 10, count - 1);
+        push_byte(text, b'0' + (number % 10) as u8);
+    }
+}
+
+/// Appends a number, in as many decimal digits as it has.
+pub(crate) fn push_decimal(text: &mut Text, number: u64)
+    requires { array_string_len text.old + length (decimal number) ≤ 80 }
+    ensures { text.new.bytes ≡ text.old.bytes ++ decimal number }
+{
+    if number >= 10 {
+        push_decimal(text, number / 10);
+    }
+    push_byte(text, b'0' + (number % 10) as u8);
+}
+
+/// Appends a number in groups of three digits, with a mark between them.
+pub(crate) fn push_grouped(text: &mut Text, number: u64, mark: u8)
+    requires room { array_string_len text.old + 2 * length (decimal number) ≤ 80 }
+    requires mark { mark < 128 }
+    ensures bytes { text.new.bytes ≡ text.old.bytes ++ grouped mark (decimal number) }
+    ensures most { length text.new.bytes ≤ length text.old.bytes + 2 * length (decimal number) }
+{
+    if number >= 1000 {
+        push_grouped(text, number / 1000, mark);
+        push_byte(text, mark);
+        push_digits(text, number % 1000, 3);
+    } else {
+        push_decimal(text, number);
+    }
+}

@@ -1,0 +1,49 @@
+//! Laws of texts: each is the contract of a function with next to nothing to do.
+
+ghost use Rattle.std.specs.Prelude.{◌≤◌, length};
+ghost use Rattle.h41_decimal.specs.Units.{units};
+ghost use Rattle.h41_show.specs.Laws.{NearestIsNearest, NearestIsDetermined, ExponentIsDetermined};
+ghost use Rattle.h41_show.specs.NumberText as numbers;
+ghost use Rattle.h41_show.specs.RegisterText as registers;
+
+use crate::format::Format;
+use crate::{alpha_text, number_text, register_text};
+use h41_decimal::Ten;
+use h41_digits::Reg;
+use h41_ram::Ram;
+
+/// Sizes are rounded to the nearest number of steps.
+pub fn nearest_is_nearest()
+    ensures { NearestIsNearest }
+{}
+
+/// The nearest number of steps is determined.
+pub fn nearest_is_determined()
+    ensures { NearestIsDetermined }
+{}
+
+/// The exponent of a size is determined by the powers of ten between which it stands.
+pub fn exponent_is_determined()
+    ensures { ExponentIsDetermined }
+{}
+
+/// The text of a number has room in 80 bytes.
+pub fn number_text_fits(number: Ten, format: Format) -> usize
+    ensures { length (numbers.number_text format (units number)) ≤ 80 }
+{
+    number_text(number, format).len()
+}
+
+/// So has that of a register.
+pub fn register_text_fits(register: Reg, format: Format) -> usize
+    ensures { length (registers.register_text format register) ≤ 80 }
+{
+    register_text(register, format).len()
+}
+
+/// And that of ALPHA.
+pub fn alpha_text_fits<const REGS: usize>(ram: &Ram<REGS>) -> usize
+    ensures { length (registers.alpha_text ram.now) ≤ 80 }
+{
+    alpha_text(ram).len()
+}

@@ -1,0 +1,18 @@
+//! The texts that the HP-41's display shows for numbers, registers and ALPHA.
+#![tactic(auto)]
+
+mod digits;
+mod flags;
+pub mod format;
+pub mod laws;
+mod number;
+mod register;
+mod rounding;
+
+pub use digits::TEXT_CAPACITY;
+pub use format::{Format, Notation, RadixMark};
+pub use number::number_text;
+pub use register::{alpha_text, register_text};
+
+#[cfg(test)]
+mod tests;

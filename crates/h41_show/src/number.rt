@@ -1,0 +1,242 @@
+//! The text of a number.
+
+ghost use Rattle.std.specs.Prelude.{◌≡◌, ◌+◌, ◌-◌, ◌*◌, ◌^◌, ◌<◌, ◌≤◌, ◌++◌, [], ◌∷◌, min, is_some, IfSome};
+ghost use Rattle.arrayvec.specs.ArrayString.{array_string_len};
+ghost use Rattle.h41_decimal.specs.Units.{size, units};
+ghost use Rattle.h41_show.specs.NumberText as spec;
+
+use crate::digits::{TEXT_CAPACITY, Text, push_byte, push_decimal, push_digits, push_grouped};
+use crate::format::{Format, Notation, RadixMark};
+use crate::rounding::{Rounded, power_of_ten, round, without_last};
+use arrayvec::ArrayString;
+use h41_decimal::{Sign, Size, Ten};
+
+/// The most digits that a number shows in FIX.
+const DIGITS: u32 = 10;
+
+/// How far exponent 0 is above the least exponent, -99.
+const EXPONENT_ZERO: u32 = 99;
+
+/// The text of a number in a display format: at most 15 characters.
+///
+/// FIX rounds to the display digit's decimals, as far as ten digits allow, and groups the digits before the radix mark where the
+/// format says so. A number from 10^10 up, and one other than zero that would show as zero, shows as in SCI. SCI and ENG show up
+/// to eight digits, and an exponent of two; ENG's is a multiple of 3. Halves are rounded away from zero; where rounding would
+/// give exponent 100, SCI and ENG cut instead.
+///
+/// From the Owner's Handbook; the eight digits, the cut, zeros that fill ENG's missing digits and zero's exponent are this
+/// project's own choice.
+pub fn number_text(number: Ten, format: Format) -> ArrayString<TEXT_CAPACITY>
+    ensures { result.bytes ≡ spec.number_text format (units number) }
+{
+    let mut text = Text::new();
+    match number {
+        Ten::Zero => push_zero(&mut text, format),
+        Ten::Nonzero(sign, x) => {
+            push_sign(&mut text, sign);
+            push_size(&mut text, x, format);
+        }
+    }
+    text
+}
+
+/// Appends a minus for a negative number.
+fn push_sign(text: &mut Text, sign: Sign)
+    requires { array_string_len text.old ≡ 0 }
+    ensures bytes { text.new.bytes ≡ text.old.bytes ++ spec.sign_text sign }
+    ensures most { array_string_len text.new ≤ 1 }
+{
+    match sign {
+        Sign::Plus => {}
+        Sign::Minus => push_byte(text, b'-'),
+    }
+}
+
+/// Appends zero.
+fn push_zero(text: &mut Text, format: Format)
+    requires { array_string_len text.old ≤ 1 }
+    ensures { text.new.bytes ≡ text.old.bytes ++ spec.notation_text format.notation format 0 }
+{
+    match format.notation {
+        Notation::Fixed => push_steps(text, format, 0, fixed_decimals(0, format.digits)),
+        Notation::Scientific | Notation::Engineering => {
+            push_mantissa(text, format.radix, 0, mantissa_decimals(format.digits));
+            push_exponent(text, EXPONENT_ZERO);
+        }
+    }
+}
+
+/// Appends a size above zero.
+fn push_size(text: &mut Text, x: Size, format: Format)
+    requires { array_string_len text.old ≤ 1 }
+    ensures { text.new.bytes ≡ text.old.bytes ++ spec.notation_text format.notation format (size x) }
+{
+    match format.notation {
+        Notation::Fixed => match fixed(x, format.digits) {
+            Some(steps) => push_steps(text, format, steps.count, steps.decimals),
+            None => push_scientific(text, x, format),
+        },
+        Notation::Scientific | Notation::Engineering => push_scientific(text, x, format),
+    }
+}
+
+/// A size as FIX shows it: a number of steps of its last decimal.
+#[derive(Clone, Copy)]
+struct Steps {
+    /// How many decimals there are: 0 to 9.
+    decimals: u32,
+    /// The number of steps.
+    count: u64,
+    ghost few: { decimals ≤ 9 },
+}
+
+/// A size as FIX shows it, or nothing where it shows it as SCI does.
+fn fixed(x: Size, digits: u8) -> Option<Steps>
+    ensures fixed { is_some result ≡ spec.is_fixed digits (size x) }
+    ensures decimals { IfSome result (λ s. s.decimals ≡ spec.fixed_decimals digits (size x)) }
+    ensures count { IfSome result (λ s. s.count ≡ spec.fixed_count digits (size x)) }
+{
+    let above_least = x.steps();
+    if above_least >= EXPONENT_ZERO + DIGITS {
+        return None;
+    }
+    let decimals = fixed_decimals(above_least.saturating_sub(EXPONENT_ZERO), digits);
+    let dropped = EXPONENT_ZERO + DIGITS - 1 - above_least - decimals;
+    if dropped > DIGITS {
+        return None;
+    }
+    let count = without_last(x.mantissa.digits, dropped);
+    if count == 0 {
+        return None;
+    }
+    Some(Steps { decimals, count })
+}
+
+/// How many decimals FIX shows beside so many digits before the radix mark, not counting the first.
+fn fixed_decimals(whole: u32, digits: u8) -> u32
+    requires { whole ≤ 9 }
+    ensures { result ≡ min digits (9 - whole) }
+{
+    u32::from(digits).min(9 - whole)
+}
+
+/// How many digits SCI and ENG show behind the first.
+fn mantissa_decimals(digits: u8) -> u32
+    ensures value { result ≡ spec.mantissa_decimals digits }
+    ensures most { result ≤ 7 }
+{
+    u32::from(digits).min(7)
+}
+
+/// Appends a number of steps of the last decimal as FIX shows it.
+fn push_steps(text: &mut Text, format: Format, count: u64, decimals: u32)
+    requires room { array_string_len text.old ≤ 1 }
+    requires decimals { decimals ≤ 9 }
+    ensures { text.new.bytes ≡ text.old.bytes ++ spec.steps_text format decimals count }
+{
+    let whole = count / power_of_ten(decimals);
+    push_integer(text, format, whole);
+    push_fixed_mark(text, format);
+    push_digits(text, count, decimals as usize);
+}
+
+/// Appends the digits before the radix mark in FIX.
+fn push_integer(text: &mut Text, format: Format, whole: u64)
+    requires { array_string_len text.old ≤ 1 }
+    ensures bytes { text.new.bytes ≡ text.old.bytes ++ spec.integer_text format whole }
+    ensures most { array_string_len text.new ≤ 41 }
+{
+    if format.grouping {
+        push_grouped(text, whole, group_byte(format.radix));
+    } else {
+        push_decimal(text, whole);
+    }
+}
+
+/// Appends the radix mark of FIX, where it has one.
+fn push_fixed_mark(text: &mut Text, format: Format)
+    requires { array_string_len text.old ≤ 41 }
+    ensures bytes { text.new.bytes ≡ text.old.bytes ++ spec.fixed_mark format }
+    ensures most { array_string_len text.new ≤ 42 }
+{
+    if format.digits > 0 || format.grouping {
+        push_byte(text, radix_byte(format.radix));
+    }
+}
+
+/// Appends a size as SCI and ENG show it.
+fn push_scientific(text: &mut Text, x: Size, format: Format)
+    requires { array_string_len text.old ≤ 1 }
+    ensures { text.new.bytes ≡ text.old.bytes ++ spec.scientific_text format (size x) }
+{
+    let decimals = mantissa_decimals(format.digits);
+    let Rounded {
+        digits,
+        above_least,
+    } = round(x, decimals);
+    let extra = extra_digits(format.notation, above_least);
+    let filled = digits * power_of_ten(extra.saturating_sub(decimals));
+    push_mantissa(text, format.radix, filled, decimals.saturating_sub(extra));
+    push_exponent(text, above_least - extra);
+}
+
+/// How many digits beyond the first stand before the radix mark: with ENG the exponent is a multiple of 3.
+fn extra_digits(notation: Notation, above_least: u32) -> u32
+    ensures value { result ≡ spec.extra_digits notation (above_least + 9) }
+    ensures most { result ≤ 2 }
+    ensures within { result ≤ above_least }
+{
+    match notation {
+        Notation::Engineering => above_least % 3,
+        Notation::Fixed | Notation::Scientific => 0,
+    }
+}
+
+/// Appends a mantissa, given as a number of steps of its last decimal.
+fn push_mantissa(text: &mut Text, radix: RadixMark, count: u64, decimals: u32)
+    requires room { array_string_len text.old ≤ 1 }
+    requires decimals { decimals ≤ 7 }
+    ensures bytes { text.new.bytes ≡ text.old.bytes ++ spec.mantissa_text radix decimals count }
+    ensures most { array_string_len text.new ≤ 29 }
+{
+    push_decimal(text, count / power_of_ten(decimals));
+    push_byte(text, radix_byte(radix));
+    push_digits(text, count, decimals as usize);
+}
+
+/// Appends an exponent, counted from -99.
+fn push_exponent(text: &mut Text, above_least: u32)
+    requires room { array_string_len text.old ≤ 29 }
+    requires range { above_least ≤ 198 }
+    ensures { text.new.bytes ≡ text.old.bytes ++ spec.exponent_text (above_least + 9) }
+{
+    if above_least >= EXPONENT_ZERO {
+        push_byte(text, b' ');
+        push_digits(text, u64::from(above_least - EXPONENT_ZERO), 2);
+    } else {
+        push_byte(text, b'-');
+        push_digits(text, u64::from(EXPONENT_ZERO - above_least), 2);
+    }
+}
+
+/// The radix mark's character.
+fn radix_byte(radix: RadixMark) -> u8
+    ensures value { result ≡ spec.radix_byte radix }
+    ensures ascii { result < 128 }
+{
+    match radix {
+        RadixMark::Point => b'.',
+        RadixMark::Comma => b',',
+    }
+}
+
+/// The character between groups of digits.
+fn group_byte(radix: RadixMark) -> u8
+    ensures value { result ≡ spec.group_byte radix }
+    ensures ascii { result < 128 }
+{
+    match radix {
+        RadixMark::Point => b',',
+        RadixMark::Comma => b'.',
+    }
+}

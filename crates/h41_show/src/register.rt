@@ -1,0 +1,128 @@
+//! The texts of registers and of ALPHA.
+
+ghost use Rattle.std.specs.Prelude.{◌≡◌, ◌+◌, ◌*◌, ◌<◌, ◌≤◌, ◌++◌, [], ◌∷◌, length, map, true};
+ghost use Rattle.std.specs.Fmt.{digit_glyph};
+ghost use Rattle.arrayvec.specs.ArrayString.{array_string_len};
+ghost use Rattle.h41_digits.specs.Register as digits;
+ghost use Rattle.h41_decimal.specs.Holding as holding;
+ghost use Rattle.h41_show.specs.RegisterText as spec;
+
+use crate::digits::{TEXT_CAPACITY, Text, push_byte};
+use crate::format::Format;
+use crate::number::number_text;
+use arrayvec::ArrayString;
+use h41_decimal::Ten;
+use h41_digits::{PLACES, Reg};
+use h41_ram::Ram;
+
+/// The digit in place 13 of a register that holds ALPHA data.
+const ALPHA_DATA: u8 = 1;
+
+/// The text of a register: its number in the display format, its ALPHA data as characters, and another pattern as its 14 digits
+/// in upper-case hexadecimal. Leading nulls of ALPHA data are not shown; of its bytes 20 to 7E but `\` are ASCII characters, and
+/// another is `\` and two hexadecimal digits (this project's own choice).
+pub fn register_text(register: Reg, format: Format) -> ArrayString<TEXT_CAPACITY>
+    ensures { result.bytes ≡ spec.register_text format register }
+{
+    if let Some(number) = Ten::from_reg(register) {
+        return number_text(number, format);
+    }
+    let mut text = Text::new();
+    if register.get(13) == ALPHA_DATA {
+        push_bytes(&mut text, after_nulls(&alpha_data(register)));
+    } else {
+        push_register(&mut text, register);
+    }
+    text
+}
+
+/// The text of ALPHA: its bytes but for leading nulls, as those of ALPHA data in a register.
+pub fn alpha_text<const REGS: usize>(ram: &Ram<REGS>) -> ArrayString<TEXT_CAPACITY>
+    ensures { result.bytes ≡ spec.alpha_text ram.now }
+{
+    let mut text = Text::new();
+    push_bytes(&mut text, after_nulls(&ram.alpha()));
+    text
+}
+
+/// The six bytes at the right of a register, the leftmost first.
+fn alpha_data(register: Reg) -> [u8; 6]
+    ensures { result ≡ map (digits.byte_at register) (5 ∷ 4 ∷ 3 ∷ 2 ∷ 1 ∷ 0 ∷ []) }
+{
+    [
+        register.byte(5),
+        register.byte(4),
+        register.byte(3),
+        register.byte(2),
+        register.byte(1),
+        register.byte(0),
+    ]
+}
+
+/// Bytes without the leading ones that are zero.
+fn after_nulls(bytes: &[u8]) -> &[u8]
+    ensures bytes { result.now ≡ holding.after_nulls bytes.now }
+    ensures most { length result.now ≤ length bytes.now }
+{
+    let mut shown = bytes;
+    while let [0, rest @ ..] = shown {
+        shown = rest;
+    }
+    shown
+}
+
+/// Appends bytes, 24 at most.
+fn push_bytes(text: &mut Text, bytes: &[u8])
+    requires room { array_string_len text.old ≡ 0 }
+    requires few { length bytes.now ≤ 24 }
+    ensures { text.new.bytes ≡ text.old.bytes ++ spec.bytes_text bytes.now }
+{
+    for byte in bytes {
+        push_shown(text, *byte);
+    }
+}
+
+/// Appends a byte as it is shown.
+fn push_shown(text: &mut Text, byte: u8)
+    requires { array_string_len text.old + 3 ≤ 80 }
+    ensures bytes { text.new.bytes ≡ text.old.bytes ++ spec.byte_text byte }
+    ensures most { array_string_len text.new ≤ array_string_len text.old + 3 }
+{
+    if is_plain(byte) {
+        push_byte(text, byte);
+    } else {
+        push_byte(text, b'\\');
+        push_byte(text, glyph(byte / 16));
+        push_byte(text, glyph(byte % 16));
+    }
+}
+
+/// Whether a byte shows as its ASCII character.
+fn is_plain(byte: u8) -> bool
+    ensures { result ≡ spec.is_plain byte }
+{
+    byte >= 0x20 && byte <= 0x7E && byte != b'\\'
+}
+
+/// Appends the digits of a register in hexadecimal, place 13 first.
+fn push_register(text: &mut Text, register: Reg)
+    requires { array_string_len text.old ≡ 0 }
+    ensures { text.new.bytes ≡ text.old.bytes ++ digits.text register }
+{
+    for place in (0..PLACES).rev() {
+        push_byte(text, glyph(register.get(place)));
+    }
+}
+
+/// A hexadecimal digit, 0 to 15, in upper case.
+fn glyph(digit: u8) -> u8
+    requires { digit < 16 }
+    ensures value { result ≡ digit_glyph true digit }
+    ensures ascii { result < 128 }
+{
+    if digit < 10 {
+        b'0' + digit
+    } else {
+        b'A' + digit - 10
+    }
+}

@@ -1,0 +1,80 @@
+//! Sizes of numbers, rounded as the display shows them.
+
+ghost use Rattle.std.specs.Prelude.{◌≡◌, ◌+◌, ◌-◌, ◌*◌, ◌^◌, ◌<◌, ◌≤◌};
+ghost use Rattle.h41_decimal.specs.Units.{size};
+ghost use Rattle.h41_show.specs.Rounding as spec;
+
+use h41_decimal::Size;
+
+/// The exponent of the greatest numbers, counted from -99.
+const GREATEST_EXPONENT: u32 = 198;
+
+/// Ten to a power from 0 to 10.
+pub(crate) fn power_of_ten(power: u32) -> u64
+    requires { power ≤ 10 }
+    ensures { result ≡ 10 ^ power }
+{
+    match power {
+        0 => 1,
+        1 => 10,
+        2 => 100,
+        3 => 1000,
+        4 => 10_000,
+        5 => 100_000,
+        6 => 1_000_000,
+        7 => 10_000_000,
+        8 => 100_000_000,
+        9 => 1_000_000_000,
+        10 => 10_000_000_000,
+        _ => unreachable!(),
+    }
+}
+
+/// Ten digits without their last ones, rounded to the nearest number; a half goes up.
+pub(crate) fn without_last(digits: u64, dropped: u32) -> u64
+    requires digits { digits < 10 ^ 10 }
+    requires dropped { dropped ≤ 10 }
+    ensures { result ≡ spec.nearest digits (10 ^ dropped) }
+{
+    let step = power_of_ten(dropped);
+    (digits + step / 2) / step
+}
+
+/// A size rounded to a number of digits: a whole number of that many, the first of them not zero, and the exponent of the
+/// first.
+#[derive(Clone, Copy)]
+pub(crate) struct Rounded {
+    /// The digits.
+    pub(crate) digits: u64,
+    /// The exponent, counted from -99: 0 to 198.
+    pub(crate) above_least: u32,
+}
+
+/// A size, rounded to its first digit and so many behind it. Where that would give exponent 100, the others are cut off instead.
+pub(crate) fn round(x: Size, decimals: u32) -> Rounded
+    requires { decimals ≤ 7 }
+    ensures value { spec.worth_at result.digits result.above_least decimals ≡ spec.rounded decimals (size x) }
+    ensures least { 10 ^ decimals ≤ result.digits }
+    ensures most { result.digits < 10 ^ (decimals + 1) }
+    ensures exponent { result.above_least ≤ 198 }
+{
+    let above_least = x.steps();
+    let digits = x.mantissa.digits;
+    let near = without_last(digits, 9 - decimals);
+    if near < power_of_ten(decimals + 1) {
+        Rounded {
+            digits: near,
+            above_least,
+        }
+    } else if above_least < GREATEST_EXPONENT {
+        Rounded {
+            digits: power_of_ten(decimals),
+            above_least: above_least + 1,
+        }
+    } else {
+        Rounded {
+            digits: digits / power_of_ten(9 - decimals),
+            above_least,
+        }
+    }
+}

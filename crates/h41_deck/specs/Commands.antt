@@ -7,7 +7,7 @@ use Rattle.h41_deck.specs.declared.commands.Command.TheVariants as commands
 use Rattle.h41_deck.specs.declared.commands.BlockKind.{BlockKind}
 use Rattle.h41_deck.specs.declared.commands.BlockKind.TheVariants as kinds
 use Rattle.h41_deck.specs.declared.commands.View.{View}
-use Rattle.h41_deck.specs.declared.commands.View.TheVariants.{Cpu, Register, Stack, Flags, Position, Image, Functions}
+use Rattle.h41_deck.specs.declared.commands.View.TheVariants.{Cpu, Register, Stack, Flags, Alpha, Display, Position, Image, Functions}
 use Rattle.h41_deck.specs.declared.refusal.Refusal.{Refusal}
 use Rattle.h41_deck.specs.declared.refusal.Refusal.TheVariants.{BadCommand}
 use Rattle.h41_deck.specs.Numbers.{count_up_to, hexadecimal, number_up_to}
@@ -71,11 +71,15 @@ machine_view what =
     if bytes_eq what (codes "cpu") then Ok Cpu
     else (if bytes_eq what (codes "stack") then Ok Stack
     else (if bytes_eq what (codes "flags") then Ok Flags
+    else (if bytes_eq what (codes "alpha") then Ok Alpha
     else (if bytes_eq what (codes "pos") then Ok Position
-    else Err BadCommand)))
+    else Err BadCommand))))
 
 abbrev pub view_named : List ℕ → Result View Refusal
-view_named what = if bytes_eq what (codes "functions") then Ok Functions else machine_view what
+view_named what =
+    if bytes_eq what (codes "functions") then Ok Functions
+    else (if bytes_eq what (codes "display") then Ok Display
+    else machine_view what)
 
 abbrev pub view_of : List (List ℕ) → Result View Refusal
 view_of (what ∷ []) = view_named what

@@ -3,6 +3,7 @@ pub mod Calculator
 pub mod Commands
 pub mod Contents
 pub mod Deck
+pub mod Display
 pub mod Ends
 pub mod Entries
 pub mod Faults

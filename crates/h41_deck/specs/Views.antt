@@ -12,11 +12,12 @@ use Rattle.h41_pages.specs.FunctionTables.{functions}
 use Rattle.h41_ram.specs.RegisterMap.{RegisterMap, flag_of, register_at}
 use Rattle.h41_nut.specs.Processor.{Processor}
 use Rattle.h41_deck.specs.declared.commands.View.{View}
-use Rattle.h41_deck.specs.declared.commands.View.TheVariants.{Cpu, Register, Stack, Flags, Position, Image, Functions}
+use Rattle.h41_deck.specs.declared.commands.View.TheVariants.{Cpu, Register, Stack, Flags, Alpha, Display, Position, Image, Functions}
 use Rattle.h41_deck.specs.declared.calculator.Mode.{Mode}
 use Rattle.h41_deck.specs.declared.calculator.Mode.TheVariants as modes
 use Rattle.h41_pages.specs.PageMap.{PageMap}
 use Rattle.h41_deck.specs.Calculator.{State, image_refusal}
+use Rattle.h41_deck.specs.Display.{alpha_line, display_line}
 use Rattle.h41_deck.specs.declared.refusal.Refusal.{Refusal}
 use Rattle.h41_deck.specs.PageViews.{two_digits, functions_text, image_at_text}
 
@@ -99,6 +100,8 @@ shown Cpu s = Ok (processor_text s.nut.processor s.nut.keys)
 shown (Register address) s = Ok (register_line s.nut.ram address)
 shown Stack s = Ok (stack_text s.nut.ram)
 shown Flags s = Ok (flags_line s.nut.ram)
+shown Alpha s = Ok (alpha_line s)
+shown Display s = Ok (display_line s)
 shown Position s = Ok (position_text s)
 shown (Image page) s = image_view s.nut.pages page
 shown Functions s = Ok (functions_text (functions s.nut.pages))

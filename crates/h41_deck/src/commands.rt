@@ -43,6 +43,10 @@ pub enum View {
     Stack,
     /// `flags`: the flags that are set.
     Flags,
+    /// `alpha`: the text of ALPHA.
+    Alpha,
+    /// `display`: what the display shows.
+    Display,
     /// `pos`: the mode, and the position in it.
     Position,
     /// `image P`: the image at page P, 0 to 15. Pages 0 to 3 are refused when it is carried out.

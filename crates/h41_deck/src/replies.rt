@@ -25,6 +25,7 @@ use h41_pages::PlugRefusal;
 use std::alloc::{AllocError, Global};
 
 mod digits;
+mod display;
 mod functions;
 mod image;
 mod listing;

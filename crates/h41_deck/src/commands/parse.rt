@@ -187,6 +187,8 @@ fn view_named(what: &[u8]) -> Result<View, Refusal>
 {
     if what == b"functions".as_slice() {
         Ok(View::Functions)
+    } else if what == b"display".as_slice() {
+        Ok(View::Display)
     } else {
         machine_view(what)
     }
@@ -201,6 +203,7 @@ fn machine_view(what: &[u8]) -> Result<View, Refusal>
         b"cpu" => Ok(View::Cpu),
         b"stack" => Ok(View::Stack),
         b"flags" => Ok(View::Flags),
+        b"alpha" => Ok(View::Alpha),
         b"pos" => Ok(View::Position),
         _ => Err(Refusal::BadCommand),
     }

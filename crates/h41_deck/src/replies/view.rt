@@ -7,6 +7,7 @@ ghost use Rattle.h41_deck.specs.Views as spec;
 use crate::calculator::Calculator;
 use crate::commands::View;
 use crate::refusal::Refusal;
+use crate::replies::display::{alpha_line, display_line};
 use crate::replies::functions::functions_text;
 use crate::replies::image::image_shown;
 use crate::replies::memory::{FlagsLine, RegisterLine, StackLines};
@@ -35,6 +36,8 @@ pub fn shown(
         View::Register(address) => text_of(alloc, RegisterLine { ram, address })?,
         View::Stack => text_of(alloc, StackLines(ram))?,
         View::Flags => text_of(alloc, FlagsLine(ram))?,
+        View::Alpha => alpha_line(alloc, calculator)?,
+        View::Display => display_line(alloc, calculator)?,
         View::Position => text_of(alloc, PositionLine(calculator))?,
         View::Image(page) => return image_shown(alloc, calculator.pages(), page),
         View::Functions => functions_text(alloc, calculator.pages())?,

@@ -3,6 +3,7 @@ pub mod AssemblyLaws
 pub mod CodeStatements
 pub mod Faults
 pub mod Operands
+pub mod Passes
 pub mod Placing
 pub mod Refusals
 pub mod SourceLines

@@ -14,7 +14,7 @@ use Rattle.h41_asm.specs.declared.fault.Fault.TheVariants.{LabelTwice, TooLong}
 use Rattle.h41_asm.specs.Assembly.{address_count}
 use Rattle.h41_asm.specs.Faults.{at_line, has_label, label_address, labelled_fault, line_length, own_fault, own_faults, twice_fault}
 use Rattle.h41_asm.specs.Placing.{Labels}
-use Rattle.h41_asm.specs.Passes.{placed_fault, placing_fault, with_label}
+use Rattle.h41_asm.specs.LabelTable.{placed_fault, placing_fault, with_label}
 use Rattle.h41_asm.specs.SourceLines.{SourceLine}
 use Rattle.h41_asm.specs.Statements.{reading}
 use Rattle.h41_asm.proofs.Found.{not_then_some, or_none, or_nothing}

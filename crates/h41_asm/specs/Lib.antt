@@ -2,8 +2,8 @@ pub mod Assembly
 pub mod AssemblyLaws
 pub mod CodeStatements
 pub mod Faults
+pub mod LabelTable
 pub mod Operands
-pub mod Passes
 pub mod Placing
 pub mod Refusals
 pub mod SourceLines

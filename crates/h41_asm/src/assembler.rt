@@ -5,7 +5,7 @@ ghost use Rattle.std.specs.Option.{ok_or};
 ghost use Rattle.h41_asm.specs.Assembly.{Assembles, address_count};
 ghost use Rattle.h41_asm.specs.CodeStatements.{in_line};
 ghost use Rattle.h41_asm.specs.Faults.{assembly_fault, line_length};
-ghost use Rattle.h41_asm.specs.Passes.{AddsLabel, AddsName, AddsWords, HoldsLabels, IsReadyBy, SpellsBy, fault_by, first_fault_by, first_own_fault, jump_word, labels_in, line_fault_in, name_fault_in};
+ghost use Rattle.h41_asm.specs.LabelTable.{AddsLabel, AddsName, AddsWords, HoldsLabels, IsReadyBy, SpellsBy, fault_by, first_fault_by, first_own_fault, jump_word, labels_in, line_fault_in, name_fault_in};
 ghost use Rattle.h41_asm.specs.Refusals.{IsFault, IsRefusal};
 
 use crate::emit::{entry_words, push_name};

@@ -3,7 +3,7 @@ use Rattle.h41_asm.specs.CodeStatements.{in_code}
 use Rattle.h41_asm.specs.SourceLines.{SourceLine, line_of, source_lines, words_of}
 use Rattle.h41_asm.specs.Faults.{reference_faults}
 use Rattle.h41_asm.specs.Placing.{Labels}
-use Rattle.h41_asm.specs.Passes.{IsReady, labels_in}
+use Rattle.h41_asm.specs.LabelTable.{IsReady, labels_in}
 use Rattle.h41_asm.specs.Statements.{reading, statement_length}
 use Rattle.h41_asm.proofs.LineCount.{length-lines}
 use Rattle.h41_asm.proofs.Spelling.{ready_behind, faults_behind, not_ready, words_behind}

@@ -1,4 +1,5 @@
--- What the code's two passes say to each other: the table of labels, and what a line, a statement and a name have to do with it.
+-- The code's table of labels: the addresses that it holds, what a name or a line adds to it, and what lines and statements say
+-- by it. It only connects the code with the definitions of assembly.
 use Rattle.std.specs.Prelude.{◌≡◌, ℕ, ◌+◌, ◌≤◌, ℤ, List, [], ◌∷◌, ◌++◌, IsOk, IfSome, Option, Some, None, Result, Ok, Err, bytes_eq, if◌then◌else◌, is_some, nat_le, nat_lt}
 use Rattle.std.specs.Bool.{then_some}
 use Rattle.std.specs.Borrow.{Bor}

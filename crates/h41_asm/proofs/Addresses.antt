@@ -6,7 +6,7 @@ use Rattle.std.proofs.lemmas.Bool.{cases_Bool}
 use Rattle.h41_asm.specs.Assembly.{address_count}
 use Rattle.h41_asm.specs.Faults.{has_label, label_address, line_length}
 use Rattle.h41_asm.specs.Placing.{Labels}
-use Rattle.h41_asm.specs.Refusals.{IsReady}
+use Rattle.h41_asm.specs.LabelTable.{IsReady}
 use Rattle.h41_asm.specs.SourceLines.{SourceLine, labels_of}
 use Rattle.h41_asm.proofs.Faultless.{AreFaultless, IsNew, new_before}
 

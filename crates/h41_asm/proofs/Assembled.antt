@@ -17,7 +17,7 @@ use Rattle.h41_asm.specs.Assembly.{Assembles, address_count}
 use Rattle.h41_asm.specs.AssemblyLaws.{HasWordsOrFault, NeverBoth}
 use Rattle.h41_asm.specs.Faults.{assembly_fault, at_line, label_address, line_length, missing_fault, own_faults, reach_fault, read_fault, reference_fault, reference_faults}
 use Rattle.h41_asm.specs.Placing.{IsDisplacement, Labels, LinesSpell, Spells, SpellsRead, entry_words}
-use Rattle.h41_asm.specs.Refusals.{IsReady}
+use Rattle.h41_asm.specs.LabelTable.{IsReady}
 use Rattle.h41_asm.specs.SourceLines.{SourceLine, labels_of, source_lines}
 use Rattle.h41_asm.specs.Statements.{Statement, Words, OutOfReach, LongJumpTo, ShortJumpTo, EntryAt, is_in_reach, long_jump_words, reading}
 use Rattle.h41_asm.proofs.Addresses.{labels_low, named, ready}

@@ -14,14 +14,10 @@ use Rattle.h41_asm.specs.declared.fault.Fault.TheVariants.{LabelTwice, TooLong}
 use Rattle.h41_asm.specs.Assembly.{address_count}
 use Rattle.h41_asm.specs.Faults.{at_line, has_label, label_address, labelled_fault, line_length, own_fault, own_faults, twice_fault}
 use Rattle.h41_asm.specs.Placing.{Labels}
-use Rattle.h41_asm.specs.Refusals.{placed_fault, placing_fault, with_label}
+use Rattle.h41_asm.specs.LabelTable.{placed_fault, placing_fault, with_label}
 use Rattle.h41_asm.specs.SourceLines.{SourceLine}
 use Rattle.h41_asm.specs.Statements.{reading}
 use Rattle.h41_asm.proofs.Found.{not_then_some, or_none, or_nothing}
-
--- a line is its label and its words
-pub same_line : (line : SourceLine) (label : Option (List ℕ)) (code : List (List ℕ)) → label ≡ line.label → code ≡ line.code → record { label = label; code = code } ≡ line
-same_line line label code labels codes = λ i. record { label = labels i; code = codes i }
 
 -- the lines before some are placed: these are faultless, the names that label them have an address, and with the labels of those
 -- that are left the addresses are those of all
@@ -59,13 +55,6 @@ own_fault_in : (labels : Labels) (earlier : List SourceLine) (address : ℕ) (li
     → ((name : List ℕ) → is_some (labels name) ≡ list_any (λ line. has_label name line.label) earlier)
     → placing_fault labels address line ≡ own_fault earlier address line
 own_fault_in labels earlier address line known = ap (option_or (result_err (reading line.code))) (placed_fault_in labels earlier address line known line.label)
-
--- a fault of the next line is the first of all
-pub placed_fault_first : (labels : Labels) (all : List SourceLine) (origin number address : ℕ) (line : SourceLine) (rest : List SourceLine) (fault : Fault)
-    → IsPlaced labels all origin number address (line ∷ rest) → placing_fault labels address line ≡ Some fault → own_faults 1 origin [] all ≡ Some (fault, number)
-placed_fault_first labels all origin number address line rest fault placed found =
-    let own : own_fault placed.earlier address line ≡ Some fault = sym (own_fault_in labels placed.earlier address line placed.known) ∙ found in
-    sym placed.faults ∙ ap (λ own. option_or (at_line number own) (own_faults (suc number) (address + line_length line) (placed.earlier ++ line ∷ []) rest)) own
 
 -- the names of the lines with one more
 known_next : (labels : Labels) (earlier : List SourceLine) (address : ℕ)

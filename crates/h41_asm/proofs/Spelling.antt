@@ -5,7 +5,7 @@ use Rattle.h41_asm.specs.declared.statement.Statement as code
 use Rattle.h41_asm.specs.CodeStatements.{read_in_code}
 use Rattle.h41_asm.specs.Faults.{line_length, read_length, reference_fault, reference_faults}
 use Rattle.h41_asm.specs.Placing.{Labels, LinesSpell, Spells, SpellsRead}
-use Rattle.h41_asm.specs.Refusals.{IsReady, SpellsNext}
+use Rattle.h41_asm.specs.LabelTable.{IsReady, SpellsNext}
 use Rattle.h41_asm.specs.SourceLines.{SourceLine}
 use Rattle.h41_asm.specs.Statements.{Statement, Words, OutOfReach, LongJumpTo, ShortJumpTo, EntryAt, reading, statement_length}
 

@@ -1,5 +1,5 @@
 -- What the code's lines and statements say, in the words of a source.
-use Rattle.std.specs.Prelude.{ℕ, map, List, [], ◌∷◌, Option, Some, None, Result, Ok, Err}
+use Rattle.std.specs.Prelude.{ℕ, ◌%◌, map, reverse, List, [], ◌∷◌, Option, Some, None, Result, Ok, Err}
 use Rattle.std.specs.Borrow.{Bor}
 use Rattle.std.specs.Option.{option_map}
 use Rattle.h41_words.specs.declared.rows.Row.{Row}
@@ -79,3 +79,7 @@ taken_in_code (Some read) = Some (read_in_code read)
 -- a line of the code
 abbrev pub in_line : lines.SourceLine → SourceLine
 in_line line = record { label = option_map (λ name. name.now) line.label; code = words_of line.code.rest.now }
+
+-- the words of characters, the last first
+abbrev pub backward_words : List ℕ → List ℕ
+backward_words text = reverse (map (λ byte. byte % 64) text)

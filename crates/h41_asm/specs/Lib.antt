@@ -2,6 +2,7 @@ pub mod Assembly
 pub mod AssemblyLaws
 pub mod CodeStatements
 pub mod Faults
+pub mod LabelTable
 pub mod Operands
 pub mod Placing
 pub mod Refusals

@@ -1,24 +1,11 @@
--- What the code answers in the place of words, and the addresses that its table of labels holds.
-use Rattle.std.specs.Prelude.{◌≡◌, ◌+◌, ◌≤◌, [], ◌∷◌, ◌++◌, IsOk, IfSome, ℕ, bytes_eq, List, Option, Some, None, Result, Ok, Err, ℤ, if◌then◌else◌, is_some, nat_le, nat_lt}
-use Rattle.std.specs.Bool.{then_some}
-use Rattle.std.specs.Borrow.{Bor}
-use Rattle.std.specs.Option.{option_or}
-use Rattle.std.specs.Result.{result_err}
-use Rattle.indexmap.specs.IndexMap.{IndexMap, get_by}
+-- What the code answers in the place of words: a fault of a line, or memory that was refused.
+use Rattle.std.specs.Prelude.{◌≡◌, ℕ, Option, Some}
 use Rattle.h41_asm.specs.declared.fault.AssembleError as errors
 use Rattle.h41_asm.specs.declared.fault.AssembleError.TheVariants as refusals
 use Rattle.h41_asm.specs.declared.fault.Fault.{Fault}
 use Rattle.h41_asm.specs.declared.fault.SpellError as spell
 use Rattle.h41_asm.specs.declared.fault.SpellError.TheVariants as spell_errors
-use Rattle.h41_asm.specs.Assembly.{address_count}
-use Rattle.h41_asm.specs.Faults.{Found, label_address, line_length}
-use Rattle.h41_asm.specs.SourceLines.{SourceLine}
-use Rattle.h41_asm.specs.Placing.{Labels, Spells}
-use Rattle.h41_asm.specs.Statements.{Statement, is_in_reach, reading}
-use Rattle.h41_asm.specs.declared.fault.Fault.TheVariants.{LabelTwice, TooFar, TooLong}
-use Rattle.h41_words.specs.declared.rows.Condition.{Condition}
-use Rattle.h41_words.specs.declared.rows.Row.TheVariants.{ShortJump}
-use Rattle.h41_words.specs.WordTable.{number_of}
+use Rattle.h41_asm.specs.Faults.{Found}
 
 -- a fault of a statement as one of the line with this number
 abbrev pub refusal_of : spell.SpellError → ℕ → errors.AssembleError
@@ -34,58 +21,3 @@ IsFault spell_errors.OutOfMemory found = Unit {0}
 abbrev pub IsRefusal : errors.AssembleError → Found → Type 0
 IsRefusal (refusals.Line fault line) found = found ≡ Some (fault, line)
 IsRefusal refusals.OutOfMemory found = Unit {0}
-
--- the addresses that a table of labels holds
-abbrev pub labels_in : {S : Type 0} → IndexMap (Bor (List ℕ)) ℕ S → Labels
-labels_in table name = get_by (λ key. bytes_eq name key.now) table
-
--- words that a statement adds to those before it
-pub record SpellsNext (labels : Labels) (address : ℕ) (statement : Statement) (before after : List ℕ) : Type 0 where
-  pub own : List ℕ
-  pub added : after ≡ before ++ own
-  pub spelled : Spells labels address statement own
-
--- the word of a short jump, or that it is out of reach
-abbrev pub jump_word : Condition → ℤ → Result ℕ Fault
-jump_word condition displacement = if is_in_reach displacement then Ok (number_of (ShortJump condition displacement)) else Err TooFar
-
--- lines that can be read and placed from an address on, each label at its line
-abbrev pub IsReady : Labels → ℕ → List SourceLine → Type 0
-IsReady labels address [] = Unit {0}
-IsReady labels address (line ∷ rest) =
-    IsOk (reading line.code) × (address + line_length line ≤ address_count) × IfSome line.label (λ name. labels name ≡ Some address)
-    × IsReady labels (address + line_length line) rest
-
--- the fault of a label at an address, where the table has those of the lines before
-abbrev pub label_fault : Labels → ℕ → List ℕ → Option Fault
-label_fault labels address name =
-    option_or (then_some (is_some (labels name)) LabelTwice) (then_some (nat_le address_count address) TooLong)
-
-abbrev pub placed_fault : Labels → ℕ → Option (List ℕ) → Option Fault
-placed_fault labels address None = None
-placed_fault labels address (Some name) = label_fault labels address name
-
--- and that of a line
-abbrev pub placing_fault : Labels → ℕ → SourceLine → Option Fault
-placing_fault labels address line =
-    option_or (result_err (reading line.code)) (option_or (placed_fault labels address line.label)
-    (then_some (nat_lt address_count (address + line_length line)) TooLong))
-
--- one more name has an address
-abbrev pub with_address : Labels → List ℕ → ℕ → Labels
-with_address labels own address name = if bytes_eq own name then Some address else labels name
-
-abbrev pub with_label : Labels → Option (List ℕ) → ℕ → Labels
-with_label labels None address = labels
-with_label labels (Some own) address = with_address labels own address
-
--- that is what was added to a table
-abbrev pub AddressAdded : {S : Type 0} → IndexMap (Bor (List ℕ)) ℕ S → IndexMap (Bor (List ℕ)) ℕ S → ℕ → List ℕ → Type 0
-AddressAdded old new address own = (name : List ℕ) → labels_in new name ≡ with_address (labels_in old) own address name
-
-abbrev pub LabelAdded : {S : Type 0} → IndexMap (Bor (List ℕ)) ℕ S → IndexMap (Bor (List ℕ)) ℕ S → ℕ → SourceLine → Type 0
-LabelAdded old new address line = (name : List ℕ) → labels_in new name ≡ with_label (labels_in old) line.label address name
-
--- a table of the labels of lines that stand from an address on
-abbrev pub AreLabelsOf : {S : Type 0} → IndexMap (Bor (List ℕ)) ℕ S → ℕ → List SourceLine → Type 0
-AreLabelsOf table address some = (name : List ℕ) → labels_in table name ≡ label_address address some name

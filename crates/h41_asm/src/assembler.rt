@@ -1,14 +1,12 @@
 //! From lines to words, in two passes: first the addresses of the labels, then the words.
 
-ghost use Rattle.std.specs.Prelude.{◌≡◌, ◌+◌, ◌≤◌, ◌<◌, ◌^◌, ◌++◌, [], ◌∷◌, None, IfOk, IfErr, OnOk, pos, ◌-ℤ◌, ℤ};
+ghost use Rattle.std.specs.Prelude.{◌≡◌, ◌≤◌, ◌++◌, [], ◌∷◌, None, IfOk, IfErr, OnOk};
 ghost use Rattle.std.specs.Option.{ok_or};
 ghost use Rattle.h41_asm.specs.Assembly.{Assembles, address_count};
-ghost use Rattle.h41_asm.specs.CodeStatements.{in_code, in_line};
-ghost use Rattle.h41_asm.specs.Faults.{assembly_fault, line_length, own_faults, reference_fault, reference_faults};
-ghost use Rattle.h41_asm.specs.Placing.{LinesSpell};
-ghost use Rattle.h41_asm.specs.SourceLines.{source_lines};
-ghost use Rattle.h41_asm.specs.Refusals.{AddressAdded, AreLabelsOf, IsFault, IsReady, IsRefusal, LabelAdded, label_fault, placing_fault, SpellsNext, jump_word, labels_in};
-ghost use Rattle.h41_asm.specs.Statements as spec;
+ghost use Rattle.h41_asm.specs.CodeStatements.{in_line};
+ghost use Rattle.h41_asm.specs.Faults.{assembly_fault, line_length};
+ghost use Rattle.h41_asm.specs.LabelTable.{AddsLabel, AddsName, AddsWords, HoldsLabels, IsReadyBy, SpellsBy, fault_by, first_fault_by, first_own_fault, jump_word, labels_in, line_fault_in, name_fault_in};
+ghost use Rattle.h41_asm.specs.Refusals.{IsFault, IsRefusal};
 
 use crate::emit::{entry_words, push_name};
 use crate::fault::{AssembleError, Fault, SpellError};
@@ -40,9 +38,9 @@ pub fn assemble(alloc: Global, text: &[u8], origin: u16) -> Result<Vec<Word>, As
 
 /// The addresses of the labels of a source, or the first fault that a line has whatever these are.
 fn place<'a>(alloc: Global, text: &'a [u8], origin: u16) -> Result<Labels<'a>, AssembleError>
-    ensures ok { OnOk result (own_faults 1 origin [] (source_lines text.now) ≡ None) }
-    ensures labels { IfOk result (λ labels. AreLabelsOf labels origin (source_lines text.now)) }
-    ensures err { IfErr result (λ error. IsRefusal error (own_faults 1 origin [] (source_lines text.now))) }
+    ensures ok { OnOk result (first_own_fault origin text.now ≡ None) }
+    ensures labels { IfOk result (λ labels. HoldsLabels labels origin text.now) }
+    ensures err { IfErr result (λ error. IsRefusal error (first_own_fault origin text.now)) }
 {
     let mut labels = IndexMap::new(alloc);
     let mut address = u32::from(origin);
@@ -64,10 +62,10 @@ fn place_line<'a>(
     line: SourceLine<'a>,
 ) -> Result<u32, SpellError>
     requires { address ≤ address_count }
-    ensures ok { OnOk result (placing_fault (labels_in labels.old) address (in_line line.entry) ≡ None) }
+    ensures ok { OnOk result (line_fault_in labels.old address line.entry ≡ None) }
     ensures length { IfOk result (λ length. length ≡ line_length (in_line line.entry)) }
-    ensures labels { OnOk result (LabelAdded labels.old labels.new address (in_line line.entry)) }
-    ensures err { IfErr result (λ error. IsFault error (placing_fault (labels_in labels.old) address (in_line line.entry))) }
+    ensures labels { OnOk result (AddsLabel labels.old labels.new address line.entry) }
+    ensures err { IfErr result (λ error. IsFault error (line_fault_in labels.old address line.entry)) }
 {
     let length = match read(line.code) {
         Ok(statement) => statement.length(),
@@ -84,9 +82,9 @@ fn place_line<'a>(
 
 /// Notes the address of a label.
 fn note<'a>(labels: &mut Labels<'a>, name: &'a [u8], address: u32) -> Result<(), SpellError>
-    ensures ok { OnOk result (label_fault (labels_in labels.old) address name.now ≡ None) }
-    ensures labels { OnOk result (AddressAdded labels.old labels.new address name.now) }
-    ensures err { IfErr result (λ error. IsFault error (label_fault (labels_in labels.old) address name.now)) }
+    ensures ok { OnOk result (name_fault_in labels.old address name.now ≡ None) }
+    ensures labels { OnOk result (AddsName labels.old labels.new address name.now) }
+    ensures err { IfErr result (λ error. IsFault error (name_fault_in labels.old address name.now)) }
 {
     if labels.contains_key(name) {
         return Err(SpellError::Fault(Fault::LabelTwice));
@@ -105,10 +103,10 @@ fn spell(
     origin: u16,
     labels: &Labels<'_>,
 ) -> Result<Vec<Word>, AssembleError>
-    requires { IsReady (labels_in labels.now) origin (source_lines text.now) }
-    ensures ok { OnOk result (reference_faults (labels_in labels.now) 1 origin (source_lines text.now) ≡ None) }
-    ensures words { IfOk result (λ words. LinesSpell (labels_in labels.now) origin (source_lines text.now) words.items) }
-    ensures err { IfErr result (λ error. IsRefusal error (reference_faults (labels_in labels.now) 1 origin (source_lines text.now))) }
+    requires { IsReadyBy labels.now origin text.now }
+    ensures ok { OnOk result (first_fault_by labels.now origin text.now ≡ None) }
+    ensures words { IfOk result (λ words. SpellsBy labels.now origin text.now words.items) }
+    ensures err { IfErr result (λ error. IsRefusal error (first_fault_by labels.now origin text.now)) }
 {
     let mut words = Vec::new(alloc);
     let mut address = u32::from(origin);
@@ -134,9 +132,9 @@ fn push_statement(
     statement: &Statement<'_>,
 ) -> Result<(), SpellError>
     requires { address ≤ 65536 }
-    ensures ok { OnOk result (reference_fault (labels_in labels.now) address (in_code statement.now) ≡ None) }
-    ensures words { OnOk result (SpellsNext (labels_in labels.now) address (in_code statement.now) words.old.items words.new.items) }
-    ensures err { IfErr result (λ error. IsFault error (reference_fault (labels_in labels.now) address (in_code statement.now))) }
+    ensures ok { OnOk result (fault_by labels.now address statement.now ≡ None) }
+    ensures words { OnOk result (AddsWords labels.now address statement.now words.old.items words.new.items) }
+    ensures err { IfErr result (λ error. IsFault error (fault_by labels.now address statement.now)) }
 {
     match statement {
         Statement::Nothing => {}

@@ -2,7 +2,7 @@
 
 ghost use Rattle.std.specs.Prelude.{◌≡◌, ◌%◌, ◌<◌, [], ◌∷◌, ◌++◌, map, reverse, OnOk};
 ghost use Rattle.h41_words.specs.Counts.{word_count};
-ghost use Rattle.h41_asm.specs.CodeStatements.{entry_bits};
+ghost use Rattle.h41_asm.specs.CodeStatements.{backward_words, entry_bits};
 ghost use Rattle.h41_asm.specs.Placing.{entry_words as words_of_entry};
 ghost use Rattle.h41_asm.specs.Statements.{name_words};
 
@@ -35,7 +35,7 @@ pub(crate) fn push_name(words: &mut Vec<Word>, text: &[u8]) -> Result<(), AllocE
 
 /// Appends the codes of characters, the last first.
 fn push_codes(words: &mut Vec<Word>, text: &[u8]) -> Result<(), AllocError>
-    ensures { OnOk result (words.new.items ≡ words.old.items ++ reverse (map (λ byte. byte % 64) text.now)) }
+    ensures { OnOk result (words.new.items ≡ words.old.items ++ backward_words text.now) }
 {
     for byte in text.iter().rev() {
         words.push(rom_word(u16::from(*byte % 64)))?;

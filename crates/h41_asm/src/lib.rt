@@ -16,3 +16,6 @@ mod words;
 
 pub use assembler::assemble;
 pub use fault::{AssembleError, Fault};
+
+#[cfg(test)]
+mod tests;

@@ -1,7 +1,7 @@
 //! A line of a source: its label, and the words behind that.
 
 ghost use Rattle.std.specs.Prelude.{◌≡◌};
-ghost use Rattle.std.specs.Option.{option_map};
+ghost use Rattle.h41_asm.specs.CodeStatements.{in_line};
 ghost use Rattle.h41_asm.specs.SourceLines.{line_of, words_of};
 
 use crate::names::label_in;
@@ -18,8 +18,7 @@ pub(crate) struct SourceLine<'a> {
 
 /// The line that some bytes are.
 pub(crate) fn read_line(line: &[u8]) -> SourceLine<'_>
-    ensures label { option_map (λ name. name.now) result.label ≡ (line_of (words_of line.now)).label }
-    ensures code { words_of result.code.rest.now ≡ (line_of (words_of line.now)).code }
+    ensures { in_line result ≡ line_of (words_of line.now) }
 {
     let all = LineWords::new(line);
     let mut behind = all;

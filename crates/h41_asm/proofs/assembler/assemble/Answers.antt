@@ -1,6 +1,6 @@
 use Rattle.std.proofs.Common.{List, [], arith}
 use Rattle.std.proofs.lemmas.Result.{IfOk-weaker}
-use Rattle.h41_asm.specs.Refusals.{labels_in}
+use Rattle.h41_asm.specs.LabelTable.{labels_in}
 use Rattle.h41_asm.specs.SourceLines.{SourceLine, source_lines}
 use Rattle.h41_asm.proofs.Addresses.{ready}
 use Rattle.h41_asm.proofs.Assembled.{assembles, fault_of_references}

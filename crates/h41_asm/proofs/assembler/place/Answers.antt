@@ -1,10 +1,10 @@
 use Rattle.std.proofs.Common.{◌≡◌, ◌∷◌, List, arith, refl, sym, ◌∙◌, ap, length, map}
 use Rattle.h41_asm.specs.CodeStatements.{in_line}
 use Rattle.h41_asm.specs.Placing.{Labels}
-use Rattle.h41_asm.specs.Refusals.{labels_in}
+use Rattle.h41_asm.specs.LabelTable.{labels_in}
 use Rattle.h41_asm.specs.SourceLines.{SourceLine, line_of, source_lines, words_of}
 use Rattle.h41_asm.proofs.LineCount.{length-lines}
-use Rattle.h41_asm.proofs.Placed.{IsPlaced, placed_next, placed_none, placed_within, same_line}
+use Rattle.h41_asm.proofs.Placed.{IsPlaced, placed_next, placed_none, placed_within}
 use Rattle.h41_asm.proofs.assembler.place.Goals as goal
 
 pub loop-line-init : goal.loop-line-init
@@ -20,7 +20,7 @@ loop-line-preserved c =
     let all : List SourceLine = source_lines c.args.text.now in
     let line : SourceLine = in_line c.read_line.result in
     let rest : List SourceLine = source_lines c.next.new.self.rest.now in
-    let own : line ≡ line_of (words_of c.in-Some.line.now) = same_line (line_of (words_of c.in-Some.line.now)) line.label line.code c.read_line.ensures.label c.read_line.ensures.code in
+    let own : line ≡ line_of (words_of c.in-Some.line.now) = c.read_line.ensures in
     let left : source_lines c.loop-line.line-iterator.rest.now ≡ line ∷ rest =
     ap (map (λ text. line_of (words_of text))) c.in-Some.ensures.steps ∙ ap (λ line. line ∷ rest) (sym own) in
     let placed : IsPlaced before all c.args.origin c.loop-line.number c.loop-line.address (line ∷ rest) = rw left at c.loop-line.invariant.placed in

@@ -1,5 +1,5 @@
 use Rattle.std.proofs.Common.{◌+◌, ◌≤◌, length}
-use Rattle.h41_asm.specs.Refusals.{labels_in}
+use Rattle.h41_asm.specs.LabelTable.{labels_in}
 use Rattle.h41_asm.specs.SourceLines.{lines, source_lines}
 use Rattle.h41_asm.proofs.Placed.{IsPlaced}
 use Rattle.h41_asm.proofs.assembler.place.Given as goal

@@ -3,7 +3,7 @@ use Rattle.h41_asm.specs.CodeStatements.{in_code}
 use Rattle.h41_asm.specs.SourceLines.{SourceLine, line_of, source_lines, words_of}
 use Rattle.h41_asm.specs.Faults.{reference_faults}
 use Rattle.h41_asm.specs.Placing.{Labels}
-use Rattle.h41_asm.specs.Refusals.{IsReady, labels_in}
+use Rattle.h41_asm.specs.LabelTable.{IsReady, labels_in}
 use Rattle.h41_asm.specs.Statements.{reading, statement_length}
 use Rattle.h41_asm.proofs.LineCount.{length-lines}
 use Rattle.h41_asm.proofs.Spelling.{ready_behind, faults_behind, not_ready, words_behind}
@@ -28,7 +28,7 @@ loop-line-preserved c =
     elim c.match-read.branch [
       | in-Ok+in-Ok-push_statement w ↦
           let said = in_code w.in-Ok.statement in
-          let read : Ok said ≡ reading line.code = w.in-Ok.ensures ∙ ap reading c.read_line.ensures.code in
+          let read : Ok said ≡ reading line.code = w.in-Ok.ensures ∙ ap (λ (line : SourceLine). reading line.code) c.read_line.ensures in
           let moved : c.match-read.address ≡ address + statement_length said = w.address-is ∙ ap (λ n. address + n) w.length.ensures in
           let behind = ready_behind labels address line rest said read ready in
           let kept = c.loop-line.invariant in
@@ -42,7 +42,7 @@ loop-line-preserved c =
                 let more = words_behind labels address line rest said c.loop-line.words.items w.push_statement.new.words.items others read ready.2 own.words (rw moved at spelled) in
                 rw (w.words-is, more.1) (kept.spelled more.0 (rw left more.2));
           }
-      | in_default w ↦ not_ready labels address line rest c.read.result (c.read.ensures ∙ ap reading c.read_line.ensures.code) w.in_default.not-Ok ready
+      | in_default w ↦ not_ready labels address line rest c.read.result (c.read.ensures ∙ ap (λ (line : SourceLine). reading line.code) c.read_line.ensures) w.in_default.not-Ok ready
     ]
 
 pub returns-clause-words : goal.returns-clause-words

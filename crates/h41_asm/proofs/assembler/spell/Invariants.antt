@@ -1,7 +1,7 @@
 use Rattle.std.proofs.Common.{◌≡◌, ◌+◌, ◌≤◌, ℕ, List, ◌++◌, length}
 use Rattle.h41_asm.specs.Faults.{reference_faults}
 use Rattle.h41_asm.specs.Placing.{LinesSpell}
-use Rattle.h41_asm.specs.Refusals.{IsReady, labels_in}
+use Rattle.h41_asm.specs.LabelTable.{IsReady, labels_in}
 use Rattle.h41_asm.specs.SourceLines.{lines, source_lines}
 use Rattle.h41_asm.proofs.assembler.spell.Given as goal
 

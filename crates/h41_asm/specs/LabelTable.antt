@@ -1,0 +1,107 @@
+-- The code's table of labels: the addresses that it holds, what a name or a line adds to it, and what lines and statements say
+-- by it. It only connects the code with the definitions of assembly.
+use Rattle.std.specs.Prelude.{◌≡◌, ℕ, ◌+◌, ◌≤◌, ℤ, List, [], ◌∷◌, ◌++◌, IsOk, IfSome, Option, Some, None, Result, Ok, Err, bytes_eq, if◌then◌else◌, is_some, nat_le, nat_lt}
+use Rattle.std.specs.Bool.{then_some}
+use Rattle.std.specs.Borrow.{Bor}
+use Rattle.std.specs.Option.{option_or}
+use Rattle.std.specs.Result.{result_err}
+use Rattle.indexmap.specs.IndexMap.{IndexMap, get_by}
+use Rattle.h41_words.specs.declared.rows.Condition.{Condition}
+use Rattle.h41_words.specs.declared.rows.Row.TheVariants.{ShortJump}
+use Rattle.h41_words.specs.WordTable.{number_of}
+use Rattle.h41_asm.specs.declared.fault.Fault.{Fault}
+use Rattle.h41_asm.specs.declared.fault.Fault.TheVariants.{LabelTwice, TooFar, TooLong}
+use Rattle.h41_asm.specs.declared.source.SourceLine as code_lines
+use Rattle.h41_asm.specs.declared.statement.Statement as code
+use Rattle.h41_asm.specs.Assembly.{address_count}
+use Rattle.h41_asm.specs.CodeStatements.{in_code, in_line}
+use Rattle.h41_asm.specs.Faults.{Found, label_address, line_length, own_faults, reference_fault, reference_faults}
+use Rattle.h41_asm.specs.Placing.{Labels, LinesSpell, Spells}
+use Rattle.h41_asm.specs.SourceLines.{SourceLine, source_lines}
+use Rattle.h41_asm.specs.Statements.{Statement, is_in_reach, reading}
+
+-- the code's table of labels, and the addresses that it holds
+abbrev pub Table : Type 0 → Type 0
+Table S = IndexMap (Bor (List ℕ)) ℕ S
+
+abbrev pub labels_in : {S : Type 0} → Table S → Labels
+labels_in table name = get_by (λ key. bytes_eq name key.now) table
+
+-- words that a statement adds to those before it
+pub record SpellsNext (labels : Labels) (address : ℕ) (statement : Statement) (before after : List ℕ) : Type 0 where
+  pub own : List ℕ
+  pub added : after ≡ before ++ own
+  pub spelled : Spells labels address statement own
+
+abbrev pub AddsWords : {S : Type 0} → Table S → ℕ → code.Statement → List ℕ → List ℕ → Type 0
+AddsWords table address statement before after = SpellsNext (labels_in table) address (in_code statement) before after
+
+-- the fault of a statement's reference, and the first of a source's references
+abbrev pub fault_by : {S : Type 0} → Table S → ℕ → code.Statement → Option Fault
+fault_by table address statement = reference_fault (labels_in table) address (in_code statement)
+
+abbrev pub first_fault_by : {S : Type 0} → Table S → ℕ → List ℕ → Found
+first_fault_by table origin source = reference_faults (labels_in table) 1 origin (source_lines source)
+
+-- the words of a source under a table
+abbrev pub SpellsBy : {S : Type 0} → Table S → ℕ → List ℕ → List ℕ → Type 0
+SpellsBy table origin source words = LinesSpell (labels_in table) origin (source_lines source) words
+
+-- the word of a short jump, or that it is out of reach
+abbrev pub jump_word : Condition → ℤ → Result ℕ Fault
+jump_word condition displacement = if is_in_reach displacement then Ok (number_of (ShortJump condition displacement)) else Err TooFar
+
+-- lines that can be read and placed from an address on, each label at its line
+abbrev pub IsReady : Labels → ℕ → List SourceLine → Type 0
+IsReady labels address [] = Unit {0}
+IsReady labels address (line ∷ rest) =
+    IsOk (reading line.code) × (address + line_length line ≤ address_count) × IfSome line.label (λ name. labels name ≡ Some address)
+    × IsReady labels (address + line_length line) rest
+
+abbrev pub IsReadyBy : {S : Type 0} → Table S → ℕ → List ℕ → Type 0
+IsReadyBy table origin source = IsReady (labels_in table) origin (source_lines source)
+
+-- the first fault of a source's own lines
+abbrev pub first_own_fault : ℕ → List ℕ → Found
+first_own_fault origin source = own_faults 1 origin [] (source_lines source)
+
+-- the fault of a label at an address, where the labels are those of the lines before
+abbrev pub label_fault : Labels → ℕ → List ℕ → Option Fault
+label_fault labels address name =
+    option_or (then_some (is_some (labels name)) LabelTwice) (then_some (nat_le address_count address) TooLong)
+
+abbrev pub placed_fault : Labels → ℕ → Option (List ℕ) → Option Fault
+placed_fault labels address None = None
+placed_fault labels address (Some name) = label_fault labels address name
+
+-- and that of a line
+abbrev pub placing_fault : Labels → ℕ → SourceLine → Option Fault
+placing_fault labels address line =
+    option_or (result_err (reading line.code)) (option_or (placed_fault labels address line.label)
+    (then_some (nat_lt address_count (address + line_length line)) TooLong))
+
+-- both by a table
+abbrev pub name_fault_in : {S : Type 0} → Table S → ℕ → List ℕ → Option Fault
+name_fault_in table address name = label_fault (labels_in table) address name
+
+abbrev pub line_fault_in : {S : Type 0} → Table S → ℕ → code_lines.SourceLine → Option Fault
+line_fault_in table address line = placing_fault (labels_in table) address (in_line line)
+
+-- one more name has an address
+abbrev pub with_address : Labels → List ℕ → ℕ → Labels
+with_address labels own address name = if bytes_eq own name then Some address else labels name
+
+abbrev pub with_label : Labels → Option (List ℕ) → ℕ → Labels
+with_label labels None address = labels
+with_label labels (Some own) address = with_address labels own address
+
+-- what a name, or a line's label, adds to a table
+abbrev pub AddsName : {S : Type 0} → Table S → Table S → ℕ → List ℕ → Type 0
+AddsName old new address own = (name : List ℕ) → labels_in new name ≡ with_address (labels_in old) own address name
+
+abbrev pub AddsLabel : {S : Type 0} → Table S → Table S → ℕ → code_lines.SourceLine → Type 0
+AddsLabel old new address line = (name : List ℕ) → labels_in new name ≡ with_label (labels_in old) (in_line line).label address name
+
+-- a table of the labels of a source
+abbrev pub HoldsLabels : {S : Type 0} → Table S → ℕ → List ℕ → Type 0
+HoldsLabels table origin source = (name : List ℕ) → labels_in table name ≡ label_address origin (source_lines source) name

@@ -1,3 +1,4 @@
+pub mod LineReading
 pub mod LineText
 pub mod Names
 pub mod TextLaws

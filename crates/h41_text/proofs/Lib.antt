@@ -1,1 +1,4 @@
 pub mod Canonical
+pub mod Finding
+pub mod Reading
+pub mod Unquoting

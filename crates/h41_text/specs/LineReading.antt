@@ -1,6 +1,5 @@
 -- Which line a text is that of.
-use Rattle.std.specs.Prelude.{◌≡◌, ◌≢◌, ℕ, ◌<◌, List}
-use Rattle.std.specs.List.{All}
+use Rattle.std.specs.Prelude.{◌≡◌, ◌≢◌, ℕ, ◌<◌, List, EachIndex, slice_index}
 use Rattle.h41_codes.specs.declared.line.Line.{Line}
 use Rattle.h41_codes.specs.declared.line.Line.TheVariants.{Null, Named, GlobalLabel, Text}
 use Rattle.h41_codes.specs.ByteGrammar.{IsLine}
@@ -8,10 +7,13 @@ use Rattle.h41_codes.specs.Canon.{canonical}
 use Rattle.h41_text.specs.LineText.{line_text}
 
 -- the characters of names and texts are bytes
+abbrev pub IsBytes : List ℕ → Type 0
+IsBytes characters = EachIndex characters (λ index. slice_index characters index < 256)
+
 abbrev pub HasBytes : Line → Type 0
-HasBytes (Named function name) = All (λ character. character < 256) name
-HasBytes (GlobalLabel link key name) = All (λ character. character < 256) name
-HasBytes (Text characters) = All (λ character. character < 256) characters
+HasBytes (Named function name) = IsBytes name
+HasBytes (GlobalLabel link key name) = IsBytes name
+HasBytes (Text characters) = IsBytes characters
 HasBytes line = Unit {0}
 
 -- the lines that have a text: all but the null

@@ -1,0 +1,190 @@
+-- Reading the text of a line gives the line again, in its shortest spelling.
+use Rattle.std.proofs.Common.{◌≡◌, ℕ, zero, suc, ◌+◌, ◌-◌, ◌*◌, ◌/◌, ◌%◌, ◌<◌, ◌≤◌, Bool, true, false, ◌&&◌, not, ◌==◌, List, [], ◌∷◌, ◌++◌, map, length, Option, Some, None, codes, refl, sym, ◌∙◌, ap, subst, arith, append_assoc}
+use Rattle.std.specs.Prelude.{is_none, nat_lt, nat_le, slice_index, if◌then◌else◌}
+use Rattle.std.specs.List.{flat_map}
+use Rattle.std.specs.Option.{option_map, option_and_then}
+use Rattle.std.specs.Fmt.{digit_glyph}
+use Rattle.std.proofs.lemmas.Bool.{agree_below_at, cond_both, cond-true, cond-false, and_parts, and_from, not-true, eqb-true, ne_eqb, le-leb, lt-ltb, false≢true}
+use Rattle.std.proofs.lemmas.List.{length-map}
+use Rattle.h41_codes.specs.declared.characters.Character.{Character}
+use Rattle.h41_codes.specs.declared.characters.Character.TheVariants.{Zero, Minus}
+use Rattle.h41_codes.specs.declared.functions.Branch.{Branch}
+use Rattle.h41_codes.specs.declared.functions.Branch.TheVariants.{GoTo, Execute}
+use Rattle.h41_codes.specs.declared.functions.Function.{Function}
+use Rattle.h41_codes.specs.declared.functions.Function.TheVariants.{Add}
+use Rattle.h41_codes.specs.declared.functions.NameFunction.TheVariants.{GoToName, ExecuteName, Wordless}
+use Rattle.h41_codes.specs.declared.functions.ParameterFunction.{ParameterFunction}
+use Rattle.h41_codes.specs.declared.functions.ParameterFunction.TheVariants.{Recall, Store, Label}
+use Rattle.h41_codes.specs.declared.functions.RegisterFunction.TheVariants.{RecallRegister, StoreRegister}
+use Rattle.h41_codes.specs.declared.line.Operand.{Operand}
+use Rattle.h41_codes.specs.declared.line.Operand.TheVariants.{Direct, Indirect}
+use Rattle.h41_codes.specs.declared.line.Line.{Line}
+use Rattle.h41_codes.specs.declared.line.Line.TheVariants.{Null, LocalLabel, Number, Named, Register, Plain, WithOperand, Module, BranchIndirect, ShortGoTo, GlobalLabel, End, FinalEnd, BranchTo, Text}
+use Rattle.h41_codes.specs.ByteGrammar.{IsLine, IsOperand}
+use Rattle.h41_codes.specs.Canon.{canonical}
+use Rattle.h41_text.specs.declared.words.Word.{Word}
+use Rattle.h41_text.specs.declared.words.Word.TheVariants as word
+use Rattle.h41_text.specs.Names.{function_name, parameter_function_name, character_text}
+use Rattle.h41_text.specs.LineText.{line_text, two_digits, parameter_text, operand_text, number_text, is_plain, character_quoted, quoted, text_line, ◌&◌}
+use Rattle.h41_text.specs.LineReading.{IsBytes, HasText}
+use Rattle.h41_text.specs.TextParts.{word_text, word_line, parameter_of, operand_of, operand_from, behind_ind, two_digits_of, module_line, byte_of, first_character, unquoted, at_most, begins_with, branch_line, character_of, characters_of, number_of, cut, cut_line, or_else, minus_line, unquoted_line, candidate_line}
+use Rattle.h41_text.proofs.Canonical as canonical_text
+use Rattle.h41_text.proofs.Finding.{is_found, parameter_found, number_none}
+use Rattle.h41_text.proofs.Unquoting.{unquoted_more, unquoted_end}
+
+-- a character within quotes
+finds_byte : ℕ → Bool
+finds_byte byte = elim (byte_of (digit_glyph true (byte / 16)) (digit_glyph true (byte % 16))) [ None ↦ false | Some other ↦ other == byte ]
+
+byte_again : (byte : ℕ) → byte < 256 → byte_of (digit_glyph true (byte / 16)) (digit_glyph true (byte % 16)) ≡ Some byte
+unfolding finds_byte
+byte_again byte inside = is_found byte _ (agree_below_at finds_byte (λ n. true) 256 byte refl inside)
+
+plain_again : (byte : ℕ) (rest : List ℕ) → is_plain byte ≡ true → first_character (byte ∷ rest) ≡ Some (byte, rest)
+plain_again byte rest plain =
+    let parts = and_parts _ (not (byte == 0x5C)) plain in
+    let quote = and_parts _ (not (byte == 0x22)) parts.0 in
+    cond-false (byte == 0x22) _ _ (not-true _ quote.1) ∙ cond-false (byte == 0x5C) _ _ (not-true _ parts.1)
+
+first_again : (byte : ℕ) (rest : List ℕ) → byte < 256 → first_character (character_quoted byte ++ rest) ≡ Some (byte, rest)
+first_again byte rest inside =
+    cond_both (is_plain byte) (byte ∷ []) (0x5C ∷ digit_glyph true (byte / 16) ∷ digit_glyph true (byte % 16) ∷ [])
+    (λ text. first_character (text ++ rest) ≡ Some (byte, rest)) (plain_again byte rest)
+    (λ other. ap (option_map (λ character. (character, rest))) (byte_again byte inside))
+
+-- all characters within quotes
+unquoted_again : (most : ℕ) (characters : List ℕ) → length characters ≤ most → IsBytes characters
+    → unquoted most (flat_map character_quoted characters ++ 0x22 ∷ []) ≡ characters
+unquoted_again most [] room bytes = unquoted_end most (0x22 ∷ []) refl
+unquoted_again zero (byte ∷ more) room bytes = absurd (omega arith)
+unquoted_again (suc most) (byte ∷ more) room bytes =
+    let rest = flat_map character_quoted more ++ 0x22 ∷ [] in
+    ap (unquoted (suc most)) (append_assoc (character_quoted byte) (flat_map character_quoted more) (0x22 ∷ []))
+    ∙ unquoted_more (suc most) most (character_quoted byte ++ rest) byte rest (omega arith) (first_again byte rest (bytes 0 (omega arith)))
+    ∙ ap (λ characters. byte ∷ characters) (unquoted_again most more (omega arith) (λ index inside. bytes (suc index) (omega arith)))
+
+at_most_all : (most : ℕ) (characters : List ℕ) → length characters ≤ most → at_most most characters ≡ Some characters
+at_most_all most characters room = cond-true (nat_le (length characters) most) _ _ (le-leb _ most room)
+
+-- a text for ALPHA
+quoted_again : (characters : List ℕ) → length characters ≤ 15 → IsBytes characters → candidate_line (quoted characters) ≡ Some (Text characters)
+quoted_again characters room bytes =
+    ap (λ read. option_map Text (at_most 15 read)) (unquoted_again 15 characters room bytes) ∙ ap (option_map Text) (at_most_all 15 characters room)
+
+appended_again : (characters : List ℕ) → length characters ≤ 14 → IsBytes characters
+    → candidate_line (0x3E ∷ quoted characters) ≡ Some (Text (0x7F ∷ characters))
+appended_again characters room bytes =
+    ap (λ read. option_map Text (at_most 15 (0x7F ∷ read))) (unquoted_again 14 characters room bytes)
+    ∙ ap (option_map Text) (at_most_all 15 (0x7F ∷ characters) (omega arith))
+
+text_again : (characters : List ℕ) → length characters ≤ 15 → IsBytes characters → candidate_line (text_line characters) ≡ Some (Text characters)
+text_again [] room bytes = quoted_again [] room bytes
+text_again (first ∷ rest) room bytes =
+    cond_both (first == 0x7F) (0x3E ∷ quoted rest) (quoted (first ∷ rest)) (λ text. candidate_line text ≡ Some (Text (first ∷ rest)))
+    (λ append. appended_again rest (omega arith) (λ index inside. bytes (suc index) (omega arith)) ∙ ap (λ byte. Some (Text (byte ∷ rest))) (sym (eqb-true first 0x7F append)))
+    (λ other. quoted_again (first ∷ rest) room bytes)
+
+-- a text that is no number is cut at its blank
+cut_again : (text : List ℕ) → minus_line text ≡ None → characters_of text ≡ None → unquoted_line text ≡ cut_line text (cut text)
+cut_again text minus none =
+    ap (λ line. or_else line (or_else (number_of text) (cut_line text (cut text)))) minus
+    ∙ ap (λ line. or_else line (cut_line text (cut text))) (number_none text none)
+
+-- a word and its operand
+worded_again : (word : Word) (operand : List ℕ) → candidate_line (word_text word & operand) ≡ word_line word operand
+worded_again (word.Function Recall) operand = cut_again (codes "RCL" & operand) refl refl
+worded_again (word.Function function) operand = cut_again (parameter_function_name function & operand) refl refl
+worded_again (word.Branch GoTo) operand = cut_again (codes "GTO" & operand) refl refl
+worded_again (word.Branch Execute) operand = cut_again (codes "XEQ" & operand) refl refl
+worded_again word.Wordless operand = cut_again (codes "W" & operand) refl refl
+worded_again word.Module operand = cut_again (codes "XROM" & operand) refl refl
+
+-- operands
+leads_nowhere : ℕ → Bool
+leads_nowhere number = is_none (behind_ind (parameter_text number))
+
+none_again : {A : Type 0} (found : Option A) → is_none found ≡ true → found ≡ None
+none_again None same = refl
+none_again (Some item) same = absurd (false≢true same)
+
+direct_again : (number : ℕ) → number < 128 → behind_ind (parameter_text number) ≡ None
+unfolding leads_nowhere
+direct_again number inside = none_again _ (agree_below_at leads_nowhere (λ n. true) 128 number refl inside)
+
+operand_again : (operand : Operand) → IsOperand operand → operand_of (operand_text operand) ≡ Some operand
+operand_again (Direct number) inside =
+    ap (operand_from (parameter_text number)) (direct_again number inside) ∙ ap (option_map Direct) (parameter_found number inside)
+operand_again (Indirect number) inside = ap (option_map Indirect) (parameter_found number inside)
+
+begins_quoted : ℕ → Bool
+begins_quoted number = begins_with 0x22 (parameter_text number)
+
+operand_begins : (operand : Operand) → IsOperand operand → begins_with 0x22 (operand_text operand) ≡ false
+unfolding begins_quoted
+operand_begins (Direct number) inside = agree_below_at begins_quoted (λ n. false) 128 number refl inside
+operand_begins (Indirect number) inside = refl
+
+-- a function and its operand
+function_again : (function : ParameterFunction) (operand : Operand) → IsOperand operand
+    → candidate_line (line_text (WithOperand function operand)) ≡ Some (WithOperand function operand)
+function_again function operand inside =
+    worded_again (word.Function function) (operand_text operand) ∙ cond-false (begins_with 0x22 (operand_text operand)) _ _ (operand_begins operand inside)
+    ∙ ap (option_map (WithOperand function)) (operand_again operand inside)
+
+branch_again : (branch : Branch) (operand : Operand) → IsOperand operand
+    → candidate_line (word_text (word.Branch branch) & operand_text operand) ≡ Some (branch_line branch operand)
+branch_again branch operand inside =
+    worded_again (word.Branch branch) (operand_text operand) ∙ cond-false (begins_with 0x22 (operand_text operand)) _ _ (operand_begins operand inside)
+    ∙ ap (option_map (branch_line branch)) (operand_again operand inside)
+
+-- the two numbers of an XROM
+finds_two : ℕ → Bool
+finds_two number = elim (two_digits_of (48 + number / 10) (48 + number % 10)) [ None ↦ false | Some other ↦ other == number ]
+
+two_again : (number : ℕ) → number < 100 → two_digits_of (48 + number / 10) (48 + number % 10) ≡ Some number
+unfolding finds_two
+two_again number inside = is_found number _ (agree_below_at finds_two (λ n. true) 100 number refl inside)
+
+module_again : (number entry : ℕ) → number < 32 → entry < 64 → candidate_line (line_text (Module number entry)) ≡ Some (Module number entry)
+module_again number entry inside small =
+    worded_again word.Module (two_digits number ++ 0x2C ∷ two_digits entry)
+    ∙ cond-false (48 + number / 10 == 0x22) _ _ (ne_eqb _ 0x22 (λ same. omega (arith, same)))
+    ∙ ap (option_and_then (λ n. option_and_then (λ e. module_line n e) (two_digits_of (48 + entry / 10) (48 + entry % 10)))) (two_again number (omega arith))
+    ∙ ap (option_and_then (λ e. module_line number e)) (two_again entry (omega arith))
+    ∙ cond-true (nat_lt number 32 && nat_lt entry 64) _ _ (and_from _ _ (lt-ltb number 32 inside) (lt-ltb entry 64 small))
+
+-- a number
+character_again : (character : Character) → character_of (character_text character) ≡ Some character
+character_again Zero = refl
+character_again character = refl
+
+characters_again : (characters : List Character) → characters_of (map character_text characters) ≡ Some characters
+characters_again [] = refl
+characters_again (character ∷ more) =
+    ap (option_and_then (λ first. option_map (λ rest. first ∷ rest) (characters_of (map character_text more)))) (character_again character)
+    ∙ ap (option_map (λ rest. character ∷ rest)) (characters_again more)
+
+number_again : (characters : List Character) → 1 ≤ length characters → length characters ≤ 16 → number_of (map character_text characters) ≡ Some (Number characters)
+number_again characters some most =
+    let size = length-map characters character_text in
+    cond-true (nat_lt 0 (length (map character_text characters)) && nat_le (length (map character_text characters)) 16) _ _
+    (and_from _ _ (lt-ltb 0 _ (omega (arith, size))) (le-leb _ 16 (omega (arith, size))))
+    ∙ ap (option_map Number) (characters_again characters)
+
+several_again : (first second : Character) (more : List Character) → length more ≤ 14
+    → candidate_line (number_text (first ∷ second ∷ more)) ≡ Some (Number (first ∷ second ∷ more))
+several_again Zero second more most =
+    ap (λ line. or_else line (cut_line _ (cut _))) (number_again (Zero ∷ second ∷ more) (omega arith) (omega arith))
+several_again first second more most =
+    ap (λ line. or_else line (cut_line _ (cut _))) (number_again (first ∷ second ∷ more) (omega arith) (omega arith))
+
+number_line_again : (characters : List Character) → 1 ≤ length characters → length characters ≤ 16 → candidate_line (number_text characters) ≡ Some (Number characters)
+number_line_again [] some most = absurd (omega arith)
+number_line_again (Zero ∷ []) some most = refl
+number_line_again (character ∷ []) some most = refl
+number_line_again (first ∷ second ∷ more) some most = several_again first second more (omega arith)
+
+-- a function without a parameter
+plain_line_again : (function : Function) → candidate_line (function_name function) ≡ Some (Plain function)
+plain_line_again Add = refl
+plain_line_again function = refl

@@ -76,7 +76,7 @@ word_none name none = with_text_none word_text words name none
 finds_parameter : ℕ → Bool
 finds_parameter number = elim (parameter_of (parameter_text number)) [ None ↦ false | Some other ↦ other == number ]
 
-is_found : (number : ℕ) (found : Option ℕ) → elim found [ None ↦ false | Some other ↦ other == number ] ≡ true → found ≡ Some number
+pub is_found : (number : ℕ) (found : Option ℕ) → elim found [ None ↦ false | Some other ↦ other == number ] ≡ true → found ≡ Some number
 is_found number None same = absurd (false≢true same)
 is_found number (Some other) same = ap Some (eqb-true other number same)
 

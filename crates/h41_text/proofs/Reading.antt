@@ -168,15 +168,20 @@ number_again : (characters : List Character) → 1 ≤ length characters → len
 number_again characters some most =
     let size = length-map characters character_text in
     cond-true (nat_lt 0 (length (map character_text characters)) && nat_le (length (map character_text characters)) 16) _ _
-    (and_from _ _ (lt-ltb 0 _ (omega (arith, size))) (le-leb _ 16 (omega (arith, size))))
+    (and_from _ _ (lt-ltb 0 (length (map character_text characters)) (omega (arith, size))) (le-leb (length (map character_text characters)) 16 (omega (arith, size))))
     ∙ ap (option_map Number) (characters_again characters)
+
+-- a text that is no lone minus, and is a number
+number_first : (text : List ℕ) (line : Line) → minus_line text ≡ None → number_of text ≡ Some line → unquoted_line text ≡ Some line
+number_first text line minus number =
+    ap (λ first. or_else first (or_else (number_of text) (cut_line text (cut text)))) minus ∙ ap (λ first. or_else first (cut_line text (cut text))) number
 
 several_again : (first second : Character) (more : List Character) → length more ≤ 14
     → candidate_line (number_text (first ∷ second ∷ more)) ≡ Some (Number (first ∷ second ∷ more))
 several_again Zero second more most =
-    ap (λ line. or_else line (cut_line _ (cut _))) (number_again (Zero ∷ second ∷ more) (omega arith) (omega arith))
+    number_first (map character_text (Zero ∷ second ∷ more)) (Number (Zero ∷ second ∷ more)) refl (number_again (Zero ∷ second ∷ more) (omega arith) (omega arith))
 several_again first second more most =
-    ap (λ line. or_else line (cut_line _ (cut _))) (number_again (first ∷ second ∷ more) (omega arith) (omega arith))
+    number_first (map character_text (first ∷ second ∷ more)) (Number (first ∷ second ∷ more)) refl (number_again (first ∷ second ∷ more) (omega arith) (omega arith))
 
 number_line_again : (characters : List Character) → 1 ≤ length characters → length characters ≤ 16 → candidate_line (number_text characters) ≡ Some (Number characters)
 number_line_again [] some most = absurd (omega arith)
@@ -188,3 +193,69 @@ number_line_again (first ∷ second ∷ more) some most = several_again first se
 plain_line_again : (function : Function) → candidate_line (function_name function) ≡ Some (Plain function)
 plain_line_again Add = refl
 plain_line_again function = refl
+
+-- a name in quotes
+name_again : (word : Word) (function : List ℕ → Line) (most : ℕ) (name : List ℕ) → most ≤ 15 → length name ≤ most → IsBytes name
+    → ((text : List ℕ) → word_line word (0x22 ∷ text) ≡ option_map function (at_most most (unquoted 15 text)))
+    → candidate_line (word_text word & quoted name) ≡ Some (function name)
+name_again word function most name few room bytes reads =
+    worded_again word (quoted name) ∙ reads (flat_map character_quoted name ++ 0x22 ∷ [])
+    ∙ ap (λ read. option_map function (at_most most read)) (unquoted_again 15 name (omega arith) bytes) ∙ ap (option_map function) (at_most_all most name room)
+
+-- the line in its longest spelling, with nothing kept that only the calculator uses
+longest : Line → Line
+longest (LocalLabel label) = WithOperand Label (Direct label)
+longest (Register RecallRegister register) = WithOperand Recall (Direct register)
+longest (Register StoreRegister register) = WithOperand Store (Direct register)
+longest (ShortGoTo label distance) = BranchTo GoTo 0 false label
+longest (GlobalLabel link key name) = GlobalLabel 0 0 name
+longest (End link marks) = End 0 0
+longest (FinalEnd link marks) = FinalEnd 0 0
+longest (BranchTo branch distance backwards label) = BranchTo branch 0 false label
+longest line = line
+
+-- two digits read as a parameter
+short_again : (name : List ℕ) (number most : ℕ) (line : Line) → most < 101 → number < most
+    → candidate_line (name & parameter_text number) ≡ Some line → candidate_line (name & two_digits number) ≡ Some line
+short_again name number most line few inside again =
+    ap (λ text. candidate_line (name & text)) (canonical_text.two_digits_of number most few (lt-ltb number most inside)) ∙ again
+
+longest_again : (line : Line) → HasText line → candidate_line (line_text line) ≡ Some (longest line)
+unfolding longest
+longest_again Null has = absurd (has.shown refl)
+longest_again (LocalLabel label) has =
+    short_again (codes "LBL") label 15 _ (omega arith) has.valid (function_again Label (Direct label) (omega (arith, has.valid)))
+longest_again (Number characters) has = number_line_again characters has.valid.0 has.valid.1
+longest_again (Named GoToName name) has = name_again (word.Branch GoTo) (Named GoToName) 15 name (omega arith) has.valid has.bytes (λ text. refl)
+longest_again (Named ExecuteName name) has = name_again (word.Branch Execute) (Named ExecuteName) 15 name (omega arith) has.valid has.bytes (λ text. refl)
+longest_again (Named Wordless name) has = name_again word.Wordless (Named Wordless) 15 name (omega arith) has.valid has.bytes (λ text. refl)
+longest_again (Register RecallRegister register) has =
+    short_again (codes "RCL") register 16 _ (omega arith) has.valid (function_again Recall (Direct register) (omega (arith, has.valid)))
+longest_again (Register StoreRegister register) has =
+    short_again (codes "STO") register 16 _ (omega arith) has.valid (function_again Store (Direct register) (omega (arith, has.valid)))
+longest_again (Plain function) has = plain_line_again function
+longest_again (WithOperand function operand) has = function_again function operand has.valid
+longest_again (Module number entry) has = module_again number entry has.valid.0 has.valid.1
+longest_again (BranchIndirect GoTo register) has = branch_again GoTo (Indirect register) has.valid
+longest_again (BranchIndirect Execute register) has = branch_again Execute (Indirect register) has.valid
+longest_again (ShortGoTo label distance) has =
+    short_again (codes "GTO") label 15 _ (omega arith) has.valid.0 (branch_again GoTo (Direct label) (omega (arith, has.valid)))
+longest_again (GlobalLabel link key name) has = name_again (word.Function Label) (GlobalLabel 0 0) 14 name (omega arith) has.valid.2 has.bytes (λ text. refl)
+longest_again (End link marks) has = refl
+longest_again (FinalEnd link marks) has = refl
+longest_again (BranchTo GoTo distance backwards label) has = branch_again GoTo (Direct label) has.valid.1
+longest_again (BranchTo Execute distance backwards label) has = branch_again Execute (Direct label) has.valid.1
+longest_again (Text characters) has = text_again characters has.valid has.bytes
+
+-- and its canonical line is that of the line
+longest_canonical : (line : Line) → IsLine line → canonical (longest line) ≡ canonical line
+unfolding longest
+longest_canonical (LocalLabel label) valid = cond-true (nat_lt label 15) _ _ (lt-ltb label 15 valid)
+longest_canonical (Register RecallRegister register) valid = cond-true (nat_lt register 16) _ _ (lt-ltb register 16 valid)
+longest_canonical (Register StoreRegister register) valid = cond-true (nat_lt register 16) _ _ (lt-ltb register 16 valid)
+longest_canonical (ShortGoTo label distance) valid = cond-true (nat_lt label 15) _ _ (lt-ltb label 15 valid.0)
+longest_canonical Null valid = refl
+longest_canonical line valid = refl
+
+pub reading_again : (line : Line) → HasText line → option_map canonical (candidate_line (line_text line)) ≡ Some (canonical line)
+reading_again line has = ap (option_map canonical) (longest_again line has) ∙ ap Some (longest_canonical line has.valid)

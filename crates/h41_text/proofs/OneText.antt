@@ -1,5 +1,5 @@
 -- A text is that of one canonical line at most.
-use Rattle.std.proofs.Common.{◌≡◌, ◌≢◌, ℕ, ◌<◌, ◌≤◌, Bool, true, false, List, Option, Some, None, Ok, Err, Result, refl, sym, ◌∙◌, ap, subst, arith}
+use Rattle.std.proofs.Common.{◌≡◌, ℕ, ◌<◌, List, Some, None, Ok, Result, refl, sym, ◌∙◌, ap, subst, arith}
 use Rattle.std.specs.Prelude.{◌↔◌, nat_lt}
 use Rattle.std.specs.Option.{option_map}
 use Rattle.std.proofs.lemmas.Bool.{cond_both, cond-false, ltb-true}
@@ -8,15 +8,14 @@ use Rattle.h41_codes.specs.declared.functions.Branch.{Branch}
 use Rattle.h41_codes.specs.declared.functions.Branch.TheVariants.{GoTo, Execute}
 use Rattle.h41_codes.specs.declared.functions.ParameterFunction.{ParameterFunction}
 use Rattle.h41_codes.specs.declared.functions.ParameterFunction.TheVariants.{Recall, Store, Label}
-use Rattle.h41_codes.specs.declared.functions.RegisterFunction.TheVariants.{RecallRegister, StoreRegister}
 use Rattle.h41_codes.specs.declared.line.Operand.{Operand}
-use Rattle.h41_codes.specs.declared.line.Operand.TheVariants.{Direct, Indirect}
+use Rattle.h41_codes.specs.declared.line.Operand.TheVariants.{Direct}
 use Rattle.h41_codes.specs.declared.line.Line.{Line}
-use Rattle.h41_codes.specs.declared.line.Line.TheVariants.{Null, LocalLabel, Register, WithOperand, ShortGoTo, GlobalLabel, End, FinalEnd, BranchTo}
+use Rattle.h41_codes.specs.declared.line.Line.TheVariants.{Null, WithOperand, ShortGoTo, GlobalLabel, End, FinalEnd, BranchTo}
 use Rattle.h41_codes.specs.ByteGrammar.{IsOperand}
 use Rattle.h41_codes.specs.Canon.{canonical, shortest_function, shortest_branch}
 use Rattle.h41_text.specs.LineText.{line_text}
-use Rattle.h41_text.specs.LineReading.{HasBytes, HasText, IsTextOf}
+use Rattle.h41_text.specs.LineReading.{HasText, IsTextOf}
 use Rattle.h41_text.specs.TextLaws.{LineTextRoundTrip, OneLineOfText}
 use Rattle.h41_text.specs.TextParts.{candidate_line}
 use Rattle.h41_text.proofs.Canonical.{same_text}

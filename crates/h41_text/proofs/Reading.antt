@@ -1,13 +1,13 @@
 -- Reading the text of a line gives the line again, in its shortest spelling.
-use Rattle.std.proofs.Common.{◌≡◌, ℕ, zero, suc, ◌+◌, ◌-◌, ◌*◌, ◌/◌, ◌%◌, ◌<◌, ◌≤◌, Bool, true, false, ◌&&◌, not, ◌==◌, List, [], ◌∷◌, ◌++◌, map, length, Option, Some, None, codes, refl, sym, ◌∙◌, ap, subst, arith, append_assoc}
-use Rattle.std.specs.Prelude.{is_none, nat_lt, nat_le, slice_index, if◌then◌else◌}
+use Rattle.std.proofs.Common.{◌≡◌, ℕ, zero, suc, ◌+◌, ◌/◌, ◌%◌, ◌<◌, ◌≤◌, Bool, true, false, ◌&&◌, not, ◌==◌, List, [], ◌∷◌, ◌++◌, map, length, Option, Some, None, codes, refl, sym, ◌∙◌, ap, arith, append_assoc}
+use Rattle.std.specs.Prelude.{is_none, nat_lt, nat_le}
 use Rattle.std.specs.List.{flat_map}
 use Rattle.std.specs.Option.{option_map, option_and_then}
 use Rattle.std.specs.Fmt.{digit_glyph}
 use Rattle.std.proofs.lemmas.Bool.{agree_below_at, cond_both, cond-true, cond-false, and_parts, and_from, not-true, eqb-true, ne_eqb, le-leb, lt-ltb, false≢true}
 use Rattle.std.proofs.lemmas.List.{length-map}
 use Rattle.h41_codes.specs.declared.characters.Character.{Character}
-use Rattle.h41_codes.specs.declared.characters.Character.TheVariants.{Zero, Minus}
+use Rattle.h41_codes.specs.declared.characters.Character.TheVariants.{Zero}
 use Rattle.h41_codes.specs.declared.functions.Branch.{Branch}
 use Rattle.h41_codes.specs.declared.functions.Branch.TheVariants.{GoTo, Execute}
 use Rattle.h41_codes.specs.declared.functions.Function.{Function}
@@ -27,7 +27,7 @@ use Rattle.h41_text.specs.declared.words.Word.TheVariants as word
 use Rattle.h41_text.specs.Names.{function_name, parameter_function_name, character_text}
 use Rattle.h41_text.specs.LineText.{line_text, two_digits, parameter_text, operand_text, number_text, is_plain, character_quoted, quoted, text_line, ◌&◌}
 use Rattle.h41_text.specs.LineReading.{IsBytes, HasText}
-use Rattle.h41_text.specs.TextParts.{word_text, word_line, parameter_of, operand_of, operand_from, behind_ind, two_digits_of, module_line, byte_of, first_character, unquoted, at_most, begins_with, branch_line, character_of, characters_of, number_of, cut, cut_line, or_else, minus_line, unquoted_line, candidate_line}
+use Rattle.h41_text.specs.TextParts.{word_text, word_line, operand_of, operand_from, behind_ind, two_digits_of, module_line, byte_of, first_character, unquoted, at_most, begins_with, branch_line, character_of, characters_of, number_of, cut, cut_line, or_else, minus_line, unquoted_line, candidate_line}
 use Rattle.h41_text.proofs.Canonical as canonical_text
 use Rattle.h41_text.proofs.Finding.{is_found, parameter_found, number_none}
 use Rattle.h41_text.proofs.Unquoting.{unquoted_more, unquoted_end}

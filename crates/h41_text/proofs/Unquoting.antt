@@ -1,5 +1,5 @@
 -- The characters within quotes, one after another.
-use Rattle.std.proofs.Common.{◌≡◌, ℕ, zero, suc, ◌+◌, ◌-◌, ◌<◌, List, [], ◌∷◌, ◌++◌, Some, None, refl, sym, ◌∙◌, ap, arith, append_assoc}
+use Rattle.std.proofs.Common.{◌≡◌, ℕ, zero, suc, ◌+◌, List, [], ◌∷◌, Some, None, refl, ◌∙◌, ap, arith}
 use Rattle.h41_text.specs.TextParts.{first_character, unquoted}
 
 -- one more character

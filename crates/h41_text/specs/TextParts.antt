@@ -1,5 +1,5 @@
 -- The parts that a text is taken apart into. Only private functions promise them; which line a text is that of is said apart.
-use Rattle.std.specs.Prelude.{◌≡◌, ◌≢◌, ℕ, zero, suc, ◌+◌, ◌-◌, ◌*◌, ◌<◌, Bool, true, false, ◌&&◌, ◌==◌, nat_lt, nat_le, List, [], ◌∷◌, ◌++◌, map, length, take, drop, Option, Some, None, if◌then◌else◌, codes}
+use Rattle.std.specs.Prelude.{◌≢◌, ◌<◌, ℕ, zero, suc, ◌+◌, ◌-◌, ◌*◌, Bool, false, ◌&&◌, ◌==◌, nat_lt, nat_le, List, [], ◌∷◌, ◌++◌, map, length, drop, Option, Some, None, if◌then◌else◌, codes}
 use Rattle.std.specs.List.{range_with_len}
 use Rattle.std.specs.Option.{option_map, option_and_then}
 use Rattle.std.specs.Str.{bytes_eq}
@@ -58,6 +58,10 @@ parameter_functions =
     ∷ View ∷ StatisticsRegisters ∷ StoreAlpha ∷ RecallAlpha ∷ Fixed ∷ Scientific ∷ Engineering ∷ Tone
     ∷ SetFlag ∷ ClearFlag ∷ TestSetAndClear ∷ TestClearAndClear ∷ TestSet ∷ TestClear ∷ Exchange ∷ Label ∷ []
 
+-- no function with a parameter has this name
+abbrev pub NamesNoFunction : List ℕ → Type 0
+NamesNoFunction name = (function : ParameterFunction) → parameter_function_name function ≢ name
+
 abbrev pub words : List Word
 words = word.Branch GoTo ∷ word.Branch Execute ∷ word.Wordless ∷ word.Module ∷ map word.Function parameter_functions
 
@@ -67,6 +71,10 @@ word_of name = with_text word_text words name
 -- a parameter, and an operand
 abbrev pub parameter_of : List ℕ → Option ℕ
 parameter_of text = with_text parameter_text (range_with_len 0 parameter_count) text
+
+-- no parameter has this text
+abbrev pub IsNoParameter : List ℕ → Type 0
+IsNoParameter text = (number : ℕ) → number < parameter_count → parameter_text number ≢ text
 
 abbrev pub behind_ind : List ℕ → Option (List ℕ)
 behind_ind (i ∷ n ∷ d ∷ blank ∷ rest) = if i == 73 && n == 78 && d == 68 && blank == 32 then Some rest else None
@@ -183,9 +191,13 @@ abbrev pub cut_line : List ℕ → Option (List ℕ × List ℕ) → Option Line
 cut_line text None = lone_line text
 cut_line text (Some parts) = option_and_then (λ word. word_line word parts.1) (word_of parts.0)
 
+-- characters, and behind them those within quotes, up to 15 together
+abbrev pub followed : List ℕ → List ℕ → List ℕ
+followed front text = front ++ unquoted (text_most - length front) text
+
 -- the text for ALPHA of characters and what stands within quotes
 abbrev pub alpha_line : List ℕ → List ℕ → Option Line
-alpha_line front text = option_map Text (at_most text_most (front ++ unquoted (text_most - length front) text))
+alpha_line front text = option_map Text (at_most text_most (followed front text))
 
 -- the line of a text that begins with no quote; a lone minus is the function
 abbrev pub minus_line : List ℕ → Option Line

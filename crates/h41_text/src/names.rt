@@ -1,10 +1,9 @@
 //! The names of functions, as a listing shows them. Each stands once, in a list of which macros write the look-ups.
 ghost use Rattle.std.specs.Prelude.{◌≡◌, ◌≢◌, ◌+◌, ◌-◌, ◌<◌, ◌≤◌, length, slice_index_or, [], IfSome, IfNone};
 ghost use Rattle.h41_codes.specs.declared.characters.Character.{Character as AnyCharacter};
-ghost use Rattle.h41_codes.specs.declared.functions.ParameterFunction.{ParameterFunction as AnyParameterFunction};
 ghost use Rattle.h41_text.specs.LineText.{high_parameters};
 ghost use Rattle.h41_text.specs.Names as spec;
-ghost use Rattle.h41_text.specs.TextParts.{function_of, with_text};
+ghost use Rattle.h41_text.specs.TextParts.{function_of, with_text, NamesNoFunction};
 
 use h41_codes::{Branch, Character, Function, NameFunction, ParameterFunction, RegisterFunction};
 
@@ -149,13 +148,13 @@ macro_rules! name_beside {
 
 /// Writes the array of the names of a list.
 macro_rules! all_names {
-    (($count:literal) $kind:ident $($name:ident => $text:literal,)*) => {
+    (() $kind:ident $($name:ident => $text:literal,)*) => {
         [$($kind::$name,)*]
     };
 }
 
 /// The functions without a parameter.
-const FUNCTIONS: [Function; 80] = functions!(all_names(80));
+const FUNCTIONS: [Function; 80] = functions!(all_names());
 
 /// The function without a parameter of a name, or nothing where there is none.
 pub(crate) fn function_named(name: &[u8]) -> Option<Function>
@@ -179,7 +178,7 @@ fn first_named(functions: &[Function], name: &[u8]) -> Option<Function>
 /// The function with a parameter of a name, or nothing where there is none.
 pub(crate) fn parameter_function_named(name: &[u8]) -> Option<ParameterFunction>
     ensures named { IfSome result (λ function. spec.parameter_function_name function ≡ name.now) }
-    ensures none { IfNone result ((function : AnyParameterFunction) → spec.parameter_function_name function ≢ name.now) }
+    ensures none { IfNone result (NamesNoFunction name.now) }
 {
     parameter_functions!(name_beside(name))
 }

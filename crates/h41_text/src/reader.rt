@@ -1,5 +1,5 @@
 //! From a text to its line.
-ghost use Rattle.std.specs.Prelude.{◌≡◌, ◌≢◌, ◌+◌, ◌-◌, ◌<◌, ◌≤◌, ◌↔◌, ◌++◌, ℕ, length, IsErr, IsTrue, [], ◌∷◌, IfSome, IfNone, MatchOption, Ok, Some, None};
+ghost use Rattle.std.specs.Prelude.{◌≡◌, ◌≢◌, ◌+◌, ◌-◌, ◌<◌, ◌≤◌, ◌↔◌, ◌++◌, ℕ, length, IsErr, IsTrue, [], ◌∷◌, IfSome, IfNone, Ok, Some, None};
 ghost use Rattle.arrayvec.specs.ArrayVec.{array_vec_len};
 ghost use Rattle.h41_codes.specs.declared.line.Line.{Line as AnyLine};
 ghost use Rattle.h41_codes.specs.declared.line.Operand.{Operand as AnyOperand};
@@ -90,7 +90,7 @@ fn alpha(mut characters: Characters, quoted: &[u8]) -> Option<Line>
 /// Adds characters that stand within quotes, up to the closing quote or until there are 15.
 fn push_unquoted(characters: &mut Characters, quoted: &[u8])
     requires { array_vec_len characters.old ≤ 15 }
-    ensures { characters.new.items ≡ characters.old.items ++ part.unquoted (15 - array_vec_len characters.old) quoted.now }
+    ensures { characters.new.items ≡ part.followed characters.old.items quoted.now }
 {
     let mut rest = quoted;
     for _ in characters.len()..TEXT_MOST {
@@ -106,7 +106,8 @@ fn push_unquoted(characters: &mut Characters, quoted: &[u8])
 
 /// The first character within quotes, and what stands behind it; nothing where the quotes end.
 fn first_character(quoted: &[u8]) -> Option<(u8, &[u8])>
-    ensures { MatchOption result (part.first_character quoted.now ≡ None) (λ parts. part.first_character quoted.now ≡ Some (parts.0, parts.1.now)) }
+    ensures first { IfSome result (λ p. part.first_character quoted.now ≡ Some (p.0, p.1.now)) }
+    ensures none { IfNone result (part.first_character quoted.now ≡ None) }
 {
     match quoted {
         [] | [b'"', ..] => None,
@@ -182,7 +183,8 @@ fn number(text: &[u8]) -> Option<Line>
 
 /// A text before its first blank, and behind it; nothing where it has none.
 fn cut(text: &[u8]) -> Option<(&[u8], &[u8])>
-    ensures { MatchOption result (part.cut text.now ≡ None) (λ parts. part.cut text.now ≡ Some (parts.0.now, parts.1.now)) }
+    ensures parts { IfSome result (λ p. part.cut text.now ≡ Some (p.0.now, p.1.now)) }
+    ensures none { IfNone result (part.cut text.now ≡ None) }
 {
     for (index, byte) in text.iter().enumerate() {
         if *byte == b' ' {
@@ -314,7 +316,8 @@ fn operand(text: &[u8]) -> Option<Operand>
 
 /// What stands behind `IND` and a blank; nothing where a text begins otherwise.
 fn behind_ind(text: &[u8]) -> Option<&[u8]>
-    ensures { MatchOption result (part.behind_ind text.now ≡ None) (λ rest. part.behind_ind text.now ≡ Some rest.now) }
+    ensures rest { IfSome result (λ rest. part.behind_ind text.now ≡ Some rest.now) }
+    ensures none { IfNone result (part.behind_ind text.now ≡ None) }
 {
     match text {
         [b'I', b'N', b'D', b' ', rest @ ..] => Some(rest),
@@ -326,7 +329,7 @@ fn behind_ind(text: &[u8]) -> Option<&[u8]>
 fn parameter(text: &[u8]) -> Option<Parameter>
     ensures named { IfSome result (λ number. parameter_text number ≡ text.now) }
     ensures inside { IfSome result (λ number. number < parameter_count) }
-    ensures none { IfNone result ((number : ℕ) → number < parameter_count → parameter_text number ≢ text.now) }
+    ensures none { IfNone result (part.IsNoParameter text.now) }
 {
     if let [tens, ones] = text {
         return Some(Parameter::new(two_digits(*tens, *ones)?));

@@ -8,4 +8,4 @@ pub returns-in_err-named-in-Some-clause-line : goal.returns-in_err-named-in-Some
 returns-in_err-named-in-Some-clause-line c =
     let text = c.args.text.now in
     let none = word_none c.in-Some.name.now c.in_err-named-in-Some.ensures.none in
-    c.from_residual.ensures ∙ sym (ap (cut_line text) c.in-Some.ensures ∙ ap (option_and_then (λ word. word_line word c.in-Some.behind.now)) none)
+    c.from_residual.ensures ∙ sym (ap (cut_line text) c.in-Some.ensures.parts ∙ ap (option_and_then (λ word. word_line word c.in-Some.behind.now)) none)

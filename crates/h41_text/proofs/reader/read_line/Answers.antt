@@ -1,4 +1,4 @@
-use Rattle.std.proofs.Common.{refl, sym, ◌∙◌}
+use Rattle.std.proofs.Common.{refl}
 use Rattle.std.proofs.lemmas.Bool.{false≢true}
 use Rattle.h41_text.proofs.OneText.{read_is, read_line_is, other_text, no_text}
 use Rattle.h41_text.proofs.reader.read_line.Goals as goal

@@ -27,7 +27,7 @@ abbrev pub with_text : {A : Type 0} → (A → List ℕ) → List A → List ℕ
 with_text text_of [] text = None
 with_text text_of (item ∷ items) text = if bytes_eq (text_of item) text then Some item else with_text text_of items text
 
--- the function without a parameter of a name
+-- the functions without a parameter, and the one of a name
 abbrev pub functions : List Function
 functions =
     Add ∷ Subtract ∷ Multiply ∷ Divide ∷ TestXLessThanY ∷ TestXGreaterThanY ∷ TestXAtMostY ∷ AddStatistics
@@ -52,6 +52,7 @@ word_text (word.Branch branch) = branch_name branch
 word_text word.Wordless = codes "W"
 word_text word.Module = codes "XROM"
 
+-- the functions with a parameter
 abbrev pub parameter_functions : List ParameterFunction
 parameter_functions =
     Recall ∷ Store ∷ StoreAdd ∷ StoreSubtract ∷ StoreMultiply ∷ StoreDivide ∷ IncrementSkip ∷ DecrementSkip
@@ -62,13 +63,14 @@ parameter_functions =
 abbrev pub NamesNoFunction : List ℕ → Type 0
 NamesNoFunction name = (function : ParameterFunction) → parameter_function_name function ≢ name
 
+-- all words, and the one of a name
 abbrev pub words : List Word
 words = word.Branch GoTo ∷ word.Branch Execute ∷ word.Wordless ∷ word.Module ∷ map word.Function parameter_functions
 
 abbrev pub word_of : List ℕ → Option Word
 word_of name = with_text word_text words name
 
--- a parameter, and an operand
+-- the parameter of a text
 abbrev pub parameter_of : List ℕ → Option ℕ
 parameter_of text = with_text parameter_text (range_with_len 0 parameter_count) text
 
@@ -76,10 +78,12 @@ parameter_of text = with_text parameter_text (range_with_len 0 parameter_count) 
 abbrev pub IsNoParameter : List ℕ → Type 0
 IsNoParameter text = (number : ℕ) → number < parameter_count → parameter_text number ≢ text
 
+-- what stands behind IND and a blank
 abbrev pub behind_ind : List ℕ → Option (List ℕ)
 behind_ind (i ∷ n ∷ d ∷ blank ∷ rest) = if i == 73 && n == 78 && d == 68 && blank == 32 then Some rest else None
 behind_ind text = None
 
+-- the operand of a text, which is indirect where it begins so
 abbrev pub operand_from : List ℕ → Option (List ℕ) → Option Operand
 operand_from text (Some rest) = option_map Indirect (parameter_of rest)
 operand_from text None = option_map Direct (parameter_of text)
@@ -87,14 +91,14 @@ operand_from text None = option_map Direct (parameter_of text)
 abbrev pub operand_of : List ℕ → Option Operand
 operand_of text = operand_from text (behind_ind text)
 
--- two decimal digits
+-- the number of two decimal digits
 abbrev pub is_digit : ℕ → Bool
 is_digit byte = nat_le 48 byte && nat_le byte 57
 
 abbrev pub two_digits_of : ℕ → ℕ → Option ℕ
 two_digits_of tens ones = if is_digit tens && is_digit ones then Some ((tens - 48) * 10 + (ones - 48)) else None
 
--- the two numbers of an XROM
+-- the XROM of two numbers: two digits each, and a comma between them
 abbrev pub module_line : ℕ → ℕ → Option Line
 module_line number entry = if nat_lt number module_count && nat_lt entry entry_count then Some (Module number entry) else None
 
@@ -103,14 +107,14 @@ module_of (a ∷ b ∷ comma ∷ c ∷ d ∷ []) =
     if comma == 0x2C then option_and_then (λ number. option_and_then (λ entry. module_line number entry) (two_digits_of c d)) (two_digits_of a b) else None
 module_of text = None
 
--- the value of a hexadecimal digit in upper case
+-- the value of a hexadecimal digit in upper case, and the byte of two
 abbrev pub digit_of : ℕ → Option ℕ
 digit_of glyph = if is_digit glyph then Some (glyph - 48) else if nat_le 65 glyph && nat_le glyph 70 then Some (glyph - 55) else None
 
 abbrev pub byte_of : ℕ → ℕ → Option ℕ
 byte_of high low = option_and_then (λ h. option_map (λ l. h * 16 + l) (digit_of low)) (digit_of high)
 
--- the first character within quotes, and what stands behind it; none where the quotes end
+-- the first character within quotes, and what stands behind it; none where the quotes end. Behind \ it is two hexadecimal digits
 abbrev pub escaped : List ℕ → Option (ℕ × List ℕ)
 escaped (high ∷ low ∷ rest) = option_map (λ character. (character, rest)) (byte_of high low)
 escaped text = None
@@ -147,7 +151,7 @@ operand_line (word.Branch branch) operand = option_map (branch_line branch) (ope
 operand_line word.Wordless operand = None
 operand_line word.Module operand = module_of operand
 
--- the line of a word and what stands behind its blank
+-- the line of a word and what stands behind its blank, which is a text where it begins with a quote
 abbrev pub begins_with : ℕ → List ℕ → Bool
 begins_with byte [] = false
 begins_with byte (first ∷ rest) = first == byte
@@ -155,7 +159,7 @@ begins_with byte (first ∷ rest) = first == byte
 abbrev pub word_line : Word → List ℕ → Option Line
 word_line word behind = if begins_with 0x22 behind then named_line word (unquoted text_most (drop 1 behind)) else operand_line word behind
 
--- the characters of a number
+-- the characters of a number, and the one of a byte
 abbrev pub characters : List Character
 characters =
     Zero ∷ One ∷ Two ∷ Three ∷ Four ∷ Five ∷ Six ∷ Seven ∷ Eight ∷ Nine ∷ Point ∷ Exponent ∷ Minus ∷ []
@@ -163,6 +167,7 @@ characters =
 abbrev pub character_of : ℕ → Option Character
 character_of byte = with_text (λ character. character_text character ∷ []) characters (byte ∷ [])
 
+-- the number of a text, 1 to 16 characters
 abbrev pub characters_of : List ℕ → Option (List Character)
 characters_of [] = Some []
 characters_of (byte ∷ text) = option_and_then (λ character. option_map (λ more. character ∷ more) (characters_of text)) (character_of byte)
@@ -187,6 +192,7 @@ abbrev pub cut : List ℕ → Option (List ℕ × List ℕ)
 cut [] = None
 cut (byte ∷ text) = if byte == 0x20 then Some ([], text) else option_map (λ parts. (byte ∷ parts.0, parts.1)) (cut text)
 
+-- the line of a text that begins with a word, or is a name
 abbrev pub cut_line : List ℕ → Option (List ℕ × List ℕ) → Option Line
 cut_line text None = lone_line text
 cut_line text (Some parts) = option_and_then (λ word. word_line word parts.1) (word_of parts.0)

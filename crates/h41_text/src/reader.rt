@@ -134,13 +134,13 @@ fn unquoted(text: &[u8]) -> Option<Line>
     ensures line { result ≡ part.unquoted_line text.now }
     ensures text { IfSome result HasText }
 {
-    match minus(text) {
-        Some(line) => Some(line),
-        None => match number(text) {
-            Some(line) => Some(line),
-            None => named_line(text),
-        },
+    if let Some(line) = minus(text) {
+        return Some(line);
     }
+    if let Some(line) = number(text) {
+        return Some(line);
+    }
+    named_line(text)
 }
 
 /// The line of a text that is a minus sign alone, or the number of that sign.
@@ -199,10 +199,10 @@ fn lone(name: &[u8]) -> Option<Line>
     ensures line { result ≡ part.lone_line name.now }
     ensures text { IfSome result HasText }
 {
-    match end(name) {
-        Some(line) => Some(line),
-        None => Some(Line::Plain(function_named(name)?)),
+    if let Some(line) = end(name) {
+        return Some(line);
     }
+    Some(Line::Plain(function_named(name)?))
 }
 
 /// The END or .END. of a name.

@@ -1,7 +1,7 @@
 //! The byte table, row by row: the text of each first byte, with the same bytes behind it. And texts, as they are read.
 use super::*;
 use crate::writer::LineText;
-use h41_codes::{Line, canon, decode, encode};
+use h41_codes::{canon, decode, encode};
 use std::test::Fail;
 
 /// The bytes behind each first byte: an operand or a text of one character, a third byte, and letters.
@@ -383,16 +383,23 @@ fn each_first_byte(rt: HostRuntime) -> Result<(), Fail> {
     Ok(())
 }
 
+/// Writes the bytes of the line that a text is read as, and answers how many they are; 0 where it is refused.
+fn spell(text: &str, bytes: &mut [u8; 18]) -> usize {
+    match read_line(text.as_bytes()) {
+        Ok(line) => encode(line, bytes).unwrap_or(0),
+        Err(_) => 0,
+    }
+}
+
 #[test]
 fn each_text(rt: HostRuntime) -> Result<(), Fail> {
     let mut bytes = [0; 18];
     for (text, expected) in READ {
-        let line = read_line(text.as_bytes()).unwrap_or(Line::Null);
-        let count = encode(line, &mut bytes).unwrap_or(0);
-        assert_eq!(rt; &bytes[..count], expected, "reading {text}");
+        let count = spell(text, &mut bytes);
+        assert_eq!(rt; bytes.get(..count), Some(expected), "reading {text}");
     }
     for text in REFUSED {
-        assert_eq!(rt; read_line(text.as_bytes()), Err(BadText), "refusing {text}");
+        assert!(rt; read_line(text.as_bytes()).is_err(), "refusing {text}");
     }
     Ok(())
 }

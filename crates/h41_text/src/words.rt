@@ -7,7 +7,7 @@ use crate::names::parameter_function_named;
 use h41_codes::{Branch, ParameterFunction};
 
 /// The word in front of an operand.
-#[derive(Clone, Copy, Debug, PartialEq, Eq)]
+#[derive(Clone, Copy)]
 pub(crate) enum Word {
     /// A function with a parameter, as `STO`.
     Function(ParameterFunction),
@@ -30,10 +30,7 @@ impl Word {
             b"XEQ" => Some(Word::Branch(Branch::Execute)),
             b"W" => Some(Word::Wordless),
             b"XROM" => Some(Word::Module),
-            _ => match parameter_function_named(name) {
-                Some(function) => Some(Word::Function(function)),
-                None => None,
-            },
+            _ => Some(Word::Function(parameter_function_named(name)?)),
         }
     }
 }

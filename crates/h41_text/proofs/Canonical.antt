@@ -13,7 +13,7 @@ use Rattle.h41_text.specs.LineText.{line_text, two_digits, parameter_text, ◌&�
 use Rattle.h41_text.specs.TextLaws.{SameText}
 
 -- a number below 100 is two digits
-two_digits_of : (number most : ℕ) → most < 101 → nat_lt number most ≡ true → two_digits number ≡ parameter_text number
+pub two_digits_of : (number most : ℕ) → most < 101 → nat_lt number most ≡ true → two_digits number ≡ parameter_text number
 two_digits_of number most small short =
     let below : number < most = ltb-true number most short in
     sym (cond-true (nat_lt number 100) _ _ (lt-ltb number 100 (omega arith)))

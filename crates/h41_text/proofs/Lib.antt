@@ -1,1 +1,5 @@
 pub mod Canonical
+pub mod Finding
+pub mod OneText
+pub mod Reading
+pub mod Unquoting

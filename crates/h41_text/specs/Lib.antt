@@ -1,3 +1,5 @@
+pub mod LineReading
 pub mod LineText
 pub mod Names
 pub mod TextLaws
+pub mod TextParts

@@ -1,10 +1,15 @@
 //! The text of HP-41 program lines, as a listing shows them.
 #![tactic(auto)]
 
+mod faults;
 pub mod laws;
 mod names;
+mod reader;
+mod words;
 mod writer;
 
+pub use faults::BadText;
+pub use reader::read_line;
 pub use writer::write_line;
 
 #[cfg(test)]

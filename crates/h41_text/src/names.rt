@@ -1,7 +1,9 @@
 //! The names of functions, as a listing shows them. Each stands once, in a list of which macros write the look-ups.
-ghost use Rattle.std.specs.Prelude.{◌≡◌, ◌+◌, ◌-◌, ◌<◌, ◌≤◌, length, slice_index_or, []};
+ghost use Rattle.std.specs.Prelude.{◌≡◌, ◌≢◌, ◌+◌, ◌-◌, ◌<◌, ◌≤◌, length, slice_index_or, [], IfSome, IfNone};
+ghost use Rattle.h41_codes.specs.declared.characters.Character.{Character as AnyCharacter};
 ghost use Rattle.h41_text.specs.LineText.{high_parameters};
 ghost use Rattle.h41_text.specs.Names as spec;
+ghost use Rattle.h41_text.specs.TextParts.{function_of, with_text, NamesNoFunction};
 
 use h41_codes::{Branch, Character, Function, NameFunction, ParameterFunction, RegisterFunction};
 
@@ -134,6 +136,53 @@ macro_rules! text_beside {
     };
 }
 
+/// Writes the match from the bytes of a text to the name beside it in a list, or nothing.
+macro_rules! name_beside {
+    (($value:expr) $kind:ident $($name:ident => $text:literal,)*) => {
+        match $value {
+            $(text if text == $text.as_bytes() => Some($kind::$name),)*
+            _ => None,
+        }
+    };
+}
+
+/// Writes the array of the names of a list.
+macro_rules! all_names {
+    (() $kind:ident $($name:ident => $text:literal,)*) => {
+        [$($kind::$name,)*]
+    };
+}
+
+/// The functions without a parameter.
+const FUNCTIONS: [Function; 80] = functions!(all_names());
+
+/// The function without a parameter of a name, or nothing where there is none.
+pub(crate) fn function_named(name: &[u8]) -> Option<Function>
+    ensures { result ≡ function_of name.now }
+{
+    first_named(&FUNCTIONS, name)
+}
+
+/// The first of the functions that has a name.
+fn first_named(functions: &[Function], name: &[u8]) -> Option<Function>
+    ensures { result ≡ with_text spec.function_name functions.now name.now }
+{
+    for function in functions {
+        if function_name(*function).as_bytes() == name {
+            return Some(*function);
+        }
+    }
+    None
+}
+
+/// The function with a parameter of a name, or nothing where there is none.
+pub(crate) fn parameter_function_named(name: &[u8]) -> Option<ParameterFunction>
+    ensures named { IfSome result (λ function. spec.parameter_function_name function ≡ name.now) }
+    ensures none { IfNone result (NamesNoFunction name.now) }
+{
+    parameter_functions!(name_beside(name))
+}
+
 /// The name of a function without a parameter, up to 6 characters.
 pub(crate) fn function_name(function: Function) -> &'static str
     ensures text { result.now ≡ spec.function_name function }
@@ -204,6 +253,29 @@ pub(crate) fn character_text(character: Character) -> u8
         Character::Exponent => b'E',
         Character::Minus => b'-',
     }
+}
+
+/// The character of a number that a byte stands for, or nothing where there is none.
+pub(crate) fn character_of(byte: u8) -> Option<Character>
+    ensures named { IfSome result (λ character. spec.character_text character ≡ byte) }
+    ensures none { IfNone result ((character : AnyCharacter) → spec.character_text character ≢ byte) }
+{
+    Some(match byte {
+        b'0' => Character::Zero,
+        b'1' => Character::One,
+        b'2' => Character::Two,
+        b'3' => Character::Three,
+        b'4' => Character::Four,
+        b'5' => Character::Five,
+        b'6' => Character::Six,
+        b'7' => Character::Seven,
+        b'8' => Character::Eight,
+        b'9' => Character::Nine,
+        b'.' => Character::Point,
+        b'E' => Character::Exponent,
+        b'-' => Character::Minus,
+        _ => return None,
+    })
 }
 
 /// The name of a parameter from 100 on.

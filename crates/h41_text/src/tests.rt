@@ -1,7 +1,7 @@
-//! The byte table, row by row: the text of each first byte, with the same bytes behind it.
+//! The byte table, row by row: the text of each first byte, with the same bytes behind it. And texts, as they are read.
 use super::*;
 use crate::writer::LineText;
-use h41_codes::{decode, encode};
+use h41_codes::{canon, decode, encode};
 use std::test::Fail;
 
 /// The bytes behind each first byte: an operand or a text of one character, a third byte, and letters.
@@ -286,6 +286,60 @@ const TEXTS: [&str; 256] = [
     "\"\\F1-AAAAAAAAAAAAA\"",
 ];
 
+/// Texts, and the bytes of the lines that they are read as: the shortest spelling of each.
+const READ: [(&str, &[u8]); 24] = [
+    ("RCL 15", &[0x2F]),
+    ("RCL 16", &[0x90, 0x10]),
+    ("STO 00", &[0x30]),
+    ("ST+ IND X", &[0x92, 0xF3]),
+    ("LBL 14", &[0x0F]),
+    ("LBL 15", &[0xCF, 0x0F]),
+    ("LBL IND 05", &[0xCF, 0x85]),
+    ("LBL \"\"", &[0xC0, 0x00, 0xF1, 0x00]),
+    ("GTO 14", &[0xBF, 0x00]),
+    ("GTO X", &[0xD0, 0x00, 0x73]),
+    ("XEQ 100", &[0xE0, 0x00, 0x64]),
+    ("XEQ IND append", &[0xAE, 0xFA]),
+    ("W \"T\"", &[0x1F, 0xF1, 0x54]),
+    ("XROM 31,63", &[0xA7, 0xFF]),
+    ("\"A\\7F\"", &[0xF2, 0x41, 0x7F]),
+    (">\"AB\"", &[0xF3, 0x7F, 0x41, 0x42]),
+    ("-1.5E-3", &[0x1C, 0x11, 0x1A, 0x15, 0x1B, 0x1C, 0x13]),
+    ("E", &[0x1B]),
+    (".", &[0x1A]),
+    ("--", &[0x1C, 0x1C]),
+    ("-", &[0x41]),
+    ("NEG", &[0x1C]),
+    ("END", &[0xC0, 0x00, 0x00]),
+    (".END.", &[0xC0, 0x00, 0x20]),
+];
+
+/// Texts of no line.
+const REFUSED: [&str; 22] = [
+    "",
+    " ",
+    " RCL 05",
+    "RCL 05 ",
+    "RCL  05",
+    "RCL 5",
+    "rcl 05",
+    "FIX 4",
+    "RCL",
+    "SIN 00",
+    "W 05",
+    "XROM 5,1",
+    "XROM 32,00",
+    "GTO \"T",
+    "\"",
+    "\"\\41\"",
+    "\"\\0a\"",
+    "\"\\7FAB\"",
+    "\"ABCDEFGHIJKLMNOP\"",
+    "LBL \"ABCDEFGHIJKLMNO\"",
+    "12345678901234567",
+    "NEGNEG",
+];
+
 /// The text of the line that bytes begin with, `?` where there is none.
 fn text_of(bytes: &[u8]) -> LineText {
     match decode(bytes) {
@@ -320,6 +374,32 @@ fn each_first_byte(rt: HostRuntime) -> Result<(), Fail> {
         assert_eq!(rt; text.as_str(), *expected, "the text of {first:02X}");
         let (count, spelled) = counts_of(&bytes);
         assert_eq!(rt; count, spelled, "the length of {first:02X}");
+        if let Ok((line, _)) = decode(&bytes) {
+            let read = read_line(text.as_str().as_bytes()).ok();
+            let expected = if first == 0 { None } else { Some(canon(line)) };
+            assert_eq!(rt; read, expected, "reading the text of {first:02X}");
+        }
+    }
+    Ok(())
+}
+
+/// Writes the bytes of the line that a text is read as, and answers how many they are; 0 where it is refused.
+fn spell(text: &str, bytes: &mut [u8; 18]) -> usize {
+    match read_line(text.as_bytes()) {
+        Ok(line) => encode(line, bytes).unwrap_or(0),
+        Err(_) => 0,
+    }
+}
+
+#[test]
+fn each_text(rt: HostRuntime) -> Result<(), Fail> {
+    let mut bytes = [0; 18];
+    for (text, expected) in READ {
+        let count = spell(text, &mut bytes);
+        assert_eq!(rt; bytes.get(..count), Some(expected), "reading {text}");
+    }
+    for text in REFUSED {
+        assert!(rt; read_line(text.as_bytes()).is_err(), "refusing {text}");
     }
     Ok(())
 }

@@ -1,0 +1,92 @@
+-- A text is that of one canonical line at most.
+use Rattle.std.proofs.Common.{◌≡◌, ℕ, ◌<◌, List, Some, None, Ok, Result, refl, sym, ◌∙◌, ap, subst, arith}
+use Rattle.std.specs.Prelude.{◌↔◌, nat_lt}
+use Rattle.std.specs.Option.{option_map}
+use Rattle.std.proofs.lemmas.Bool.{cond_both, cond-false, ltb-true}
+use Rattle.std.proofs.lemmas.Option.{none-some, same_Some}
+use Rattle.h41_codes.specs.declared.functions.Branch.{Branch}
+use Rattle.h41_codes.specs.declared.functions.Branch.TheVariants.{GoTo, Execute}
+use Rattle.h41_codes.specs.declared.functions.ParameterFunction.{ParameterFunction}
+use Rattle.h41_codes.specs.declared.functions.ParameterFunction.TheVariants.{Recall, Store, Label}
+use Rattle.h41_codes.specs.declared.line.Operand.{Operand}
+use Rattle.h41_codes.specs.declared.line.Operand.TheVariants.{Direct}
+use Rattle.h41_codes.specs.declared.line.Line.{Line}
+use Rattle.h41_codes.specs.declared.line.Line.TheVariants.{Null, WithOperand, ShortGoTo, GlobalLabel, End, FinalEnd, BranchTo}
+use Rattle.h41_codes.specs.ByteGrammar.{IsOperand}
+use Rattle.h41_codes.specs.Canon.{canonical, shortest_function, shortest_branch}
+use Rattle.h41_text.specs.LineText.{line_text}
+use Rattle.h41_text.specs.LineReading.{HasText, IsTextOf}
+use Rattle.h41_text.specs.TextLaws.{LineTextRoundTrip, OneLineOfText}
+use Rattle.h41_text.specs.TextParts.{candidate_line}
+use Rattle.h41_text.proofs.Canonical.{same_text}
+use Rattle.h41_text.proofs.Reading.{reading_again}
+
+-- a line with a text that is its own canonical line
+IsRead : Line → Type 0
+IsRead line = HasText line × (canonical line ≡ line)
+
+function_read : (function : ParameterFunction) (operand : Operand) → IsOperand operand → IsRead (shortest_function function operand)
+unfolding IsRead
+function_read Recall (Direct register) inside =
+    cond_both (nat_lt register 16) _ _ IsRead (λ short. (record { valid = ltb-true register 16 short; bytes = tt; shown = λ same. cc }, refl))
+    (λ long. (record { valid = inside; bytes = tt; shown = λ same. cc }, cond-false (nat_lt register 16) _ _ long))
+function_read Store (Direct register) inside =
+    cond_both (nat_lt register 16) _ _ IsRead (λ short. (record { valid = ltb-true register 16 short; bytes = tt; shown = λ same. cc }, refl))
+    (λ long. (record { valid = inside; bytes = tt; shown = λ same. cc }, cond-false (nat_lt register 16) _ _ long))
+function_read Label (Direct label) inside =
+    cond_both (nat_lt label 15) _ _ IsRead (λ short. (record { valid = ltb-true label 15 short; bytes = tt; shown = λ same. cc }, refl))
+    (λ long. (record { valid = inside; bytes = tt; shown = λ same. cc }, cond-false (nat_lt label 15) _ _ long))
+function_read function operand inside = (record { valid = inside; bytes = tt; shown = λ same. cc }, refl)
+
+branch_read : (branch : Branch) (label : ℕ) → label < 128 → IsRead (shortest_branch branch label)
+unfolding IsRead
+branch_read GoTo label inside =
+    cond_both (nat_lt label 15) _ _ IsRead (λ short. (record { valid = (ltb-true label 15 short, omega arith); bytes = tt; shown = λ same. cc }, refl))
+    (λ long. (record { valid = (omega arith, inside); bytes = tt; shown = λ same. cc }, cond-false (nat_lt label 15) _ _ long))
+branch_read Execute label inside = (record { valid = (omega arith, inside); bytes = tt; shown = λ same. cc }, refl)
+
+canonical_read : (line : Line) → HasText line → IsRead (canonical line)
+unfolding IsRead
+canonical_read (WithOperand function operand) has = function_read function operand has.valid
+canonical_read (BranchTo branch distance backwards label) has = branch_read branch label has.valid.1
+canonical_read (ShortGoTo label distance) has = (record { valid = (has.valid.0, omega arith); bytes = tt; shown = λ same. cc }, refl)
+canonical_read (GlobalLabel link key name) has =
+    (record { valid = (omega arith, omega arith, has.valid.2); bytes = has.bytes; shown = λ same. cc }, refl)
+canonical_read (End link marks) has = (record { valid = (omega arith, omega arith); bytes = tt; shown = λ same. cc }, refl)
+canonical_read (FinalEnd link marks) has = (record { valid = (omega arith, omega arith); bytes = tt; shown = λ same. cc }, refl)
+canonical_read Null has = absurd (has.shown refl)
+canonical_read line has = (has, refl)
+
+-- the text of a line is that of its canonical line
+pub round_trip : LineTextRoundTrip
+unfolding IsRead
+round_trip line has =
+    let read = canonical_read line has in
+    record { has = read.0; shortest = read.1; same = same_text line }
+
+-- what a line's text is read as
+read_of : (text : List ℕ) (line : Line) → IsTextOf text line → option_map canonical (candidate_line text) ≡ Some line
+read_of text line of =
+    ap (λ t. option_map canonical (candidate_line t)) (sym of.same) ∙ reading_again line of.has ∙ ap Some of.shortest
+
+pub one_line : OneLineOfText
+one_line text line other of also = same_Some line other (sym (read_of text line of) ∙ read_of text other also)
+
+-- a line that has the text
+pub read_is : (text : List ℕ) (line : Line) → line_text line ≡ text → HasText line → IsTextOf text (canonical line)
+read_is text line same has = subst (λ (t : List ℕ). IsTextOf t (canonical line)) same (round_trip line has)
+
+pub read_line_is : {E : Type 0} (text : List ℕ) (line read : Line) → line_text line ≡ text → HasText line → read ≡ canonical line
+    → (other : Line) → (◌≡◌ {A = Result Line E} (Ok read) (Ok other)) ↔ IsTextOf text other
+read_line_is text line read same has is other =
+    let of = read_is text line same has in
+    (λ equal. let e : canonical line ≡ other = cc in subst (λ (l : Line). IsTextOf text l) e of, λ also. ap Ok (is ∙ one_line text (canonical line) other of also))
+
+-- no line has the text where the only one that can has another
+pub other_text : (text : List ℕ) (line : Line) → Some line ≡ candidate_line text → (line_text line ≡ text → ⊥) → (other : Line) → IsTextOf text other → ⊥
+other_text text line found differs other of =
+    let read : Some (canonical line) ≡ Some other = ap (option_map canonical) found ∙ read_of text other of in
+    differs (sym (same_text line) ∙ ap line_text (same_Some (canonical line) other read) ∙ of.same)
+
+pub no_text : (text : List ℕ) → None ≡ candidate_line text → (other : Line) → IsTextOf text other → ⊥
+no_text text none other of = none-some other (ap (option_map canonical) none ∙ read_of text other of)

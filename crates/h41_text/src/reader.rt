@@ -1,0 +1,343 @@
+//! From a text to its line.
+ghost use Rattle.std.specs.Prelude.{◌≡◌, ◌≢◌, ◌+◌, ◌-◌, ◌<◌, ◌≤◌, ◌↔◌, ◌++◌, ℕ, length, IsErr, IsTrue, [], ◌∷◌, IfSome, IfNone, Ok, Some, None};
+ghost use Rattle.arrayvec.specs.ArrayVec.{array_vec_len};
+ghost use Rattle.h41_codes.specs.declared.line.Line.{Line as AnyLine};
+ghost use Rattle.h41_codes.specs.declared.line.Operand.{Operand as AnyOperand};
+ghost use Rattle.h41_codes.specs.Counts.{parameter_count};
+ghost use Rattle.h41_text.specs.LineReading.{HasText, IsTextOf};
+ghost use Rattle.h41_text.specs.LineText.{line_text, parameter_text};
+ghost use Rattle.h41_text.specs.TextParts as part;
+
+use crate::faults::BadText;
+use crate::names::{character_of, function_named, high_parameter};
+use crate::words::Word;
+use crate::writer::write_line;
+use arrayvec::ArrayVec;
+use h41_codes::{
+    Branch, Character, Distance, EndMarks, EntryNumber, FinalMarks, Function, Line, Link,
+    ModuleNumber, NameFunction, Number, Operand, Parameter, ParameterFunction, Text, canon,
+};
+
+/// The most characters of a text.
+const TEXT_MOST: usize = 15;
+
+/// The most characters of a number.
+const NUMBER_MOST: usize = 16;
+
+/// The append sign: a text for ALPHA that begins with it is added to what ALPHA holds.
+const APPEND: u8 = 0x7F;
+
+/// The characters of a text while it is read.
+type Characters = ArrayVec<u8, TEXT_MOST>;
+
+/// The line of a text, in its shortest spelling. A text is read exactly as `write_line` writes it; what is the text of no
+/// line is refused, and so is the null's, the empty text.
+pub fn read_line(text: &[u8]) -> Result<Line, BadText>
+    ensures line { (line : AnyLine) → (result ≡ Ok line) ↔ IsTextOf text.now line }
+    ensures refused { IsErr result ↔ ((line : AnyLine) → IsTextOf text.now line → ⊥) }
+{
+    match candidate(text) {
+        Some(line) => {
+            if has_text(&line, text) {
+                Ok(canon(line))
+            } else {
+                Err(BadText)
+            }
+        }
+        None => Err(BadText),
+    }
+}
+
+/// Whether this is the text of a line.
+fn has_text(line: &Line, text: &[u8]) -> bool
+    ensures { IsTrue result ↔ (line_text line.now ≡ text.now) }
+{
+    write_line(*line).as_str().as_bytes() == text
+}
+
+/// The only line that can have a text; it is written again to see whether it has.
+fn candidate(text: &[u8]) -> Option<Line>
+    ensures line { result ≡ part.candidate_line text.now }
+    ensures text { IfSome result HasText }
+{
+    match text {
+        [b'"', quoted @ ..] => alpha(Characters::new(), quoted),
+        [b'>', b'"', appended @ ..] => alpha(append_sign(), appended),
+        _ => unquoted(text),
+    }
+}
+
+/// The characters of a text that begins with the append sign, as far as that.
+fn append_sign() -> Characters
+    ensures { result.items ≡ 0x7F ∷ [] }
+{
+    let mut characters = Characters::new();
+    characters.push(APPEND);
+    characters
+}
+
+/// The text for ALPHA of characters and what stands within quotes.
+fn alpha(mut characters: Characters, quoted: &[u8]) -> Option<Line>
+    requires { array_vec_len characters ≤ 15 }
+    ensures line { result ≡ part.alpha_line characters.items quoted.now }
+    ensures text { IfSome result HasText }
+{
+    push_unquoted(&mut characters, quoted);
+    let characters = characters.as_slice();
+    Some(Line::Text(Text::new(characters)?))
+}
+
+/// Adds characters that stand within quotes, up to the closing quote or until there are 15.
+fn push_unquoted(characters: &mut Characters, quoted: &[u8])
+    requires { array_vec_len characters.old ≤ 15 }
+    ensures { characters.new.items ≡ part.followed characters.old.items quoted.now }
+{
+    let mut rest = quoted;
+    for _ in characters.len()..TEXT_MOST {
+        match first_character(rest) {
+            Some((character, more)) => {
+                characters.push(character);
+                rest = more;
+            }
+            None => return,
+        }
+    }
+}
+
+/// The first character within quotes, and what stands behind it; nothing where the quotes end.
+fn first_character(quoted: &[u8]) -> Option<(u8, &[u8])>
+    ensures first { IfSome result (λ p. part.first_character quoted.now ≡ Some (p.0, p.1.now)) }
+    ensures none { IfNone result (part.first_character quoted.now ≡ None) }
+{
+    match quoted {
+        [] | [b'"', ..] => None,
+        [b'\\', high, low, rest @ ..] => Some((digit(*high)? * 16 + digit(*low)?, rest)),
+        [b'\\', ..] => None,
+        [character, rest @ ..] => Some((*character, rest)),
+    }
+}
+
+/// The value of a hexadecimal digit in upper case.
+fn digit(glyph: u8) -> Option<u8>
+    ensures value { result ≡ part.digit_of glyph }
+    ensures bound { IfSome result (λ value. value < 16) }
+{
+    match glyph {
+        b'0'..=b'9' => Some(glyph - b'0'),
+        b'A'..=b'F' => Some(glyph - b'A' + 10),
+        _ => None,
+    }
+}
+
+/// The line of a text that begins with no quote.
+fn unquoted(text: &[u8]) -> Option<Line>
+    ensures line { result ≡ part.unquoted_line text.now }
+    ensures text { IfSome result HasText }
+{
+    if let Some(line) = minus(text) {
+        return Some(line);
+    }
+    if let Some(line) = number(text) {
+        return Some(line);
+    }
+    named_line(text)
+}
+
+/// The line of a text that is a minus sign alone, or the number of that sign.
+fn minus(text: &[u8]) -> Option<Line>
+    ensures line { result ≡ part.minus_line text.now }
+    ensures text { IfSome result HasText }
+{
+    match text {
+        b"-" => Some(Line::Plain(Function::Subtract)),
+        b"NEG" => Some(Line::Number(Number::new(&[Character::Minus])?)),
+        _ => None,
+    }
+}
+
+/// The line of a text that begins with a name.
+fn named_line(text: &[u8]) -> Option<Line>
+    ensures line { result ≡ part.cut_line text.now (part.cut text.now) }
+    ensures text { IfSome result HasText }
+{
+    match cut(text) {
+        Some((name, behind)) => worded(Word::named(name)?, behind),
+        None => lone(text),
+    }
+}
+
+/// The number of a text.
+fn number(text: &[u8]) -> Option<Line>
+    ensures line { result ≡ part.number_of text.now }
+    ensures text { IfSome result HasText }
+{
+    if text.len() > NUMBER_MOST {
+        return None;
+    }
+    let mut characters = [Character::Zero; NUMBER_MOST];
+    for (index, byte) in text.iter().enumerate() {
+        characters[index] = character_of(*byte)?;
+    }
+    Some(Line::Number(Number::new(&characters[..text.len()])?))
+}
+
+/// A text before its first blank, and behind it; nothing where it has none.
+fn cut(text: &[u8]) -> Option<(&[u8], &[u8])>
+    ensures parts { IfSome result (λ p. part.cut text.now ≡ Some (p.0.now, p.1.now)) }
+    ensures none { IfNone result (part.cut text.now ≡ None) }
+{
+    for (index, byte) in text.iter().enumerate() {
+        if *byte == b' ' {
+            return Some((&text[..index], &text[index + 1..]));
+        }
+    }
+    None
+}
+
+/// The line of a name without an operand.
+fn lone(name: &[u8]) -> Option<Line>
+    ensures line { result ≡ part.lone_line name.now }
+    ensures text { IfSome result HasText }
+{
+    if let Some(line) = end(name) {
+        return Some(line);
+    }
+    Some(Line::Plain(function_named(name)?))
+}
+
+/// The END or .END. of a name.
+fn end(name: &[u8]) -> Option<Line>
+    ensures line { result ≡ part.end_line name.now }
+    ensures text { IfSome result HasText }
+{
+    match name {
+        b"END" => Some(Line::End(Link::new(0), EndMarks::new(0))),
+        b".END." => Some(Line::FinalEnd(Link::new(0), FinalMarks::new(0))),
+        _ => None,
+    }
+}
+
+/// The line of a word and what stands behind its blank.
+fn worded(word: Word, behind: &[u8]) -> Option<Line>
+    ensures line { result ≡ part.word_line word behind.now }
+    ensures text { IfSome result HasText }
+{
+    match behind {
+        [b'"', quoted @ ..] => named(word, quoted),
+        _ => with_operand(word, behind),
+    }
+}
+
+/// The line of a word and a name in quotes.
+fn named(word: Word, quoted: &[u8]) -> Option<Line>
+    ensures line { result ≡ part.named_line word (part.unquoted 15 quoted.now) }
+    ensures text { IfSome result HasText }
+{
+    let mut name = Characters::new();
+    push_unquoted(&mut name, quoted);
+    let name = name.as_slice();
+    Some(match word {
+        Word::Function(ParameterFunction::Label) => Line::GlobalLabel(
+            Link::new(0),
+            0,
+            Text::new(name)?,
+        ),
+        Word::Branch(Branch::GoTo) => Line::Named(NameFunction::GoToName, Text::new(name)?),
+        Word::Branch(Branch::Execute) => Line::Named(NameFunction::ExecuteName, Text::new(name)?),
+        Word::Wordless => Line::Named(NameFunction::Wordless, Text::new(name)?),
+        _ => return None,
+    })
+}
+
+/// The line of a word and an operand.
+fn with_operand(word: Word, text: &[u8]) -> Option<Line>
+    ensures line { result ≡ part.operand_line word text.now }
+    ensures text { IfSome result HasText }
+{
+    match word {
+        Word::Function(function) => Some(Line::WithOperand(function, operand(text)?)),
+        Word::Branch(branch) => Some(branch_line(branch, operand(text)?)),
+        Word::Module => module(text),
+        Word::Wordless => None,
+    }
+}
+
+/// The GTO or XEQ of an operand.
+fn branch_line(branch: Branch, operand: Operand) -> Line
+    ensures line { result ≡ part.branch_line branch operand }
+    ensures text { HasText result }
+{
+    match operand {
+        Operand::Direct(label) => Line::BranchTo(branch, Distance::new(0), false, label),
+        Operand::Indirect(register) => Line::BranchIndirect(branch, register),
+    }
+}
+
+/// The XROM of two numbers.
+fn module(text: &[u8]) -> Option<Line>
+    ensures line { result ≡ part.module_of text.now }
+    ensures text { IfSome result HasText }
+{
+    match text {
+        [a, b, b',', c, d] => {
+            let number = two_digits(*a, *b)?;
+            let entry = two_digits(*c, *d)?;
+            if number < 32 && entry < 64 {
+                Some(Line::Module(ModuleNumber::new(number), EntryNumber::new(entry)))
+            } else {
+                None
+            }
+        }
+        _ => None,
+    }
+}
+
+/// The number of two decimal digits.
+fn two_digits(tens: u8, ones: u8) -> Option<u8>
+    ensures value { result ≡ part.two_digits_of tens ones }
+    ensures bound { IfSome result (λ number. number < 100) }
+{
+    if tens.is_ascii_digit() && ones.is_ascii_digit() {
+        Some((tens - b'0') * 10 + (ones - b'0'))
+    } else {
+        None
+    }
+}
+
+/// The operand of a text.
+fn operand(text: &[u8]) -> Option<Operand>
+    ensures { result ≡ part.operand_of text.now }
+{
+    match behind_ind(text) {
+        Some(register) => Some(Operand::Indirect(parameter(register)?)),
+        None => Some(Operand::Direct(parameter(text)?)),
+    }
+}
+
+/// What stands behind `IND` and a blank; nothing where a text begins otherwise.
+fn behind_ind(text: &[u8]) -> Option<&[u8]>
+    ensures rest { IfSome result (λ rest. part.behind_ind text.now ≡ Some rest.now) }
+    ensures none { IfNone result (part.behind_ind text.now ≡ None) }
+{
+    match text {
+        [b'I', b'N', b'D', b' ', rest @ ..] => Some(rest),
+        _ => None,
+    }
+}
+
+/// The parameter of a text.
+fn parameter(text: &[u8]) -> Option<Parameter>
+    ensures named { IfSome result (λ number. parameter_text number ≡ text.now) }
+    ensures inside { IfSome result (λ number. number < parameter_count) }
+    ensures none { IfNone result (part.IsNoParameter text.now) }
+{
+    if let [tens, ones] = text {
+        return Some(Parameter::new(two_digits(*tens, *ones)?));
+    }
+    for number in 100..128 {
+        if high_parameter(number).as_bytes() == text {
+            return Some(Parameter::new(number));
+        }
+    }
+    None
+}

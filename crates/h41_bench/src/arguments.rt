@@ -84,6 +84,8 @@ A deck is a text file of commands, one a line. Such as:
   show ram hhh  prints the register at an address in memory
   show stack    prints the registers T, Z, Y, X and L of the stack
   show flags    prints the numbers of the flags that are set
+  show alpha    prints the text of ALPHA
+  show display  prints what the display shows
   show pos      prints whether a function runs, and where
   show image P  prints the page's image in hexadecimal
   show functions  prints the functions of plugged modules

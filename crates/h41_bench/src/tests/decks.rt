@@ -196,6 +196,27 @@ fn assembles_pages(rt: HostRuntime) -> Result<(), Fail> {
 }
 
 #[test]
+fn shows_the_display(rt: HostRuntime) -> Result<(), Fail> {
+    let cases = [
+        ("", "0.0000\n\n"),
+        ("R= 12\nLD@R 1\nWRIT 3\n", "1.0000\n\n"),
+        ("LDI 142\nWRIT 5\n", "0.0000\n\\01B\n"),
+        (
+            "LDI 142\nWRIT 5\nC=0 ALL\nC=C-1 ALL\nWRIT 14\n",
+            "\\01B\n\\01B\n",
+        ),
+        ("DISTOG\n", "\n\n"),
+    ];
+    for (source, text) in cases {
+        let deck = format!(in rt.alloc();
+            "asm 8\n{source}RTN\nend\ncall 8000\nstep 9\nshow display\nshow alpha\n"
+        )?;
+        prints(&rt, rt.alloc(), deck.as_str(), text)?;
+    }
+    Ok(())
+}
+
+#[test]
 fn judges_the_size_of_sources(rt: HostRuntime) -> Result<(), Fail> {
     let words = "NOP\n".repeat(rt.alloc(), 4097)?;
     for (page, text) in [("8", "! 04 BadImage\n"), ("F", "! 35 TooLong 4097\n")] {

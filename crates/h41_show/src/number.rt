@@ -105,11 +105,10 @@ fn fixed(x: Size, digits: u8) -> Option<Steps>
     if dropped > DIGITS {
         return None;
     }
-    let count = without_last(x.mantissa.digits, dropped);
-    if count == 0 {
-        return None;
+    match without_last(x.mantissa.digits, dropped) {
+        0 => None,
+        count => Some(Steps { decimals, count }),
     }
-    Some(Steps { decimals, count })
 }
 
 /// How many decimals FIX shows beside so many digits before the radix mark, not counting the first.

@@ -1,15 +1,15 @@
 -- Sizes as the display rounds them.
-use Rattle.std.specs.Prelude.{◌≡◌, ℕ, zero, suc, ◌+◌, ◌-◌, ◌*◌, ◌/◌, ◌%◌, ◌^◌, ◌<◌, ◌≤◌, ◌⊎◌, nat_le, nat_lt, cond, if◌then◌else◌, Bool, true, false, refl}
+use Rattle.std.specs.Prelude.{◌≡◌, ℕ, zero, suc, ◌+◌, ◌-◌, ◌*◌, ◌/◌, ◌^◌, ◌<◌, ◌≤◌, nat_le, nat_lt, cond, true, false, refl}
 use Rattle.std.specs.List.{count_by, range_with_len}
 use Rattle.std.proofs.Common.{ap, sym, ◌∙◌, arith, inl, inr, subst, lt_of_lt_of_le}
-use Rattle.std.proofs.Math.Nat.{pow-suc, pow-le-pow_right, mul-div-mul_right, mul-le-mul_right, mul-pos}
-use Rattle.std.proofs.lemmas.Nat.{pow-add, le-div, div_below}
+use Rattle.std.proofs.Math.Nat.{pow-suc, pow-le-pow_right, mul-div-mul_right}
+use Rattle.std.proofs.lemmas.Nat.{le-div, div_below}
 use Rattle.std.proofs.lemmas.List.Sums.{sum_by-cons}
 use Rattle.std.proofs.lemmas.Bool.{cases_lt}
 use Rattle.std.proofs.lemmas.Bool.Decides.{nat_tests}
 use Rattle.h41_decimal.specs.Units.{one}
 use Rattle.h41_show.specs.Rounding.{nearest, exponent_of, rounded}
-use Rattle.h41_show.proofs.Powers.{power_pos, pow-lt-pow, power_below, power_split, scaled_low, scaled_high, scaled_quotient, shifted}
+use Rattle.h41_show.proofs.Powers.{power_pos, pow-lt-pow, power_split, scaled_low, scaled_high, scaled_quotient}
 
 -- none of the powers from a number's next one up is at most the number
 none_above : (k n start size : ℕ) → k < start → size < 10 ^ (k + 1) → count_by (λ power. nat_le (10 ^ power) size) (range_with_len start n) ≡ 0

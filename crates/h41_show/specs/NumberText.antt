@@ -1,6 +1,6 @@
 -- The text of a number in a display format. The forms are the Owner's Handbook's; how many digits SCI and ENG show at most, what
 -- zero shows there and how ENG fills its digits are this project's choices.
-use Rattle.std.specs.Prelude.{ℕ, ◌+◌, ◌-◌, ◌*◌, ◌/◌, ◌%◌, ◌^◌, min, Bool, not, ◌&&◌, ◌||◌, ◌==◌, nat_le, nat_lt, List, [], ◌∷◌, ◌++◌, length, if◌then◌else◌, ℤ, unsigned_abs}
+use Rattle.std.specs.Prelude.{ℕ, ◌-◌, ◌*◌, ◌/◌, ◌%◌, ◌^◌, min, Bool, not, ◌&&◌, ◌||◌, ◌==◌, nat_le, nat_lt, List, [], ◌∷◌, ◌++◌, length, if◌then◌else◌, ℤ, unsigned_abs}
 use Rattle.std.specs.Fmt.{decimal}
 use Rattle.h41_decimal.specs.Units.{one}
 use Rattle.h41_decimal.specs.Signs.{sign_of}

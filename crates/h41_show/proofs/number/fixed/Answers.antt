@@ -1,7 +1,5 @@
 -- A size from 10^10 up, one that would show as zero, and one that FIX shows.
-use Rattle.std.proofs.Common.{◌≡◌, ℕ, ◌-◌, ◌*◌, ◌^◌, ◌<◌, ◌≤◌, min, arith, ap, sym, ◌∙◌, subst}
-use Rattle.h41_show.specs.Rounding.{nearest}
-use Rattle.h41_show.specs.NumberText.{fixed_count}
+use Rattle.std.proofs.Common.{◌-◌, ◌*◌, ◌^◌, ◌<◌, ◌≤◌, min, arith, ap, sym, ◌∙◌, subst}
 use Rattle.h41_show.proofs.Fixed.{fixed_decimals-size, fixed_count-code, size_positive, size_below, size_above, is_fixed-shown, is_fixed-large, is_fixed-tiny, nearest_none}
 use Rattle.h41_show.proofs.number.fixed.Goals as goal
 

@@ -1,7 +1,6 @@
 -- Zero in each notation.
-use Rattle.std.proofs.Common.{◌≡◌, ◌++◌, arith, ap, sym, ◌∙◌, append_assoc}
+use Rattle.std.proofs.Common.{◌++◌, ap, sym, ◌∙◌, append_assoc}
 use Rattle.h41_show.specs.NumberText.{mantissa_decimals, mantissa_text, exponent_text, notation_text}
-use Rattle.h41_show.specs.declared.format.Notation.TheVariants.{Fixed, Scientific, Engineering}
 use Rattle.h41_show.proofs.Scientific.{zero_fixed, zero_in_powers}
 use Rattle.h41_show.proofs.number.push_zero.Goals as goal
 

@@ -101,6 +101,7 @@ fn fixed(x: Size, digits: u8) -> Option<Steps>
         return None;
     }
     let decimals = fixed_decimals(above_least.saturating_sub(EXPONENT_ZERO), digits);
+    // Of the ten digits, those behind the last decimal.
     let dropped = EXPONENT_ZERO + DIGITS - 1 - above_least - decimals;
     if dropped > DIGITS {
         return None;

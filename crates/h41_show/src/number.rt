@@ -17,7 +17,7 @@ const DIGITS: u32 = 10;
 /// How far exponent 0 is above the least exponent, -99.
 const EXPONENT_ZERO: u32 = 99;
 
-/// The text of a number in a display format: at most 15 characters.
+/// The text of a number in a display format.
 ///
 /// FIX rounds to the display digit's decimals, as far as ten digits allow, and groups the digits before the radix mark where the
 /// format says so. A number from 10^10 up, and one other than zero that would show as zero, shows as in SCI. SCI and ENG show up

@@ -1,7 +1,7 @@
 -- Numbers in decimal digits: how many there are, and how they part.
-use Rattle.std.specs.Prelude.{◌≡◌, ℕ, zero, suc, ◌+◌, ◌-◌, ◌*◌, ◌/◌, ◌%◌, ◌^◌, ◌<◌, ◌≤◌, List, [], ◌∷◌, ◌++◌, length, refl, nat_lt, ◌==◌, ◌&&◌, if◌then◌else◌, Bool, true, false}
+use Rattle.std.specs.Prelude.{◌≡◌, ℕ, zero, suc, ◌+◌, ◌*◌, ◌/◌, ◌%◌, ◌^◌, ◌<◌, ◌≤◌, List, [], ◌∷◌, ◌++◌, length, refl, nat_lt, ◌==◌, ◌&&◌, if◌then◌else◌, Bool, true, false}
 use Rattle.std.specs.Fmt.{decimal}
-use Rattle.std.proofs.Common.{ap, sym, ◌∙◌, arith, append_assoc, length-append}
+use Rattle.std.proofs.Common.{ap, ◌∙◌, arith, append_assoc, length-append}
 use Rattle.std.proofs.lemmas.Fmt.{decimal_digit, decimal_step, length-decimal-le}
 use Rattle.std.proofs.lemmas.Bool.Decides.{nat_tests}
 use Rattle.h41_show.specs.Digits.{digits_text, ends_group, grouped}

@@ -1,8 +1,8 @@
 -- Sizes as FIX shows them.
-use Rattle.std.specs.Prelude.{◌≡◌, ℕ, zero, suc, ◌+◌, ◌-◌, ◌*◌, ◌/◌, ◌%◌, ◌^◌, ◌<◌, ◌≤◌, ◌⊎◌, min, nat_le, nat_lt, ◌==◌, ◌&&◌, ◌||◌, length, Bool, true, false, refl}
+use Rattle.std.specs.Prelude.{◌≡◌, ℕ, zero, suc, ◌+◌, ◌-◌, ◌*◌, ◌/◌, ◌^◌, ◌<◌, ◌≤◌, min, nat_lt, ◌==◌, ◌&&◌, ◌||◌, length, Bool, true, false, refl}
 use Rattle.std.specs.Fmt.{decimal}
 use Rattle.std.proofs.Common.{ap, sym, ◌∙◌, arith, inl, inr, subst, lt_of_lt_of_le}
-use Rattle.std.proofs.Math.Nat.{pow-suc, pow-le-pow_right, mul-pos, one-le-pow}
+use Rattle.std.proofs.Math.Nat.{pow-suc, pow-le-pow_right, mul-pos}
 use Rattle.std.proofs.lemmas.Nat.{le-div, div_below}
 use Rattle.std.proofs.lemmas.Bool.{cases_lt}
 use Rattle.std.proofs.lemmas.Bool.Decides.{nat_tests}
@@ -11,7 +11,7 @@ use Rattle.h41_show.specs.Rounding.{nearest}
 use Rattle.h41_show.specs.NumberText.{integer_digits, fixed_decimals, fixed_count, is_fixed}
 use Rattle.h41_show.proofs.DecimalTexts.{length-decimal_step, length-decimal_digit}
 use Rattle.h41_show.proofs.Powers.{power_pos, power_split, scaled_low, scaled_high, scaled_quotient}
-use Rattle.h41_show.proofs.Roundings.{nearest_scaled, nearest_high}
+use Rattle.h41_show.proofs.Roundings.{nearest_scaled}
 
 -- a number between two neighbouring powers of ten has one digit more than the lower exponent
 length-decimal_is : (k n : ℕ) → 10 ^ k ≤ n → n < 10 ^ (k + 1) → n < 2 ^ 64 → length (decimal n) ≡ k + 1

@@ -1,6 +1,6 @@
 -- What a register shows, from what it holds.
-use Rattle.std.specs.Prelude.{◌≡◌, ◌≢◌, ℕ, List, Option, Some, None, ℤ, slice_index, ◌==◌, if◌then◌else◌, Bool, true, false, refl}
-use Rattle.std.proofs.Common.{ap, sym, ◌∙◌, arith}
+use Rattle.std.specs.Prelude.{◌≡◌, ◌≢◌, ℕ, List, Option, Some, None, ℤ, slice_index, ◌==◌, if◌then◌else◌, true, false, refl}
+use Rattle.std.proofs.Common.{ap, ◌∙◌, arith}
 use Rattle.std.proofs.lemmas.Bool.Decides.{nat_tests}
 use Rattle.h41_digits.specs.Register.{text}
 use Rattle.h41_decimal.specs.Holding.{Holding, Number, Text, Other, holding, holding_of, number_in, text_in, worth}

@@ -1,10 +1,10 @@
 -- The nearest whole number of steps, and the exponent of a size.
-use Rattle.std.specs.Prelude.{◌≡◌, ℕ, ◌+◌, ◌*◌, ◌/◌, ◌^◌, ◌<◌, ◌≤◌}
+use Rattle.std.specs.Prelude.{◌+◌, ◌*◌, ◌<◌, ◌≤◌}
 use Rattle.std.proofs.Common.{arith}
 use Rattle.std.proofs.lemmas.Nat.{le-div, div_below}
 use native.Mathlib.Nat.{div-mul-le_self, lt-div-mul-add}
 use Rattle.h41_show.specs.Rounding.{nearest}
-use Rattle.h41_show.specs.Laws.{IsNearest, NearestIsNearest, NearestIsDetermined, ExponentIsDetermined}
+use Rattle.h41_show.specs.Laws.{NearestIsNearest, NearestIsDetermined, ExponentIsDetermined}
 use Rattle.h41_show.proofs.Roundings.{exponent_of-digits}
 
 pub nearest_is_nearest : NearestIsNearest

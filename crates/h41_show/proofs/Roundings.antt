@@ -1,31 +1,44 @@
 -- Sizes as the display rounds them.
-use Rattle.std.specs.Prelude.{◌≡◌, ℕ, zero, suc, ◌+◌, ◌-◌, ◌*◌, ◌/◌, ◌%◌, ◌^◌, ◌<◌, ◌≤◌, ◌⊎◌, nat_le, nat_lt, if◌then◌else◌, Bool, true, false, refl}
+use Rattle.std.specs.Prelude.{◌≡◌, ℕ, zero, suc, ◌+◌, ◌-◌, ◌*◌, ◌/◌, ◌^◌, ◌<◌, ◌≤◌, nat_le, nat_lt, cond, true, false, refl}
+use Rattle.std.specs.List.{count_by, range_with_len}
 use Rattle.std.proofs.Common.{ap, sym, ◌∙◌, arith, inl, inr, subst, lt_of_lt_of_le}
-use Rattle.std.proofs.Math.Nat.{pow-suc, pow-le-pow_right, mul-div-mul_right, mul-le-mul_right, mul-pos}
-use Rattle.std.proofs.lemmas.Nat.{pow-add, le-div, div_below}
+use Rattle.std.proofs.Math.Nat.{pow-suc, pow-le-pow_right, mul-div-mul_right}
+use Rattle.std.proofs.lemmas.Nat.{le-div, div_below}
+use Rattle.std.proofs.lemmas.List.Sums.{sum_by-cons}
 use Rattle.std.proofs.lemmas.Bool.{cases_lt}
 use Rattle.std.proofs.lemmas.Bool.Decides.{nat_tests}
 use Rattle.h41_decimal.specs.Units.{one}
-use Rattle.h41_show.specs.Rounding.{nearest, greatest_power, exponent_of, rounded}
-use Rattle.h41_show.proofs.Powers.{power_pos, pow-lt-pow, power_below, power_split, scaled_low, scaled_high, scaled_quotient, shifted}
+use Rattle.h41_show.specs.Rounding.{nearest, exponent_of, rounded}
+use Rattle.h41_show.proofs.Powers.{power_pos, pow-lt-pow, power_split, scaled_low, scaled_high, scaled_quotient}
 
--- the greatest power of ten not above a number is that of its first digit
-greatest_power_is : (bound k n : ℕ) → k ≤ bound → 10 ^ k ≤ n → n < 10 ^ (k + 1) → greatest_power bound n ≡ k
-greatest_power_is zero k n within low high = omega arith
-greatest_power_is (suc bound) k n within low high = elim (cases_lt n (10 ^ suc bound)) [
-  | inl less ↦
-      let test : nat_le (10 ^ suc bound) n ≡ false = grind (arith, nat_tests) in
-      let below : k < suc bound = power_below k (suc bound) n low less in
-      ap (λ b. if b then suc bound else greatest_power bound n) test ∙ greatest_power_is bound k n (omega arith) low high
-  | inr not ↦
-      let test : nat_le (10 ^ suc bound) n ≡ true = grind (arith, nat_tests) in
-      let below : suc bound < k + 1 = power_below (suc bound) (k + 1) n not high in
-      ap (λ b. if b then suc bound else greatest_power bound n) test ∙ (omega arith)
+-- none of the powers from a number's next one up is at most the number
+none_above : (k n start size : ℕ) → k < start → size < 10 ^ (k + 1) → count_by (λ power. nat_le (10 ^ power) size) (range_with_len start n) ≡ 0
+none_above k zero start size above high = refl
+none_above k (suc n) start size above high =
+    let next : k + 1 ≤ start = omega arith in
+    let up : 10 ^ (k + 1) ≤ 10 ^ start = pow-le-pow_right (omega arith) next in
+    let test : nat_le (10 ^ start) size ≡ false = grind (arith, nat_tests) in
+    let rest = none_above k n (start + 1) size (omega arith) high in
+    sum_by-cons (λ power. cond (nat_le (10 ^ power) size) 1 0) start (range_with_len (start + 1) n)
+    ∙ ap (λ b. cond b 1 0 + count_by (λ power. nat_le (10 ^ power) size) (range_with_len (start + 1) n)) test ∙ (omega arith)
+
+-- so those that are reach to the number's own
+counted : (k n start size : ℕ) → start ≤ k + 1 → k + 1 ≤ start + n → 10 ^ k ≤ size → size < 10 ^ (k + 1)
+    → count_by (λ power. nat_le (10 ^ power) size) (range_with_len start n) ≡ k + 1 - start
+counted k zero start size from to low high = omega arith
+counted k (suc n) start size from to low high = elim (cases_lt k start) [
+  | inl above ↦ none_above k (suc n) start size above high ∙ (omega arith)
+  | inr within ↦
+      let up : 10 ^ start ≤ 10 ^ k = pow-le-pow_right (omega arith) within in
+      let test : nat_le (10 ^ start) size ≡ true = grind (arith, nat_tests) in
+      let rest = counted k n (start + 1) size (omega arith) (omega arith) low high in
+      sum_by-cons (λ power. cond (nat_le (10 ^ power) size) 1 0) start (range_with_len (start + 1) n)
+      ∙ ap (λ b. cond b 1 0 + count_by (λ power. nat_le (10 ^ power) size) (range_with_len (start + 1) n)) test ∙ (omega arith)
 ]
 
 pub exponent_of-digits : (k n : ℕ) → k ≤ 207 → 10 ^ k ≤ n → n < 10 ^ (k + 1) → exponent_of n ≡ k
 unfolding exponent_of
-exponent_of-digits k n within low high = greatest_power_is 207 k n within low high
+exponent_of-digits k n within low high = counted k 207 1 n (omega arith) (omega arith) low high ∙ (omega arith)
 
 -- digits and steps at one power of ten are rounded as they are without it
 pub nearest_scaled : (d p q : ℕ) → 0 < q → nearest (d * q) (p * q) ≡ nearest d p

@@ -1,15 +1,13 @@
 -- Sizes as SCI and ENG show them, zero, and numbers.
-use Rattle.std.specs.Prelude.{◌≡◌, ℕ, zero, suc, ◌+◌, ◌-◌, ◌*◌, ◌/◌, ◌%◌, ◌^◌, ◌<◌, ◌≤◌, ◌⊎◌, min, nat_lt, ◌==◌, ◌++◌, length, if◌then◌else◌, Bool, true, false, refl, ℤ, pos, unsigned_abs}
-use Rattle.std.specs.Fmt.{decimal}
+use Rattle.std.specs.Prelude.{◌≡◌, ℕ, zero, suc, ◌+◌, ◌-◌, ◌*◌, ◌^◌, ◌<◌, ◌≤◌, ◌⊎◌, min, ◌==◌, ◌++◌, if◌then◌else◌, true, false, refl, pos}
 use Rattle.std.proofs.Common.{ap, sym, ◌∙◌, arith, subst, inl, inr}
-use Rattle.std.proofs.Math.Nat.{mul-pos}
 use Rattle.std.proofs.lemmas.Nat.{div_below}
 use Rattle.std.proofs.lemmas.Bool.Decides.{nat_tests}
-use Rattle.h41_decimal.specs.Signs.{signed, sign_of}
+use Rattle.h41_decimal.specs.Signs.{signed}
 use Rattle.h41_decimal.specs.declared.sign.Sign.{Sign}
 use Rattle.h41_decimal.specs.declared.sign.Sign.TheVariants.{Plus, Minus}
 use Rattle.h41_show.specs.Rounding.{nearest, exponent_of, rounded}
-use Rattle.h41_show.specs.NumberText.{fixed_decimals, fixed_count, is_fixed, fixed_text, steps_text, mantissa_decimals, mantissa_text, exponent_text, extra_digits, power_text, scientific_text, notation_text, sign_text, number_text}
+use Rattle.h41_show.specs.NumberText.{fixed_decimals, fixed_count, is_fixed, fixed_text, steps_text, mantissa_decimals, mantissa_text, exponent_text, extra_digits, exponential_text, scientific_text, notation_text, sign_text, number_text}
 use Rattle.h41_show.specs.declared.format.Format.{Format}
 use Rattle.h41_show.specs.declared.format.Notation.{Notation}
 use Rattle.h41_show.specs.declared.format.Notation.TheVariants.{Fixed, Scientific, Engineering}
@@ -28,9 +26,9 @@ module _ (c t m : ℕ) (few : m ≤ 7) (small : t ≤ 198) (low : 10 ^ m ≤ c) 
       (subst (λ k. 10 ^ k ≤ c * 10 ^ (t + 9 - m)) up (scaled_low c (t + 9 - m) m low))
       (subst (λ k. c * 10 ^ (t + 9 - m) < 10 ^ k) next (scaled_high c (t + 9 - m) (m + 1) high))
 
-  power_text-shown : (radix : RadixMark) (extra : ℕ) → extra ≤ 2 → extra ≤ t
-      → power_text radix m extra (c * 10 ^ (t + 9 - m)) ≡ mantissa_text radix (m - extra) (c * 10 ^ (extra - m)) ++ exponent_text (t - extra + 9)
-  power_text-shown radix extra most within =
+  exponential_text-shown : (radix : RadixMark) (extra : ℕ) → extra ≤ 2 → extra ≤ t
+      → exponential_text radix m extra (c * 10 ^ (t + 9 - m)) ≡ mantissa_text radix (m - extra) (c * 10 ^ (extra - m)) ++ exponent_text (t - extra + 9)
+  exponential_text-shown radix extra most within =
       let e = exponent_of-shown in
       let shown : t + 9 - extra ≡ t - extra + 9 = omega arith in
       let parts : t + 9 - m ≡ extra - m + (t - extra + 9 - (m - extra)) = omega arith in
@@ -44,9 +42,9 @@ module _ (c t m : ℕ) (few : m ≤ 7) (small : t ≤ 198) (low : 10 ^ m ≤ c) 
   scientific_text-shown format size extra some decimals value digits most within =
       let test : (size == 0) ≡ false = grind (arith, nat_tests) in
       let shown = c * 10 ^ (t + 9 - m) in
-      let exponent = ap (λ k. power_text format.radix m (extra_digits format.notation k) shown) exponent_of-shown in
-      let beyond = ap (λ k. power_text format.radix m k shown) (sym digits) in
-      let text = power_text-shown format.radix extra most within in
+      let exponent = ap (λ k. exponential_text format.radix m (extra_digits format.notation k) shown) exponent_of-shown in
+      let beyond = ap (λ k. exponential_text format.radix m k shown) (sym digits) in
+      let text = exponential_text-shown format.radix extra most within in
       sym (rw (test, ← decimals, ← value) (exponent ∙ (beyond ∙ text)))
 
 -- FIX, where it shows the size

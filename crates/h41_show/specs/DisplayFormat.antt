@@ -1,6 +1,6 @@
 -- The display format that the flags tell. That flags 40 and 41 both set mean FIX, and that a display digit above 9 means 9, are
 -- this project's choices; the rest is the Owner's Handbook's.
-use Rattle.std.specs.Prelude.{ℕ, ◌+◌, min, Bool, true, false, if◌then◌else◌}
+use Rattle.std.specs.Prelude.{ℕ, ◌+◌, min, Bool, true, false}
 use Rattle.h41_ram.specs.RegisterMap.{RegisterMap, flag_of}
 use Rattle.h41_show.specs.declared.format.Format.{Format}
 use Rattle.h41_show.specs.declared.format.Notation.{Notation}

@@ -1,6 +1,6 @@
 -- The text of a number in a display format. The forms are the Owner's Handbook's; how many digits SCI and ENG show at most, what
 -- zero shows there and how ENG fills its digits are this project's choices.
-use Rattle.std.specs.Prelude.{ℕ, ◌+◌, ◌-◌, ◌*◌, ◌/◌, ◌%◌, ◌^◌, min, Bool, not, ◌&&◌, ◌||◌, ◌==◌, nat_le, nat_lt, List, [], ◌∷◌, ◌++◌, length, if◌then◌else◌, ℤ, unsigned_abs}
+use Rattle.std.specs.Prelude.{ℕ, ◌-◌, ◌*◌, ◌/◌, ◌%◌, ◌^◌, min, Bool, not, ◌&&◌, ◌||◌, ◌==◌, nat_le, nat_lt, List, [], ◌∷◌, ◌++◌, length, if◌then◌else◌, ℤ, unsigned_abs}
 use Rattle.std.specs.Fmt.{decimal}
 use Rattle.h41_decimal.specs.Units.{one}
 use Rattle.h41_decimal.specs.Signs.{sign_of}
@@ -76,8 +76,8 @@ extra_digits Fixed exponent = 0
 
 -- a size with a mantissa of so many digits in front of the radix mark beyond the first: they are taken from the decimals, and
 -- zeros stand for those that are missing
-abbrev pub power_text : RadixMark → ℕ → ℕ → ℕ → List ℕ
-power_text radix decimals extra size =
+abbrev pub exponential_text : RadixMark → ℕ → ℕ → ℕ → List ℕ
+exponential_text radix decimals extra size =
     let shown = exponent_of size - extra in
     let behind = decimals - extra in
     mantissa_text radix behind (size / 10 ^ (shown - behind)) ++ exponent_text shown
@@ -89,7 +89,7 @@ scientific_text format size =
     let decimals = mantissa_decimals format.digits in
     let shown = rounded decimals size in
     if size == 0 then mantissa_text format.radix decimals 0 ++ exponent_text 108
-    else power_text format.radix decimals (extra_digits format.notation (exponent_of shown)) shown
+    else exponential_text format.radix decimals (extra_digits format.notation (exponent_of shown)) shown
 
 -- a size in each notation
 abbrev pub notation_text : Notation → Format → ℕ → List ℕ

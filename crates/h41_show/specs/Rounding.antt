@@ -1,20 +1,17 @@
 -- Sizes of numbers as the display rounds them. A size is counted in units of 10^-108, as h41_decimal counts it, so every one is a
 -- whole number.
-use Rattle.std.specs.Prelude.{ℕ, zero, suc, ◌+◌, ◌-◌, ◌*◌, ◌/◌, ◌^◌, nat_le, nat_lt, if◌then◌else◌}
+use Rattle.std.specs.Prelude.{ℕ, ◌+◌, ◌-◌, ◌*◌, ◌/◌, ◌^◌, nat_le, nat_lt, if◌then◌else◌}
+use Rattle.std.specs.List.{count_by, range_with_len}
 use Rattle.h41_decimal.specs.Units.{one}
 
 -- the whole number of steps that is nearest to a size; half a step goes up
 abbrev pub nearest : ℕ → ℕ → ℕ
 nearest size step = (2 * size + step) / (2 * step)
 
--- the greatest power of ten, of those up to a bound, that is not above a size
-abbrev pub greatest_power : ℕ → ℕ → ℕ
-greatest_power zero size = 0
-greatest_power (suc bound) size = if nat_le (10 ^ suc bound) size then suc bound else greatest_power bound size
-
--- the exponent of a size, counted from -108: the power of ten of its first digit. Sizes stay below 10^100, which is 10^208 units.
+-- the exponent of a size, counted from -108: the power of ten of its first digit. It tells how many of the powers from 10^1 up are
+-- not above the size. Sizes stay below 10^100, which is 10^208 units.
 unfoldable pub exponent_of : ℕ → ℕ
-exponent_of size = greatest_power 207 size
+exponent_of size = count_by (λ power. nat_le (10 ^ power) size) (range_with_len 1 207)
 
 -- what digits are worth, so many of them behind the first, which stands at an exponent counted from -99
 abbrev pub worth_at : ℕ → ℕ → ℕ → ℕ

@@ -7,7 +7,7 @@ ghost use Rattle.h41_show.specs.Digits.{digits_text, grouped};
 
 use arrayvec::ArrayString;
 
-/// How many bytes a text has room for. None takes more than 72: ALPHA's 24 bytes, each in hexadecimal.
+/// How many bytes a text has room for: ALPHA's 24 bytes take 72 where each is told in hexadecimal.
 pub const TEXT_CAPACITY: usize = 80;
 
 /// A text in the making.

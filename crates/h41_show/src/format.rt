@@ -41,10 +41,10 @@ pub struct Format {
 impl Format {
     ghost use Rattle.h41_show.specs.DisplayFormat.{format_of};
 
-    #[tactic(auto, unfolding(crate::specs::DisplayFormat::format_of))]
     /// The format that the flags tell: 40 for FIX, else 41 for ENG, else SCI; 36 to 39 the display digit, above 9 taken as 9;
     /// 28 for the point as the radix mark, else the comma; 29 for grouping. From the Owner's Handbook, but for flags 40 and 41
     /// both set and digits above 9, which are this project's own choice.
+    #[tactic(auto, unfolding(crate::specs::DisplayFormat::format_of))]
     pub fn from_flags<const REGS: usize>(ram: &Ram<REGS>) -> Self
         ensures { result ≡ format_of ram.now }
     {

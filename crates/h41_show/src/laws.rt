@@ -1,6 +1,6 @@
 //! Laws of texts: each is the contract of a function with next to nothing to do.
 
-ghost use Rattle.std.specs.Prelude.{◌≤◌, length};
+ghost use Rattle.std.specs.Prelude.{◌≡◌, ◌≤◌, length};
 ghost use Rattle.h41_decimal.specs.Units.{units};
 ghost use Rattle.h41_show.specs.Laws.{NearestIsNearest, NearestIsDetermined, ExponentIsDetermined};
 ghost use Rattle.h41_show.specs.NumberText as numbers;
@@ -27,23 +27,26 @@ pub fn exponent_is_determined()
     ensures { ExponentIsDetermined }
 {}
 
-/// The text of a number has room in 80 bytes.
+/// How many bytes the text of a number has: at most 80.
 pub fn number_text_fits(number: Ten, format: Format) -> usize
-    ensures { length (numbers.number_text format (units number)) ≤ 80 }
+    ensures size { result ≡ length (numbers.number_text format (units number)) }
+    ensures fits { result ≤ 80 }
 {
     number_text(number, format).len()
 }
 
-/// So has that of a register.
+/// How many bytes the text of a register has: at most 80.
 pub fn register_text_fits(register: Reg, format: Format) -> usize
-    ensures { length (registers.register_text format register) ≤ 80 }
+    ensures size { result ≡ length (registers.register_text format register) }
+    ensures fits { result ≤ 80 }
 {
     register_text(register, format).len()
 }
 
-/// And that of ALPHA.
+/// How many bytes the text of ALPHA has: at most 80.
 pub fn alpha_text_fits<const REGS: usize>(ram: &Ram<REGS>) -> usize
-    ensures { length (registers.alpha_text ram.now) ≤ 80 }
+    ensures size { result ≡ length (registers.alpha_text ram.now) }
+    ensures fits { result ≤ 80 }
 {
     alpha_text(ram).len()
 }

@@ -17,7 +17,7 @@ const DIGITS: u32 = 10;
 /// How far exponent 0 is above the least exponent, -99.
 const EXPONENT_ZERO: u32 = 99;
 
-/// The text of a number in a display format: at most 15 characters.
+/// The text of a number in a display format.
 ///
 /// FIX rounds to the display digit's decimals, as far as ten digits allow, and groups the digits before the radix mark where the
 /// format says so. A number from 10^10 up, and one other than zero that would show as zero, shows as in SCI. SCI and ENG show up
@@ -58,7 +58,10 @@ fn push_zero(text: &mut Text, format: Format)
     ensures { text.new.bytes ≡ text.old.bytes ++ spec.notation_text format.notation format 0 }
 {
     match format.notation {
-        Notation::Fixed => push_steps(text, format, 0, fixed_decimals(0, format.digits)),
+        Notation::Fixed => {
+            let decimals = fixed_decimals(0, format.digits);
+            push_steps(text, format, Steps { decimals, count: 0 });
+        }
         Notation::Scientific | Notation::Engineering => {
             push_mantissa(text, format.radix, 0, mantissa_decimals(format.digits));
             push_exponent(text, EXPONENT_ZERO);
@@ -73,7 +76,7 @@ fn push_size(text: &mut Text, x: Size, format: Format)
 {
     match format.notation {
         Notation::Fixed => match fixed(x, format.digits) {
-            Some(steps) => push_steps(text, format, steps.count, steps.decimals),
+            Some(steps) => push_steps(text, format, steps),
             None => push_scientific(text, x, format),
         },
         Notation::Scientific | Notation::Engineering => push_scientific(text, x, format),
@@ -101,15 +104,15 @@ fn fixed(x: Size, digits: u8) -> Option<Steps>
         return None;
     }
     let decimals = fixed_decimals(above_least.saturating_sub(EXPONENT_ZERO), digits);
+    // Of the ten digits, those behind the last decimal.
     let dropped = EXPONENT_ZERO + DIGITS - 1 - above_least - decimals;
     if dropped > DIGITS {
         return None;
     }
-    let count = without_last(x.mantissa.digits, dropped);
-    if count == 0 {
-        return None;
+    match without_last(x.mantissa.digits, dropped) {
+        0 => None,
+        count => Some(Steps { decimals, count }),
     }
-    Some(Steps { decimals, count })
 }
 
 /// How many decimals FIX shows beside so many digits before the radix mark, not counting the first.
@@ -129,15 +132,14 @@ fn mantissa_decimals(digits: u8) -> u32
 }
 
 /// Appends a number of steps of the last decimal as FIX shows it.
-fn push_steps(text: &mut Text, format: Format, count: u64, decimals: u32)
-    requires room { array_string_len text.old ≤ 1 }
-    requires decimals { decimals ≤ 9 }
-    ensures { text.new.bytes ≡ text.old.bytes ++ spec.steps_text format decimals count }
+fn push_steps(text: &mut Text, format: Format, steps: Steps)
+    requires { array_string_len text.old ≤ 1 }
+    ensures { text.new.bytes ≡ text.old.bytes ++ spec.steps_text format steps.decimals steps.count }
 {
-    let whole = count / power_of_ten(decimals);
+    let whole = steps.count / power_of_ten(steps.decimals);
     push_integer(text, format, whole);
     push_fixed_mark(text, format);
-    push_digits(text, count, decimals as usize);
+    push_digits(text, steps.count, steps.decimals as usize);
 }
 
 /// Appends the digits before the radix mark in FIX.

@@ -14,20 +14,7 @@ pub(crate) fn power_of_ten(power: u32) -> u64
     requires { power ≤ 10 }
     ensures { result ≡ 10 ^ power }
 {
-    match power {
-        0 => 1,
-        1 => 10,
-        2 => 100,
-        3 => 1000,
-        4 => 10_000,
-        5 => 100_000,
-        6 => 1_000_000,
-        7 => 10_000_000,
-        8 => 100_000_000,
-        9 => 1_000_000_000,
-        10 => 10_000_000_000,
-        _ => unreachable!(),
-    }
+    10u64.pow(power)
 }
 
 /// Ten digits without their last ones, rounded to the nearest number; a half goes up.

@@ -1,8 +1,8 @@
 -- The groups before the last, and the last.
-use Rattle.std.proofs.Common.{◌≡◌, ◌+◌, ◌*◌, ◌/◌, ◌%◌, ◌++◌, [], ◌∷◌, length, decimal, ap, sym, ◌∙◌, arith, length-append, append_assoc}
+use Rattle.std.proofs.Common.{◌+◌, ◌/◌, ◌%◌, ◌++◌, [], ◌∷◌, length, decimal, ap, sym, ◌∙◌, arith, length-append, append_assoc}
 use Rattle.std.proofs.lemmas.Fmt.{decimal_nonempty, length-decimal-le}
-use Rattle.h41_show.specs.Digits.{digits_text, grouped}
-use Rattle.h41_show.proofs.DecimalTexts.{decimal_group, length-decimal_group, length-grouped, grouped_short, grouped-group}
+use Rattle.h41_show.specs.Digits.{grouped}
+use Rattle.h41_show.proofs.DecimalTexts.{decimal_group, length-decimal_group, grouped_short, grouped-group}
 use Rattle.h41_show.proofs.digits.+push_grouped.Goals as goal
 
 pub push_grouped-requires : goal.push_grouped-requires

@@ -1,7 +1,5 @@
 -- A size from 10^10 up, one that would show as zero, and one that FIX shows.
-use Rattle.std.proofs.Common.{◌≡◌, ℕ, ◌-◌, ◌*◌, ◌^◌, ◌<◌, ◌≤◌, min, arith, ap, sym, ◌∙◌, subst}
-use Rattle.h41_show.specs.Rounding.{nearest}
-use Rattle.h41_show.specs.NumberText.{fixed_count}
+use Rattle.std.proofs.Common.{◌-◌, ◌*◌, ◌^◌, ◌<◌, ◌≤◌, min, arith, ap, sym, ◌∙◌, subst}
 use Rattle.h41_show.proofs.Fixed.{fixed_decimals-size, fixed_count-code, size_positive, size_below, size_above, is_fixed-shown, is_fixed-large, is_fixed-tiny, nearest_none}
 use Rattle.h41_show.proofs.number.fixed.Goals as goal
 
@@ -22,40 +20,39 @@ returns-then-dropped-gt-DIGITS-clause-fixed c =
     let none = nearest_none d (108 - c.steps-above_least.result - c.fixed_decimals-decimals.result) high (omega arith) in
     sym (is_fixed-tiny c.args.digits (d * 10 ^ s) (size_positive d s low high) (size_below d s low high most) (sym count ∙ none))
 
-pub returns-then-count-eq0-clause-fixed : goal.returns-then-count-eq0-clause-fixed
-returns-then-count-eq0-clause-fixed c =
+pub returns-in-0-clause-fixed : goal.returns-in-0-clause-fixed
+returns-in-0-clause-fixed c =
     let d = c.args.x.mantissa.digits in
     let s = c.args.x.exponent.above_least in
     let low = c.args.x.mantissa.at_least in
     let high = c.args.x.mantissa.below in
     let most : s ≤ 108 = omega arith in
     let count = fixed_count-code d s low high c.args.digits _ _ _ most c.steps-above_least.ensures c.saturating_sub.ensures c.fixed_decimals-decimals.ensures in
-    let same = c.without_last-count.ensures ∙ count in
-    sym (is_fixed-tiny c.args.digits (d * 10 ^ s) (size_positive d s low high) (size_below d s low high most) (sym same ∙ c.if-count-eq0.true))
+    let same = c.without_last.ensures ∙ count in
+    sym (is_fixed-tiny c.args.digits (d * 10 ^ s) (size_positive d s low high) (size_below d s low high most) (sym same ∙ c.in-0.is))
 
-pub returns-clause-fixed : goal.returns-clause-fixed
-returns-clause-fixed c =
+pub returns-in_default-clause-fixed : goal.returns-in_default-clause-fixed
+returns-in_default-clause-fixed c =
     let d = c.args.x.mantissa.digits in
     let s = c.args.x.exponent.above_least in
     let low = c.args.x.mantissa.at_least in
     let high = c.args.x.mantissa.below in
     let most : s ≤ 108 = omega arith in
     let count = fixed_count-code d s low high c.args.digits _ _ _ most c.steps-above_least.ensures c.saturating_sub.ensures c.fixed_decimals-decimals.ensures in
-    let same = c.without_last-count.ensures ∙ count in
-    let not_zero = c.if-count-eq0.false in
-    let some : 0 < c.without_last-count.result = omega arith in
+    let same = c.without_last.ensures ∙ count in
+    let some : 0 < c.without_last.result = omega arith in
     sym (is_fixed-shown c.args.digits (d * 10 ^ s) (size_below d s low high most) (subst (λ t. 0 < t) same some))
 
-pub returns-clause-decimals : goal.returns-clause-decimals
-returns-clause-decimals c =
+pub returns-in_default-clause-decimals : goal.returns-in_default-clause-decimals
+returns-in_default-clause-decimals c =
     let d = c.args.x.mantissa.digits in
     let s = c.args.x.exponent.above_least in
     c.fixed_decimals-decimals.ensures ∙ ap (λ w. min c.args.digits (9 - w)) (c.saturating_sub.ensures ∙ ap (λ t. t - 99) c.steps-above_least.ensures)
     ∙ fixed_decimals-size d s c.args.x.mantissa.at_least c.args.x.mantissa.below c.args.digits (omega arith)
 
-pub returns-clause-count : goal.returns-clause-count
-returns-clause-count c =
+pub returns-in_default-clause-count : goal.returns-in_default-clause-count
+returns-in_default-clause-count c =
     let d = c.args.x.mantissa.digits in
     let s = c.args.x.exponent.above_least in
-    c.without_last-count.ensures
+    c.without_last.ensures
     ∙ fixed_count-code d s c.args.x.mantissa.at_least c.args.x.mantissa.below c.args.digits _ _ _ (omega arith) c.steps-above_least.ensures c.saturating_sub.ensures c.fixed_decimals-decimals.ensures

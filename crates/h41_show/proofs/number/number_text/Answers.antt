@@ -1,7 +1,6 @@
 -- The sign, and what is shown of the size.
-use Rattle.std.proofs.Common.{◌≡◌, ◌++◌, arith, ap, sym, ◌∙◌}
+use Rattle.std.proofs.Common.{◌++◌, ap, sym, ◌∙◌}
 use Rattle.h41_decimal.specs.Units.{size, units}
-use Rattle.h41_decimal.specs.declared.ten.Ten.TheVariants.{Zero, Nonzero}
 use Rattle.h41_show.specs.NumberText.{sign_text, notation_text, number_text}
 use Rattle.h41_show.proofs.Fixed.{size_positive}
 use Rattle.h41_show.proofs.Scientific.{number_text-signed, number_text-zero}

@@ -1,5 +1,5 @@
 -- How many bytes there are at most.
-use Rattle.std.proofs.Common.{◌+◌, ◌*◌, ◌/◌, ◌^◌, [], ◌∷◌, length, decimal, ap, ◌∙◌, arith, length-append}
+use Rattle.std.proofs.Common.{◌/◌, [], ◌∷◌, length, decimal, ap, ◌∙◌, arith, length-append}
 use Rattle.h41_show.proofs.DecimalTexts.{length-decimal_most}
 use Rattle.h41_show.proofs.Powers.{power_pos}
 use Rattle.h41_show.proofs.number.push_mantissa.Goals as goal

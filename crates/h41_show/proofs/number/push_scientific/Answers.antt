@@ -1,5 +1,5 @@
 -- The mantissa and the exponent, one behind the other.
-use Rattle.std.proofs.Common.{◌≡◌, ℕ, ◌+◌, ◌-◌, ◌*◌, ◌^◌, ◌<◌, ◌++◌, arith, ap, sym, ◌∙◌, append_assoc}
+use Rattle.std.proofs.Common.{◌≡◌, ◌+◌, ◌-◌, ◌*◌, ◌^◌, ◌<◌, ◌++◌, ap, ◌∙◌, append_assoc}
 use Rattle.h41_decimal.specs.Units.{size}
 use Rattle.h41_show.specs.NumberText.{mantissa_text, exponent_text}
 use Rattle.h41_show.proofs.Fixed.{size_positive}

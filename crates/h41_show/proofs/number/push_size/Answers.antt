@@ -1,5 +1,5 @@
 -- What FIX shows.
-use Rattle.std.proofs.Common.{◌≡◌, ◌++◌, arith, ap, sym, ◌∙◌}
+use Rattle.std.proofs.Common.{◌++◌, ap, sym, ◌∙◌}
 use Rattle.h41_decimal.specs.Units.{size}
 use Rattle.h41_show.specs.NumberText.{steps_text, notation_text, fixed_decimals}
 use Rattle.h41_show.proofs.Scientific.{notation_text-fixed}

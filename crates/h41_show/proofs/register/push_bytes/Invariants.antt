@@ -1,4 +1,4 @@
-use Rattle.std.proofs.Common.{◌≡◌, ◌+◌, ◌*◌, ◌≤◌, ◌++◌, take, length}
+use Rattle.std.proofs.Common.{◌≡◌, ◌*◌, ◌≤◌, ◌++◌, take, length}
 use Rattle.h41_show.specs.RegisterText.{bytes_text}
 use Rattle.h41_show.proofs.register.push_bytes.Given as goal
 

@@ -1,9 +1,8 @@
 -- The digits as they are rounded, one more at the exponent, or cut.
-use Rattle.std.proofs.Common.{ℕ, ◌+◌, ◌-◌, ◌*◌, ◌/◌, ◌^◌, ◌<◌, ◌≤◌, arith, subst, sym}
-use Rattle.std.proofs.Math.Nat.{pow-suc}
+use Rattle.std.proofs.Common.{◌+◌, ◌-◌, ◌^◌, ◌<◌, ◌≤◌, arith, subst}
 use Rattle.h41_show.specs.Rounding.{nearest}
 use Rattle.h41_show.proofs.Powers.{power_pos, pow-lt-pow}
-use Rattle.h41_show.proofs.Roundings.{near_low, near_high, cut_low, cut_high, rounded_within, rounded_up, rounded_down}
+use Rattle.h41_show.proofs.Roundings.{near_low, cut_low, cut_high, rounded_within, rounded_up, rounded_down}
 use Rattle.h41_show.proofs.rounding.round.Goals as goal
 
 pub returns-then-near-power_of_ten-clause-value : goal.returns-then-near-power_of_ten-clause-value

@@ -10,11 +10,7 @@ use Rattle.h41_codes.specs.declared.characters.Character.{Character}
 use Rattle.h41_codes.specs.declared.line.Line.TheVariants.{Number}
 use Rattle.h41_text.specs.Names.{character_text}
 use Rattle.h41_text.specs.LineText.{parameter_text}
-use Rattle.h41_codes.specs.declared.functions.Branch.TheVariants.{GoTo, Execute}
-use Rattle.h41_codes.specs.declared.functions.ParameterFunction.TheVariants.{Recall}
-use Rattle.h41_text.specs.declared.words.Word.{Word}
-use Rattle.h41_text.specs.declared.words.Word.TheVariants as word
-use Rattle.h41_text.specs.TextParts.{with_text, word_text, words, word_of, parameter_of, number_of, characters, character_of, characters_of, two_digits_of}
+use Rattle.h41_text.specs.TextParts.{with_text, parameter_of, number_of, characters, character_of, characters_of, two_digits_of}
 
 -- no item of a list has a text that nothing has
 pub with_text_none : {A : Type 0} (text_of : A → List ℕ) (items : List A) (text : List ℕ) → ((item : A) → text_of item ≡ text → ⊥) → with_text text_of items text ≡ None
@@ -58,18 +54,6 @@ two_none text size none number inside same =
 pub with_text_is : {A : Type 0} (text_of : A → List ℕ) (items : List A) (text : List ℕ) (item : A)
     → with_text text_of items (text_of item) ≡ Some item → text_of item ≡ text → with_text text_of items text ≡ Some item
 with_text_is text_of items text item found same = subst (λ (t : List ℕ). with_text text_of items t ≡ Some item) same found
-
--- words
-pub word_found : (word : Word) → word_of (word_text word) ≡ Some word
-word_found (word.Function Recall) = refl
-word_found (word.Function function) = refl
-word_found (word.Branch GoTo) = refl
-word_found (word.Branch Execute) = refl
-word_found word.Wordless = refl
-word_found word.Module = refl
-
-pub word_none : (name : List ℕ) → ((word : Word) → word_text word ≡ name → ⊥) → word_of name ≡ None
-word_none name none = with_text_none word_text words name none
 
 -- parameters
 finds_parameter : ℕ → Bool

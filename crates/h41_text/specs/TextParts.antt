@@ -59,10 +59,6 @@ parameter_functions =
     ∷ View ∷ StatisticsRegisters ∷ StoreAlpha ∷ RecallAlpha ∷ Fixed ∷ Scientific ∷ Engineering ∷ Tone
     ∷ SetFlag ∷ ClearFlag ∷ TestSetAndClear ∷ TestClearAndClear ∷ TestSet ∷ TestClear ∷ Exchange ∷ Label ∷ []
 
--- no function with a parameter has this name
-abbrev pub NamesNoFunction : List ℕ → Type 0
-NamesNoFunction name = (function : ParameterFunction) → parameter_function_name function ≢ name
-
 -- all words, and the one of a name
 abbrev pub words : List Word
 words = word.Branch GoTo ∷ word.Branch Execute ∷ word.Wordless ∷ word.Module ∷ map word.Function parameter_functions

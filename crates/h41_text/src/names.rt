@@ -1,9 +1,9 @@
-//! The names of functions, as a listing shows them. Each stands once, in a list of which macros write the look-ups.
+//! The names of functions, as a listing shows them. Each stands once, in a list of which macros write the look-ups and tables.
 ghost use Rattle.std.specs.Prelude.{◌≡◌, ◌≢◌, ◌+◌, ◌-◌, ◌<◌, ◌≤◌, length, slice_index_or, [], IfSome, IfNone};
 ghost use Rattle.h41_codes.specs.declared.characters.Character.{Character as AnyCharacter};
 ghost use Rattle.h41_text.specs.LineText.{high_parameters};
 ghost use Rattle.h41_text.specs.Names as spec;
-ghost use Rattle.h41_text.specs.TextParts.{function_of, with_text, NamesNoFunction};
+ghost use Rattle.h41_text.specs.TextParts.{function_of, with_text};
 
 use h41_codes::{Branch, Character, Function, NameFunction, ParameterFunction, RegisterFunction};
 
@@ -127,21 +127,13 @@ macro_rules! parameter_functions {
     };
 }
 
+pub(crate) use parameter_functions;
+
 /// Writes the match from each name of a list to its text.
 macro_rules! text_beside {
     (($value:expr) $kind:ident $($name:ident => $text:literal,)*) => {
         match $value {
             $($kind::$name => $text,)*
-        }
-    };
-}
-
-/// Writes the match from the bytes of a text to the name beside it in a list, or nothing.
-macro_rules! name_beside {
-    (($value:expr) $kind:ident $($name:ident => $text:literal,)*) => {
-        match $value {
-            $(text if text == $text.as_bytes() => Some($kind::$name),)*
-            _ => None,
         }
     };
 }
@@ -173,14 +165,6 @@ fn first_named(functions: &[Function], name: &[u8]) -> Option<Function>
         }
     }
     None
-}
-
-/// The function with a parameter of a name, or nothing where there is none.
-pub(crate) fn parameter_function_named(name: &[u8]) -> Option<ParameterFunction>
-    ensures named { IfSome result (λ function. spec.parameter_function_name function ≡ name.now) }
-    ensures none { IfNone result (NamesNoFunction name.now) }
-{
-    parameter_functions!(name_beside(name))
 }
 
 /// The name of a function without a parameter, up to 6 characters.

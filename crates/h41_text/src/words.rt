@@ -1,9 +1,8 @@
 //! The words in front of operands.
-ghost use Rattle.std.specs.Prelude.{◌≡◌, ◌≢◌, IfSome, IfNone};
-ghost use Rattle.h41_text.specs.declared.words.Word.{Word as AnyWord};
-ghost use Rattle.h41_text.specs.TextParts.{word_text};
+ghost use Rattle.std.specs.Prelude.{◌≡◌, ◌≤◌, length};
+ghost use Rattle.h41_text.specs.TextParts.{word_of, word_text, with_text};
 
-use crate::names::parameter_function_named;
+use crate::names::{branch_name, parameter_function_name, parameter_functions};
 use h41_codes::{Branch, ParameterFunction};
 
 /// The word in front of an operand.
@@ -19,18 +18,51 @@ pub(crate) enum Word {
     Module,
 }
 
+/// Writes the array of all words from the list of functions with a parameter.
+macro_rules! all_words {
+    (() $kind:ident $($name:ident => $text:literal,)*) => {
+        [
+            Word::Branch(Branch::GoTo),
+            Word::Branch(Branch::Execute),
+            Word::Wordless,
+            Word::Module,
+            $(Word::Function($kind::$name),)*
+        ]
+    };
+}
+
+/// All words.
+const WORDS: [Word; 28] = parameter_functions!(all_words());
+
 impl Word {
     /// The word of a name, or nothing where there is none.
     pub(crate) fn named(name: &[u8]) -> Option<Word>
-        ensures named { IfSome result (λ word. word_text word ≡ name.now) }
-        ensures none { IfNone result ((word : AnyWord) → word_text word ≢ name.now) }
+        ensures { result ≡ word_of name.now }
     {
-        match name {
-            b"GTO" => Some(Word::Branch(Branch::GoTo)),
-            b"XEQ" => Some(Word::Branch(Branch::Execute)),
-            b"W" => Some(Word::Wordless),
-            b"XROM" => Some(Word::Module),
-            _ => Some(Word::Function(parameter_function_named(name)?)),
+        first_named(&WORDS, name)
+    }
+
+    /// The name of a word.
+    fn name(self) -> &'static str
+        ensures { result.now ≡ word_text self }
+    {
+        match self {
+            Word::Function(function) => parameter_function_name(function),
+            Word::Branch(branch) => branch_name(branch),
+            Word::Wordless => "W",
+            Word::Module => "XROM",
         }
     }
+}
+
+/// The first of the words that has a name.
+fn first_named(words: &[Word], name: &[u8]) -> Option<Word>
+    ensures { result ≡ with_text word_text words.now name.now }
+{
+    for word in words {
+        if word.name().as_bytes() == name {
+            return Some(*word);
+        }
+    }
+    None
 }

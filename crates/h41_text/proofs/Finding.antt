@@ -6,25 +6,11 @@ use Rattle.std.specs.Prelude.{is_some, nat_lt, nat_le, ◌&&◌}
 use Rattle.std.specs.Str.{bytes_eq}
 use Rattle.std.proofs.lemmas.Bool.{agree_below_at, cond_both, cond-false, false_from_ne_true, false≢true, eq-eqb, eqb-true}
 use Rattle.std.proofs.lemmas.Slice.Eq.{bytes_eq-Decides}
-use Rattle.h41_codes.specs.declared.characters.Character.{Character}
 use Rattle.h41_codes.specs.declared.line.Line.TheVariants.{Number}
-use Rattle.h41_text.specs.Names.{character_text}
 use Rattle.h41_text.specs.LineText.{parameter_text}
-use Rattle.h41_text.specs.TextParts.{with_text, parameter_of, number_of, characters, character_of, characters_of, two_digits_of}
+use Rattle.h41_text.specs.TextParts.{with_text, parameter_of, number_of, character_of, characters_of, two_digits_of}
 
--- no item of a list has a text that nothing has
-pub with_text_none : {A : Type 0} (text_of : A → List ℕ) (items : List A) (text : List ℕ) → ((item : A) → text_of item ≡ text → ⊥) → with_text text_of items text ≡ None
-with_text_none text_of [] text none = refl
-with_text_none text_of (item ∷ items) text none =
-    cond-false (bytes_eq (text_of item) text) _ _ (false_from_ne_true _ (λ same. none item ((bytes_eq-Decides (text_of item) text).0 same)))
-    ∙ with_text_none text_of items text none
-
--- a byte that is no character
-pub character_none : (byte : ℕ) → ((character : Character) → character_text character ≡ byte → ⊥) → character_of byte ≡ None
-character_none byte none =
-    with_text_none (λ character. character_text character ∷ []) characters (byte ∷ []) (λ character same. none character (ap (λ text. get_or text 0 0) same))
-
--- text that has such a byte is no number
+-- text with a byte that is no character is no number
 pub characters_none : (text : List ℕ) (index : ℕ) → index < length text → character_of (get_or text index 0) ≡ None → characters_of (drop index text) ≡ None
 characters_none [] index inside none = absurd (omega arith)
 characters_none (byte ∷ text) zero inside none = ap (option_and_then (λ character. option_map (λ more. character ∷ more) (characters_of text))) none
@@ -49,11 +35,6 @@ two_none text size none number inside same =
     let read : is_some (two_digits_of (get_or (parameter_text number) 0 0) (get_or (parameter_text number) 1 0)) ≡ true = rw two at reads in
     let other : is_some (two_digits_of (get_or text 0 0) (get_or text 1 0)) ≡ true = rw same at read in
     absurd (false≢true (rw none at other))
-
--- the item that has a text is found, where each is found by its own
-pub with_text_is : {A : Type 0} (text_of : A → List ℕ) (items : List A) (text : List ℕ) (item : A)
-    → with_text text_of items (text_of item) ≡ Some item → text_of item ≡ text → with_text text_of items text ≡ Some item
-with_text_is text_of items text item found same = subst (λ (t : List ℕ). with_text text_of items t ≡ Some item) same found
 
 -- parameters
 finds_parameter : ℕ → Bool

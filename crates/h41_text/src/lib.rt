@@ -1,4 +1,4 @@
-//! The text of HP-41 program lines, as a listing shows them.
+//! The text of HP-41 program lines, as a listing shows them, and the line of a text.
 #![tactic(auto)]
 
 mod faults;

@@ -1,9 +1,8 @@
 //! The names of functions, as a listing shows them. Each stands once, in a list of which macros write the look-ups and tables.
-ghost use Rattle.std.specs.Prelude.{◌≡◌, ◌≢◌, ◌+◌, ◌-◌, ◌<◌, ◌≤◌, length, slice_index_or, [], IfSome, IfNone};
-ghost use Rattle.h41_codes.specs.declared.characters.Character.{Character as AnyCharacter};
+ghost use Rattle.std.specs.Prelude.{◌≡◌, ◌+◌, ◌-◌, ◌<◌, ◌≤◌, length, slice_index_or, []};
 ghost use Rattle.h41_text.specs.LineText.{high_parameters};
 ghost use Rattle.h41_text.specs.Names as spec;
-ghost use Rattle.h41_text.specs.TextParts.{function_of, with_text};
+ghost use Rattle.h41_text.specs.TextParts as part;
 
 use h41_codes::{Branch, Character, Function, NameFunction, ParameterFunction, RegisterFunction};
 
@@ -150,14 +149,14 @@ const FUNCTIONS: [Function; 80] = functions!(all_names());
 
 /// The function without a parameter of a name, or nothing where there is none.
 pub(crate) fn function_named(name: &[u8]) -> Option<Function>
-    ensures { result ≡ function_of name.now }
+    ensures { result ≡ part.function_of name.now }
 {
     first_named(&FUNCTIONS, name)
 }
 
 /// The first of the functions that has a name.
 fn first_named(functions: &[Function], name: &[u8]) -> Option<Function>
-    ensures { result ≡ with_text spec.function_name functions.now name.now }
+    ensures { result ≡ part.with_text spec.function_name functions.now name.now }
 {
     for function in functions {
         if function_name(*function).as_bytes() == name {
@@ -241,8 +240,7 @@ pub(crate) fn character_text(character: Character) -> u8
 
 /// The character of a number that a byte stands for, or nothing where there is none.
 pub(crate) fn character_of(byte: u8) -> Option<Character>
-    ensures named { IfSome result (λ character. spec.character_text character ≡ byte) }
-    ensures none { IfNone result ((character : AnyCharacter) → spec.character_text character ≢ byte) }
+    ensures { result ≡ part.character_of byte }
 {
     Some(match byte {
         b'0' => Character::Zero,

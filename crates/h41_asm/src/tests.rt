@@ -24,7 +24,13 @@ const JUMP_WORDS: [u16; 15] = [
 
 #[test]
 fn words_of_sources(rt: HostRuntime) -> Result<(), Fail> {
-    let sources: [(&str, &[u16]); 3] = [("", &[]), (MODULE, &MODULE_WORDS), (JUMPS, &JUMP_WORDS)];
+    let sources: [(&str, &[u16]); 5] = [
+        ("", &[]),
+        (MODULE, &MODULE_WORDS),
+        (JUMPS, &JUMP_WORDS),
+        ("NAME \"A\";c\nNAME \"[\\]^_\"", &[0x081, 0x09F, 0x01E, 0x01D, 0x01C, 0x01B]),
+        ("A: NOP;x\na: JC :A\nb:;RTN", &[0x000, 0x3FF]),
+    ];
     for (source, want) in sources {
         let words = assemble(rt.alloc(), source.as_bytes(), 0x8000)?;
         assert!(rt;
@@ -34,6 +40,39 @@ fn words_of_sources(rt: HostRuntime) -> Result<(), Fail> {
                 .eq(want.iter().copied()),
             "{source}"
         );
+    }
+    Ok(())
+}
+
+/// Lines that are refused as 30 at 8000.
+const BAD_LINES: [&str; 23] = [
+    "HOP", "slct p", "SLCT", "SLCT X", "RAM", "?NC", "?NC FOO", "C=C OR B", "FETCH", "GOTO",
+    "A:NOP", "A :NOP", ": NOP", "A: B: NOP", "ABCDEFGHIJKLM: NOP", "9A: NOP", "NAME\"KIT\"", "# c",
+    "RTN\r\r\n", "A-B: NOP", "nop", "NOPE ;", "\u{7f}",
+];
+
+/// Lines that are refused as 31.
+const BAD_OPERANDS: [&str; 42] = [
+    "R= 14", "SLCT P P", "RTN X", "READ DATA X", "READ", "READ 0", "READ 16", "READ FOO", "C=0",
+    "C=0 FOO", "LDI", "LDI 400", "LDI 1", "CON 400", "CON 0000", "JNC", "?NC XQ", "?NC XQ 800",
+    "R= 07", "JC -00", "JC +1", "JC +123", "JC 3F", "NOP B:", "?NC GO :ABCDEFGHIJKLM", "?NC GO :",
+    "NAME", "NAME \"\"", "NAME \"ABCDEFGHIJKL\"", "NAME \"kit\"", "NAME \"A\tB\"", "NAME KIT",
+    "NAME \"A", "NAME \"A\" X", "NAME \"A\" \"B\"", "ENTRY 8000", "FOCAL", "LD@R 16", "WRIT 16",
+    "CLRF 14", "RCR 14", "JC +0g",
+];
+
+#[test]
+fn lines_that_say_nothing(rt: HostRuntime) -> Result<(), Fail> {
+    for (lines, fault) in [
+        (BAD_LINES.as_slice(), Fault::BadLine),
+        (BAD_OPERANDS.as_slice(), Fault::BadOperand),
+    ] {
+        for line in lines {
+            let source = format!(in rt.alloc(); "NOP\n{line}")?;
+            let want = Some(AssembleError::Line { fault, line: 2 });
+            let found = assemble(rt.alloc(), source.as_bytes(), 0x8000).err();
+            assert_eq!(rt; found, want, "{line}");
+        }
     }
     Ok(())
 }
@@ -50,9 +89,11 @@ fn refused_sources(rt: HostRuntime) -> Result<(), Fail> {
         ("?NC GO :B\nHOP", 0x8000, Fault::BadLine, 2),
         ("?NC GO :B\nA: NOP\nA: NOP", 0x8000, Fault::LabelTwice, 3),
         ("JC +40", 0x8000, Fault::TooFar, 1),
-        ("slct p", 0x8000, Fault::BadLine, 1),
-        ("SLCT P P", 0x8000, Fault::BadOperand, 1),
-        ("NAME \"kit\"", 0x8000, Fault::BadOperand, 1),
+        ("JC +FF\nJC -41", 0x8000, Fault::TooFar, 1),
+        ("JC -41\nJC -00", 0x8000, Fault::BadOperand, 2),
+        ("JC :A\nA:", 0xFFFF, Fault::TooLong, 2),
+        ("LDI 000", 0xFFFF, Fault::TooLong, 1),
+        ("a: NOP\n?NC GO :A", 0x8000, Fault::NoLabel, 2),
     ];
     for (source, origin, fault, line) in sources {
         let want = Some(AssembleError::Line { fault, line });

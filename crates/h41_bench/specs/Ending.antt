@@ -5,6 +5,8 @@ use Rattle.clap.specs.declared.error.kind.ErrorKind.TheVariants as kinds
 use Rattle.h41_bench.specs.declared.arguments.Ending.{Ending}
 use Rattle.h41_bench.specs.declared.arguments.Ending.TheVariants as endings
 use Rattle.h41_bench.specs.declared.arguments.Job.{Job}
+use Rattle.h41_bench.specs.declared.arguments.Task.{Task}
+use Rattle.h41_bench.specs.declared.arguments.Task.TheVariants as tasks
 use Rattle.h41_deck.specs.declared.refusal.Refusal.TheVariants.{OutOfMemory}
 use Rattle.h41_deck.specs.Refusals.{heading}
 
@@ -32,6 +34,11 @@ pub record IsNoHelp (kind : ErrorKind) : Type 0 where
 abbrev pub EndsAtOnce : ℕ → Result Job Ending → Type 0
 EndsAtOnce status result = IsErrAnd result (EndsWith status)
 
--- a job over this file, where memory did not run out
+-- the job has this task and this file
+pub record IsJob (job : Job) (task : Task) (file : List ℕ) : Type 0 where
+  pub task_is : job.task ≡ task
+  pub file_is : job.file.now ≡ file
+
+-- a run of this file, where memory did not run out
 abbrev pub AsksToRun : Result Job Ending → List ℕ → Type 0
-AsksToRun result file = MatchResult result (λ job. job.file.now ≡ file) (λ ending. ending ≡ endings.OutOfMemory)
+AsksToRun result file = MatchResult result (λ job. IsJob job tasks.Run file) (λ ending. ending ≡ endings.OutOfMemory)

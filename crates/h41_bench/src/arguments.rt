@@ -17,6 +17,10 @@ use std::alloc::{AllocError, Global};
 pub enum Task {
     /// Runs the deck in it.
     Run,
+    /// Assembles the source in it, from an address on.
+    Assemble { origin: u16 },
+    /// Lists the words in it, of which the first stands at an address.
+    List { origin: u16 },
 }
 
 /// What the command line asks for: a task, and the file that it is for, where `-` is standard input.
@@ -129,7 +133,8 @@ fn matched<'a>(alloc: Global, words: &'a [&'a str]) -> Result<ArgMatches<'a>, Er
 fn job_of<'a>(matches: &ArgMatches<'a>) -> Job<'a>
     requires named { command_in (subcommand_rows_of matches.now) ≡ Some (codes "run") }
     requires found { IsSomeAnd (file_in (subcommand_rows_of matches.now)) IsSome }
-    ensures { file_in (subcommand_rows_of matches.now) ≡ Some (Some result.file.now) }
+    ensures task { result.task ≡ Task.Run }
+    ensures file { file_in (subcommand_rows_of matches.now) ≡ Some (Some result.file.now) }
 {
     let run = matches.subcommand_matches("run").unwrap();
     let file = run.get_str("FILE").unwrap();

@@ -2,6 +2,12 @@
 #![tactic(auto)]
 
 mod arguments;
+mod assemble;
+mod ended;
+mod input;
+mod list;
+mod numbers;
+mod output;
 mod serve;
 #[cfg(test)]
 mod tests;
@@ -9,7 +15,7 @@ mod tests;
 ghost use Rattle.std.specs.Prelude.{◌≡◌, ◌≢◌, ◌∷◌, ◌≤◌, true, Err, IfOk, IfSome, IsSome, Ok, OnErr, codes, drop, map, string_bytes};
 ghost use Rattle.h41_bench.specs.CommandLine.{asks_help, file_to_run, is_mistake, named};
 ghost use Rattle.h41_bench.specs.Ending.{status_of};
-ghost use Rattle.h41_bench.specs.Statuses.{EndsDeck, IsOrFailed, IsStatus};
+ghost use Rattle.h41_bench.specs.Statuses.{EndsTask, IsOrFailed, IsStatus, IsTaskStatus};
 
 use crate::arguments::{Ending, Job, read_words};
 use crate::serve::{serve, tell};
@@ -102,8 +108,8 @@ fn opened(file: io::Result<File>) -> Result<File, Fault>
 
 /// Runs the deck that a reader gives, from there to standard output.
 fn run_from<R: Read + Drop>(rt: &HostRuntime, alloc: Global, job: Job<'_>, reader: R) -> u8
-    ensures status { IsStatus result }
-    ensures outcome { result ≢ 3 → IfSome (R.remaining reader) (EndsDeck result) }
+    ensures status { IsTaskStatus job.entry.task result }
+    ensures outcome { result ≢ 3 → IfSome (R.remaining reader) (EndsTask job.entry.task result) }
 {
     let Ok(output) = BufWriter::new(alloc, rt.stdout()) else {
         return tell(Fault::OutOfMemory, &mut ToWrite::new(rt.stderr()));

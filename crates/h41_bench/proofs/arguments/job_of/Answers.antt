@@ -10,8 +10,8 @@ unwrap-file-requires c =
     file_read _ (found_of c.unwrap-run.result.now) c.get_str.result (search rules) c.get_str.ensures in
     some_text c.get_str.result _ read c.requires.found
 
-pub returns : goal.returns
-returns c =
+pub returns-clause-file : goal.returns-clause-file
+returns-clause-file c =
     let read : file_in (subcommand_rows_of c.args.matches.now) ≡ Some (option_map (λ s. s.now) c.get_str.result) =
     file_read _ (found_of c.unwrap-run.result.now) c.get_str.result (search rules) c.get_str.ensures in
     let is : c.get_str.result ≡ Some c.unwrap-file.result = search rules in

@@ -1,4 +1,6 @@
 use Rattle.std.proofs.Common.{inl, inr, map, List, Some, ℕ, ◌≡◌, ◌∙◌, sym}
+use Rattle.h41_bench.specs.declared.arguments.Task.TheVariants as tasks
+use Rattle.h41_bench.specs.Ending.{IsJob}
 use Rattle.h41_bench.specs.CommandLine.{file_to_run}
 use Rattle.h41_bench.proofs.CommandLemmas.{failed_help, failed_mistake, failed_run, if_none, if_some, no_help_run, no_mistaken_run, no_run, parsed_file, some_file}
 use Rattle.h41_bench.proofs.arguments.read_words.Goals as goal
@@ -18,9 +20,11 @@ pub returns-in-Ok-clause-run : goal.returns-in-Ok-clause-run
 returns-in-Ok-clause-run c =
     let words : List (List ℕ) = map (λ w. w.now) c.args.words.now in
     let parsed = parsed_file words c.in-Ok.matches c.in-Ok.ensures.kinds c.in-Ok.ensures.matches in
-    if_some (file_to_run words) (λ file. c.job_of.result.file.now ≡ file) (λ file is.
-    let read = sym c.job_of.ensures ∙ parsed.2.1 in
-    let same : Some parsed.0 ≡ Some file = sym parsed.1 ∙ is in cc)
+    if_some (file_to_run words) (λ file. IsJob c.job_of.result tasks.Run file) (λ file is.
+    let read = sym c.job_of.ensures.file ∙ parsed.2.1 in
+    let same : Some parsed.0 ≡ Some file = sym parsed.1 ∙ is in
+    let file_is : c.job_of.result.file.now ≡ file = cc in
+    record { task_is = c.job_of.ensures.task; file_is = file_is })
 
 pub returns-in-Ok-clause-no_run : goal.returns-in-Ok-clause-no_run
 returns-in-Ok-clause-no_run c =

@@ -1,4 +1,4 @@
-//! The HP-41 bench: runs decks of commands.
+//! The HP-41 bench: runs decks of commands, assembles sources and lists words.
 #![tactic(auto)]
 
 mod arguments;
@@ -47,8 +47,8 @@ fn main(rt: HostRuntime) -> ExitCode {
     ExitCode::from(status)
 }
 
-/// Does what the words of the command line ask for: runs the deck of a file, or of standard input where its name is `-`, or
-/// says why there is none. Answers the status.
+/// Does what the words of the command line ask for, with a file, or with standard input where its name is `-`, or says why
+/// there is no job. Answers the status.
 fn run_words(rt: &HostRuntime, alloc: Global, words: &[String]) -> u8
     ensures help { asks_help (named (map string_bytes words.now)) ≡ true → IsOrFailed 0 result }
     ensures mistake { is_mistake (named (map string_bytes words.now)) ≡ true → IsOrFailed 2 result }
@@ -106,7 +106,7 @@ fn opened(file: io::Result<File>) -> Result<File, Fault>
     file.map_err(|_| Fault::ReadFault)
 }
 
-/// Runs the deck that a reader gives, from there to standard output.
+/// Does the job with what a reader gives, from there to standard output.
 fn run_from<R: Read + Drop>(rt: &HostRuntime, alloc: Global, job: Job<'_>, reader: R) -> u8
     ensures status { IsTaskStatus job.entry.task result }
     ensures outcome { result ≢ 3 → IfSome (R.remaining reader) (EndsTask job.entry.task result) }

@@ -1,9 +1,10 @@
 -- What `clap` makes of the words of a command line of the bench.
-use Rattle.std.proofs.Common.{ap, ap₂, sym, refl, codes, ℕ, Bool, true, false, List, Option, Some, None, [], ◌∷◌, ◌≡◌, ◌∙◌, ◌⊎◌, inl, inr, is_some, subst, length, drop, encode_utf8, ◌==◌, ◌&&◌, slice_get, cond, not, option_map, ◌||◌}
+use Rattle.std.proofs.Common.{ap, ap₂, sym, refl, codes, ℕ, Bool, true, false, List, Option, Some, None, [], ◌∷◌, ◌≡◌, ◌∙◌, ◌⊎◌, inl, inr, is_some, subst, length, drop, encode_utf8, ◌==◌, ◌&&◌, slice_get, cond, not, option_map, ◌||◌, arith, slice_index, ◌<◌, Result, Ok, Err}
 use Rattle.std.specs.Option.{option_map_or}
 use Rattle.std.specs.Prelude.{option_and_then}
 use Rattle.std.specs.Str.{bytes_eq, chars}
 use Rattle.std.proofs.lemmas.Bool.{eqb-true, not-true}
+use Rattle.std.proofs.lemmas.Option.{some_pair_parts}
 use Rattle.std.proofs.lemmas.Slice.Eq.{bytes_eq-Decides}
 use Rattle.clap.specs.Words.{Row, Rule, Shape, Text, first_of, subcommand_of}
 use Rattle.clap.specs.Walk.{Outcome, after_flag, after_step, subcommand_met, subcommand_or_other, trailing, Held, Names, Step, Waiting, Walk, idle, word_met, value, walk, walk_from, walked, nothing_held, settled, finished, has_long, has_short, arg_by_long, arg_by_short, arg_by_index, long_or_other, short_or_plain, to_positional, bundle_met}
@@ -27,8 +28,14 @@ use Rattle.std.specs.Prelude.{IfSome, IfNone, IsSome, IsSomeAnd}
 use Rattle.std.specs.Borrow.{Bor}
 use Rattle.clap.specs.declared.parser.matches.Found.{Found}
 use Rattle.std.specs.Box.{box_value}
-use Rattle.h41_bench.specs.BenchCommand.{bench_app, command_in, file_in, run_app}
-use Rattle.h41_bench.specs.CommandLine.{asks_help, is_help_flag, is_mistake, is_wrong_run, is_flag, is_last_flag, only_file, file_to_run}
+use Rattle.h41_bench.specs.BenchCommand.{bench_app, command_in, file_in, job_asked, job_in, origin_app, origin_asked, run_app, task_asked}
+use Rattle.h41_bench.specs.declared.arguments.Task.{Task}
+use Rattle.h41_bench.specs.declared.arguments.Task.TheVariants as tasks
+use Rattle.h41_bench.specs.declared.arguments.Ending.{Ending}
+use Rattle.h41_bench.specs.declared.arguments.Ending.TheVariants as endings
+use Rattle.h41_bench.specs.declared.arguments.Job.{Job}
+use Rattle.h41_bench.specs.Ending.{AsksForNoRun, AsksToRun, GivesJob, parts_of}
+use Rattle.h41_bench.specs.CommandLine.{asks_help, has_wrong_files, is_command, is_help_flag, is_mistake, is_flag, is_last_flag, only_file, file_to_run}
 
 pub simple_bench : is_simple_and_free bench_app ≡ true
 simple_bench = refl
@@ -43,6 +50,10 @@ names = names_of (built bench_app)
 
 abbrev leaf : Shape
 leaf = built_leaf (inherited (with_leaf_noted (marked_built bench_app.top)) run_app.top)
+
+-- the commands that take an origin, as built
+abbrev origin_leaf : Text → Shape
+origin_leaf name = built_leaf (inherited (with_leaf_noted (marked_built bench_app.top)) (origin_app name).top)
 
 -- ---- kinds
 
@@ -421,13 +432,10 @@ stops_at rest is = stops rest is
 
 -- ---- the whole line
 
-abbrev entered_by : Walk
-entered_by = record (walk_from nothing_held) { stopped = Some (codes "run", []) }
+abbrev meets : Text → List Text → Walk
+meets command rest = record (walk_from nothing_held) { stopped = Some (command, rest) }
 
-abbrev runs : List Text → Walk
-runs rest = record (walk_from nothing_held) { stopped = Some (codes "run", rest) }
-
-run_walk : (rest : List Text) → walk top.rules names nothing_held (codes "run" ∷ rest) ≡ runs rest
+run_walk : (rest : List Text) → walk top.rules names nothing_held (codes "run" ∷ rest) ≡ meets (codes "run") rest
 unfolding walked
 run_walk rest = sym (walk_stopped top.rules names (walk_from nothing_held) (codes "run") [] rest)
 
@@ -435,15 +443,45 @@ run_walk_fault : (rest : List Text) → walk_fault top names (walk_from nothing_
 unfolding walk_fault walked
 run_walk_fault rest = stopped_fault top names (walk_from nothing_held) (codes "run", []) rest
 
+asm_walk : (rest : List Text) → walk top.rules names nothing_held (codes "asm" ∷ rest) ≡ meets (codes "asm") rest
+unfolding walked
+asm_walk rest = sym (walk_stopped top.rules names (walk_from nothing_held) (codes "asm") [] rest)
+
+asm_walk_fault : (rest : List Text) → walk_fault top names (walk_from nothing_held) (codes "asm" ∷ rest) ≡ []
+unfolding walk_fault walked
+asm_walk_fault rest = stopped_fault top names (walk_from nothing_held) (codes "asm", []) rest
+
+dis_walk : (rest : List Text) → walk top.rules names nothing_held (codes "dis" ∷ rest) ≡ meets (codes "dis") rest
+unfolding walked
+dis_walk rest = sym (walk_stopped top.rules names (walk_from nothing_held) (codes "dis") [] rest)
+
+dis_walk_fault : (rest : List Text) → walk_fault top names (walk_from nothing_held) (codes "dis" ∷ rest) ≡ []
+unfolding walk_fault walked
+dis_walk_fault rest = stopped_fault top names (walk_from nothing_held) (codes "dis", []) rest
+
 abbrev top_end : Walk → Kinds → Kinds
 top_end w kinds = level_end top w kinds (is_some (entered (built bench_app) w.stopped)) (entered_fault (built bench_app) w.stopped)
 
-run_end : (rest : List Text) → top_end (runs rest) [] ≡ or_else (level_fault leaf [] nothing_held rest false []) []
+run_end : (rest : List Text) → top_end (meets (codes "run") rest) [] ≡ or_else (level_fault leaf [] nothing_held rest false []) []
 unfolding defaults_fault
 run_end rest = refl
 
 run_fault : (name : Text) (rest : List Text) → fault_of bench_app (name ∷ codes "run" ∷ rest) ≡ or_else (level_fault leaf [] nothing_held rest false []) []
 run_fault name rest = ap₂ top_end (run_walk rest) (run_walk_fault rest) ∙ run_end rest
+
+asm_end : (rest : List Text) → top_end (meets (codes "asm") rest) [] ≡ or_else (level_fault (origin_leaf (codes "asm")) [] nothing_held rest false []) []
+unfolding defaults_fault
+asm_end rest = refl
+
+asm_fault : (name : Text) (rest : List Text) → fault_of bench_app (name ∷ codes "asm" ∷ rest) ≡ or_else (level_fault (origin_leaf (codes "asm")) [] nothing_held rest false []) []
+asm_fault name rest = ap₂ top_end (asm_walk rest) (asm_walk_fault rest) ∙ asm_end rest
+
+dis_end : (rest : List Text) → top_end (meets (codes "dis") rest) [] ≡ or_else (level_fault (origin_leaf (codes "dis")) [] nothing_held rest false []) []
+unfolding defaults_fault
+dis_end rest = refl
+
+dis_fault : (name : Text) (rest : List Text) → fault_of bench_app (name ∷ codes "dis" ∷ rest) ≡ or_else (level_fault (origin_leaf (codes "dis")) [] nothing_held rest false []) []
+dis_fault name rest = ap₂ top_end (dis_walk rest) (dis_walk_fault rest) ∙ dis_end rest
 
 file_row : (file : Text) (t : Bool) → first_of (codes "FILE") (finished leaf.rules (taken file t).held) ≡ Some file
 file_row file t = refl
@@ -514,35 +552,91 @@ mark_fails name (y ∷ ys) e =
     let turn = (walk_split top names (at [] None 1 true) y ys (mark_then (y ∷ ys) (top_walks name (last_flag ∷ y ∷ ys) e))).0 in
     let bad : kind.UnknownArgument ∷ kind.InvalidSubcommand ∷ [] ≡ [] = turn in cc
 
-other_command : (word : Text) → bytes_eq (codes "run") word ≡ false → bytes_eq (codes "help") word ≡ false → subcommand_met names idle word ≡ None
-other_command word run help =
-    ap₂ (λ a b. option_map (λ (s : Text × List Text). s.0) (cond (a || false) (Some (codes "run", [])) (cond (b || false) (Some (codes "help", [])) None))) run help
+-- a word that is no command
+record IsOther (word : Text) : Type 0 where
+  run : bytes_eq (codes "run") word ≡ false
+  asm : bytes_eq (codes "asm") word ≡ false
+  dis : bytes_eq (codes "dis") word ≡ false
+  help : bytes_eq (codes "help") word ≡ false
 
-pub no_run : (words : List Text) → file_to_run words ≡ None → fault_of bench_app words ≡ [] → ⊥
-no_run [] is e = let bad : kind.MissingSubcommand ∷ [] ≡ [] = sym no_word ∙ e in cc
-no_run (name ∷ []) is e = let bad : kind.MissingSubcommand ∷ [] ≡ [] = sym (no_command name) ∙ e in cc
+other_command : (word : Text) → IsOther word → subcommand_met names idle word ≡ None
+other_command word other = λ i. option_map (λ (s : Text × List Text). s.0) (cond (other.run i || false) (Some (codes "run", [])) (cond (other.asm i || false) (Some (codes "asm", []))
+    (cond (other.dis i || false) (Some (codes "dis", [])) (cond (other.help i || false) (Some (codes "help", [])) None))))
+
+-- one of the three commands
+by_command : (P : Text → Type 0) → P (codes "run") → P (codes "asm") → P (codes "dis") → (word : Text) → is_command word ≡ true → P word
+by_command P run asm dis word is = go (bytes_eq (codes "run") word) refl (bytes_eq (codes "asm") word) refl (bytes_eq (codes "dis") word) refl
+  where
+    go : (a : Bool) → bytes_eq (codes "run") word ≡ a → (b : Bool) → bytes_eq (codes "asm") word ≡ b → (c : Bool) → bytes_eq (codes "dis") word ≡ c → P word
+    go true same b _ c _ = subst P ((bytes_eq-Decides (codes "run") word).0 same) run
+    go false _ true same c _ = subst P ((bytes_eq-Decides (codes "asm") word).0 same) asm
+    go false _ false _ true same = subst P ((bytes_eq-Decides (codes "dis") word).0 same) dis
+    go false no_run false no_asm false no_dis =
+        let bad : false ≡ true = sym (λ i. no_run i || (no_asm i || no_dis i)) ∙ is in cc
+
+-- none of them
+no_commands : (word : Text) → is_command word ≡ false → bytes_eq (codes "help") word ≡ false → IsOther word
+no_commands word is no_help = go (bytes_eq (codes "run") word) refl (bytes_eq (codes "asm") word) refl (bytes_eq (codes "dis") word) refl
+  where
+    go : (a : Bool) → bytes_eq (codes "run") word ≡ a → (b : Bool) → bytes_eq (codes "asm") word ≡ b → (c : Bool) → bytes_eq (codes "dis") word ≡ c → IsOther word
+    go true same b _ c _ = let bad : true ≡ false = sym (ap (λ t. t || (bytes_eq (codes "asm") word || bytes_eq (codes "dis") word)) same) ∙ is in cc
+    go false no_run true same c _ = let bad : true ≡ false = sym (λ i. no_run i || (same i || bytes_eq (codes "dis") word)) ∙ is in cc
+    go false no_run false no_asm true same = let bad : true ≡ false = sym (λ i. no_run i || (no_asm i || same i)) ∙ is in cc
+    go false no_run false no_asm false no_dis = record { run = no_run; asm = no_asm; dis = no_dis; help = no_help }
+
+-- the parse meets the command that is named
+asm_met : (name : Text) (rest : List Text) → command_in (subcommand_of bench_app (name ∷ codes "asm" ∷ rest)) ≡ Some (codes "asm")
+asm_met name rest = ap (λ (w : Walk). command_in (entered (built bench_app) w.stopped)) (asm_walk rest)
+
+dis_met : (name : Text) (rest : List Text) → command_in (subcommand_of bench_app (name ∷ codes "dis" ∷ rest)) ≡ Some (codes "dis")
+dis_met name rest = ap (λ (w : Walk). command_in (entered (built bench_app) w.stopped)) (dis_walk rest)
+
+-- the second letter of a command
+second_letter : Option Text → ℕ
+second_letter None = 0
+second_letter (Some word) = slice_index word 1
+
+abbrev MeetsNoRun : List Text → Type 0
+MeetsNoRun words = command_in (subcommand_of bench_app words) ≡ Some (codes "run") → ⊥
+
+unequal : (a b : ℕ) → a ≡ b → a < b → ⊥
+unequal a b same less = absurd (omega arith)
+
+no_asm_run : (name : Text) (rest : List Text) → MeetsNoRun (name ∷ codes "asm" ∷ rest)
+unfolding second_letter
+no_asm_run name rest e = unequal 115 117 (ap second_letter (sym (asm_met name rest) ∙ e)) (omega arith)
+
+no_dis_run : (name : Text) (rest : List Text) → MeetsNoRun (name ∷ codes "dis" ∷ rest)
+unfolding second_letter
+no_dis_run name rest e = unequal 105 117 (ap second_letter (sym (dis_met name rest) ∙ e)) (omega arith)
+
+pub no_run : (words : List Text) → file_to_run words ≡ None → fault_of bench_app words ≡ [] → MeetsNoRun words
+no_run [] is e = λ met. let bad : kind.MissingSubcommand ∷ [] ≡ [] = sym no_word ∙ e in cc
+no_run (name ∷ []) is e = λ met. let bad : kind.MissingSubcommand ∷ [] ≡ [] = sym (no_command name) ∙ e in cc
 no_run (name ∷ word ∷ rest) is e =
-    go (bytes_eq (codes "run") word) refl (bytes_eq (codes "help") word) refl (is_last_flag word) refl (is_flag word) refl
+    go (bytes_eq (codes "run") word) refl (bytes_eq (codes "asm") word) refl (bytes_eq (codes "dis") word) refl (bytes_eq (codes "help") word) refl (is_last_flag word) refl (is_flag word) refl
   where
     turn : turn_fault top names (at [] None 1 false) word ≡ []
     turn = (walk_split top names (at [] None 1 false) word rest (top_walks name (word ∷ rest) e)).0
 
-    go : (a : Bool) → bytes_eq (codes "run") word ≡ a → (b : Bool) → bytes_eq (codes "help") word ≡ b → (t : Bool) → is_last_flag word ≡ t
-        → (v : Bool) → is_flag word ≡ v → ⊥
-    go true named b _ t _ v _ =
+    go : (a : Bool) → bytes_eq (codes "run") word ≡ a → (x : Bool) → bytes_eq (codes "asm") word ≡ x → (y : Bool) → bytes_eq (codes "dis") word ≡ y
+        → (b : Bool) → bytes_eq (codes "help") word ≡ b → (t : Bool) → is_last_flag word ≡ t → (v : Bool) → is_flag word ≡ v → MeetsNoRun (name ∷ word ∷ rest)
+    go true named x _ y _ b _ t _ v _ = λ met.
         let none : only_file rest ≡ None = ap (λ t. cond t (only_file rest) None) (sym named) ∙ is in
         let same = subst (λ (x : Text). fault_of bench_app (name ∷ x ∷ rest) ≡ []) (sym (is_run word named)) e in
         stops_at rest none (nothing_left _ _ (sym (run_fault name rest) ∙ same)).0
-    go false other true helps t _ v _ =
+    go false other true named y _ b _ t _ v _ = subst (λ (x : Text). MeetsNoRun (name ∷ x ∷ rest)) ((bytes_eq-Decides (codes "asm") word).0 named) (no_asm_run name rest)
+    go false other false _ true named b _ t _ v _ = subst (λ (x : Text). MeetsNoRun (name ∷ x ∷ rest)) ((bytes_eq-Decides (codes "dis") word).0 named) (no_dis_run name rest)
+    go false other false _ false _ true helps t _ v _ = λ met.
         let at_help = subst (λ (x : Text). turn_fault top names (at [] None 1 false) x ≡ []) (sym ((bytes_eq-Decides (codes "help") word).0 helps)) turn in
         let bad : kind.DisplayHelp ∷ kind.InvalidSubcommand ∷ [] ≡ [] = sym help_turn ∙ at_help in cc
-    go false other false no_help true last v _ =
+    go false other false no_asm false no_dis false no_help true last v _ = λ met.
         mark_fails name rest (subst (λ (x : Text). fault_of bench_app (name ∷ x ∷ rest) ≡ []) (is_last word last) e)
-    go false other false no_help false more true flag =
-        flag_turn top names [] None 1 word top_refuses (other_command word other no_help) more flag turn
-    go false other false no_help false more false plain =
+    go false other false no_asm false no_dis false no_help false more true flag = λ met.
+        flag_turn top names [] None 1 word top_refuses (other_command word (record { run = other; asm = no_asm; dis = no_dis; help = no_help })) more flag turn
+    go false other false no_asm false no_dis false no_help false more false plain = λ met.
         let bad : kind.UnknownArgument ∷ kind.InvalidSubcommand ∷ [] ≡ [] =
-        sym (plain_turn top names [] None 1 word (other_command word other no_help) plain).0 ∙ turn in cc
+        sym (plain_turn top names [] None 1 word (other_command word (record { run = other; asm = no_asm; dis = no_dis; help = no_help })) plain).0 ∙ turn in cc
 
 -- ---- words that ask for help
 
@@ -562,6 +656,22 @@ run_help_short : (name : Text) → fault_of bench_app (name ∷ codes "run" ∷ 
 unfolding clap_on_literals
 run_help_short name = refl
 
+asm_help_long : (name : Text) → fault_of bench_app (name ∷ codes "asm" ∷ codes "--help" ∷ []) ≡ kind.DisplayHelp ∷ []
+unfolding clap_on_literals
+asm_help_long name = refl
+
+asm_help_short : (name : Text) → fault_of bench_app (name ∷ codes "asm" ∷ codes "-h" ∷ []) ≡ kind.DisplayHelp ∷ []
+unfolding clap_on_literals
+asm_help_short name = refl
+
+dis_help_long : (name : Text) → fault_of bench_app (name ∷ codes "dis" ∷ codes "--help" ∷ []) ≡ kind.DisplayHelp ∷ []
+unfolding clap_on_literals
+dis_help_long name = refl
+
+dis_help_short : (name : Text) → fault_of bench_app (name ∷ codes "dis" ∷ codes "-h" ∷ []) ≡ kind.DisplayHelp ∷ []
+unfolding clap_on_literals
+dis_help_short name = refl
+
 -- one of the two flags
 by_flag : (P : Text → Type 0) → P (codes "--help") → P (codes "-h") → (word : Text) → is_help_flag word ≡ true → P word
 by_flag P long short word is = go (bytes_eq word (codes "--help")) refl (bytes_eq word (codes "-h")) refl
@@ -578,9 +688,13 @@ helps (name ∷ []) is = cc
 helps (name ∷ a ∷ []) is =
     by_flag (λ word. fault_of bench_app (name ∷ word ∷ []) ≡ kind.DisplayHelp ∷ []) (help_long name) (help_short name) a is
 helps (name ∷ a ∷ b ∷ []) is =
-    let parts = both (bytes_eq (codes "run") a) (is_help_flag b) is in
-    let of_run = by_flag (λ word. fault_of bench_app (name ∷ codes "run" ∷ word ∷ []) ≡ kind.DisplayHelp ∷ []) (run_help_long name) (run_help_short name) b parts.1 in
-    subst (λ (x : Text). fault_of bench_app (name ∷ x ∷ b ∷ []) ≡ kind.DisplayHelp ∷ []) (is_run a parts.0) of_run
+    let parts = both (is_command a) (is_help_flag b) is in
+    let Q : Text → Type 0 = λ x. fault_of bench_app (name ∷ x ∷ b ∷ []) ≡ kind.DisplayHelp ∷ [] in
+    by_command Q
+    (by_flag (λ word. fault_of bench_app (name ∷ codes "run" ∷ word ∷ []) ≡ kind.DisplayHelp ∷ []) (run_help_long name) (run_help_short name) b parts.1)
+    (by_flag (λ word. fault_of bench_app (name ∷ codes "asm" ∷ word ∷ []) ≡ kind.DisplayHelp ∷ []) (asm_help_long name) (asm_help_short name) b parts.1)
+    (by_flag (λ word. fault_of bench_app (name ∷ codes "dis" ∷ word ∷ []) ≡ kind.DisplayHelp ∷ []) (dis_help_long name) (dis_help_short name) b parts.1)
+    a parts.0
 helps (name ∷ a ∷ b ∷ c ∷ rest) is = cc
 
 -- ---- words that are wrong
@@ -621,73 +735,149 @@ lone_run : (name : Text) → fault_of bench_app (name ∷ codes "run" ∷ []) �
 unfolding clap_on_literals
 lone_run name = refl
 
-two_walk : (a b : Text) (rest : List Text) → is_flag a ≡ false → is_flag b ≡ false
-    → walk_fault leaf [] (walk_from nothing_held) (a ∷ b ∷ rest) ≡ kind.UnknownArgument ∷ []
+lone_asm : (name : Text) → fault_of bench_app (name ∷ codes "asm" ∷ []) ≡ kind.MissingRequiredArgument ∷ []
+unfolding clap_on_literals
+lone_asm name = refl
+
+lone_dis : (name : Text) → fault_of bench_app (name ∷ codes "dis" ∷ []) ≡ kind.MissingRequiredArgument ∷ []
+unfolding clap_on_literals
+lone_dis name = refl
+
+-- two FILEs, where the first is taken and the second is not
+two_walk : (s : Shape) (a b : Text) (rest : List Text) → (turn_fault s [] (at [] None 1 false) a ≡ []) × (walked s.rules [] (at [] None 1 false) a ≡ taken a false)
+    → turn_fault s [] (taken a false) b ≡ kind.UnknownArgument ∷ [] → walk_fault s [] (walk_from nothing_held) (a ∷ b ∷ rest) ≡ kind.UnknownArgument ∷ []
 unfolding walk_fault
-two_walk a b rest plain other =
-    ap₂ (λ k w. or_else k (walk_fault leaf [] w (b ∷ rest))) (first_plain a plain).0 (first_plain a plain).1
-    ∙ first_kinds _ (walk_fault leaf [] (walked leaf.rules [] (taken a false) b) rest) kind.UnknownArgument []
-    (plain_turn leaf [] [] (Some (codes "FILE", a ∷ [])) 2 b refl other).0
+two_walk s a b rest first second =
+    ap₂ (λ k w. or_else k (walk_fault s [] w (b ∷ rest))) first.0 first.1
+    ∙ first_kinds _ (walk_fault s [] (walked s.rules [] (taken a false) b) rest) kind.UnknownArgument [] second
 
-two_files : (name a b : Text) (rest : List Text) → is_flag a ≡ false → is_flag b ≡ false
-    → fault_of bench_app (name ∷ codes "run" ∷ a ∷ b ∷ rest) ≡ kind.UnknownArgument ∷ []
-two_files name a b rest plain other =
-    run_fault name (a ∷ b ∷ rest) ∙ first_kinds (level_fault leaf [] nothing_held (a ∷ b ∷ rest) false []) [] kind.UnknownArgument []
-    (first_kinds (walk_fault leaf [] (walk_from nothing_held) (a ∷ b ∷ rest)) _ kind.UnknownArgument [] (two_walk a b rest plain other))
+two_level : (s : Shape) (words : List Text) → walk_fault s [] (walk_from nothing_held) words ≡ kind.UnknownArgument ∷ []
+    → or_else (level_fault s [] nothing_held words false []) [] ≡ kind.UnknownArgument ∷ []
+two_level s words is =
+    first_kinds (level_fault s [] nothing_held words false []) [] kind.UnknownArgument [] (first_kinds (walk_fault s [] (walk_from nothing_held) words) _ kind.UnknownArgument [] is)
 
-stray_walk : (word : Text) (rest : List Text) → bytes_eq (codes "run") word ≡ false → bytes_eq (codes "help") word ≡ false → is_flag word ≡ false
+leaf_two : (a b : Text) (rest : List Text) → is_flag a ≡ false → is_flag b ≡ false → or_else (level_fault leaf [] nothing_held (a ∷ b ∷ rest) false []) [] ≡ kind.UnknownArgument ∷ []
+leaf_two a b rest plain other =
+    two_level leaf (a ∷ b ∷ rest) (two_walk leaf a b rest (first_plain a plain) (plain_turn leaf [] [] (Some (codes "FILE", a ∷ [])) 2 b refl other).0)
+
+origin_two : (n a b : Text) (rest : List Text) → is_flag a ≡ false → is_flag b ≡ false
+    → or_else (level_fault (origin_leaf n) [] nothing_held (a ∷ b ∷ rest) false []) [] ≡ kind.UnknownArgument ∷ []
+origin_two n a b rest plain other =
+    two_level (origin_leaf n) (a ∷ b ∷ rest) (two_walk (origin_leaf n) a b rest (plain_turn (origin_leaf n) [] [] None 1 a refl plain) (plain_turn (origin_leaf n) [] [] (Some (codes "FILE", a ∷ [])) 2 b refl other).0)
+
+stray_walk : (word : Text) (rest : List Text) → IsOther word → is_flag word ≡ false
     → walk_fault top names (walk_from nothing_held) (word ∷ rest) ≡ kind.UnknownArgument ∷ kind.InvalidSubcommand ∷ []
 unfolding walk_fault
-stray_walk word rest other no_help plain =
+stray_walk word rest other plain =
     first_kinds _ (walk_fault top names (walked top.rules names (walk_from nothing_held) word) rest) kind.UnknownArgument (kind.InvalidSubcommand ∷ [])
-    (plain_turn top names [] None 1 word (other_command word other no_help) plain).0
+    (plain_turn top names [] None 1 word (other_command word other) plain).0
 
-stray_command : (name word : Text) (rest : List Text) → bytes_eq (codes "run") word ≡ false → bytes_eq (codes "help") word ≡ false → is_flag word ≡ false
+stray_command : (name word : Text) (rest : List Text) → IsOther word → is_flag word ≡ false
     → fault_of bench_app (name ∷ word ∷ rest) ≡ kind.UnknownArgument ∷ kind.InvalidSubcommand ∷ []
-stray_command name word rest other no_help plain =
-    first_kinds (walk_fault top names (walk_from nothing_held) (word ∷ rest)) _ kind.UnknownArgument (kind.InvalidSubcommand ∷ []) (stray_walk word rest other no_help plain)
+stray_command name word rest other plain =
+    first_kinds (walk_fault top names (walk_from nothing_held) (word ∷ rest)) _ kind.UnknownArgument (kind.InvalidSubcommand ∷ []) (stray_walk word rest other plain)
 
-wrong_run : (name : Text) (rest : List Text) → is_wrong_run rest ≡ true → IsRefusal (fault_of bench_app (name ∷ codes "run" ∷ rest))
+wrong_run : (name : Text) (rest : List Text) → has_wrong_files rest ≡ true → IsRefusal (fault_of bench_app (name ∷ codes "run" ∷ rest))
 wrong_run name [] is =
     as_refusal _ _ (lone_run name) (one_refusal kind.MissingRequiredArgument (λ e. cc) (λ e. cc))
 wrong_run name (file ∷ []) is = cc
 wrong_run name (a ∷ b ∷ rest) is =
     let parts = both (not (is_flag a)) (not (is_flag b)) is in
-    as_refusal _ _ (two_files name a b rest (not-true (is_flag a) parts.0) (not-true (is_flag b) parts.1))
+    as_refusal _ _ (run_fault name (a ∷ b ∷ rest) ∙ leaf_two a b rest (not-true (is_flag a) parts.0) (not-true (is_flag b) parts.1))
+    (one_refusal kind.UnknownArgument (λ e. cc) (λ e. cc))
+
+wrong_asm : (name : Text) (rest : List Text) → has_wrong_files rest ≡ true → IsRefusal (fault_of bench_app (name ∷ codes "asm" ∷ rest))
+wrong_asm name [] is =
+    as_refusal _ _ (lone_asm name) (one_refusal kind.MissingRequiredArgument (λ e. cc) (λ e. cc))
+wrong_asm name (file ∷ []) is = cc
+wrong_asm name (a ∷ b ∷ rest) is =
+    let parts = both (not (is_flag a)) (not (is_flag b)) is in
+    as_refusal _ _ (asm_fault name (a ∷ b ∷ rest) ∙ origin_two (codes "asm") a b rest (not-true (is_flag a) parts.0) (not-true (is_flag b) parts.1))
+    (one_refusal kind.UnknownArgument (λ e. cc) (λ e. cc))
+
+wrong_dis : (name : Text) (rest : List Text) → has_wrong_files rest ≡ true → IsRefusal (fault_of bench_app (name ∷ codes "dis" ∷ rest))
+wrong_dis name [] is =
+    as_refusal _ _ (lone_dis name) (one_refusal kind.MissingRequiredArgument (λ e. cc) (λ e. cc))
+wrong_dis name (file ∷ []) is = cc
+wrong_dis name (a ∷ b ∷ rest) is =
+    let parts = both (not (is_flag a)) (not (is_flag b)) is in
+    as_refusal _ _ (dis_fault name (a ∷ b ∷ rest) ∙ origin_two (codes "dis") a b rest (not-true (is_flag a) parts.0) (not-true (is_flag b) parts.1))
     (one_refusal kind.UnknownArgument (λ e. cc) (λ e. cc))
 
 pub mistakes : (words : List Text) → is_mistake words ≡ true → IsRefusal (fault_of bench_app words)
 mistakes [] is = as_refusal _ _ no_word (one_refusal kind.MissingSubcommand (λ e. cc) (λ e. cc))
 mistakes (name ∷ []) is = as_refusal _ _ (no_command name) (one_refusal kind.MissingSubcommand (λ e. cc) (λ e. cc))
-mistakes (name ∷ word ∷ rest) is = go (bytes_eq (codes "run") word) refl
+mistakes (name ∷ word ∷ rest) is = go (is_command word) refl
   where
     stray : Bool
     stray = not (bytes_eq (codes "help") word) && not (is_flag word)
 
-    go : (a : Bool) → bytes_eq (codes "run") word ≡ a → IsRefusal (fault_of bench_app (name ∷ word ∷ rest))
+    go : (a : Bool) → is_command word ≡ a → IsRefusal (fault_of bench_app (name ∷ word ∷ rest))
     go true named =
-        let wrong : is_wrong_run rest ≡ true = ap (λ t. cond t (is_wrong_run rest) stray) (sym named) ∙ is in
-        subst (λ (x : Text). IsRefusal (fault_of bench_app (name ∷ x ∷ rest))) (is_run word named) (wrong_run name rest wrong)
+        let wrong : has_wrong_files rest ≡ true = ap (λ t. cond t (has_wrong_files rest) stray) (sym named) ∙ is in
+        by_command (λ (x : Text). IsRefusal (fault_of bench_app (name ∷ x ∷ rest))) (wrong_run name rest wrong) (wrong_asm name rest wrong) (wrong_dis name rest wrong) word named
     go false other =
-        let wrong : stray ≡ true = ap (λ t. cond t (is_wrong_run rest) stray) (sym other) ∙ is in
+        let wrong : stray ≡ true = ap (λ t. cond t (has_wrong_files rest) stray) (sym other) ∙ is in
         let parts = both (not (bytes_eq (codes "help") word)) (not (is_flag word)) wrong in
-        as_refusal _ _ (stray_command name word rest other (not-true (bytes_eq (codes "help") word) parts.0) (not-true (is_flag word) parts.1)) unknown_word
+        as_refusal _ _ (stray_command name word rest (no_commands word other (not-true (bytes_eq (codes "help") word) parts.0)) (not-true (is_flag word) parts.1)) unknown_word
 
 -- ---- what a parse says
 
-abbrev pub HasFile : ArgMatches → Text → Type 0
-HasFile m file = (command_in (subcommand_rows_of m) ≡ Some (codes "run")) × (file_in (subcommand_rows_of m) ≡ Some (Some file))
+-- the rows of a run
+asked_run : (row : Option (Text × List Row)) (file : Text) → command_in row ≡ Some (codes "run") → file_in row ≡ Some (Some file) → job_in row ≡ Some (tasks.Run, file)
+asked_run None file named found = cc
+asked_run (Some p) file named found =
+    let name : p.0 ≡ codes "run" = cc in
+    let one : first_of (codes "FILE") p.1 ≡ Some file = cc in
+    let run : task_asked p.0 (first_of (codes "origin") p.1) ≡ Some tasks.Run = ap (λ (n : Text). task_asked n (first_of (codes "origin") p.1)) name in
+    λ i. option_and_then (λ task. option_map (λ file. (task, file)) (one i)) (run i)
 
-pub parsed_file : (words : List Text) (m : ArgMatches) → fault_of bench_app words ≡ [] → HasMatchesOf bench_app words m
-    → (file : Text) × (file_to_run words ≡ Some file) × HasFile m file
-parsed_file words m passed matches = go (file_to_run words) refl
+-- words that ask to run a file have this job
+pub run_asked : (words : List Text) (file : Text) → file_to_run words ≡ Some file → job_asked words ≡ Some (tasks.Run, file)
+run_asked words file is = let asked = asks words file is in asked_run (subcommand_of bench_app words) file asked.named asked.found
+
+-- a task that is a run has its name
+run_named : (name : Text) (origin : Option Text) → task_asked name origin ≡ Some tasks.Run → name ≡ codes "run"
+run_named name origin is = go (bytes_eq name (codes "run")) refl (bytes_eq name (codes "asm")) refl (bytes_eq name (codes "dis")) refl (origin_asked origin) refl
   where
-    go : (o : Option Text) → file_to_run words ≡ o → (file : Text) × (file_to_run words ≡ Some file) × HasFile m file
-    go None is = absurd (no_run words is passed)
-    go (Some file) is =
-        let asked = asks words file is in
-        let rows = (matches refl).1 in
-        (file, is, (ap command_in rows ∙ asked.named, ap file_in rows ∙ asked.found))
+    go : (a : Bool) → bytes_eq name (codes "run") ≡ a → (b : Bool) → bytes_eq name (codes "asm") ≡ b → (c : Bool) → bytes_eq name (codes "dis") ≡ c
+        → (o : Option ℕ) → origin_asked origin ≡ o → name ≡ codes "run"
+    go true same b _ c _ o _ = (bytes_eq-Decides name (codes "run")).0 same
+    go false no_run true same c _ None none = let bad : None ≡ Some tasks.Run = sym (rw (no_run, same, none) refl) ∙ is in cc
+    go false no_run true same c _ (Some address) given = let bad : Some (tasks.Assemble address) ≡ Some tasks.Run = sym (rw (no_run, same, given) refl) ∙ is in cc
+    go false no_run false no_asm true same None none = let bad : None ≡ Some tasks.Run = sym (rw (no_run, no_asm, same, none) refl) ∙ is in cc
+    go false no_run false no_asm true same (Some address) given = let bad : Some (tasks.List address) ≡ Some tasks.Run = sym (rw (no_run, no_asm, same, given) refl) ∙ is in cc
+    go false no_run false no_asm false no_dis o _ = let bad : None ≡ Some tasks.Run = sym (rw (no_run, no_asm, no_dis) refl) ∙ is in cc
+
+run_met : (row : Option (Text × List Row)) (file : Text) → job_in row ≡ Some (tasks.Run, file) → command_in row ≡ Some (codes "run")
+run_met None file is = cc
+run_met (Some p) file is = go (task_asked p.0 (first_of (codes "origin") p.1)) refl (first_of (codes "FILE") p.1) refl
+  where
+    go : (t : Option Task) → task_asked p.0 (first_of (codes "origin") p.1) ≡ t → (f : Option Text) → first_of (codes "FILE") p.1 ≡ f → command_in (Some p) ≡ Some (codes "run")
+    go None none f _ = let bad : None ≡ Some (tasks.Run, file) = sym (ap (option_and_then (λ task. option_map (λ file. (task, file)) (first_of (codes "FILE") p.1))) none) ∙ is in cc
+    go (Some task) asked None none =
+        let bad : None ≡ Some (tasks.Run, file) = sym (λ i. option_and_then (λ task. option_map (λ file. (task, file)) (none i)) (asked i)) ∙ is in cc
+    go (Some task) asked (Some f) found =
+        let both_are : Some (task, f) ≡ Some (tasks.Run, file) = sym (λ i. option_and_then (λ task. option_map (λ file. (task, file)) (found i)) (asked i)) ∙ is in
+        let run : task ≡ tasks.Run = (some_pair_parts task tasks.Run f file both_are).0 in
+        ap (λ (n : Text). Some n) (run_named p.0 (first_of (codes "origin") p.1) (asked ∙ ap (λ (t : Task). Some t) run))
+
+-- other words have another
+pub no_run_asked : (words : List Text) (task : Task) (file : Text) → file_to_run words ≡ None → fault_of bench_app words ≡ [] → job_asked words ≡ Some (task, file) → task ≡ tasks.Run → ⊥
+no_run_asked words task file none passed asked run =
+    no_run words none passed (run_met (subcommand_of bench_app words) file (asked ∙ ap (λ (t : Task). Some (t, file)) run))
+
+-- the job that is read of the matches is the one that the words ask for
+pub asked_of : (words : List Text) (m : ArgMatches) → HasMatchesOf bench_app words m → job_in (subcommand_rows_of m) ≡ job_asked words
+asked_of words m matches = ap job_in (matches refl).1
+
+-- a command that was met, of its name and its rows
+pub met_row : (row : Option (Text × List Row)) (name : Text) (rows : List Row) → Some name ≡ option_map (λ p. p.0) row → Some rows ≡ option_map (λ p. p.1) row → row ≡ Some (name, rows)
+met_row None name rows named held = cc
+met_row (Some p) name rows named held =
+    let one : name ≡ p.0 = cc in
+    let other : rows ≡ p.1 = cc in
+    λ i. Some (sym one i, sym other i)
 
 pub failed_run : (words : List Text) (file : Text) (e : Error) → HasKind (fault_of bench_app words) e → file_to_run words ≡ Some file → kind_of e ≡ kind.OutOfMemory
 failed_run words file e has is = go (subst (λ kinds. HasKind kinds e) (asks words file is).no_fault has)
@@ -733,21 +923,32 @@ named_rows m = elim (out-ArgMatches m).subcommand as (λ o. command_in (subcomma
   | Some b ↦ refl
 ]
 
-rows_in : (r : Option (Text × List Row)) → file_in r ≡ option_map (first_of (codes "FILE")) (option_map (λ p. p.1) r)
-rows_in None = refl
-rows_in (Some p) = refl
+-- ---- what the words are answered with
 
--- what `get_str` reads of the command that was met
-pub file_read : (r : Option (Text × List Row)) (f : Found) (text : Option (Bor Text)) → option_map (λ p. p.1) r ≡ Some (rows_of f)
-    → option_map (λ s. s.now) text ≡ first_value f (codes "FILE") → file_in r ≡ Some (option_map (λ s. s.now) text)
-file_read r f text rows is =
-    rows_in r ∙ ap (option_map (first_of (codes "FILE"))) rows ∙ ap (λ t. Some t) (sym (first_value-rows f (codes "FILE")) ∙ sym is)
+-- a run of this file
+pub runs_file : (asked : Option (Task × Text)) (result : Result Job Ending) (file : Text) → asked ≡ Some (tasks.Run, file) → GivesJob asked result → AsksToRun result file
+runs_file asked (Ok job) file is gives =
+    let parts : parts_of job ≡ (tasks.Run, file) = rw is at gives in
+    record { task_is = ap (λ (p : Task × Text). p.0) parts; file_is = ap (λ (p : Task × Text). p.1) parts }
+runs_file asked (Err ending) file is gives = let parts : ending ≡ endings.OutOfMemory = rw is at gives in parts
 
-pub some_text : (text : Option (Bor Text)) (r : Option (Option Text)) → r ≡ Some (option_map (λ s. s.now) text) → IsSomeAnd r IsSome → IsSome text
-some_text text None is some = absurd some
-some_text None (Some t) is some =
-    let none : t ≡ None = cc in subst (λ (x : Option Text). IsSome x) none some
-some_text (Some x) (Some t) is some = refl
+-- no run
+pub runs_none : (words : List Text) (result : Result Job Ending) → file_to_run words ≡ None → fault_of bench_app words ≡ [] → GivesJob (job_asked words) result → AsksForNoRun result
+runs_none words (Ok job) none passed gives = λ run. go (job_asked words) refl gives run
+  where
+    go : (asked : Option (Task × Text)) → job_asked words ≡ asked → GivesJob asked (Ok job) → job.task ≡ tasks.Run → ⊥
+    go None is gives run = absurd gives
+    go (Some parts) is gives run = no_run_asked words job.task job.file.now none passed (is ∙ ap (λ (p : Task × Text). Some p) (sym gives)) run
+runs_none words (Err ending) none passed gives = tt
 
-pub some_file : (r : Option (Option Text)) (file : Text) → r ≡ Some (Some file) → IsSomeAnd r IsSome
-some_file r file is = subst (λ (x : Option (Option Text)). IsSomeAnd x IsSome) (sym is) refl
+-- memory may run out
+pub runs_out : (asked : Option (Task × Text)) (ending : Ending) → ending ≡ endings.OutOfMemory → GivesJob asked (Err ending)
+runs_out None ending is = inr is
+runs_out (Some parts) ending is = is
+
+pub failed_memory : (words : List Text) (e : Error) → HasKind (fault_of bench_app words) e → fault_of bench_app words ≡ [] → kind_of e ≡ kind.OutOfMemory
+failed_memory words e has passed = go (subst (λ kinds. HasKind kinds e) passed has)
+  where
+    go : HasKind [] e → kind_of e ≡ kind.OutOfMemory
+    go (inl memory) = memory
+    go (inr none) = absurd none

@@ -30,7 +30,11 @@ file_to_run (name ∷ []) = None
 file_to_run (name ∷ command ∷ rest) =
     if bytes_eq (codes "run") command then only_file rest else None
 
--- a flag for help stands alone, or alone after `run`
+-- the names of the commands
+abbrev pub is_command : List ℕ → Bool
+is_command word = bytes_eq (codes "run") word || (bytes_eq (codes "asm") word || bytes_eq (codes "dis") word)
+
+-- a flag for help stands alone, or alone after a command
 abbrev pub is_help_flag : List ℕ → Bool
 is_help_flag word = bytes_eq word (codes "--help") || bytes_eq word (codes "-h")
 
@@ -38,18 +42,18 @@ abbrev pub asks_help : List (List ℕ) → Bool
 asks_help [] = false
 asks_help (name ∷ []) = false
 asks_help (name ∷ a ∷ []) = is_help_flag a
-asks_help (name ∷ a ∷ b ∷ []) = bytes_eq (codes "run") a && is_help_flag b
+asks_help (name ∷ a ∷ b ∷ []) = is_command a && is_help_flag b
 asks_help (name ∷ a ∷ b ∷ c ∷ rest) = false
 
--- FILE is missing, or there are two
-abbrev pub is_wrong_run : List (List ℕ) → Bool
-is_wrong_run [] = true
-is_wrong_run (file ∷ []) = false
-is_wrong_run (a ∷ b ∷ rest) = not (is_flag a) && not (is_flag b)
+-- FILE is missing, or the first two words after a command are both FILEs
+abbrev pub has_wrong_files : List (List ℕ) → Bool
+has_wrong_files [] = true
+has_wrong_files (file ∷ []) = false
+has_wrong_files (a ∷ b ∷ rest) = not (is_flag a) && not (is_flag b)
 
 -- the command is missing or unknown, or FILE is missing, or there are two
 abbrev pub is_mistake : List (List ℕ) → Bool
 is_mistake [] = true
 is_mistake (name ∷ []) = true
-is_mistake (name ∷ command ∷ rest) = if bytes_eq (codes "run") command then is_wrong_run rest
+is_mistake (name ∷ command ∷ rest) = if is_command command then has_wrong_files rest
     else (not (bytes_eq (codes "help") command) && not (is_flag command))

@@ -1,12 +1,13 @@
 //! Reads the command line.
 
-ghost use Rattle.std.specs.Prelude.{◌≡◌, true, codes, map, Some, IfOk, IfSome, IfNone, IsErr, IsSome, IsSomeAnd};
-ghost use Rattle.clap.specs.Words.{FailsBy, HasMatchesOf, app_of, fault_of, kind_of, subcommand_rows_of};
+ghost use Rattle.std.specs.Prelude.{◌≡◌, ◌≢◌, [], true, false, codes, map, IfOk, IfSome, IfNone, IsErr, option_map};
+ghost use Rattle.clap.specs.Words.{FailsBy, HasMatchesOf, app_of, fault_of, first_of, found_of, kind_of, rows_of, rule_of, subcommand_rows_of};
 ghost use Rattle.clap.specs.declared.error.kind.ErrorKind.TheVariants as kind;
-ghost use Rattle.h41_bench.specs.BenchCommand.{bench_app, command_in, file_in};
+ghost use Rattle.h41_bench.specs.BenchCommand.{bench_app, file_rule, has_globals, job_in, origin_app, origin_asked, task_asked};
 ghost use Rattle.h41_bench.specs.CommandLine.{asks_help, file_to_run, is_mistake};
-ghost use Rattle.h41_bench.specs.Ending.{AsksToRun, EndsAtOnce, EndsWith, IsNoHelp, status_of, text_of};
+ghost use Rattle.h41_bench.specs.Ending.{AsksForNoRun, AsksToRun, EndsAtOnce, EndsWith, GivesJob, GivesJobOf, IsNoHelp, parts_of, status_of, text_of};
 
+use crate::numbers::origin_value;
 use clap::error::ErrorKind;
 use clap::{Arg, ArgAction, ArgMatches, Command, Error};
 use h41_deck::Refusal;
@@ -17,6 +18,10 @@ use std::alloc::{AllocError, Global};
 pub enum Task {
     /// Runs the deck in it.
     Run,
+    /// Assembles the source in it, from an address on.
+    Assemble { origin: u16 },
+    /// Lists the words in it, of which the first stands at an address.
+    List { origin: u16 },
 }
 
 /// What the command line asks for: a task, and the file that it is for, where `-` is standard input.
@@ -61,6 +66,12 @@ impl Ending {
     }
 }
 
+/// The address of the first word where none is given.
+const ORIGIN: u16 = 0x8000;
+
+/// What a wrong origin is answered with.
+const WRONG_ORIGIN: &str = "error: the origin has not four hexadecimal digits\n";
+
 /// What help tells behind the usage.
 const DECKS: &str = "\
 A deck is a text file of commands, one a line. Such as:
@@ -101,23 +112,78 @@ Beside the program's sources, README.md is the place to begin, docs/DECK.md has
 the whole deck language with each refusal and its usual causes, examples/ has
 decks to try, and tools/where tells which lines of a deck were refused.";
 
-/// The command `bench run FILE`.
+/// What help tells of `asm`, behind the usage.
+const SOURCES: &str = "\
+A source is a text file of instructions, one a line, as HP's VASM listings spell
+them. A label ends with a colon, and a comment begins with a semicolon. Such as:
+
+    BACK: LDI 123
+          C=C+1 S&X
+          JNC BACK ; until the carry is set
+          RTN
+
+The words of it are printed, each three hexadecimal digits on a line of its own.
+A source with a fault prints a line such as `! 30 BadLine 2`, which tells the
+fault's line, and ends with status 1.";
+
+/// What help tells of `dis`, behind the usage.
+const WORDS: &str = "\
+The words are hexadecimal numbers up to 3FF, which blanks, tabs and line ends
+part. Such as:
+
+    130 123 226 3E0
+
+They are printed as instructions, one a line. A word that is none ends the
+program with status 2, and nothing is listed.";
+
+/// The command `bench` with its subcommands.
 fn bench<'a>(alloc: Global) -> Result<Command<'a>, AllocError>
     ensures { IfOk result (λ command. app_of command ≡ bench_app) }
 {
-    let file = Arg::new(alloc, "FILE")
-        .help("The deck of commands, or - for standard input")
-        .required(true)
-        .action(ArgAction::Set);
     let run = Command::new(alloc, "run")
         .about("Runs a deck of commands")
         .after_help(DECKS)
-        .arg(file)?;
+        .arg(file_argument(alloc, "The deck of commands, or - for standard input"))?;
+    let assemble = origin_command(alloc, "asm")?
+        .about("Assembles a source")
+        .after_help(SOURCES);
+    let list = origin_command(alloc, "dis")?
+        .about("Lists words as instructions")
+        .after_help(WORDS);
     Command::new(alloc, "bench")
-        .about("Runs decks of commands of the bench")
+        .about("Runs decks of commands of the bench, assembles sources, lists words")
         .after_help(DECKS)
         .subcommand_required(true)
-        .subcommand(run)
+        .subcommand(run)?
+        .subcommand(assemble)?
+        .subcommand(list)
+}
+
+/// The argument FILE.
+fn file_argument<'a>(alloc: Global, help: &'a str) -> Arg<'a>
+    ensures rule { rule_of result ≡ file_rule }
+    ensures local { result.global ≡ false }
+{
+    Arg::new(alloc, "FILE")
+        .help(help)
+        .required(true)
+        .action(ArgAction::Set)
+}
+
+/// A command that takes an origin beside FILE.
+fn origin_command<'a>(alloc: Global, name: &'a str) -> Result<Command<'a>, AllocError>
+    ensures app { IfOk result (λ command. app_of command ≡ origin_app name.now) }
+    ensures local { IfOk result (λ command. has_globals command ≡ false) }
+{
+    let origin = Arg::new(alloc, "origin")
+        .long("origin")
+        .value_name("HHHH")
+        .help("The address of the first word, in four hexadecimal digits: 8000 if not given")
+        .action(ArgAction::Set);
+    Command::new(alloc, name).arg(origin)?.arg(file_argument(
+        alloc,
+        "The text to read, or - for standard input",
+    ))
 }
 
 /// The words of the command line, matched.
@@ -128,17 +194,59 @@ fn matched<'a>(alloc: Global, words: &'a [&'a str]) -> Result<ArgMatches<'a>, Er
     bench(alloc)?.try_get_matches_from(words)
 }
 
-/// The job that the matches have.
-fn job_of<'a>(matches: &ArgMatches<'a>) -> Job<'a>
-    requires named { command_in (subcommand_rows_of matches.now) ≡ Some (codes "run") }
-    requires found { IsSomeAnd (file_in (subcommand_rows_of matches.now)) IsSome }
-    ensures { file_in (subcommand_rows_of matches.now) ≡ Some (Some result.file.now) }
+/// The job that the matches have. None where an origin is wrong.
+fn job_of<'a>(matches: &ArgMatches<'a>) -> Option<Job<'a>>
+    ensures { option_map parts_of result ≡ job_in (subcommand_rows_of matches.now) }
 {
-    let run = matches.subcommand_matches("run").unwrap();
-    let file = run.get_str("FILE").unwrap();
-    Job {
-        task: Task::Run,
-        file,
+    let (name, command) = matches.subcommand()?;
+    let task = task_of(name, command)?;
+    let file = command.get_str("FILE")?;
+    Some(Job { task, file })
+}
+
+/// The task that a command's name asks for.
+fn task_of(name: &str, command: &ArgMatches<'_>) -> Option<Task>
+    ensures { result ≡ task_asked name.now (first_of (codes "origin") (rows_of (found_of command.now))) }
+{
+    match name {
+        "run" => Some(Task::Run),
+        "asm" => Some(Task::Assemble {
+            origin: origin_of(command)?,
+        }),
+        "dis" => Some(Task::List {
+            origin: origin_of(command)?,
+        }),
+        _ => None,
+    }
+}
+
+/// The address of the first word: 8000 where it is not given. None where the one that is given has not four hexadecimal digits.
+fn origin_of(command: &ArgMatches<'_>) -> Option<u16>
+    ensures { result ≡ origin_asked (first_of (codes "origin") (rows_of (found_of command.now))) }
+{
+    match command.get_str("origin") {
+        Some(digits) => origin_value(digits),
+        None => Some(ORIGIN),
+    }
+}
+
+/// The job that the matches have, or how the program ends where an origin is wrong.
+fn job_or_mistake<'a>(alloc: Global, matches: &ArgMatches<'a>) -> Result<Job<'a>, Ending>
+    ensures { GivesJob (job_in (subcommand_rows_of matches.now)) result }
+{
+    match job_of(matches) {
+        Some(job) => Ok(job),
+        None => Err(wrong_origin(alloc)),
+    }
+}
+
+/// How the program ends where an origin is wrong.
+fn wrong_origin(alloc: Global) -> Ending
+    ensures { EndsWith 2 result }
+{
+    match String::from_str(alloc, WRONG_ORIGIN) {
+        Ok(text) => Ending::Mistake(text),
+        Err(_) => Ending::OutOfMemory,
     }
 }
 
@@ -159,19 +267,25 @@ fn make_ending(alloc: Global, error: Error) -> Ending
 }
 
 /// Reads the words of the command line, of which the first is the program's name. They ask for a
-/// run as `run FILE`, with FILE `-` or no flag, or with the mark `--` before or after it.
+/// run as `run FILE`, with FILE `-` or no flag, or with the mark `--` before or after it; for the
+/// other tasks as `asm` and `dis`, with FILE and an origin.
 ///
 /// # Errors
 ///
 /// `Help` (status 0), `Mistake` (status 2) and `OutOfMemory` (status 3).
 pub fn read_words<'a>(alloc: Global, words: &'a [&'a str]) -> Result<Job<'a>, Ending>
     ensures run { IfSome (file_to_run (map (λ w. w.now) words.now)) (AsksToRun result) }
-    ensures no_run { IfNone (file_to_run (map (λ w. w.now) words.now)) (IsErr result) }
+    ensures no_run { IfNone (file_to_run (map (λ w. w.now) words.now)) (AsksForNoRun result) }
     ensures help { asks_help (map (λ w. w.now) words.now) ≡ true → EndsAtOnce 0 result }
     ensures mistake { is_mistake (map (λ w. w.now) words.now) ≡ true → EndsAtOnce 2 result }
+
+    // Where the words are taken, the job is that of the command, the FILE and the origin in them, and a wrong origin ends the
+    // program.
+    ensures refused { fault_of bench_app (map (λ w. w.now) words.now) ≢ [] → IsErr result }
+    ensures job { GivesJobOf (map (λ w. w.now) words.now) result }
 {
     match matched(alloc, words) {
-        Ok(matches) => Ok(job_of(&matches)),
+        Ok(matches) => job_or_mistake(alloc, &matches),
         Err(error) => Err(make_ending(alloc, error)),
     }
 }

@@ -1,7 +1,13 @@
-//! The HP-41 bench: runs decks of commands.
+//! The HP-41 bench: runs decks of commands, assembles sources and lists words.
 #![tactic(auto)]
 
 mod arguments;
+mod assemble;
+mod ended;
+mod input;
+mod list;
+mod numbers;
+mod output;
 mod serve;
 #[cfg(test)]
 mod tests;
@@ -9,7 +15,7 @@ mod tests;
 ghost use Rattle.std.specs.Prelude.{◌≡◌, ◌≢◌, ◌∷◌, ◌≤◌, true, Err, IfOk, IfSome, IsSome, Ok, OnErr, codes, drop, map, string_bytes};
 ghost use Rattle.h41_bench.specs.CommandLine.{asks_help, file_to_run, is_mistake, named};
 ghost use Rattle.h41_bench.specs.Ending.{status_of};
-ghost use Rattle.h41_bench.specs.Statuses.{EndsDeck, IsOrFailed, IsStatus};
+ghost use Rattle.h41_bench.specs.Statuses.{EndsTask, IsOrFailed, IsStatus, IsTaskStatus};
 
 use crate::arguments::{Ending, Job, read_words};
 use crate::serve::{serve, tell};
@@ -41,8 +47,8 @@ fn main(rt: HostRuntime) -> ExitCode {
     ExitCode::from(status)
 }
 
-/// Does what the words of the command line ask for: runs the deck of a file, or of standard input where its name is `-`, or
-/// says why there is none. Answers the status.
+/// Does what the words of the command line ask for, with a file, or with standard input where its name is `-`, or says why
+/// there is no job. Answers the status.
 fn run_words(rt: &HostRuntime, alloc: Global, words: &[String]) -> u8
     ensures help { asks_help (named (map string_bytes words.now)) ≡ true → IsOrFailed 0 result }
     ensures mistake { is_mistake (named (map string_bytes words.now)) ≡ true → IsOrFailed 2 result }
@@ -100,10 +106,10 @@ fn opened(file: io::Result<File>) -> Result<File, Fault>
     file.map_err(|_| Fault::ReadFault)
 }
 
-/// Runs the deck that a reader gives, from there to standard output.
+/// Does the job with what a reader gives, from there to standard output.
 fn run_from<R: Read + Drop>(rt: &HostRuntime, alloc: Global, job: Job<'_>, reader: R) -> u8
-    ensures status { IsStatus result }
-    ensures outcome { result ≢ 3 → IfSome (R.remaining reader) (EndsDeck result) }
+    ensures status { IsTaskStatus job.entry.task result }
+    ensures outcome { result ≢ 3 → IfSome (R.remaining reader) (EndsTask job.entry.task result) }
 {
     let Ok(output) = BufWriter::new(alloc, rt.stdout()) else {
         return tell(Fault::OutOfMemory, &mut ToWrite::new(rt.stderr()));

@@ -1,41 +1,36 @@
-use Rattle.std.proofs.Common.{inl, inr, map, List, Some, ℕ, ◌≡◌, ◌∙◌, sym}
+use Rattle.std.proofs.Common.{inl, inr, map, List, ℕ}
 use Rattle.h41_bench.specs.CommandLine.{file_to_run}
-use Rattle.h41_bench.proofs.CommandLemmas.{failed_help, failed_mistake, failed_run, if_none, if_some, no_help_run, no_mistaken_run, no_run, parsed_file, some_file}
+use Rattle.h41_bench.specs.Ending.{GivesJob}
+use Rattle.h41_bench.specs.BenchCommand.{job_asked}
+use Rattle.h41_bench.proofs.CommandLemmas.{asked_of, failed_help, failed_memory, failed_mistake, failed_run, if_none, if_some, no_help_run, no_mistaken_run, run_asked, runs_file, runs_none, runs_out}
 use Rattle.h41_bench.proofs.arguments.read_words.Goals as goal
-
-pub job_of-requires-clause-named : goal.job_of-requires-clause-named
-job_of-requires-clause-named c =
-    let words : List (List ℕ) = map (λ w. w.now) c.args.words.now in
-    (parsed_file words c.in-Ok.matches c.in-Ok.ensures.kinds c.in-Ok.ensures.matches).2.0
-
-pub job_of-requires-clause-found : goal.job_of-requires-clause-found
-job_of-requires-clause-found c =
-    let words : List (List ℕ) = map (λ w. w.now) c.args.words.now in
-    let parsed = parsed_file words c.in-Ok.matches c.in-Ok.ensures.kinds c.in-Ok.ensures.matches in
-    some_file _ parsed.0 parsed.2.1
 
 pub returns-in-Ok-clause-run : goal.returns-in-Ok-clause-run
 returns-in-Ok-clause-run c =
     let words : List (List ℕ) = map (λ w. w.now) c.args.words.now in
-    let parsed = parsed_file words c.in-Ok.matches c.in-Ok.ensures.kinds c.in-Ok.ensures.matches in
-    if_some (file_to_run words) (λ file. c.job_of.result.file.now ≡ file) (λ file is.
-    let read = sym c.job_of.ensures ∙ parsed.2.1 in
-    let same : Some parsed.0 ≡ Some file = sym parsed.1 ∙ is in cc)
+    let gives : GivesJob (job_asked words) c.job_or_mistake.result = rw (asked_of words c.in-Ok.matches c.in-Ok.ensures.matches) at c.job_or_mistake.ensures in
+    if_some (file_to_run words) _ (λ file is. runs_file (job_asked words) c.job_or_mistake.result file (run_asked words file is) gives)
 
 pub returns-in-Ok-clause-no_run : goal.returns-in-Ok-clause-no_run
 returns-in-Ok-clause-no_run c =
     let words : List (List ℕ) = map (λ w. w.now) c.args.words.now in
-    if_none (file_to_run words) _ (λ is. absurd (no_run words is c.in-Ok.ensures.kinds))
+    let gives : GivesJob (job_asked words) c.job_or_mistake.result = rw (asked_of words c.in-Ok.matches c.in-Ok.ensures.matches) at c.job_or_mistake.ensures in
+    if_none (file_to_run words) _ (λ none. runs_none words c.job_or_mistake.result none c.in-Ok.ensures.kinds gives)
 
 pub returns-in-Ok-clause-help : goal.returns-in-Ok-clause-help
 returns-in-Ok-clause-help c = λ is.
     let words : List (List ℕ) = map (λ w. w.now) c.args.words.now in
-    no_help_run words is c.in-Ok.ensures.kinds
+    absurd (no_help_run words is c.in-Ok.ensures.kinds)
 
 pub returns-in-Ok-clause-mistake : goal.returns-in-Ok-clause-mistake
 returns-in-Ok-clause-mistake c = λ is.
     let words : List (List ℕ) = map (λ w. w.now) c.args.words.now in
-    no_mistaken_run words is c.in-Ok.ensures.kinds
+    absurd (no_mistaken_run words is c.in-Ok.ensures.kinds)
+
+pub returns-in-Ok-clause-job : goal.returns-in-Ok-clause-job
+returns-in-Ok-clause-job c = λ passed.
+    let words : List (List ℕ) = map (λ w. w.now) c.args.words.now in
+    rw (asked_of words c.in-Ok.matches c.in-Ok.ensures.matches) at c.job_or_mistake.ensures
 
 pub returns-in-Err-clause-run : goal.returns-in-Err-clause-run
 returns-in-Err-clause-run c =
@@ -55,3 +50,8 @@ returns-in-Err-clause-mistake c = λ is.
     let words : List (List ℕ) = map (λ w. w.now) c.args.words.now in
     let wrong = failed_mistake words c.in-Err.error c.in-Err.ensures.kinds is in
     c.make_ending.ensures.mistake (record { no_help = wrong.0; no_version = wrong.1 })
+
+pub returns-in-Err-clause-job : goal.returns-in-Err-clause-job
+returns-in-Err-clause-job c = λ passed.
+    let words : List (List ℕ) = map (λ w. w.now) c.args.words.now in
+    runs_out (job_asked words) c.make_ending.result (c.make_ending.ensures.memory (failed_memory words c.in-Err.error c.in-Err.ensures.kinds passed))

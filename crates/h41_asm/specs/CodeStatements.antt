@@ -7,6 +7,7 @@ use Rattle.h41_asm.specs.declared.fault.Fault.{Fault}
 use Rattle.h41_asm.specs.declared.source.SourceLine as lines
 use Rattle.h41_asm.specs.declared.statement.Statement as code
 use Rattle.h41_asm.specs.declared.statement.Statement.TheVariants as codes_of
+use Rattle.h41_asm.specs.declared.words.LineWords as rests
 use Rattle.h41_asm.specs.declared.table.EntryKind as entry
 use Rattle.h41_asm.specs.declared.table.EntryKind.TheVariants as kinds
 use Rattle.h41_asm.specs.declared.table.Numbered as numbered
@@ -14,7 +15,7 @@ use Rattle.h41_asm.specs.declared.table.Numbered.TheVariants as numbers
 use Rattle.h41_asm.specs.declared.table.Taking as table
 use Rattle.h41_asm.specs.declared.table.Taking.TheVariants as takings
 use Rattle.h41_asm.specs.SourceLines.{SourceLine, words_of}
-use Rattle.h41_asm.specs.Statements.{Statement, Words, OutOfReach, LongJumpTo, ShortJumpTo, EntryAt, Taking, name_words, takes_field, takes_number, takes_immediate, takes_constant, takes_address, takes_displacement, takes_name, takes_entry}
+use Rattle.h41_asm.specs.Statements.{Statement, Words, OutOfReach, LongJumpTo, ShortJumpTo, EntryAt, Taking, name_words, takes_field, takes_number, takes_immediate, takes_constant, takes_address, takes_displacement, takes_name, takes_entry, taken, taken_among}
 use Rattle.h41_words.specs.Counts.{status_bit_count, place_count, digit_count, block_register_count}
 use Rattle.h41_words.specs.declared.rows.Row.TheVariants.{ClearStatus, SetStatus, TestStatus, TestPointer, SetPointer, RotateRight, LoadDigit, Write, Read}
 
@@ -83,3 +84,14 @@ in_line line = record { label = option_map (λ name. name.now) line.label; code 
 -- the words of characters, the last first
 abbrev pub backward_words : List ℕ → List ℕ
 backward_words text = reverse (map (λ byte. byte % 64) text)
+
+-- the words that are left of a line, where some are
+abbrev pub words_left : Option rests.LineWords → Option (List (List ℕ))
+words_left left = option_map (λ rest. words_of rest.rest.now) left
+
+-- what words say by the code's table, and by one mnemonic's operand
+abbrev pub taken_by : List (Bor (List ℕ) × table.Taking) → Bor (List ℕ) → Option (Result Statement Fault)
+taken_by entries rest = taken_among (takers_in entries) (words_of rest.now)
+
+abbrev pub taken_operand : table.Taking → Bor (List ℕ) → Result Statement Fault
+taken_operand takes rest = taken (takes_in_code takes) (words_of rest.now)

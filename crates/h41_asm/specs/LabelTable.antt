@@ -1,8 +1,9 @@
 -- The code's table of labels: the addresses that it holds, what a name or a line adds to it, and what lines and statements say
 -- by it. It only connects the code with the definitions of assembly.
-use Rattle.std.specs.Prelude.{◌≡◌, ℕ, ◌+◌, ◌≤◌, ℤ, List, [], ◌∷◌, ◌++◌, IsOk, IfSome, Option, Some, None, Result, Ok, Err, bytes_eq, if◌then◌else◌, is_some, nat_le, nat_lt}
+use Rattle.std.specs.Prelude.{◌≡◌, Vec, ℕ, ◌+◌, ◌≤◌, ℤ, List, [], ◌∷◌, ◌++◌, IsOk, IfSome, Option, Some, None, Result, Ok, Err, bytes_eq, if◌then◌else◌, is_some, nat_le, nat_lt}
 use Rattle.std.specs.Bool.{then_some}
 use Rattle.std.specs.Borrow.{Bor}
+use Rattle.std.specs.Global.{Global}
 use Rattle.std.specs.Option.{option_or}
 use Rattle.std.specs.Result.{result_err}
 use Rattle.indexmap.specs.IndexMap.{IndexMap, get_by}
@@ -33,8 +34,9 @@ pub record SpellsNext (labels : Labels) (address : ℕ) (statement : Statement) 
   pub added : after ≡ before ++ own
   pub spelled : Spells labels address statement own
 
-abbrev pub AddsWords : {S : Type 0} → Table S → ℕ → code.Statement → List ℕ → List ℕ → Type 0
-AddsWords table address statement before after = SpellsNext (labels_in table) address (in_code statement) before after
+abbrev pub AddsOwn : {S : Type 0} → Table S → ℕ → code.Statement → Vec ℕ Global → Vec ℕ Global → Type 0
+AddsOwn table address statement before after =
+    SpellsNext (labels_in table) address (in_code statement) before.items after.items
 
 -- the fault of a statement's reference, and the first of a source's references
 abbrev pub fault_by : {S : Type 0} → Table S → ℕ → code.Statement → Option Fault

@@ -13,11 +13,11 @@ refusal_of (spell_errors.Fault fault) line = refusals.Line fault line
 refusal_of spell_errors.OutOfMemory line = refusals.OutOfMemory
 
 -- this fault, or memory that was refused
-abbrev pub IsFault : spell.SpellError → Option Fault → Type 0
-IsFault (spell_errors.Fault fault) found = found ≡ Some fault
-IsFault spell_errors.OutOfMemory found = Unit {0}
+abbrev pub IsFault : Option Fault → spell.SpellError → Type 0
+IsFault found (spell_errors.Fault fault) = found ≡ Some fault
+IsFault found spell_errors.OutOfMemory = Unit {0}
 
 -- this fault and its line, or memory that was refused
-abbrev pub IsRefusal : errors.AssembleError → Found → Type 0
-IsRefusal (refusals.Line fault line) found = found ≡ Some (fault, line)
-IsRefusal refusals.OutOfMemory found = Unit {0}
+abbrev pub IsRefusal : Found → errors.AssembleError → Type 0
+IsRefusal found (refusals.Line fault line) = found ≡ Some (fault, line)
+IsRefusal found refusals.OutOfMemory = Unit {0}

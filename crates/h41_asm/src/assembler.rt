@@ -5,7 +5,7 @@ ghost use Rattle.std.specs.Option.{ok_or};
 ghost use Rattle.h41_asm.specs.Assembly.{Assembles, address_count};
 ghost use Rattle.h41_asm.specs.CodeStatements.{in_line};
 ghost use Rattle.h41_asm.specs.Faults.{assembly_fault, line_length};
-ghost use Rattle.h41_asm.specs.LabelTable.{AddsLabel, AddsName, AddsWords, HoldsLabels, IsReadyBy, SpellsBy, fault_by, first_fault_by, first_own_fault, jump_word, labels_in, line_fault_in, name_fault_in};
+ghost use Rattle.h41_asm.specs.LabelTable.{AddsLabel, AddsName, AddsOwn, HoldsLabels, IsReadyBy, SpellsBy, fault_by, first_fault_by, first_own_fault, jump_word, labels_in, line_fault_in, name_fault_in};
 ghost use Rattle.h41_asm.specs.Refusals.{IsFault, IsRefusal};
 
 use crate::emit::{entry_words, push_name};
@@ -30,7 +30,7 @@ type Labels<'a> = IndexMap<&'a [u8], u16>;
 pub fn assemble(alloc: Global, text: &[u8], origin: u16) -> Result<Vec<Word>, AssembleError>
     ensures words { IfOk result (λ words. Assembles text.now origin words.items) }
     ensures ok { OnOk result (assembly_fault text.now origin ≡ None) }
-    ensures err { IfErr result (λ error. IsRefusal error (assembly_fault text.now origin)) }
+    ensures err { IfErr result (IsRefusal (assembly_fault text.now origin)) }
 {
     let labels = place(alloc, text, origin)?;
     spell(alloc, text, origin, &labels)
@@ -40,7 +40,7 @@ pub fn assemble(alloc: Global, text: &[u8], origin: u16) -> Result<Vec<Word>, As
 fn place<'a>(alloc: Global, text: &'a [u8], origin: u16) -> Result<Labels<'a>, AssembleError>
     ensures ok { OnOk result (first_own_fault origin text.now ≡ None) }
     ensures labels { IfOk result (λ labels. HoldsLabels labels origin text.now) }
-    ensures err { IfErr result (λ error. IsRefusal error (first_own_fault origin text.now)) }
+    ensures err { IfErr result (IsRefusal (first_own_fault origin text.now)) }
 {
     let mut labels = IndexMap::new(alloc);
     let mut address = u32::from(origin);
@@ -65,7 +65,7 @@ fn place_line<'a>(
     ensures ok { OnOk result (line_fault_in labels.old address line.entry ≡ None) }
     ensures length { IfOk result (λ length. length ≡ line_length (in_line line.entry)) }
     ensures labels { OnOk result (AddsLabel labels.old labels.new address line.entry) }
-    ensures err { IfErr result (λ error. IsFault error (line_fault_in labels.old address line.entry)) }
+    ensures err { IfErr result (IsFault (line_fault_in labels.old address line.entry)) }
 {
     let length = match read(line.code) {
         Ok(statement) => statement.length(),
@@ -84,7 +84,7 @@ fn place_line<'a>(
 fn note<'a>(labels: &mut Labels<'a>, name: &'a [u8], address: u32) -> Result<(), SpellError>
     ensures ok { OnOk result (name_fault_in labels.old address name.now ≡ None) }
     ensures labels { OnOk result (AddsName labels.old labels.new address name.now) }
-    ensures err { IfErr result (λ error. IsFault error (name_fault_in labels.old address name.now)) }
+    ensures err { IfErr result (IsFault (name_fault_in labels.old address name.now)) }
 {
     if labels.contains_key(name) {
         return Err(SpellError::Fault(Fault::LabelTwice));
@@ -106,7 +106,7 @@ fn spell(
     requires { IsReadyBy labels.now origin text.now }
     ensures ok { OnOk result (first_fault_by labels.now origin text.now ≡ None) }
     ensures words { IfOk result (λ words. SpellsBy labels.now origin text.now words.items) }
-    ensures err { IfErr result (λ error. IsRefusal error (first_fault_by labels.now origin text.now)) }
+    ensures err { IfErr result (IsRefusal (first_fault_by labels.now origin text.now)) }
 {
     let mut words = Vec::new(alloc);
     let mut address = u32::from(origin);
@@ -133,8 +133,8 @@ fn push_statement(
 ) -> Result<(), SpellError>
     requires { address ≤ 65536 }
     ensures ok { OnOk result (fault_by labels.now address statement.now ≡ None) }
-    ensures words { OnOk result (AddsWords labels.now address statement.now words.old.items words.new.items) }
-    ensures err { IfErr result (λ error. IsFault error (fault_by labels.now address statement.now)) }
+    ensures own { OnOk result (AddsOwn labels.now address statement.now words.old words.new) }
+    ensures err { IfErr result (IsFault (fault_by labels.now address statement.now)) }
 {
     match statement {
         Statement::Nothing => {}

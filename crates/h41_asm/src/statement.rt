@@ -1,8 +1,7 @@
 //! What a line says behind its label.
 
 ghost use Rattle.std.specs.Prelude.{◌≡◌, ◌+◌, ◌≤◌, ◌==◌, [], ◌∷◌, length};
-ghost use Rattle.std.specs.Option.{option_map};
-ghost use Rattle.h41_asm.specs.CodeStatements.{found_in_code, in_code, read_in_code, singles_in, taken_in_code, takers_in, takes_in_code, takes_numbered};
+ghost use Rattle.h41_asm.specs.CodeStatements.{found_in_code, in_code, read_in_code, singles_in, taken_by, taken_in_code, taken_operand, takes_in_code, takes_numbered, words_left};
 ghost use Rattle.h41_asm.specs.SourceLines.{words_of};
 ghost use Rattle.h41_asm.specs.Statements as spec;
 
@@ -140,8 +139,7 @@ fn taken_among<'a>(
     takers: &[(&str, Taking)],
     words: LineWords<'a>,
 ) -> Option<Result<Statement<'a>, Fault>>
-    ensures { taken_in_code result
-        ≡ spec.taken_among (takers_in takers.now) (words_of words.entry.rest.now) }
+    ensures { taken_in_code result ≡ taken_by takers.now words.entry.rest }
 {
     for (name, taking) in takers {
         if let Some(operands) = behind(name, words) {
@@ -153,8 +151,7 @@ fn taken_among<'a>(
 
 /// The words behind those of a mnemonic, where they begin with it.
 fn behind<'a>(name: &str, words: LineWords<'a>) -> Option<LineWords<'a>>
-    ensures { option_map (λ rest. words_of rest.rest.now) result
-        ≡ spec.behind name.now (words_of words.entry.rest.now) }
+    ensures { words_left result ≡ spec.behind name.now (words_of words.entry.rest.now) }
 {
     let mut rest = words;
     for part in LineWords::new(name.as_bytes()) {
@@ -176,8 +173,7 @@ fn is_nothing(words: LineWords<'_>) -> bool
 
 /// The one operand behind a mnemonic.
 fn taken(taking: Taking, operands: LineWords<'_>) -> Result<Statement<'_>, Fault>
-    ensures { read_in_code result
-        ≡ spec.taken (takes_in_code taking) (words_of operands.entry.rest.now) }
+    ensures { read_in_code result ≡ taken_operand taking operands.entry.rest }
 {
     let mut operands = operands;
     match (operands.next(), operands.next()) {

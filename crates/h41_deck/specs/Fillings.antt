@@ -42,6 +42,11 @@ abbrev pub values_in : Result (Vec ℕ Global) Refusal → Result (List ℕ) Ref
 values_in (Ok words) = Ok words.items
 values_in (Err refusal) = Err refusal
 
+-- of a source
+abbrev pub FillsFrom : ℕ → List ℕ → Result (Vec ℕ Global) Refusal → Type 0
+FillsFrom page source made = Fills (Some Asm) page source (values_in made)
+
+-- of a block
 abbrev pub FillsBy : TakenBlock → ℕ → Result (Vec ℕ Global) Refusal → Type 0
 FillsBy block page made =
     (values : List ℕ) × (judgement block ≡ Ok values) × Fills block.kind page values (values_in made)

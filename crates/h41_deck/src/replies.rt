@@ -185,7 +185,7 @@ fn list<W: Sink>(
 ) -> Result<Outcome, CommandFault>
     requires { W.failed writer.old ≡ false }
     ensures outcome { IfOk result (EndsAs (result_err (listed bench.now.nut.pages address count))) }
-    ensures written { Tells result W.contents writer.old writer.new (lists address count bench.now) }
+    ensures text { Tells result W.contents writer.old writer.new (lists address count bench.now) }
     ensures mark { result ≡ Err CommandFault.WriteFault → W.failed writer.new ≡ true }
     ensures clear { result ≢ Err CommandFault.WriteFault → W.failed writer.new ≡ false }
 {

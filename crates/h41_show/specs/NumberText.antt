@@ -97,6 +97,10 @@ notation_text Fixed format size = if is_fixed format.digits size then fixed_text
 notation_text Scientific format size = scientific_text format size
 notation_text Engineering format size = scientific_text format size
 
+-- in that of the format
+abbrev pub size_text : Format → ℕ → List ℕ
+size_text format size = notation_text format.notation format size
+
 -- a minus in front of a negative number, and no blank in front of another
 abbrev pub sign_text : Sign → List ℕ
 sign_text Plus = []
@@ -104,4 +108,4 @@ sign_text Minus = 0x2D ∷ []
 
 -- a number
 unfoldable pub number_text : Format → ℤ → List ℕ
-number_text format value = sign_text (sign_of value) ++ notation_text format.notation format (unsigned_abs value)
+number_text format value = sign_text (sign_of value) ++ size_text format (unsigned_abs value)

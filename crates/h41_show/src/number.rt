@@ -55,7 +55,7 @@ fn push_sign(text: &mut Text, sign: Sign)
 /// Appends zero.
 fn push_zero(text: &mut Text, format: Format)
     requires { array_string_len text.old ≤ 1 }
-    ensures { text.new.bytes ≡ text.old.bytes ++ spec.notation_text format.notation format 0 }
+    ensures { text.new.bytes ≡ text.old.bytes ++ spec.size_text format 0 }
 {
     match format.notation {
         Notation::Fixed => {
@@ -72,7 +72,7 @@ fn push_zero(text: &mut Text, format: Format)
 /// Appends a size above zero.
 fn push_size(text: &mut Text, x: Size, format: Format)
     requires { array_string_len text.old ≤ 1 }
-    ensures { text.new.bytes ≡ text.old.bytes ++ spec.notation_text format.notation format (size x) }
+    ensures { text.new.bytes ≡ text.old.bytes ++ spec.size_text format (size x) }
 {
     match format.notation {
         Notation::Fixed => match fixed(x, format.digits) {

@@ -2,7 +2,7 @@
 
 ghost use Rattle.std.specs.Prelude.{◌≡◌, ◌+◌, ◌-◌, ◌*◌, ◌^◌, ◌<◌, ◌≤◌};
 ghost use Rattle.h41_decimal.specs.Units.{size};
-ghost use Rattle.h41_show.specs.Rounding as spec;
+ghost use Rattle.h41_show.specs.Rounding.{nearest, rounded, worth_at};
 
 use h41_decimal::Size;
 
@@ -21,7 +21,7 @@ pub(crate) fn power_of_ten(power: u32) -> u64
 pub(crate) fn without_last(digits: u64, dropped: u32) -> u64
     requires digits { digits < 10 ^ 10 }
     requires dropped { dropped ≤ 10 }
-    ensures { result ≡ spec.nearest digits (10 ^ dropped) }
+    ensures { result ≡ nearest digits (10 ^ dropped) }
 {
     let step = power_of_ten(dropped);
     (digits + step / 2) / step
@@ -40,7 +40,7 @@ pub(crate) struct Rounded {
 /// A size, rounded to its first digit and so many behind it. Where that would give exponent 100, the others are cut off instead.
 pub(crate) fn round(x: Size, decimals: u32) -> Rounded
     requires { decimals ≤ 7 }
-    ensures value { spec.worth_at result.digits result.above_least decimals ≡ spec.rounded decimals (size x) }
+    ensures value { worth_at result.digits result.above_least decimals ≡ rounded decimals (size x) }
     ensures least { 10 ^ decimals ≤ result.digits }
     ensures most { result.digits < 10 ^ (decimals + 1) }
     ensures exponent { result.above_least ≤ 198 }

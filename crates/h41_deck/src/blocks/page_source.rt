@@ -21,12 +21,11 @@ pub struct PageSource {
 }
 
 impl PageSource {
-    ghost use Rattle.std.specs.Prelude.{◌≡◌, ◌≤◌, [], IfOk, Some, vec_len};
+    ghost use Rattle.std.specs.Prelude.{◌≡◌, ◌≤◌, [], IfOk, vec_len};
     ghost use Rattle.h41_pages.specs.Addresses.{page_size};
-    ghost use Rattle.h41_deck.specs.declared.commands.BlockKind.TheVariants.{Asm};
     ghost use Rattle.h41_deck.specs.Blocks.{block_source};
     ghost use Rattle.h41_deck.specs.Contents.{TakesSource, source_in};
-    ghost use Rattle.h41_deck.specs.Fillings.{Fills, values_in};
+    ghost use Rattle.h41_deck.specs.Fillings.{FillsFrom};
 
     /// A source of no lines.
     pub fn new(alloc: Global) -> Self
@@ -55,7 +54,7 @@ impl PageSource {
         alloc: Global,
         page: u8,
     ) -> Result<Result<Vec<u16>, Refusal>, AllocError>
-        ensures words { IfOk result (λ made. Fills (Some Asm) page (source_in self) (values_in made)) }
+        ensures words { IfOk result (FillsFrom page (source_in self)) }
         ensures bound { IfOk result (λ made. IfOk made (λ words. vec_len words ≤ page_size)) }
     {
         match assemble(

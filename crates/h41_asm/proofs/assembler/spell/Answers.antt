@@ -39,7 +39,7 @@ loop-line-preserved c =
             count = omega (arith, count, kept.count);
             faults = rw moved (sym (faults_behind labels c.loop-line.number address line rest said read own.ok) ∙ ap (reference_faults labels c.loop-line.number address) (sym left) ∙ kept.faults);
             spelled = λ others spelled.
-                let more = words_behind labels address line rest said c.loop-line.words.items w.push_statement.new.words.items others read ready.2 own.words (rw moved at spelled) in
+                let more = words_behind labels address line rest said c.loop-line.words.items w.push_statement.new.words.items others read ready.2 own.own (rw moved at spelled) in
                 rw (w.words-is, more.1) (kept.spelled more.0 (rw left more.2));
           }
       | in_default w ↦ not_ready labels address line rest c.read.result (c.read.ensures ∙ ap (λ (line : SourceLine). reading line.code) c.read_line.ensures) w.in_default.not-Ok ready

@@ -30,7 +30,7 @@ pub returns-in-List-clause-reply : goal.returns-in-List-clause-reply
 returns-in-List-clause-reply g c =
     let s = c.args.bench.now in
     let reply = list_reply (judgement c.args.block) c.args.command c.in-List.address c.in-List.count s c.in-List.is c.in_default.ensures in
-    tells_made _ (listed s.nut.pages c.in-List.address c.in-List.count) s g.W.Sink.contents _ _ c.list.result reply c.list.ensures.outcome c.list.ensures.written
+    tells_made _ (listed s.nut.pages c.in-List.address c.in-List.count) s g.W.Sink.contents _ _ c.list.result reply c.list.ensures.outcome c.list.ensures.text
 
 pub returns-in_err-print_ending-2-clause-reply : goal.returns-in_err-print_ending-2-clause-reply
 returns-in_err-print_ending-2-clause-reply g c =

@@ -115,11 +115,12 @@ decks to try, and tools/where tells which lines of a deck were refused.";
 /// What help tells of `asm`, behind the usage.
 const SOURCES: &str = "\
 A source is a text file of instructions, one a line, as HP's VASM listings spell
-them. A label ends with a colon, and a comment begins with a semicolon. Such as:
+them. A label ends with a colon, a reference to it begins with one, and a comment
+begins with a semicolon. Such as:
 
     BACK: LDI 123
           C=C+1 S&X
-          JNC BACK ; until the carry is set
+          JNC :BACK ; until the carry is set
           RTN
 
 The words of it are printed, each three hexadecimal digits on a line of its own.

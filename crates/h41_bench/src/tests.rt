@@ -1,5 +1,6 @@
-//! Rows that no clause says: command lines, decks, and the statuses of whole runs.
+//! Rows that no clause says: command lines, decks, sources and lists of words, and the statuses of whole runs.
 
 mod arguments;
 mod decks;
 mod ends;
+mod tasks;

@@ -1,6 +1,6 @@
 //! Rows of command lines.
 
-use crate::arguments::read_words;
+use crate::arguments::{Task, read_words};
 use std::alloc::Global;
 use std::process::Abort;
 use std::test::Fail;
@@ -14,6 +14,49 @@ fn runs_a_file(rt: HostRuntime) -> Result<(), Fail> {
         }
     }
     Ok(())
+}
+
+#[test]
+fn takes_an_origin(rt: HostRuntime) {
+    let rows: [(&[&str], u16); 7] = [
+        (&["bench", "asm", "f"], 0x8000),
+        (&["bench", "asm", "--origin", "9aF0", "f"], 0x9AF0),
+        (&["bench", "asm", "f", "--origin", "0000"], 0),
+        (&["bench", "asm", "--origin=FFFF", "f"], 0xFFFF),
+        (&["bench", "asm", "f", "--origin=9000"], 0x9000),
+        (&["bench", "asm", "--origin=9000", "--", "f"], 0x9000),
+        (&["bench", "asm", "--", "f"], 0x8000),
+    ];
+    for (words, origin) in rows {
+        match read_words(rt.alloc(), words) {
+            Ok(job) => {
+                assert_eq!(&rt; job.task, Task::Assemble { origin }, "at {words:?}");
+                assert!(&rt; job.file == "f", "at {words:?}");
+            }
+            Err(ending) => assert!(&rt; false, "at {words:?}: {ending:?}"),
+        }
+    }
+    match read_words(rt.alloc(), &["bench", "dis", "-", "--origin", "C000"]) {
+        Ok(job) => {
+            assert_eq!(&rt; job.task, Task::List { origin: 0xC000 });
+            assert!(&rt; job.file == "-");
+        }
+        Err(ending) => assert!(&rt; false, "{ending:?}"),
+    }
+}
+
+#[test]
+fn refuses_an_origin(rt: HostRuntime) {
+    for digits in ["900", "09000", "+900", "900G", "", " 900", "0x90"] {
+        match read_words(rt.alloc(), &["bench", "dis", "--origin", digits, "f"]) {
+            Ok(job) => assert!(&rt; false, "at {digits:?}: {job:?}"),
+            Err(ending) => assert_eq!(&rt; ending.status(), 2, "at {digits:?}"),
+        }
+    }
+    match read_words(rt.alloc(), &["bench", "asm", "--origin"]) {
+        Ok(job) => assert!(&rt; false, "{job:?}"),
+        Err(ending) => assert_eq!(&rt; ending.status(), 2),
+    }
 }
 
 /// The words end the program with the status, and the text shows how `bench` is used.
@@ -32,8 +75,10 @@ fn prints_help(rt: HostRuntime) {
     for words in [["bench", "help"], ["bench", "--help"], ["bench", "-h"]] {
         ends(&rt, rt.alloc(), &words, 0);
     }
-    for words in [["run", "--help"], ["run", "-h"], ["help", "run"]] {
-        ends(&rt, rt.alloc(), &["bench", words[0], words[1]], 0);
+    for command in ["run", "asm", "dis"] {
+        for words in [[command, "--help"], [command, "-h"], ["help", command]] {
+            ends(&rt, rt.alloc(), &["bench", words[0], words[1]], 0);
+        }
     }
 }
 
@@ -52,6 +97,23 @@ fn refuses_other_words(rt: HostRuntime) {
     ] {
         ends(&rt, rt.alloc(), &["bench", words[0], words[1]], 2);
     }
+    for command in ["asm", "dis"] {
+        ends(&rt, rt.alloc(), &["bench", command], 2);
+        ends(&rt, rt.alloc(), &["bench", command, "--origin", "9000"], 2);
+        ends(
+            &rt,
+            rt.alloc(),
+            &["bench", command, "--origin=9000", "--origin=9000", "a"],
+            2,
+        );
+        ends(
+            &rt,
+            rt.alloc(),
+            &["bench", command, "a", "--origin=9000", "b"],
+            2,
+        );
+    }
+    ends(&rt, rt.alloc(), &["bench", "run", "a", "--origin=9000"], 2);
     ends(&rt, rt.alloc(), &["bench", "run", "a", "b"], 2);
     ends(&rt, rt.alloc(), &["bench", "run", "--", "a", "b"], 2);
 }

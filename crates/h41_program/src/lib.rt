@@ -1,0 +1,9 @@
+//! Program memory of the HP-41: the lines of the programs in memory, found, inserted, deleted and loaded, and the number of
+//! data registers above them.
+#![tactic(auto)]
+
+mod listed_line;
+mod refusal;
+
+pub use listed_line::ListedLine;
+pub use refusal::Refusal;

@@ -3,6 +3,7 @@ pub mod Lines
 pub mod Packing
 pub mod ProgramBytes
 pub mod ProgramLines
+pub mod Reading
 pub mod Rewriting
 pub mod Searches
 pub mod Size

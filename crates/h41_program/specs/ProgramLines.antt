@@ -1,8 +1,7 @@
 -- Program memory as a list of lines, each with its position: they are read from a position on, nulls passed over, up to the
 -- first .END. and with it, or up to bytes that are no line. The form of memory is HP's; what is no line is this project's choice.
-use Rattle.std.specs.Prelude.{◌≡◌, ◌≢◌, ℕ, ◌+◌, ◌-◌, ◌<◌, ◌≤◌, Bool, true, false, IsTrue, IsFalse, MatchBool, List, [], ◌∷◌, length, drop, slice_index, slice_range, nat_lt, ◌==◌, if◌then◌else◌, Result, Ok, Err}
+use Rattle.std.specs.Prelude.{◌≡◌, ◌≢◌, ℕ, ◌+◌, ◌<◌, ◌≤◌, IsTrue, IsFalse, MatchBool, List, [], ◌∷◌, length, drop, slice_index, slice_range, nat_lt, ◌==◌, if◌then◌else◌, Result, Ok, Err}
 use Rattle.h41_codes.specs.ByteGrammar.{spelling, Begins}
-use Rattle.h41_codes.specs.declared.line.Line.{Line}
 use Rattle.h41_codes.specs.declared.line.Line.TheVariants.{Null}
 use Rattle.h41_ram.specs.RegisterMap.{RegisterMap, is_sound}
 use Rattle.h41_program.specs.declared.listed_line.ListedLine.{ListedLine}

@@ -1,5 +1,5 @@
 -- Where programs begin and labels stand, as filters of the list of lines.
-use Rattle.std.specs.Prelude.{◌≡◌, ℕ, Bool, not, ◌&&◌, List, find, reverse, nat_lt, Option, Some, None}
+use Rattle.std.specs.Prelude.{◌≡◌, ℕ, not, ◌&&◌, List, find, reverse, nat_lt, Option}
 use Rattle.std.specs.List.{take_while}
 use Rattle.std.specs.Option.{option_map, option_map_or, option_or}
 use Rattle.h41_ram.specs.RegisterMap.{RegisterMap}

@@ -47,6 +47,6 @@ resized memory size = record {
 abbrev pub size_outcome : RegisterMap → ℕ → Result (RegisterMap × Unit {0}) Refusal
 size_outcome memory size =
     if nat_lt size (length memory.main) then
-      (if nat_lt (moved_curtain memory size + end_of memory) (main_start + curtain_of memory) then Err NoRoom
-       else Ok (resized memory size, tt))
+    (if nat_lt (moved_curtain memory size + end_of memory) (main_start + curtain_of memory) then Err NoRoom
+    else Ok (resized memory size, tt))
     else Err SizeTooLarge

@@ -2,8 +2,11 @@
 //! data registers above them.
 #![tactic(auto)]
 
+mod kinds;
 mod listed_line;
+mod reading;
 mod refusal;
 
 pub use listed_line::ListedLine;
+pub use reading::{line_at, next};
 pub use refusal::Refusal;

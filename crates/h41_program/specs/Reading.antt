@@ -1,0 +1,26 @@
+-- What the functions that read program memory promise one another.
+use Rattle.std.specs.Prelude.{◌≡◌, ℕ, ◌<◌, ◌≤◌, IsTrue, IsFalse}
+use Rattle.h41_ram.specs.RegisterMap.{RegisterMap}
+use Rattle.h41_program.specs.declared.listed_line.ListedLine.{ListedLine}
+use Rattle.h41_program.specs.declared.reading.Found.{Found}
+use Rattle.h41_program.specs.Lines.{is_final_end}
+use Rattle.h41_program.specs.ProgramBytes.{byte_count, program_bytes, final_position}
+use Rattle.h41_program.specs.ProgramLines.{FirstFrom, NoneFrom, behind}
+
+-- this is the first line from a position on, and no other is
+pub record IsFirst (memory : RegisterMap) (at : ℕ) (found : Found) : Type 0 where
+  pub first : FirstFrom (program_bytes memory) (final_position memory) at found.listed
+  pub one : (other : ListedLine) → FirstFrom (program_bytes memory) (final_position memory) at other → other ≡ found.listed
+  pub behind : found.behind ≡ behind found.listed
+  pub inside : found.behind ≤ byte_count memory
+  pub onward : at < found.behind
+
+-- memory has no line from a position on
+abbrev pub HasNoLine : RegisterMap → ℕ → Type 0
+HasNoLine memory at = NoneFrom (program_bytes memory) (final_position memory) at
+
+-- the position of the line behind a line; that of .END. is its own, and where no line follows it is the byte behind
+pub record FollowsAt (memory : RegisterMap) (first : Found) (position : ℕ) : Type 0 where
+  pub final : IsTrue (is_final_end first.listed.line) → position ≡ first.listed.position
+  pub second : IsFalse (is_final_end first.listed.line) → (second : ListedLine) → FirstFrom (program_bytes memory) (final_position memory) first.behind second → position ≡ second.position
+  pub none : IsFalse (is_final_end first.listed.line) → HasNoLine memory first.behind → position ≡ first.behind

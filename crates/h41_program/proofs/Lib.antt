@@ -1,4 +1,5 @@
 pub mod LineLengths
+pub mod Mains
 pub mod Memory
 pub mod FirstLines
 pub mod Sound

@@ -14,7 +14,7 @@ use Rattle.h41_program.specs.ProgramBytes.{byte_count, program_byte, program_byt
 use Rattle.h41_program.specs.declared.reading.Found.{Found}
 use Rattle.h41_program.specs.Lines.{is_final_end}
 use Rattle.h41_program.specs.ProgramLines.{line_bytes, FirstFrom, Reads, behind, next_of}
-use Rattle.h41_program.specs.Reading.{IsFirst, HasNoLine, FollowsAt}
+use Rattle.h41_program.specs.Reading.{HasFirst, HasNoLine, FollowsAt}
 use Rattle.h41_program.proofs.FirstLines.{line_bytes-below, line_bytes-at, Passed, stands_there, found_first}
 use Rattle.h41_program.proofs.Sound.{final_byte}
 use Rattle.h41_program.proofs.Windows.{drop-map-range, take-window, begins_count, begins_least, begins_in, begins_out}
@@ -105,12 +105,11 @@ module _ {E : Type 0} (one : OneLine) (memory : RegisterMap) (sound : is_sound m
       (answer first.line (length (spelling first.line))).1
       (subst (λ (bytes : List ℕ). Begins bytes first.line (length (spelling first.line))) same (begins_in taken first.line (length (spelling first.line)) begins))
 
-  line_inside : (line : Line) (size : ℕ) → Begins taken line size → p + size ≤ byte_count memory
-  line_inside line size begins =
-      omega (arith, line_takes (program_bytes memory) (final_position memory) p line size passed.to passed.inside begins, length-map-range_with_len (program_byte memory) 0 (byte_count memory))
+  line_inside : (line : Line) (size : ℕ) → Begins taken line size → p + size ≤ length (program_bytes memory)
+  line_inside line size begins = line_takes (program_bytes memory) (final_position memory) p line size passed.to passed.inside begins
 
   pub is_first : (line : Line) (size next : ℕ) → result ≡ Ok (line, size) → next ≡ p + size
-      → IsFirst memory at (record { listed = record { position = p; line = line }; behind = next })
+      → HasFirst memory at (record { listed = record { position = p; line = line }; behind = next })
   is_first line size next is sum =
       let begins = decoded line size is in
       let long = begins_count taken line size begins in
@@ -123,7 +122,7 @@ module _ {E : Type 0} (one : OneLine) (memory : RegisterMap) (sound : is_sound m
             let same_line = ok_line first.line line (length (spelling first.line)) size same_result in
             (λ i. record { position = here i; line = same_line i });
         behind = sum ∙ ap (λ n. p + n) long;
-        inside = subst (λ (n : ℕ). n ≤ byte_count memory) (sym sum) (line_inside line size begins);
+        inside = subst (λ (n : ℕ). n ≤ length (program_bytes memory)) (sym sum) (line_inside line size begins);
         onward = omega (arith, sum, least, passed.from);
       }
 
@@ -164,14 +163,14 @@ module _ {E : Type 0} (one : OneLine) (memory : RegisterMap) (sound : is_sound m
       ∙ sym looked.bytes
 
   pub looked_first : (line : Line) (size next : ℕ) → result ≡ Ok (line, size) → next ≡ p + size
-      → IsFirst memory at (record { listed = record { position = p; line = line }; behind = next })
+      → HasFirst memory at (record { listed = record { position = p; line = line }; behind = next })
   looked_first = is_first one memory sound count at p passed (stops_there memory p sound count inside stops) window same result answer
 
   pub looked_none : (error : E) → result ≡ Err error → HasNoLine memory at
   looked_none = none_first one memory sound count at p passed (stops_there memory p sound count inside stops) window same result answer
 
 -- the list of lines from a position on, by its first one
-pub rest_of : (memory : RegisterMap) (at : ℕ) (found : Found) (lines : List ListedLine) → IsFirst memory at found
+pub rest_of : (memory : RegisterMap) (at : ℕ) (found : Found) (lines : List ListedLine) → HasFirst memory at found
     → Reads (program_bytes memory) (final_position memory) at lines
     → (rest : List ListedLine) × (lines ≡ found.listed ∷ rest)
     × MatchBool (is_final_end found.listed.line) (rest ≡ []) (Reads (program_bytes memory) (final_position memory) found.behind rest)

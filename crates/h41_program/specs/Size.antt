@@ -1,5 +1,5 @@
 -- Memory with another number of data registers: the curtain moves, and with it the program and the statistics registers.
-use Rattle.std.specs.Prelude.{ℕ, ◌+◌, ◌-◌, ◌%◌, List, map, length, slice_set, nat_lt, if◌then◌else◌, Result, Ok, Err}
+use Rattle.std.specs.Prelude.{◌≡◌, ℕ, ◌<◌, ◌≤◌, ◌+◌, ◌-◌, ◌%◌, List, map, length, slice_set, nat_lt, if◌then◌else◌, Result, Ok, Err}
 use Rattle.h41_ram.specs.RegisterMap.{RegisterMap, main_start, top_of, c_address, zeros, register_at, c_of, curtain_of, end_of, three_digits, with_three_places}
 use Rattle.h41_program.specs.declared.refusal.Refusal.{Refusal}
 use Rattle.h41_program.specs.declared.refusal.Refusal.TheVariants.{NoRoom, SizeTooLarge}
@@ -50,3 +50,12 @@ size_outcome memory size =
     (if nat_lt (moved_curtain memory size + end_of memory) (main_start + curtain_of memory) then Err NoRoom
     else Ok (resized memory size, tt))
     else Err SizeTooLarge
+
+-- an end and a curtain to which the program of a memory moves
+pub record IsMove (memory : RegisterMap) (curtain end : ℕ) : Type 0 where
+  pub low : main_start ≤ end
+  pub high : curtain ≤ top_of memory
+  pub same : end + curtain_of memory ≡ curtain + end_of memory
+  pub order : end_of memory < curtain_of memory
+  pub inside : curtain_of memory ≤ top_of memory
+  pub small : top_of memory ≤ main_start + 320

@@ -6,7 +6,10 @@ mod kinds;
 mod listed_line;
 mod reading;
 mod refusal;
+mod registers;
+mod size;
 
 pub use listed_line::ListedLine;
 pub use reading::{line_at, next};
 pub use refusal::Refusal;
+pub use size::set_size;

@@ -5,7 +5,7 @@ ghost use Rattle.h41_ram.specs.RegisterMap.{is_sound};
 ghost use Rattle.h41_program.specs.ProgramBytes.{byte_count, program_byte, program_bytes};
 ghost use Rattle.h41_program.specs.ProgramBytes as spec;
 ghost use Rattle.h41_program.specs.ProgramLines.{line_of, next_of, AnswersFrom};
-ghost use Rattle.h41_program.specs.Reading.{IsFirst, HasNoLine, FollowsAt};
+ghost use Rattle.h41_program.specs.Reading.{HasFirst, HasNoLine, FollowsAt};
 
 use crate::kinds::is_final_end;
 use crate::listed_line::ListedLine;
@@ -103,7 +103,7 @@ fn line_limit(position: u16, last: u16) -> u16
 /// The first line from a position on.
 pub fn first_from<const REGS: usize>(ram: &Ram<REGS>, at: u16) -> Option<Found>
     requires { IsTrue (is_sound ram.now) }
-    ensures first { IfSome result (λ found. IsFirst ram.now at found) }
+    ensures first { IfSome result (λ found. HasFirst ram.now at found) }
     ensures none { IfNone result (HasNoLine ram.now at) }
 {
     byte_round_trip();

@@ -152,7 +152,8 @@ impl<const REGS: usize> Ram<REGS> {
 
     /// Writes all registers of main memory, in the order of their addresses.
     pub fn set_main_memory(&mut self, main: [Reg; REGS])
-        ensures { self.new ≡ record self.old { main = main.entry } }
+        ensures main { self.new ≡ record self.old { main = main.entry } }
+        ensures memory { spec.IsMemory REGS self.new }
     {
         self.main = main;
     }

@@ -9,7 +9,7 @@ use Rattle.h41_program.specs.declared.listed_line.ListedLine.{ListedLine}
 use Rattle.h41_program.specs.declared.refusal.Refusal.{Refusal}
 use Rattle.h41_program.specs.declared.refusal.Refusal.TheVariants.{BrokenProgram}
 use Rattle.h41_program.specs.Lines.{is_end, is_final_end}
-use Rattle.h41_program.specs.Packing.{packed}
+use Rattle.h41_program.specs.Packing.{last_line, packed}
 use Rattle.h41_program.specs.ProgramLines.{LinesFrom, Reads, behind}
 use Rattle.h41_program.specs.Rewriting.{written, Gives}
 
@@ -25,9 +25,7 @@ before_end (first ∷ rest) =
 
 -- whether the last program of these lines has lines and no END of its own
 abbrev pub is_open : List Line → Bool
-is_open [] = false
-is_open (line ∷ []) = not (is_end line)
-is_open (line ∷ next ∷ lines) = is_open (next ∷ lines)
+is_open lines = option_map_or (λ line. not (is_end line)) (last_line lines) false
 
 -- the lines with an END behind the last program, where it has lines
 abbrev pub closed : List Line → List Line

@@ -1,5 +1,6 @@
 pub mod Edits
 pub mod Lines
+pub mod Packers
 pub mod Packing
 pub mod ProgramBytes
 pub mod ProgramLines

@@ -1,9 +1,15 @@
 -- The bytes of lines as program memory holds them: the lines' own one behind the other, a null between two numbers, and .END.
 -- in the last three bytes of the last register, with as few nulls before it as fill the registers.
-use Rattle.std.specs.Prelude.{ℕ, ◌+◌, ◌-◌, ◌%◌, ◌&&◌, List, [], ◌∷◌, ◌++◌, length, replicate, if◌then◌else◌}
+use Rattle.std.specs.Prelude.{ℕ, ◌+◌, ◌-◌, ◌%◌, ◌&&◌, List, [], ◌∷◌, ◌++◌, length, replicate, if◌then◌else◌, Option, Some, None}
 use Rattle.h41_codes.specs.ByteGrammar.{spelling}
 use Rattle.h41_codes.specs.declared.line.Line.{Line}
 use Rattle.h41_program.specs.Lines.{is_number}
+
+-- the last of lines
+abbrev pub last_line : List Line → Option Line
+last_line [] = None
+last_line (line ∷ []) = Some line
+last_line (line ∷ next ∷ lines) = last_line (next ∷ lines)
 
 -- what parts a line from those behind it: a null between two numbers
 abbrev pub gap : Line → List Line → List ℕ

@@ -4,6 +4,7 @@
 
 mod kinds;
 mod listed_line;
+mod packer;
 mod reading;
 mod refusal;
 mod registers;

@@ -1,8 +1,11 @@
+pub mod Givens
 pub mod LineLengths
+pub mod Loads
 pub mod Mains
 pub mod Memory
 pub mod FirstLines
 pub mod Packings
+pub mod Rooms
 pub mod Sound
 pub mod Walks
 pub mod Windows

@@ -77,12 +77,12 @@ line_takes bytes final p line size inside all begins = elim (cases_lt p final) [
 ]
 
 -- an answer tells one line
-ok_line : {E : Type 0} (one other : Line) (size count : ℕ) → ◌≡◌ {A = Result (Line × ℕ) E} (Ok (one, size)) (Ok (other, count)) → one ≡ other
+pub ok_line : {E : Type 0} (one other : Line) (size count : ℕ) → ◌≡◌ {A = Result (Line × ℕ) E} (Ok (one, size)) (Ok (other, count)) → one ≡ other
 ok_line one other size count same =
     let pair : (one, size) ≡ (other, count) = cc in
     ap (λ (answer : Line × ℕ). answer.0) pair
 
-no_error : {E : Type 0} (answer : Line × ℕ) (error : E) → ◌≡◌ {A = Result (Line × ℕ) E} (Ok answer) (Err error) → ⊥
+pub no_error : {E : Type 0} (answer : Line × ℕ) (error : E) → ◌≡◌ {A = Result (Line × ℕ) E} (Ok answer) (Err error) → ⊥
 no_error answer error same = cc
 
 -- a line that was decoded is the first one

@@ -65,7 +65,8 @@ reads_on bytes final at next listed rest is other reads =
 pub reads_last : (bytes : List ℕ) (final at next : ℕ) (listed : ListedLine) → IsFirst bytes final at listed next → is_final_end listed.line ≡ true
     → Reads bytes final at (listed ∷ [])
 reads_last bytes final at next listed is last =
-    (is.first, subst (λ (t : Bool). MatchBool t ([] ≡ []) (Reads bytes final (behind listed) [])) (sym last) refl)
+    let none : ◌≡◌ {A = List ListedLine} [] [] = refl in
+    (is.first, subst (λ (t : Bool). MatchBool t (◌≡◌ {A = List ListedLine} [] []) (Reads bytes final (behind listed) [])) (sym last) none)
 
 pub up_to_more : (bytes : List ℕ) (final from at next : ℕ) (before : List ListedLine) (listed : ListedLine) → UpTo bytes final from before at
     → IsFirst bytes final at listed next → is_final_end listed.line ≡ false → UpTo bytes final from (before ++ listed ∷ []) next

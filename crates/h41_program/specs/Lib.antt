@@ -1,5 +1,6 @@
 pub mod Edits
 pub mod Lines
+pub mod LoadSteps
 pub mod Packers
 pub mod Packing
 pub mod ProgramBytes

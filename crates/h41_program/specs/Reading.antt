@@ -2,6 +2,7 @@
 use Rattle.std.specs.Prelude.{◌≡◌, ℕ, ◌<◌, ◌≤◌, IsTrue, IsFalse, List, length}
 use Rattle.h41_ram.specs.RegisterMap.{RegisterMap}
 use Rattle.h41_program.specs.declared.listed_line.ListedLine.{ListedLine}
+use Rattle.h41_program.specs.declared.given.Taken.{Taken}
 use Rattle.h41_program.specs.declared.reading.Found.{Found}
 use Rattle.h41_program.specs.Lines.{is_final_end}
 use Rattle.h41_program.specs.ProgramBytes.{program_bytes, final_position}
@@ -28,3 +29,11 @@ pub record FollowsAt (memory : RegisterMap) (first : Found) (position : ℕ) : T
   pub final : IsTrue (is_final_end first.listed.line) → position ≡ first.listed.position
   pub second : IsFalse (is_final_end first.listed.line) → (second : ListedLine) → FirstFrom (program_bytes memory) (final_position memory) first.behind second → position ≡ second.position
   pub none : IsFalse (is_final_end first.listed.line) → HasNoLine memory first.behind → position ≡ first.behind
+
+-- bytes have this line first from a position on
+abbrev pub BytesHaveFirst : List ℕ → ℕ → Taken → Type 0
+BytesHaveFirst bytes at taken = IsFirst bytes (length bytes) at (record { position = taken.position; line = taken.line }) taken.behind
+
+-- bytes have no line from a position on
+abbrev pub BytesHaveNone : List ℕ → ℕ → Type 0
+BytesHaveNone bytes at = NoneFrom bytes (length bytes) at

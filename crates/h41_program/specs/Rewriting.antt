@@ -1,9 +1,9 @@
 -- Memory with another program in it: the registers below the curtain hold the new bytes, and c the new end. Registers that leave the
 -- program become zero (this project's choice), all others are as they were.
-use Rattle.std.specs.Prelude.{◌≡◌, ℕ, ◌+◌, ◌-◌, ◌*◌, ◌/◌, List, map, length, slice_set, nat_lt, if◌then◌else◌, Result, Ok, Err}
+use Rattle.std.specs.Prelude.{◌≡◌, ℕ, ◌≤◌, ◌+◌, ◌-◌, ◌*◌, ◌/◌, List, map, length, slice_set, nat_lt, if◌then◌else◌, Result, Ok, Err}
 use Rattle.std.specs.List.{range_with_len}
 use Rattle.h41_codes.specs.declared.line.Line.{Line}
-use Rattle.h41_ram.specs.RegisterMap.{RegisterMap, main_start, c_address, zeros, register_at, c_of, curtain_of, end_of, digits_from, seven_from, with_three_places}
+use Rattle.h41_ram.specs.RegisterMap.{RegisterMap, main_start, top_of, c_address, zeros, register_at, c_of, curtain_of, end_of, digits_from, seven_from, with_three_places}
 use Rattle.h41_program.specs.declared.refusal.Refusal.{Refusal}
 use Rattle.h41_program.specs.declared.refusal.Refusal.TheVariants.{NoRoom}
 use Rattle.h41_program.specs.Packing.{packing}
@@ -48,3 +48,11 @@ written memory lines =
 abbrev pub Gives : {A : Type 0} → RegisterMap → RegisterMap → Result A Refusal → Result (RegisterMap × A) Refusal → Type 0
 Gives old new result (Ok outcome) = (result ≡ Ok outcome.1) × (new ≡ outcome.0)
 Gives old new result (Err refusal) = (result ≡ Err refusal) × (new ≡ old)
+
+-- where a program of so many bytes ends that fills its registers
+pub record IsPlace (memory : RegisterMap) (count end : ℕ) : Type 0 where
+  pub size : 7 * (curtain_of memory - end) ≡ count
+  pub low : main_start ≤ end
+  pub order : end ≤ curtain_of memory
+  pub inside : curtain_of memory ≤ top_of memory
+  pub small : top_of memory ≤ main_start + 320

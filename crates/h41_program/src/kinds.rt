@@ -13,8 +13,8 @@ pub fn is_final_end(line: Line) -> bool
 }
 
 /// Whether a line is `END`; `.END.` is none.
-pub fn is_end(line: Line) -> bool
-    ensures { result ≡ spec.is_end line }
+pub fn is_end(line: &Line) -> bool
+    ensures { result ≡ spec.is_end line.now }
 {
     matches!(line, Line::End(_, _))
 }

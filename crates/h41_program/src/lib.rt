@@ -2,14 +2,19 @@
 //! data registers above them.
 #![tactic(auto)]
 
+mod given;
 mod kinds;
 mod listed_line;
+mod loading;
+
 mod packer;
 mod reading;
 mod refusal;
 mod registers;
+mod rewriting;
 mod size;
 
+pub use loading::load;
 pub use listed_line::ListedLine;
 pub use reading::{line_at, next};
 pub use refusal::Refusal;

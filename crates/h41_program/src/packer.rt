@@ -1,16 +1,21 @@
 //! Lines packed one behind the other.
-ghost use Rattle.std.specs.Prelude.{◌≡◌, ◌≢◌, ◌+◌, ◌∷◌, ◌++◌, [], ◌<◌, ◌≤◌, List, length, IsTrue, IsFalse, not, false};
+ghost use Rattle.std.specs.Prelude.{◌≡◌, ◌≢◌, ◌+◌, ◌∷◌, ◌++◌, [], ◌<◌, ◌≤◌, List, length, IsTrue, IsFalse, not, false, replicate};
 ghost use Rattle.std.specs.Option.{option_map_or};
 ghost use Rattle.h41_program.specs.Lines.{is_number, is_end};
 ghost use Rattle.h41_codes.specs.ByteGrammar.{spelling, IsLine};
 ghost use Rattle.h41_codes.specs.declared.line.Line.{Line as Spoken};
-ghost use Rattle.h41_program.specs.Edits.{closed};
+ghost use Rattle.h41_program.specs.Edits.{answered, closed};
+ghost use Rattle.h41_program.specs.Rewriting.{Gives, written};
+ghost use Rattle.h41_ram.specs.RegisterMap.{is_sound};
 ghost use Rattle.h41_program.specs.Packers.{Packs, Pushes, parting};
-ghost use Rattle.h41_program.specs.Packing.{packed};
+ghost use Rattle.h41_program.specs.Packing.{filler, written_end};
 
 use crate::kinds::{is_end, is_number};
+use crate::refusal::Refusal;
+use crate::rewriting::rewrite;
 use arrayvec::ArrayVec;
 use h41_codes::{EndMarks, Line, Link, encode};
+use h41_ram::{MAIN_START, Ram};
 
 /// The most bytes of lines: with `.END.` they fill the largest memory.
 const MOST: usize = 2237;
@@ -69,6 +74,23 @@ impl Packer {
         }
     }
 
+    /// Writes the lines into program memory. 16 where they would pass below main memory.
+    pub fn write<const REGS: usize>(self, ram: &mut Ram<REGS>) -> Result<(), Refusal>
+        requires { IsTrue (is_sound ram.old) }
+        ensures { (lines : List Spoken) → Packs self lines → Gives ram.old ram.new result (answered tt (written ram.old lines)) }
+    {
+        let Packer { bytes, full, .. } = self;
+        let curtain = ram.curtain();
+        let room = usize::from(curtain) - MAIN_START;
+        if full || bytes.len() + 3 > 7 * room {
+            return Err(Refusal::NoRoom);
+        }
+        let program = filled(bytes);
+        let registers = program.len() / 7;
+        rewrite(ram, program.as_slice(), curtain - registers as u16);
+        Ok(())
+    }
+
     /// Whether there are lines and the last is a number.
     fn ends_with_number(&self) -> bool
         ensures { result ≡ option_map_or is_number self.now.last false }
@@ -83,7 +105,7 @@ impl Packer {
     fn is_open(&self) -> bool
         ensures { result ≡ option_map_or (λ line. not (is_end line)) self.now.last false }
     {
-        match self.last {
+        match &self.last {
             Some(line) => !is_end(line),
             None => false,
         }
@@ -119,4 +141,20 @@ impl Packer {
             self.bytes.push(*byte);
         }
     }
+}
+
+/// Bytes of lines with the nulls behind them that fill the registers, and `.END.` as it is written.
+fn filled(lines: Bytes) -> Bytes
+    requires { length lines.items ≤ 2237 }
+    ensures { result.items ≡ lines.items ++ replicate (filler (length lines.items)) 0x00 ++ written_end }
+{
+    let mut bytes = lines;
+    let nulls = 6 - (bytes.len() + 2) % 7;
+    for _null in 0..nulls {
+        bytes.push(0x00);
+    }
+    bytes.push(0xC0);
+    bytes.push(0x00);
+    bytes.push(0x20);
+    bytes
 }

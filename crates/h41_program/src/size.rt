@@ -2,11 +2,11 @@
 ghost use Rattle.std.specs.Prelude.{◌≡◌, ◌+◌, ◌-◌, ◌<◌, ◌≤◌, IsTrue};
 ghost use Rattle.h41_ram.specs.RegisterMap.{IsMemory, is_sound, curtain_of, top_of};
 ghost use Rattle.h41_program.specs.Rewriting.{Gives};
-ghost use Rattle.h41_program.specs.Rewriting as spec;
 ghost use Rattle.h41_program.specs.Size as place;
 ghost use Rattle.h41_program.specs.Size.{IsMove, resized, resized_c, resized_register, size_outcome};
 
 use crate::refusal::Refusal;
+use crate::rewriting::free_register;
 use crate::registers::{
     ADDRESSES, C, CURTAIN_PLACE, END_PLACE, STATISTICS_PLACE, address_at, with_address,
 };
@@ -73,17 +73,6 @@ fn moved_register<const REGS: usize>(ram: &Ram<REGS>, curtain: u16, end: u16, ad
         ram.read(address + ram.end_register() - end)
     } else {
         data_register(ram, address - curtain)
-    }
-}
-
-/// A register below the end: what stood there below the former end, else zero.
-pub fn free_register<const REGS: usize>(ram: &Ram<REGS>, address: u16) -> Reg
-    ensures { result ≡ spec.free_register ram.now address }
-{
-    if address < ram.end_register() {
-        ram.read(address)
-    } else {
-        Reg::zero()
     }
 }
 

@@ -1,15 +1,13 @@
 -- The lines of bytes that are given.
-use Rattle.std.proofs.Common.{◌≡◌, ◌≢◌, ℕ, ◌+◌, ◌-◌, ◌<◌, ◌≤◌, ◌↔◌, List, [], ◌∷◌, length, take, drop, get_or, refl, sym, ◌∙◌, ap, subst, arith, inl, inr, Result, Ok, Err}
-use Rattle.std.specs.Prelude.{slice_range}
+use Rattle.std.proofs.Common.{◌≡◌, ◌≢◌, ℕ, ◌+◌, ◌-◌, ◌<◌, ◌≤◌, List, length, drop, get_or, sym, ◌∙◌, ap, subst, arith, inl, inr, Result, Ok, Err}
 use Rattle.std.proofs.lemmas.List.{take_all, length-drop}
 use Rattle.std.proofs.lemmas.Bool.{cases_lt}
 use Rattle.h41_codes.specs.ByteGrammar.{spelling, Begins, AnswersLine}
 use Rattle.h41_codes.specs.ByteLaws.{OneLine}
 use Rattle.h41_codes.specs.declared.line.Line.{Line}
 use Rattle.h41_program.specs.declared.listed_line.ListedLine.{ListedLine}
-use Rattle.h41_program.specs.declared.given.Taken.{Taken}
-use Rattle.h41_program.specs.ProgramLines.{line_bytes, FirstFrom, NoneFrom, behind}
-use Rattle.h41_program.specs.Reading.{IsFirst, BytesHaveFirst, BytesHaveNone}
+use Rattle.h41_program.specs.ProgramLines.{line_bytes, FirstFrom}
+use Rattle.h41_program.specs.Reading.{BytesHaveFirst, BytesHaveNone}
 use Rattle.h41_program.proofs.FirstLines.{line_bytes-below, line_bytes-at, Passed, stands_there, found_first}
 use Rattle.h41_program.proofs.Memory.{ok_line, no_error}
 use Rattle.h41_program.proofs.Windows.{begins_count, begins_least}
@@ -26,7 +24,6 @@ line_bytes-all bytes position inside = elim (cases_lt position (length bytes)) [
 module _ {E : Type 0} (one : OneLine) (bytes : List ℕ) (at p : ℕ) (from : at ≤ p) (to : p ≤ length bytes)
     (nulls : (k : ℕ) → at ≤ k → k < p → get_or bytes k 0 ≡ 0) (stop : p < length bytes → get_or bytes p 0 ≢ 0)
     (result : Result (Line × ℕ) E) (answer : AnswersLine result (drop p bytes)) where
-
   passed : Passed bytes (length bytes) at p
   passed = record { from = from; to = to; nulls = nulls; stop = stop; inside = omega arith }
 

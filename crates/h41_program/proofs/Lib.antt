@@ -1,5 +1,6 @@
 pub mod Givens
 pub mod LineLengths
+pub mod LoadSteps
 pub mod Loads
 pub mod Mains
 pub mod Memory

@@ -1,5 +1,5 @@
 -- Lines that are loaded, of which the last may be dropped.
-use Rattle.std.proofs.Common.{◌≡◌, ℕ, ◌+◌, ◌<◌, ◌≤◌, Bool, true, false, List, [], ◌∷◌, ◌++◌, length, drop, map, refl, sym, ◌∙◌, ap, subst, arith, append_assoc, append-nil, Option, Some, None, Result, Ok, Err}
+use Rattle.std.proofs.Common.{◌≡◌, ℕ, ◌≤◌, Bool, true, false, List, [], ◌∷◌, ◌++◌, length, drop, refl, sym, ◌∙◌, ap, subst, arith, append_assoc, append-nil, Option, Some, None, Result, Ok, Err}
 use Rattle.std.specs.Prelude.{◌||◌, ◌==◌, if◌then◌else◌, MatchOption, IsOkAnd}
 use Rattle.std.specs.List.{list_all}
 use Rattle.h41_program.specs.declared.given.Taken.{Taken}
@@ -117,7 +117,7 @@ loaded_by bytes at given lines end same =
 -- the outcome of such a test
 pub tested : (b : Bool) (lines : List Line) (front : List Line) (new : Packer) → (b ≡ true → Packs new (front ++ lines))
     → MatchOption (if b then Some lines else None) (◌≡◌ {A = Result (Unit {0}) Refusal} (if b then Ok tt else Err BrokenProgram) (Err BrokenProgram))
-      (λ loaded. (◌≡◌ {A = Result (Unit {0}) Refusal} (if b then Ok tt else Err BrokenProgram) (Ok tt)) × Packs new (front ++ loaded))
+    (λ loaded. (◌≡◌ {A = Result (Unit {0}) Refusal} (if b then Ok tt else Err BrokenProgram) (Ok tt)) × Packs new (front ++ loaded))
 tested true lines front new packs = (refl, packs refl)
 tested false lines front new packs = refl
 
@@ -133,9 +133,10 @@ loaded_final bytes old mid new pending at before given taken front loaded is las
     let end = ap end_of_lines all ∙ end_of_lines-more before listed ∙ sym is.behind in
     let same = ap (λ (l : List ListedLine). without_end (lines_of l)) all ∙ ap without_end (lines_of-more before listed) ∙ without_end-final lines taken.line last in
     let again : but_last lines ++ listed_option pending ≡ lines = ap (λ (o : Option Line). but_last lines ++ listed_option o) loaded.last ∙ with_last lines in
-    let put = puts (front ++ but_last lines) (loaded.packs front packs) in
-    (loaded_by bytes taken.behind given lines end same,
-    subst (λ (l : List Line). Packs new (front ++ l)) again (subst (λ (l : List Line). Packs new l) (append_assoc front (but_last lines) (listed_option pending)) put))
+    let put = puts (front ++ but_last lines) (loaded.packs front packs) in (
+      loaded_by bytes taken.behind given lines end same,
+      subst (λ (l : List Line). Packs new (front ++ l)) again (subst (λ (l : List Line). Packs new l) (append_assoc front (but_last lines) (listed_option pending)) put),
+    )
 
 -- no more line is met
 pub loaded_none : (bytes : List ℕ) (old mid : Packer) (pending : Option Line) (at : ℕ) (before given : List ListedLine) → Loaded bytes old mid pending at before
@@ -146,8 +147,8 @@ loaded_none bytes old mid pending at before given loaded none reads =
     let all = ends_none bytes (length bytes) 0 at before given loaded.read none reads in
     let end = ap end_of_lines all ∙ loaded.end in
     let same = ap (λ (l : List ListedLine). without_end (lines_of l)) all
-      ∙ without_end-kept lines (λ line is. (loaded.line line (loaded.last ∙ is)).0)
-      ∙ ap (λ (o : Option Line). but_last lines ++ kept_option o) (sym loaded.last) in
+    ∙ without_end-kept lines (λ line is. (loaded.line line (loaded.last ∙ is)).0)
+    ∙ ap (λ (o : Option Line). but_last lines ++ kept_option o) (sym loaded.last) in
     loaded_by bytes at given (but_last lines ++ kept_option pending) end same
 
 -- nothing is taken yet

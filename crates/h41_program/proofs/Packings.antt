@@ -1,7 +1,5 @@
 -- Lines put one behind the other.
-use Rattle.std.proofs.Common.{◌≡◌, ◌⊎◌, ℕ, ◌+◌, ◌-◌, ◌*◌, ◌/◌, ◌%◌, ◌<◌, ◌≤◌, Bool, true, false, List, [], ◌∷◌, ◌++◌, length, replicate, refl, sym, ◌∙◌, ap, subst, arith, inl, inr, append_assoc, append-nil, length-append, true≢false, Option, Some, None}
-use Rattle.std.specs.Prelude.{◌&&◌, if◌then◌else◌}
-use Rattle.std.specs.Option.{option_map_or}
+use Rattle.std.proofs.Common.{◌≡◌, ℕ, ◌+◌, ◌/◌, ◌<◌, ◌≤◌, List, [], ◌∷◌, ◌++◌, length, replicate, refl, sym, ◌∙◌, ap, arith, inl, inr, append_assoc, append-nil, length-append, true≢false, Some}
 use Rattle.std.proofs.lemmas.Bool.{cases_Bool}
 use Rattle.std.proofs.lemmas.List.{length-replicate}
 use Rattle.h41_codes.specs.ByteGrammar.{spelling}
@@ -9,7 +7,7 @@ use Rattle.h41_codes.specs.declared.line.Line.{Line}
 use Rattle.h41_program.specs.declared.packer.Packer.{Packer}
 use Rattle.h41_program.specs.Lines.{is_number}
 use Rattle.h41_program.specs.Packing.{last_line, gap, packed, filler, written_end, packing}
-use Rattle.h41_program.specs.Packers.{Packs, Pushes, parting, packed_most}
+use Rattle.h41_program.specs.Packers.{Packs, Pushes, parting}
 
 pub last_line-more : (lines : List Line) (line : Line) → last_line (lines ++ line ∷ []) ≡ Some line
 last_line-more [] line = refl
@@ -30,8 +28,12 @@ packed-less [] others = omega arith
 packed-less (line ∷ []) others =
     omega (arith, length-append (spelling line ++ []) [], length-append (spelling line) [], length-append (spelling line ++ gap line others) (packed others), length-append (spelling line) (gap line others))
 packed-less (line ∷ next ∷ lines) others =
-    omega (arith, packed-less (next ∷ lines) others, length-append (spelling line ++ gap line (next ∷ lines)) (packed (next ∷ lines)),
-    length-append (spelling line ++ gap line (next ∷ lines)) (packed ((next ∷ lines) ++ others)))
+    omega (
+      arith,
+      packed-less (next ∷ lines) others,
+      length-append (spelling line ++ gap line (next ∷ lines)) (packed (next ∷ lines)),
+      length-append (spelling line ++ gap line (next ∷ lines)) (packed ((next ∷ lines) ++ others)),
+    )
 
 -- a line was put behind others
 pub puts : (old mid new : Packer) (line : Line) (lines : List Line) → Packs old lines → Pushes old mid (parting (is_number line) old.last) → Pushes mid new (spelling line)
@@ -42,7 +44,7 @@ puts old mid new line lines packs parts pushes =
     let same : parting (is_number line) old.last ≡ middle = ap (parting (is_number line)) packs.last in
     let all = packed-more lines line in
     let long : length (packed (lines ++ line ∷ [])) ≡ length front + length middle + length (spelling line) =
-      ap length all ∙ length-append (front ++ middle) (spelling line) ∙ ap (λ n. n + length (spelling line)) (length-append front middle) in
+    ap length all ∙ length-append (front ++ middle) (spelling line) ∙ ap (λ n. n + length (spelling line)) (length-append front middle) in
     record {
       held = λ room.
           let second = pushes.held room in
@@ -50,26 +52,26 @@ puts old mid new line lines packs parts pushes =
           second.1 ∙ ap (λ (bytes : List ℕ). bytes ++ spelling line) (first.1 ∙ ap (λ (bytes : List ℕ). bytes ++ parting (is_number line) old.last) (packs.held first.0) ∙ ap (λ (bytes : List ℕ). front ++ bytes) same)
           ∙ sym all;
       full = λ mark. elim (cases_Bool mid.full) [
-          | inl middle_full ↦ elim (cases_Bool old.full) [
-              | inl old_full ↦ let many = packs.full old_full in omega (arith, many, long)
-              | inr old_room ↦
-                  let size = ap length (packs.held old_room) in
-                  let part = ap length same in
-                  elim (parts.full middle_full) [
-                    | inl old_full ↦ let many = packs.full old_full in omega (arith, many, long)
-                    | inr many ↦ omega (arith, many, long, size, part)
-                  ]
-            ]
-          | inr middle_room ↦
-              let first = parts.held middle_room in
-              let size = ap length (packs.held first.0) in
+        | inl middle_full ↦ elim (cases_Bool old.full) [
+          | inl old_full ↦ let many = packs.full old_full in omega (arith, many, long)
+          | inr old_room ↦
+              let size = ap length (packs.held old_room) in
               let part = ap length same in
-              let both = ap length first.1 ∙ length-append old.bytes.items (parting (is_number line) old.last) in
-              elim (pushes.full mark) [
-                | inl middle_full ↦ absurd (true≢false (sym middle_full ∙ middle_room))
-                | inr many ↦ omega (arith, many, long, size, part, both)
+              elim (parts.full middle_full) [
+                | inl old_full ↦ let many = packs.full old_full in omega (arith, many, long)
+                | inr many ↦ omega (arith, many, long, size, part)
               ]
-        ];
+        ]
+        | inr middle_room ↦
+            let first = parts.held middle_room in
+            let size = ap length (packs.held first.0) in
+            let part = ap length same in
+            let both = ap length first.1 ∙ length-append old.bytes.items (parting (is_number line) old.last) in
+            elim (pushes.full mark) [
+              | inl middle_full ↦ absurd (true≢false (sym middle_full ∙ middle_room))
+              | inr many ↦ omega (arith, many, long, size, part, both)
+            ]
+      ];
       last = sym (last_line-more lines line);
     }
 

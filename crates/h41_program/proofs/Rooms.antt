@@ -1,12 +1,11 @@
 -- Whether there is room for lines.
-use Rattle.std.proofs.Common.{◌≡◌, ◌⊎◌, ℕ, ◌+◌, ◌-◌, ◌*◌, ◌/◌, ◌%◌, ◌<◌, ◌≤◌, Bool, true, false, List, length, replicate, ◌++◌, refl, sym, ◌∙◌, ap, arith, inl, inr, Result, Ok, Err}
+use Rattle.std.proofs.Common.{◌≡◌, ◌⊎◌, ℕ, ◌+◌, ◌*◌, ◌/◌, ◌<◌, ◌≤◌, true, false, List, length, replicate, ◌++◌, refl, ◌∙◌, ap, arith, inl, inr, Ok, Err}
 use Rattle.std.specs.Prelude.{nat_lt}
 use Rattle.std.proofs.lemmas.Bool.{cases_Bool}
 use Rattle.std.proofs.lemmas.Bool.Decides.{nat_tests}
 use Rattle.h41_codes.specs.declared.line.Line.{Line}
 use Rattle.h41_ram.specs.RegisterMap.{RegisterMap, main_start, curtain_of}
 use Rattle.h41_program.specs.declared.packer.Packer.{Packer}
-use Rattle.h41_program.specs.declared.refusal.Refusal.{Refusal}
 use Rattle.h41_program.specs.declared.refusal.Refusal.TheVariants.{NoRoom}
 use Rattle.h41_program.specs.Packing.{packed, filler, packing, written_end}
 use Rattle.h41_program.specs.Packers.{Packs}
@@ -40,9 +39,9 @@ refused memory packer lines room curtain small packs why =
     let many : 7 * room < length (packed lines) + 3 = elim why [
       | inl mark ↦ full mark
       | inr long ↦ elim (cases_Bool packer.full) [
-          | inl mark ↦ full mark
-          | inr unmarked ↦ let same = ap length (packs.held unmarked) in omega (arith, long, same)
-        ]
+        | inl mark ↦ full mark
+        | inr unmarked ↦ let same = ap length (packs.held unmarked) in omega (arith, long, same)
+      ]
     ] in
     let above = too_many (length (packed lines)) (length (packing lines)) room size many in
     written-none memory lines (omega (arith, curtain, above))

@@ -1,12 +1,11 @@
 -- A walk along the list of lines: what was read so far, and what is left.
-use Rattle.std.proofs.Common.{◌≡◌, ℕ, ◌+◌, Bool, true, false, List, [], ◌∷◌, ◌++◌, length, refl, sym, ◌∙◌, ap, subst, arith, append_assoc, append-nil, Option, Some, None}
+use Rattle.std.proofs.Common.{◌≡◌, ℕ, Bool, true, false, List, [], ◌∷◌, ◌++◌, refl, sym, ◌∙◌, ap, subst, append_assoc, append-nil, Option, Some, None}
 use Rattle.std.specs.Prelude.{MatchBool}
 use Rattle.std.specs.Option.{option_map}
-use Rattle.h41_codes.specs.ByteGrammar.{spelling}
 use Rattle.h41_program.specs.declared.listed_line.ListedLine.{ListedLine}
 use Rattle.h41_program.specs.Edits.{before_end}
 use Rattle.h41_program.specs.Lines.{is_final_end}
-use Rattle.h41_program.specs.ProgramLines.{FirstFrom, NoneFrom, Reads, behind}
+use Rattle.h41_program.specs.ProgramLines.{NoneFrom, Reads, behind}
 use Rattle.h41_program.specs.Reading.{IsFirst}
 
 -- the list of lines from a position on, by its first one
@@ -15,10 +14,12 @@ pub first_rest : (bytes : List ℕ) (final at next : ℕ) (listed : ListedLine) 
     → (rest : List ListedLine) × (lines ≡ listed ∷ rest) × MatchBool (is_final_end listed.line) (rest ≡ []) (Reads bytes final next rest)
 first_rest bytes final at next listed [] is reads = absurd (reads listed is.first)
 first_rest bytes final at next listed (first ∷ rest) is reads =
-    let same = is.one first reads.0 in
-    (rest, ap (λ (l : ListedLine). l ∷ rest) same,
-    subst (λ (n : ℕ). MatchBool (is_final_end listed.line) (rest ≡ []) (Reads bytes final n rest)) (sym is.behind)
-    (subst (λ (l : ListedLine). MatchBool (is_final_end l.line) (rest ≡ []) (Reads bytes final (behind l) rest)) same reads.1))
+    let same = is.one first reads.0 in (
+      rest,
+      ap (λ (l : ListedLine). l ∷ rest) same,
+      subst (λ (n : ℕ). MatchBool (is_final_end listed.line) (rest ≡ []) (Reads bytes final n rest)) (sym is.behind)
+          (subst (λ (l : ListedLine). MatchBool (is_final_end l.line) (rest ≡ []) (Reads bytes final (behind l) rest)) same reads.1),
+    )
 
 pub no_rest : (bytes : List ℕ) (final at : ℕ) (lines : List ListedLine) → NoneFrom bytes final at → Reads bytes final at lines → lines ≡ []
 no_rest bytes final at [] none reads = refl
@@ -58,9 +59,11 @@ before_end-other listed rest other = rw other refl
 
 reads_on : (bytes : List ℕ) (final at next : ℕ) (listed : ListedLine) (rest : List ListedLine) → IsFirst bytes final at listed next → is_final_end listed.line ≡ false
     → Reads bytes final next rest → Reads bytes final at (listed ∷ rest)
-reads_on bytes final at next listed rest is other reads =
-    (is.first, subst (λ (t : Bool). MatchBool t (rest ≡ []) (Reads bytes final (behind listed) rest)) (sym other)
-    (subst (λ (n : ℕ). Reads bytes final n rest) is.behind reads))
+reads_on bytes final at next listed rest is other reads = (
+  is.first,
+  subst (λ (t : Bool). MatchBool t (rest ≡ []) (Reads bytes final (behind listed) rest)) (sym other)
+      (subst (λ (n : ℕ). Reads bytes final n rest) is.behind reads),
+)
 
 pub reads_last : (bytes : List ℕ) (final at next : ℕ) (listed : ListedLine) → IsFirst bytes final at listed next → is_final_end listed.line ≡ true
     → Reads bytes final at (listed ∷ [])
@@ -73,9 +76,11 @@ pub up_to_more : (bytes : List ℕ) (final from at next : ℕ) (before : List Li
 up_to_more bytes final from at next before listed upto is other = record {
   split = λ lines reads.
       let parts = upto.split lines reads in
-      let rest = first_rest bytes final at next listed parts.0 is parts.2 in
-      (rest.0, parts.1 ∙ ap (λ (l : List ListedLine). before ++ l) rest.1 ∙ sym (append_assoc before (listed ∷ []) rest.0),
-      more_rest bytes final next (is_final_end listed.line) rest.0 other rest.2);
+      let rest = first_rest bytes final at next listed parts.0 is parts.2 in (
+        rest.0,
+        parts.1 ∙ ap (λ (l : List ListedLine). before ++ l) rest.1 ∙ sym (append_assoc before (listed ∷ []) rest.0),
+        more_rest bytes final next (is_final_end listed.line) rest.0 other rest.2,
+      );
   joins = λ rest reads.
       subst (λ (l : List ListedLine). Reads bytes final from l) (sym (append_assoc before (listed ∷ []) rest))
       (upto.joins (listed ∷ rest) (reads_on bytes final at next listed rest is other reads));

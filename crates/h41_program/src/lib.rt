@@ -6,7 +6,6 @@ mod given;
 mod kinds;
 mod listed_line;
 mod loading;
-
 mod packer;
 mod reading;
 mod refusal;
@@ -14,8 +13,8 @@ mod registers;
 mod rewriting;
 mod size;
 
-pub use loading::load;
 pub use listed_line::ListedLine;
+pub use loading::load;
 pub use reading::{line_at, next};
 pub use refusal::Refusal;
 pub use size::set_size;

@@ -64,7 +64,9 @@ fn put_loaded(packer: &mut Packer, bytes: &[u8]) -> Result<(), Refusal>
         }
         pending = Some(taken.line);
     }
-    nulls_from(bytes, at)?;
+    if !are_nulls(bytes, at) {
+        return Err(Refusal::BrokenProgram);
+    }
     put_last(packer, pending);
     Ok(())
 }

@@ -6,7 +6,7 @@ ghost use Rattle.h41_codes.specs.ByteGrammar.{spelling, IsLine};
 ghost use Rattle.h41_codes.specs.declared.line.Line.{Line as Spoken};
 ghost use Rattle.h41_program.specs.Edits.{answered, closed};
 ghost use Rattle.h41_program.specs.Rewriting.{Gives, written};
-ghost use Rattle.h41_ram.specs.RegisterMap.{is_sound};
+ghost use Rattle.h41_ram.specs.RegisterMap.{curtain_of, is_sound, main_start};
 ghost use Rattle.h41_program.specs.Packers.{Packs, Pushes, parting};
 ghost use Rattle.h41_program.specs.Packing.{filler, written_end};
 
@@ -77,7 +77,8 @@ impl Packer {
     /// Writes the lines into program memory. 16 where they would pass below main memory.
     pub fn write<const REGS: usize>(self, ram: &mut Ram<REGS>) -> Result<(), Refusal>
         requires { IsTrue (is_sound ram.old) }
-        ensures { (lines : List Spoken) → Packs self lines → Gives ram.old ram.new result (answered tt (written ram.old lines)) }
+        ensures lines { (lines : List Spoken) → Packs self lines → Gives ram.old ram.new result (answered tt (written ram.old lines)) }
+        ensures small { curtain_of ram.old ≤ main_start + 320 }
     {
         let Packer { bytes, full, .. } = self;
         let curtain = ram.curtain();

@@ -6,10 +6,10 @@ ghost use Rattle.h41_program.specs.Size as place;
 ghost use Rattle.h41_program.specs.Size.{IsMove, resized, resized_c, resized_register, size_outcome};
 
 use crate::refusal::Refusal;
-use crate::rewriting::free_register;
 use crate::registers::{
     ADDRESSES, C, CURTAIN_PLACE, END_PLACE, STATISTICS_PLACE, address_at, with_address,
 };
+use crate::rewriting::free_register;
 use h41_digits::Reg;
 use h41_ram::{MAIN_START, Ram};
 

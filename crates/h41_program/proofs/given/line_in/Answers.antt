@@ -1,4 +1,4 @@
-use Rattle.std.proofs.Common.{◌+◌, subst, drop, arith}
+use Rattle.std.proofs.Common.{subst, drop, arith}
 use Rattle.h41_codes.specs.ByteGrammar.{AnswersLine}
 use Rattle.std.proofs.lemmas.List.{length-drop, take_all}
 use Rattle.h41_program.proofs.Givens.{taken_first, taken_none}

@@ -1,5 +1,4 @@
 use Rattle.std.proofs.Common.{sym, ◌∙◌, subst, refl, ◌++◌, ◌∷◌, []}
-use Rattle.std.specs.Prelude.{MatchOption}
 use Rattle.h41_program.specs.Edits.{lines_of}
 use Rattle.h41_program.specs.Packers.{Packs}
 use Rattle.h41_program.specs.ProgramBytes.{program_bytes, final_position}
@@ -19,11 +18,12 @@ pub loop-found-preserved : goal.loop-found-preserved
 loop-found-preserved g c =
     let memory = c.args.ram.now in
     let found = c.in-Some.found in
-    let before = c.loop-found.invariant in
-    (before.0 ++ found.listed ∷ [],
-    up_to_more (program_bytes memory) (final_position memory) 0 c.loop-found.at found.behind before.0 found.listed before.1 c.in-Some.ensures.first
-    (sym c.is_final_end.ensures ∙ c.if-is_final_end.false),
-    subst (λ lines. Packs c.put.new.self lines) (sym (lines_of-more before.0 found.listed)) (c.put.ensures (lines_of before.0) before.2))
+    let before = c.loop-found.invariant in (
+      before.0 ++ found.listed ∷ [],
+      up_to_more (program_bytes memory) (final_position memory) 0 c.loop-found.at found.behind before.0 found.listed before.1 c.in-Some.ensures.first
+          (sym c.is_final_end.ensures ∙ c.if-is_final_end.false),
+      subst (λ lines. Packs c.put.new.self lines) (sym (lines_of-more before.0 found.listed)) (c.put.ensures (lines_of before.0) before.2),
+    )
 
 pub returns : goal.returns
 returns g c lines from =

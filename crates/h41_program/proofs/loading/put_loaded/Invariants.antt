@@ -1,13 +1,6 @@
-use Rattle.std.proofs.Common.{◌≡◌, ◌≤◌, List, ◌++◌, length, ◌-◌, Some, false}
-use Rattle.h41_codes.specs.ByteGrammar.{IsLine}
-use Rattle.h41_codes.specs.declared.line.Line.{Line}
+use Rattle.std.proofs.Common.{List, length, ◌-◌}
 use Rattle.h41_program.specs.declared.listed_line.ListedLine.{ListedLine}
-use Rattle.h41_program.specs.Edits.{lines_of, end_of_lines}
-use Rattle.h41_program.specs.Lines.{is_final_end}
-use Rattle.h41_program.specs.Packers.{Packs}
-use Rattle.h41_program.specs.Packing.{last_line}
-use Rattle.h41_program.proofs.Loads.{but_last, Loaded}
-use Rattle.h41_program.proofs.Walks.{UpTo}
+use Rattle.h41_program.proofs.Loads.{Loaded}
 use Rattle.h41_program.proofs.loading.put_loaded.Given as goal
 
 -- all lines so far but the last are packed

@@ -1,4 +1,4 @@
-use Rattle.std.proofs.Common.{◌≡◌, ◌≤◌, ◌+◌, ◌++◌, take, length}
+use Rattle.std.proofs.Common.{◌≡◌, ◌+◌, ◌++◌, take, length}
 use Rattle.h41_program.proofs.packer.Packer.push.Given as goal
 
 -- the bytes so far

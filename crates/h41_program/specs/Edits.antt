@@ -1,5 +1,5 @@
 -- What lines program memory has after a line was inserted or deleted, or bytes were loaded.
-use Rattle.std.specs.Prelude.{ℕ, Bool, false, not, ◌||◌, List, [], ◌∷◌, ◌++◌, map, filter, length, drop, nat_lt, ◌==◌, if◌then◌else◌, Option, Some, None, Result, Ok, Err}
+use Rattle.std.specs.Prelude.{ℕ, Bool, false, not, ◌||◌, List, [], ◌∷◌, ◌++◌, map, filter, length, drop, ◌==◌, if◌then◌else◌, Option, Some, None, Result, Ok, Err}
 use Rattle.std.specs.List.{list_all, list_any}
 use Rattle.std.specs.Option.{option_map, option_map_or}
 use Rattle.h41_codes.specs.declared.line.Line.{Line}
@@ -72,20 +72,25 @@ Loads old new bytes result =
 abbrev pub has_line_at : ℕ → List ListedLine → Bool
 has_line_at position lines = list_any (λ listed. listed.position == position) lines
 
--- the lines with one more before a position, and without the one at a position
+-- the lines with one more before that of a position, or behind all where none stands there
 abbrev pub inserted : ℕ → Line → List ListedLine → List Line
-inserted position line lines =
-    lines_of (filter (λ listed. nat_lt listed.position position) lines)
-    ++ line ∷ lines_of (filter (λ listed. not (nat_lt listed.position position)) lines)
+inserted position line [] = line ∷ []
+inserted position line (first ∷ rest) =
+    if first.position == position then line ∷ first.line ∷ lines_of rest else first.line ∷ inserted position line rest
 
+-- the lines without that of a position
 abbrev pub deleted : ℕ → List ListedLine → List Line
 deleted position lines = lines_of (filter (λ listed. not (listed.position == position)) lines)
+
+-- memory with changed lines, where the line to be changed was among them
+abbrev pub changed_outcome : Bool → RegisterMap → List Line → Result (RegisterMap × Unit {0}) Refusal
+changed_outcome changed memory lines = if changed then answered tt (written memory lines) else Err BrokenProgram
 
 -- memory with the list changed at the line of a position, where the list has that line and reaches .END.
 abbrev pub edit_outcome : RegisterMap → (ℕ → List ListedLine → List Line) → List ListedLine → List ListedLine → Result (RegisterMap × Unit {0}) Refusal
 edit_outcome memory change lines [] = Err BrokenProgram
 edit_outcome memory change lines (first ∷ rest) =
-    option_map_or (λ before. answered tt (written memory (change first.position before))) (if has_line_at first.position lines then before_end lines else None) (Err BrokenProgram)
+    option_map_or (λ before. changed_outcome (has_line_at first.position lines) memory (change first.position before)) (before_end lines) (Err BrokenProgram)
 
 -- the list is changed at the line of a position
 abbrev pub Edits : RegisterMap → RegisterMap → (ℕ → List ListedLine → List Line) → ℕ → Result (Unit {0}) Refusal → Type 0

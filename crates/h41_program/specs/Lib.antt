@@ -4,6 +4,7 @@ pub mod LoadSteps
 pub mod Packers
 pub mod Packing
 pub mod ProgramBytes
+pub mod ProgramLaws
 pub mod ProgramLines
 pub mod Reading
 pub mod Rewriting

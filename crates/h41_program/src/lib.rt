@@ -4,6 +4,7 @@
 
 mod given;
 mod kinds;
+pub mod laws;
 mod listed_line;
 mod loading;
 mod packer;
@@ -11,10 +12,12 @@ mod reading;
 mod refusal;
 mod registers;
 mod rewriting;
+mod searches;
 mod size;
 
 pub use listed_line::ListedLine;
 pub use loading::load;
 pub use reading::{line_at, next};
 pub use refusal::Refusal;
+pub use searches::{global, local, start_of};
 pub use size::set_size;

@@ -4,6 +4,7 @@ pub mod LoadSteps
 pub mod Loads
 pub mod Mains
 pub mod Memory
+pub mod EditSteps
 pub mod FirstBytes
 pub mod FirstLines
 pub mod Packings

@@ -1,14 +1,16 @@
 -- What lines program memory has after a line was inserted or deleted, or bytes were loaded.
-use Rattle.std.specs.Prelude.{ℕ, Bool, false, not, ◌||◌, List, [], ◌∷◌, ◌++◌, map, filter, length, drop, ◌==◌, if◌then◌else◌, Option, Some, None, Result, Ok, Err}
-use Rattle.std.specs.List.{list_all, list_any}
+use Rattle.std.specs.Prelude.{◌≡◌, ℕ, Bool, false, not, ◌||◌, is_some, MatchBool, IsOkAnd, ◌&&◌, List, [], ◌∷◌, ◌++◌, map, length, drop, ◌==◌, if◌then◌else◌, Option, Some, None, Result, Ok, Err}
+use Rattle.std.specs.List.{list_all, list_any, flat_map}
 use Rattle.std.specs.Option.{option_map, option_map_or}
 use Rattle.h41_codes.specs.declared.line.Line.{Line}
 use Rattle.h41_codes.specs.declared.line.Line.TheVariants.{End}
 use Rattle.h41_ram.specs.RegisterMap.{RegisterMap}
 use Rattle.h41_program.specs.declared.listed_line.ListedLine.{ListedLine}
+use Rattle.h41_program.specs.declared.packer.Packer.{Packer}
 use Rattle.h41_program.specs.declared.refusal.Refusal.{Refusal}
 use Rattle.h41_program.specs.declared.refusal.Refusal.TheVariants.{BrokenProgram}
 use Rattle.h41_program.specs.Lines.{is_end, is_final_end}
+use Rattle.h41_program.specs.Packers.{Packs}
 use Rattle.h41_program.specs.Packing.{last_line, packed}
 use Rattle.h41_program.specs.ProgramLines.{LinesFrom, Reads, behind}
 use Rattle.h41_program.specs.Rewriting.{written, Gives}
@@ -72,28 +74,42 @@ Loads old new bytes result =
 abbrev pub has_line_at : ℕ → List ListedLine → Bool
 has_line_at position lines = list_any (λ listed. listed.position == position) lines
 
--- the lines with one more before that of a position, or behind all where none stands there
-abbrev pub inserted : ℕ → Line → List ListedLine → List Line
-inserted position line [] = line ∷ []
-inserted position line (first ∷ rest) =
-    if first.position == position then line ∷ first.line ∷ lines_of rest else first.line ∷ inserted position line rest
+-- a line of the list as it is; .END. is written anew
+abbrev pub own_line : ListedLine → List Line
+own_line listed = if is_final_end listed.line then [] else listed.line ∷ []
 
--- the lines without that of a position
-abbrev pub deleted : ℕ → List ListedLine → List Line
-deleted position lines = lines_of (filter (λ listed. not (listed.position == position)) lines)
+-- what a line becomes where another is inserted before the one at a position, and where the one at a position is deleted
+abbrev pub with_inserted : Line → ℕ → ListedLine → List Line
+with_inserted line position listed = (if listed.position == position then line ∷ [] else []) ++ own_line listed
 
--- memory with changed lines, where the line to be changed was among them
+abbrev pub without_deleted : ℕ → ListedLine → List Line
+without_deleted position listed = if listed.position == position then [] else own_line listed
+
+-- memory with each line changed, where the list reaches .END. and has a line at the position
 abbrev pub changed_outcome : Bool → RegisterMap → List Line → Result (RegisterMap × Unit {0}) Refusal
 changed_outcome changed memory lines = if changed then answered tt (written memory lines) else Err BrokenProgram
 
--- memory with the list changed at the line of a position, where the list has that line and reaches .END.
-abbrev pub edit_outcome : RegisterMap → (ℕ → List ListedLine → List Line) → List ListedLine → List ListedLine → Result (RegisterMap × Unit {0}) Refusal
-edit_outcome memory change lines [] = Err BrokenProgram
-edit_outcome memory change lines (first ∷ rest) =
-    option_map_or (λ before. changed_outcome (has_line_at first.position lines) memory (change first.position before)) (before_end lines) (Err BrokenProgram)
+abbrev pub edit_outcome : RegisterMap → (ListedLine → List Line) → ℕ → List ListedLine → Result (RegisterMap × Unit {0}) Refusal
+edit_outcome memory change position lines =
+    changed_outcome (is_some (before_end lines) && has_line_at position lines) memory (flat_map change lines)
 
--- the list is changed at the line of a position
-abbrev pub Edits : RegisterMap → RegisterMap → (ℕ → List ListedLine → List Line) → ℕ → Result (Unit {0}) Refusal → Type 0
+-- the list is changed at the line that a position stands for
+abbrev pub edit_from : RegisterMap → (ℕ → ListedLine → List Line) → List ListedLine → List ListedLine → Result (RegisterMap × Unit {0}) Refusal
+edit_from memory change lines [] = Err BrokenProgram
+edit_from memory change lines (first ∷ rest) = edit_outcome memory (change first.position) first.position lines
+
+abbrev pub Edits : RegisterMap → RegisterMap → (ℕ → ListedLine → List Line) → ℕ → Result (Unit {0}) Refusal → Type 0
 Edits old new change at result =
     (lines onward : List ListedLine) → LinesFrom old 0 lines → LinesFrom old at onward
-    → Gives old new result (edit_outcome old change lines onward)
+    → Gives old new result (edit_from old change lines onward)
+
+-- the same by the line's own position
+abbrev pub EditsAt : RegisterMap → RegisterMap → (ListedLine → List Line) → ℕ → Result (Unit {0}) Refusal → Type 0
+EditsAt old new change position result =
+    (lines : List ListedLine) → LinesFrom old 0 lines → Gives old new result (edit_outcome old change position lines)
+
+-- a packer has the changed lines, where the list reaches .END. and has a line at the position
+abbrev pub PacksChanged : RegisterMap → (ListedLine → List Line) → ℕ → Result Packer Refusal → Type 0
+PacksChanged memory change position result =
+    (lines : List ListedLine) → LinesFrom memory 0 lines
+    → MatchBool (is_some (before_end lines) && has_line_at position lines) (IsOkAnd result (λ packer. Packs packer (flat_map change lines))) (result ≡ Err BrokenProgram)

@@ -20,7 +20,7 @@ fn two_recalls(rt: HostRuntime) {
         (next(&ram, 0), next(&ram, 2), next(&ram, 4)),
         (Ok(2), Ok(4), Ok(4))
     );
-    assert_eq!(rt; ram.read(0x19B).to_u64(), 0x9005_25C0_0020);
+    assert_eq!(rt; ram.read(0x19B).to_u64(), 0x90_0525_00C0_0020);
 }
 
 #[test]

@@ -1,7 +1,7 @@
 -- The memory of the HP-41: a finite map from the addresses that exist to registers of 14 digits, and what the calculator
 -- reads in its status registers. The layout is that of HP's calculator; the start state, what an address that
 -- does not exist reads, and when memory counts as sound are this project's choices.
-use Rattle.std.specs.Prelude.{ℕ, ◌+◌, ◌-◌, ◌*◌, ◌/◌, ◌%◌, ◌^◌, Bool, ◌&&◌, List, [], ◌∷◌, ◌++◌, map, length, slice_index, slice_index_or, slice_set, replicate, drop, nat_lt, nat_le, ◌==◌, if◌then◌else◌}
+use Rattle.std.specs.Prelude.{◌≡◌, ℕ, ◌≤◌, ◌+◌, ◌-◌, ◌*◌, ◌/◌, ◌%◌, ◌^◌, Bool, ◌&&◌, List, [], ◌∷◌, ◌++◌, map, length, slice_index, slice_index_or, slice_set, replicate, drop, nat_lt, nat_le, ◌==◌, if◌then◌else◌}
 use Rattle.h41_digits.specs.Register.{byte_at}
 
 -- the registers in the order of their addresses
@@ -10,6 +10,13 @@ pub record RegisterMap : Type 0 where
   pub status : List (List ℕ)
   -- main memory, from address 0C0 on
   pub main : List (List ℕ)
+
+-- what the memory of a calculator is: sixteen status registers, and so many of main memory, 64 to 320
+pub record IsMemory (registers : ℕ) (memory : RegisterMap) : Type 0 where
+  pub status : length memory.status ≡ 16
+  pub main : length memory.main ≡ registers
+  pub least : 64 ≤ registers
+  pub most : registers ≤ 320
 
 -- the first address behind the status registers, the first of main memory, and the first behind main memory
 abbrev pub status_end : ℕ

@@ -143,9 +143,25 @@ impl<const REGS: usize> Ram<REGS> {
         self.status[P] = alpha::first_bytes(p, text);
     }
 
+    /// The registers of main memory, in the order of their addresses.
+    pub fn main_memory(&self) -> [Reg; REGS]
+        ensures { result ≡ self.now.main }
+    {
+        self.main
+    }
+
+    /// Writes all registers of main memory, in the order of their addresses.
+    pub fn set_main_memory(&mut self, main: [Reg; REGS])
+        ensures main { self.new ≡ record self.old { main = main.entry } }
+        ensures memory { spec.IsMemory REGS self.new }
+    {
+        self.main = main;
+    }
+
     /// The curtain: the address of data register R00, 000 to FFF, from register c.
     pub fn curtain(&self) -> u16
-        ensures { result ≡ spec.curtain_of self.now }
+        ensures value { result ≡ spec.curtain_of self.now }
+        ensures memory { spec.IsMemory REGS self.now }
     {
         three_digits(self.status[C], 3)
     }

@@ -1,0 +1,146 @@
+-- The list changed line after line.
+use Rattle.std.proofs.Common.{◌≡◌, ℕ, Bool, true, false, List, [], ◌∷◌, ◌++◌, refl, sym, ◌∙◌, ap, subst, append-nil, append_assoc, Result, Ok, Err}
+use Rattle.std.specs.Prelude.{◌&&◌, ◌||◌, ◌==◌, is_some, IsOkAnd, MatchBool, not, if◌then◌else◌}
+use Rattle.std.specs.List.{flat_map}
+use Rattle.std.proofs.lemmas.Grind.{flat_map-append}
+use Rattle.std.proofs.lemmas.List.Folds.{list_any-append}
+use Rattle.h41_codes.specs.declared.line.Line.{Line}
+use Rattle.h41_ram.specs.RegisterMap.{RegisterMap}
+use Rattle.h41_program.specs.declared.listed_line.ListedLine.{ListedLine}
+use Rattle.h41_program.specs.declared.packer.Packer.{Packer}
+use Rattle.h41_program.specs.declared.refusal.Refusal.{Refusal}
+use Rattle.h41_program.specs.declared.refusal.Refusal.TheVariants.{BrokenProgram}
+use Rattle.h41_program.specs.Edits.{before_end, has_line_at, own_line, with_inserted, without_deleted, answered, changed_outcome, edit_outcome, edit_from}
+use Rattle.h41_program.specs.Lines.{is_final_end}
+use Rattle.h41_program.specs.Packers.{Packs}
+use Rattle.h41_program.specs.ProgramLines.{Reads, NoneFrom, line_of}
+use Rattle.h41_program.specs.Reading.{IsFirst}
+use Rattle.h41_program.specs.Rewriting.{Gives, written}
+use Rattle.h41_program.proofs.Walks.{UpTo, ends_none, ends_final, before_end-none, before_end-final}
+
+or_false : (b : Bool) → (b || false) ≡ b
+or_false true = refl
+or_false false = refl
+
+pub has_line_at-more : (place : ℕ) (before : List ListedLine) (listed : ListedLine) → has_line_at place (before ++ listed ∷ []) ≡ (has_line_at place before || (listed.position == place))
+has_line_at-more place before listed =
+    list_any-append (λ each. each.position == place) before (listed ∷ [])
+    ∙ ap (λ (b : Bool). has_line_at place before || b) (or_false (listed.position == place))
+
+pub changed-more : (change : ListedLine → List Line) (before : List ListedLine) (listed : ListedLine) → flat_map change (before ++ listed ∷ []) ≡ flat_map change before ++ change listed
+changed-more change before listed =
+    flat_map-append change before (listed ∷ []) ∙ ap (λ (l : List Line). flat_map change before ++ l) (append-nil (change listed))
+
+-- a line that is kept, and .END.
+pub own_line-other : (listed : ListedLine) → is_final_end listed.line ≡ false → own_line listed ≡ listed.line ∷ []
+own_line-other listed other = rw other refl
+
+pub own_line-final : (listed : ListedLine) → is_final_end listed.line ≡ true → own_line listed ≡ []
+own_line-final listed final = rw final refl
+
+pub without_deleted-other : (place : ℕ) (listed : ListedLine) (here : Bool) → here ≡ (listed.position == place) → is_final_end listed.line ≡ false
+    → (if not here then listed.line ∷ [] else []) ≡ without_deleted place listed
+without_deleted-other place listed here is other =
+    ap (λ (b : Bool). if not b then listed.line ∷ [] else []) is ∙ chosen (listed.position == place) listed other
+  where
+    chosen : (b : Bool) (listed : ListedLine) → is_final_end listed.line ≡ false → (if not b then listed.line ∷ [] else []) ≡ (if b then [] else own_line listed)
+    chosen true listed other = refl
+    chosen false listed other = sym (own_line-other listed other)
+
+pub without_deleted-final : (place : ℕ) (listed : ListedLine) → is_final_end listed.line ≡ true → without_deleted place listed ≡ []
+without_deleted-final place listed final = nothing (listed.position == place) listed final
+  where
+    nothing : (b : Bool) (listed : ListedLine) → is_final_end listed.line ≡ true → (if b then [] else own_line listed) ≡ []
+    nothing true listed final = refl
+    nothing false listed final = own_line-final listed final
+
+pub nil_packs : (packer : Packer) (lines : List Line) → Packs packer lines → Packs packer (lines ++ [])
+nil_packs packer lines packs = subst (λ (l : List Line). Packs packer l) (sym (append-nil lines)) packs
+
+-- one more line, before which another may be inserted
+pub inserted_packs : (packer : Packer) (line : Line) (place : ℕ) (before : List ListedLine) (listed : ListedLine) (own : List Line) → own_line listed ≡ own
+    → Packs packer ((flat_map (with_inserted line place) before ++ (if listed.position == place then line ∷ [] else [])) ++ own)
+    → Packs packer (flat_map (with_inserted line place) (before ++ listed ∷ []))
+inserted_packs packer line place before listed own is packs =
+    subst (λ (l : List Line). Packs packer l)
+    (sym (changed-more (with_inserted line place) before listed
+    ∙ ap (λ (l : List Line). flat_map (with_inserted line place) before ++ ((if listed.position == place then line ∷ [] else []) ++ l)) is
+    ∙ sym (append_assoc (flat_map (with_inserted line place) before) (if listed.position == place then line ∷ [] else []) own)))
+    packs
+
+-- the list was read so far, and each line changed
+pub record Changed (bytes : List ℕ) (final : ℕ) (packer : Packer) (met : Bool) (change : ListedLine → List Line) (place at : ℕ) (before : List ListedLine) : Type 0 where
+  pub read : UpTo bytes final 0 before at
+  pub packs : Packs packer (flat_map change before)
+  pub found : met ≡ has_line_at place before
+
+-- the outcome of the test
+by_test : (b : Bool) (packer : Packer) (lines : List Line) → Packs packer lines
+    → MatchBool b (IsOkAnd {E = Refusal} (if b then Ok packer else Err BrokenProgram) (λ held. Packs held lines)) (◌≡◌ {A = Result Packer Refusal} (if b then Ok packer else Err BrokenProgram) (Err BrokenProgram))
+by_test true packer lines packs = packs
+by_test false packer lines packs = refl
+
+-- .END. is met
+pub changed_final : (bytes : List ℕ) (final at next : ℕ) (packer : Packer) (met : Bool) (change : ListedLine → List Line) (place : ℕ) (before lines : List ListedLine) (listed : ListedLine)
+    → UpTo bytes final 0 before at → IsFirst bytes final at listed next → is_final_end listed.line ≡ true
+    → Packs packer (flat_map change (before ++ listed ∷ [])) → met ≡ has_line_at place (before ++ listed ∷ []) → Reads bytes final 0 lines
+    → (result : Result Packer Refusal) → result ≡ (if met then Ok packer else Err BrokenProgram)
+    → MatchBool (is_some (before_end lines) && has_line_at place lines) (IsOkAnd result (λ held. Packs held (flat_map change lines))) (result ≡ Err BrokenProgram)
+changed_final bytes final at next packer met change place before lines listed upto is last packs found reads result test =
+    let all = ends_final bytes final 0 at next before lines listed upto is last reads in
+    let end = before_end-final bytes final 0 at before listed upto last in
+    rw (all, end, test, found) (by_test (has_line_at place (before ++ listed ∷ [])) packer (flat_map change (before ++ listed ∷ [])) packs)
+
+-- no more line is met
+pub changed_none : (bytes : List ℕ) (final at : ℕ) (change : ListedLine → List Line) (place : ℕ) (before lines : List ListedLine)
+    → UpTo bytes final 0 before at → NoneFrom bytes final at → Reads bytes final 0 lines
+    → MatchBool (is_some (before_end lines) && has_line_at place lines) (IsOkAnd {E = Refusal} (Err BrokenProgram) (λ held. Packs held (flat_map change lines))) (◌≡◌ {A = Result Packer Refusal} (Err BrokenProgram) (Err BrokenProgram))
+changed_none bytes final at change place before lines upto none reads =
+    let end = ap before_end (ends_none bytes final 0 at before lines upto none reads) ∙ before_end-none bytes final 0 at before upto in
+    rw end refl
+
+-- the changed lines are written
+wrong : {A E : Type 0} (r : Result A E) (a : A) (e : E) → r ≡ Ok a → r ≡ Err e → ⊥
+wrong r a e ok err = cc
+
+pub changed_written : (old new : RegisterMap) (change : ListedLine → List Line) (place : ℕ) (lines : List ListedLine) (result : Result Packer Refusal) (packer : Packer) (wrote : Result (Unit {0}) Refusal)
+    (b : Bool) → MatchBool b (IsOkAnd result (λ held. Packs held (flat_map change lines))) (result ≡ Err BrokenProgram) → result ≡ Ok packer
+    → ((all : List Line) → Packs packer all → Gives old new wrote (answered tt (written old all)))
+    → Gives old new wrote (changed_outcome b old (flat_map change lines))
+changed_written old new change place lines result packer wrote true matches ok writes =
+    writes (flat_map change lines) (subst (λ (r : Result Packer Refusal). IsOkAnd r (λ held. Packs held (flat_map change lines))) ok matches)
+changed_written old new change place lines result packer wrote false matches ok writes = absurd (wrong result packer BrokenProgram ok matches)
+
+pub changed_refused : (old : RegisterMap) (change : ListedLine → List Line) (lines : List ListedLine) (result : Result Packer Refusal) (refusal : Refusal)
+    (b : Bool) → MatchBool b (IsOkAnd result (λ held. Packs held (flat_map change lines))) (result ≡ Err BrokenProgram) → result ≡ Err refusal
+    → Gives {A = Unit {0}} old old (Err refusal) (changed_outcome b old (flat_map change lines))
+changed_refused old change lines result refusal true matches err =
+    absurd (subst (λ (r : Result Packer Refusal). IsOkAnd r (λ held. Packs held (flat_map change lines))) err matches)
+changed_refused old change lines result refusal false matches err = (same_refusal result refusal err matches, refl)
+  where
+    same_refusal : (result : Result Packer Refusal) (refusal : Refusal) → result ≡ Err refusal → result ≡ Err BrokenProgram → ◌≡◌ {A = Result (Unit {0}) Refusal} (Err refusal) (Err BrokenProgram)
+    same_refusal result refusal one other = let e : refusal ≡ BrokenProgram = cc in ap (λ (r : Refusal). Err r) e
+
+-- the line that a position stands for
+pub edited_from : (change : ℕ → ListedLine → List Line) (old new : RegisterMap) (result : Result (Unit {0}) Refusal) (lines onward : List ListedLine) (listed : ListedLine)
+    → Ok listed ≡ line_of onward → Gives old new result (edit_outcome old (change listed.position) listed.position lines) → Gives old new result (edit_from old change lines onward)
+edited_from change old new result lines [] listed same gives = absurd (no_ok listed same)
+  where
+    no_ok : (listed : ListedLine) → ◌≡◌ {A = Result ListedLine Refusal} (Ok listed) (Err BrokenProgram) → ⊥
+    no_ok listed same = cc
+edited_from change old new result lines (first ∷ rest) listed same gives =
+    subst (λ (l : ListedLine). Gives old new result (edit_outcome old (change l.position) l.position lines)) (one listed first same) gives
+  where
+    one : (listed first : ListedLine) → ◌≡◌ {A = Result ListedLine Refusal} (Ok listed) (Ok first) → listed ≡ first
+    one listed first same = cc
+
+pub refused_from : (change : ℕ → ListedLine → List Line) (old : RegisterMap) (lines onward : List ListedLine) (refusal : Refusal)
+    → Err refusal ≡ line_of onward → Gives {A = Unit {0}} old old (Err refusal) (edit_from old change lines onward)
+refused_from change old lines [] refusal same = (ap_err refusal same, refl)
+  where
+    ap_err : (refusal : Refusal) → ◌≡◌ {A = Result ListedLine Refusal} (Err refusal) (Err BrokenProgram) → ◌≡◌ {A = Result (Unit {0}) Refusal} (Err refusal) (Err BrokenProgram)
+    ap_err refusal same = let e : refusal ≡ BrokenProgram = cc in ap (λ (r : Refusal). Err r) e
+refused_from change old lines (first ∷ rest) refusal same = absurd (no_err refusal first same)
+  where
+    no_err : (refusal : Refusal) (first : ListedLine) → ◌≡◌ {A = Result ListedLine Refusal} (Err refusal) (Ok first) → ⊥
+    no_err refusal first same = cc

@@ -1,0 +1,16 @@
+pub mod Givens
+pub mod LineLengths
+pub mod LoadSteps
+pub mod Loads
+pub mod Mains
+pub mod Memory
+pub mod EditSteps
+pub mod FirstBytes
+pub mod FirstLines
+pub mod Packings
+pub mod Rooms
+pub mod RoundTrips
+pub mod SearchSteps
+pub mod Sound
+pub mod Walks
+pub mod Windows

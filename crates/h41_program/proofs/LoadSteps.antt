@@ -1,0 +1,106 @@
+-- The steps of a load, one after the other.
+use Rattle.std.proofs.Common.{◌≡◌, ℕ, ◌+◌, ◌<◌, ◌≤◌, inl, inr, List, ◌++◌, length, refl, sym, ◌∙◌, ap, subst, arith, Option, Some, None, Result, Ok, Err}
+use Rattle.std.specs.Prelude.{MatchOption, IsOkAnd}
+use Rattle.std.proofs.lemmas.Bool.{cases_Bool}
+use Rattle.h41_codes.specs.declared.line.Line.{Line}
+use Rattle.h41_ram.specs.RegisterMap.{RegisterMap, main_start, curtain_of}
+use Rattle.h41_program.specs.declared.listed_line.ListedLine.{ListedLine}
+use Rattle.h41_program.specs.declared.packer.Packer.{Packer}
+use Rattle.h41_program.specs.declared.refusal.Refusal.{Refusal}
+use Rattle.h41_program.specs.declared.refusal.Refusal.TheVariants.{BrokenProgram, NoRoom}
+use Rattle.h41_program.specs.Edits.{lines_of, closed, answered, load_outcome}
+use Rattle.h41_program.specs.Packers.{Packs}
+use Rattle.h41_program.specs.Packing.{packed, packing}
+use Rattle.h41_program.specs.Rewriting.{written, Gives}
+use Rattle.h41_program.proofs.Packings.{packed-less, length-packing, no_room}
+use Rattle.h41_program.proofs.Rooms.{written-none}
+
+not_both : {A E : Type 0} (r : Result A E) (a : A) (e : E) → r ≡ Ok a → r ≡ Err e → ⊥
+not_both r a e ok err = cc
+
+same_error : {A E : Type 0} (r : Result A E) (e f : E) → r ≡ Err e → r ≡ Err f → e ≡ f
+same_error r e f one other = cc
+
+same_value : {A E : Type 0} (r : Result A E) (a b : A) → r ≡ Ok a → r ≡ Ok b → a ≡ b
+same_value r a b one other = cc
+
+-- an answer in the place of another
+gives_ok : {A : Type 0} (old new : RegisterMap) (result : Result (Unit {0}) Refusal) (answer : A) (outcome : Result RegisterMap Refusal) → result ≡ Ok tt
+    → Gives old new result (answered tt outcome) → Gives old new (Ok answer) (answered answer outcome)
+gives_ok old new result answer (Ok memory) ok gives = (refl, gives.1)
+gives_ok old new result answer (Err refusal) ok gives = absurd (not_both result tt refusal ok gives.0)
+
+gives_err : {A : Type 0} (old new : RegisterMap) (result : Result (Unit {0}) Refusal) (refusal : Refusal) (given : Result A Refusal) (answer : A) (outcome : Result RegisterMap Refusal)
+    → result ≡ Err refusal → given ≡ Err refusal → Gives old new result (answered tt outcome) → Gives old new given (answered answer outcome)
+gives_err old new result refusal given answer (Ok memory) err same gives = absurd (not_both result tt refusal gives.0 err)
+gives_err old new result refusal given answer (Err other) err same gives =
+    (same ∙ ap (λ (e : Refusal). Err e) (same_error result refusal other err gives.0), gives.1)
+
+-- lines of which the first ones are too many are refused
+too_many : (memory : RegisterMap) (lines more : List Line) → curtain_of memory ≤ main_start + 320 → 2237 < length (packed lines) → written memory (lines ++ more) ≡ Err NoRoom
+too_many memory lines more small many =
+    let less = packed-less lines more in
+    let above = no_room (length (packed (lines ++ more))) (length (packing (lines ++ more))) (omega (arith, many, less)) (sym (length-packing (lines ++ more))) in
+    written-none memory (lines ++ more) (omega (arith, small, above))
+
+-- where the lines begin that were loaded
+begins_there : (memory : RegisterMap) (packer : Packer) (lines more : List Line) (after : RegisterMap) (start : ℕ) → curtain_of memory ≤ main_start + 320 → Packs packer lines
+    → start ≡ length packer.bytes.items → written memory (lines ++ more) ≡ Ok after → start ≡ length (packed lines)
+begins_there memory packer lines more after start small packs is done = elim (cases_Bool packer.full) [
+  | inl mark ↦ absurd (not_both (written memory (lines ++ more)) after NoRoom done (too_many memory lines more small (packs.full mark)))
+  | inr room ↦ is ∙ ap length (packs.held room)
+]
+
+gives_start : (old new : RegisterMap) (result : Result (Unit {0}) Refusal) (start place : ℕ) (outcome : Result RegisterMap Refusal) → result ≡ Ok tt
+    → ((after : RegisterMap) → outcome ≡ Ok after → start ≡ place)
+    → Gives old new result (answered tt outcome) → Gives old new (Ok start) (answered place outcome)
+gives_start old new result start place (Ok memory) ok same gives = (ap (λ (n : ℕ). Ok n) (same memory refl), gives.1)
+gives_start old new result start place (Err refusal) ok same gives = absurd (not_both result tt refusal ok gives.0)
+
+-- what is known of a load when the lines of memory were packed
+pub record Loading (before : Option (List ListedLine)) (loaded : Option (List Line)) (first : Result Packer Refusal) (packer closed_packer new : Packer) (put : Result (Unit {0}) Refusal) : Type 0 where
+  pub program : MatchOption before (first ≡ Err BrokenProgram) (λ listed. IsOkAnd first (λ held. Packs held (lines_of listed)))
+  pub begun : first ≡ Ok packer
+  pub closes : (lines : List Line) → Packs packer lines → Packs closed_packer (closed lines)
+  pub puts : (front : List Line) → Packs closed_packer front → MatchOption loaded (put ≡ Err BrokenProgram) (λ lines. (put ≡ Ok tt) × Packs new (front ++ lines))
+
+module _ (memory after : RegisterMap) (first : Result Packer Refusal) (packer closed_packer new : Packer) (put : Result (Unit {0}) Refusal) where
+  packs_closed : (listed : List ListedLine) (loaded : Option (List Line)) → Loading (Some listed) loaded first packer closed_packer new put → Packs closed_packer (closed (lines_of listed))
+  packs_closed listed loaded is =
+      let ok : IsOkAnd {E = Refusal} (Ok packer) (λ held. Packs held (lines_of listed)) =
+      subst (λ (r : Result Packer Refusal). IsOkAnd r (λ held. Packs held (lines_of listed))) is.begun is.program in
+      is.closes (lines_of listed) ok
+
+  -- given bytes are refused
+  pub load_refused : (before : Option (List ListedLine)) (loaded : Option (List Line)) (refusal : Refusal) (answer : Result ℕ Refusal) → Loading before loaded first packer closed_packer new put
+      → put ≡ Err refusal → answer ≡ Err refusal → Gives memory memory answer (load_outcome memory before loaded)
+  load_refused None loaded refusal answer is err same = absurd (not_both first packer BrokenProgram is.begun is.program)
+  load_refused (Some listed) None refusal answer is err same =
+      (same ∙ ap (λ (e : Refusal). Err e) (same_error put refusal BrokenProgram err (is.puts (closed (lines_of listed)) (packs_closed listed None is))), refl)
+  load_refused (Some listed) (Some lines) refusal answer is err same =
+      absurd (not_both put tt refusal (is.puts (closed (lines_of listed)) (packs_closed listed (Some lines) is)).0 err)
+
+  -- the lines have no room
+  pub load_unwritten : (before : Option (List ListedLine)) (loaded : Option (List Line)) (wrote : Result (Unit {0}) Refusal) (refusal : Refusal) (answer : Result ℕ Refusal)
+      → Loading before loaded first packer closed_packer new put → put ≡ Ok tt → wrote ≡ Err refusal → answer ≡ Err refusal
+      → ((lines : List Line) → Packs new lines → Gives memory after wrote (answered tt (written memory lines))) → Gives memory after answer (load_outcome memory before loaded)
+  load_unwritten None loaded wrote refusal answer is ok err same writes = absurd (not_both first packer BrokenProgram is.begun is.program)
+  load_unwritten (Some listed) None wrote refusal answer is ok err same writes =
+      absurd (not_both put tt BrokenProgram ok (is.puts (closed (lines_of listed)) (packs_closed listed None is)))
+  load_unwritten (Some listed) (Some lines) wrote refusal answer is ok err same writes =
+      let all = closed (lines_of listed) in
+      gives_err memory after wrote refusal answer (length (packed all)) (written memory (all ++ lines)) err same
+      (writes (all ++ lines) (is.puts all (packs_closed listed (Some lines) is)).1)
+
+  -- the lines were written
+  pub load_written : (before : Option (List ListedLine)) (loaded : Option (List Line)) (wrote : Result (Unit {0}) Refusal) (start : ℕ)
+      → Loading before loaded first packer closed_packer new put → put ≡ Ok tt → wrote ≡ Ok tt → start ≡ length closed_packer.bytes.items → curtain_of memory ≤ main_start + 320
+      → ((lines : List Line) → Packs new lines → Gives memory after wrote (answered tt (written memory lines))) → Gives memory after (Ok start) (load_outcome memory before loaded)
+  load_written None loaded wrote start is ok done same small writes = absurd (not_both first packer BrokenProgram is.begun is.program)
+  load_written (Some listed) None wrote start is ok done same small writes =
+      absurd (not_both put tt BrokenProgram ok (is.puts (closed (lines_of listed)) (packs_closed listed None is)))
+  load_written (Some listed) (Some lines) wrote start is ok done same small writes =
+      let all = closed (lines_of listed) in
+      gives_start memory after wrote start (length (packed all)) (written memory (all ++ lines)) done
+      (λ memory_after room. begins_there memory closed_packer all lines memory_after start small (packs_closed listed (Some lines) is) same room)
+      (writes (all ++ lines) (is.puts all (packs_closed listed (Some lines) is)).1)

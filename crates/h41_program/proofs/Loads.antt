@@ -1,0 +1,163 @@
+-- Lines that are loaded, of which the last may be dropped.
+use Rattle.std.proofs.Common.{◌≡◌, ℕ, ◌≤◌, Bool, true, false, List, [], ◌∷◌, ◌++◌, length, drop, refl, sym, ◌∙◌, ap, subst, arith, append_assoc, append-nil, Option, Some, None, Result, Ok, Err}
+use Rattle.std.specs.Prelude.{◌||◌, ◌==◌, if◌then◌else◌, MatchOption, IsOkAnd}
+use Rattle.std.specs.List.{list_all}
+use Rattle.h41_program.specs.declared.given.Taken.{Taken}
+use Rattle.h41_program.specs.declared.refusal.Refusal.{Refusal}
+use Rattle.h41_program.specs.declared.refusal.Refusal.TheVariants.{BrokenProgram}
+use Rattle.h41_program.specs.Reading.{IsFirst, BytesHaveFirst, BytesHaveNone}
+use Rattle.h41_codes.specs.ByteGrammar.{IsLine}
+use Rattle.h41_codes.specs.declared.line.Line.{Line}
+use Rattle.h41_program.specs.declared.listed_line.ListedLine.{ListedLine}
+use Rattle.h41_program.specs.declared.packer.Packer.{Packer}
+use Rattle.h41_program.specs.Edits.{lines_of, before_end, end_of_lines, without_end, loaded_of}
+use Rattle.h41_program.specs.Lines.{is_end, is_final_end}
+use Rattle.h41_program.specs.LoadSteps.{listed_option, kept_option}
+use Rattle.h41_program.specs.Packers.{Packs}
+use Rattle.h41_program.specs.Packing.{last_line}
+use Rattle.h41_program.specs.ProgramLines.{Reads, NoneFrom, behind}
+use Rattle.h41_program.proofs.Packings.{last_line-more}
+use Rattle.h41_program.proofs.Walks.{UpTo, up_to_none, up_to_more, ends_none, ends_final, before_end-none, before_end-final}
+
+-- lines but for the last
+abbrev pub but_last : List Line → List Line
+but_last [] = []
+but_last (line ∷ []) = []
+but_last (line ∷ next ∷ lines) = line ∷ but_last (next ∷ lines)
+
+pub but_last-more : (lines : List Line) (line : Line) → but_last (lines ++ line ∷ []) ≡ lines
+but_last-more [] line = refl
+but_last-more (one ∷ []) line = refl
+but_last-more (one ∷ next ∷ lines) line = ap (λ (l : List Line). one ∷ l) (but_last-more (next ∷ lines) line)
+
+pub with_last : (lines : List Line) → but_last lines ++ listed_option (last_line lines) ≡ lines
+with_last [] = refl
+with_last (line ∷ []) = refl
+with_last (line ∷ next ∷ lines) = ap (λ (l : List Line). line ∷ l) (with_last (next ∷ lines))
+
+kept_or : (b : Bool) (line : Line) → (if b || false then [] else line ∷ []) ≡ [] ++ (if b then [] else line ∷ [])
+kept_or true line = refl
+kept_or false line = refl
+
+dropped_or : (b : Bool) (line : Line) → ◌≡◌ {A = List Line} (if b || true then [] else line ∷ []) []
+dropped_or true line = refl
+dropped_or false line = refl
+
+-- the last is no .END.
+pub without_end-kept : (lines : List Line) → ((line : Line) → last_line lines ≡ Some line → is_final_end line ≡ false) → without_end lines ≡ but_last lines ++ kept_option (last_line lines)
+without_end-kept [] other = refl
+without_end-kept (line ∷ []) other = rw (other line refl) (kept_or (is_end line) line)
+without_end-kept (line ∷ next ∷ lines) other = ap (λ (l : List Line). line ∷ l) (without_end-kept (next ∷ lines) other)
+
+-- a final .END. is dropped
+pub without_end-final : (lines : List Line) (line : Line) → is_final_end line ≡ true → without_end (lines ++ line ∷ []) ≡ lines
+without_end-final [] line final = rw final (dropped_or (is_end line) line)
+without_end-final (one ∷ []) line final = ap (λ (l : List Line). one ∷ l) (without_end-final [] line final)
+without_end-final (one ∷ next ∷ lines) line final = ap (λ (l : List Line). one ∷ l) (without_end-final (next ∷ lines) line final)
+
+pub lines_of-more : (before : List ListedLine) (listed : ListedLine) → lines_of (before ++ listed ∷ []) ≡ lines_of before ++ listed.line ∷ []
+lines_of-more [] listed = refl
+lines_of-more (one ∷ before) listed = ap (λ (l : List Line). one.line ∷ l) (lines_of-more before listed)
+
+pub end_of_lines-more : (before : List ListedLine) (listed : ListedLine) → end_of_lines (before ++ listed ∷ []) ≡ behind listed
+end_of_lines-more [] listed = refl
+end_of_lines-more (one ∷ []) listed = refl
+end_of_lines-more (one ∷ next ∷ before) listed = end_of_lines-more (next ∷ before) listed
+
+-- lines were taken of bytes, and all but the last were put behind others
+pub record Loaded (bytes : List ℕ) (old new : Packer) (pending : Option Line) (at : ℕ) (before : List ListedLine) : Type 0 where
+  pub read : UpTo bytes (length bytes) 0 before at
+  pub end : end_of_lines before ≡ at
+  pub inside : at ≤ length bytes
+  pub last : pending ≡ last_line (lines_of before)
+  pub line : (line : Line) → pending ≡ Some line → (is_final_end line ≡ false) × IsLine line
+  pub packs : (front : List Line) → Packs old front → Packs new (front ++ but_last (lines_of before))
+
+-- the lines of memory are packed where .END. is met
+pub packed_lines : (bytes : List ℕ) (final at next : ℕ) (before lines : List ListedLine) (listed : ListedLine) (packer : Packer) → UpTo bytes final 0 before at
+    → IsFirst bytes final at listed next → is_final_end listed.line ≡ true → Reads bytes final 0 lines → Packs packer (lines_of before)
+    → MatchOption (before_end lines) (◌≡◌ {A = Result Packer Refusal} (Ok packer) (Err BrokenProgram)) (λ each. IsOkAnd {E = Refusal} (Ok packer) (λ held. Packs held (lines_of each)))
+packed_lines bytes final at next before lines listed packer upto is last reads packs =
+    let all = ap before_end (ends_final bytes final 0 at next before lines listed upto is last reads) ∙ before_end-final bytes final 0 at before listed upto last in
+    subst (λ (o : Option (List ListedLine)). MatchOption o (◌≡◌ {A = Result Packer Refusal} (Ok packer) (Err BrokenProgram)) (λ each. IsOkAnd {E = Refusal} (Ok packer) (λ held. Packs held (lines_of each)))) (sym all) packs
+
+pub no_program : (bytes : List ℕ) (final at : ℕ) (before lines : List ListedLine) → UpTo bytes final 0 before at → NoneFrom bytes final at → Reads bytes final 0 lines → before_end lines ≡ None
+no_program bytes final at before lines upto none reads =
+    ap before_end (ends_none bytes final 0 at before lines upto none reads) ∙ before_end-none bytes final 0 at before upto
+
+-- one more line is taken: the one that was pending is put
+pub loaded_more : (bytes : List ℕ) (old mid new : Packer) (pending : Option Line) (at : ℕ) (before : List ListedLine) (taken : Taken) → Loaded bytes old mid pending at before
+    → BytesHaveFirst bytes at taken → is_final_end taken.line ≡ false → ((front : List Line) → Packs mid front → Packs new (front ++ listed_option pending))
+    → Loaded bytes old new (Some taken.line) taken.behind (before ++ (record { position = taken.position; line = taken.line }) ∷ [])
+loaded_more bytes old mid new pending at before taken loaded is other puts =
+    let listed : ListedLine = record { position = taken.position; line = taken.line } in
+    let lines = lines_of before in
+    let again : but_last lines ++ listed_option pending ≡ lines = ap (λ (o : Option Line). but_last lines ++ listed_option o) loaded.last ∙ with_last lines in
+    record {
+      read = up_to_more bytes (length bytes) 0 at taken.behind before listed loaded.read is other;
+      end = end_of_lines-more before listed ∙ sym is.behind;
+      inside = is.inside;
+      last = sym (ap last_line (lines_of-more before listed) ∙ last_line-more lines taken.line);
+      line = λ line same.
+          let here : taken.line ≡ line = cc in
+          (ap is_final_end (sym here) ∙ other, subst IsLine here is.first.begins.spells.valid);
+      packs = λ front packs.
+          let put = puts (front ++ but_last lines) (loaded.packs front packs) in
+          subst (λ (l : List Line). Packs new (front ++ l)) (sym (ap but_last (lines_of-more before listed) ∙ but_last-more lines taken.line))
+          (subst (λ (l : List Line). Packs new (front ++ l)) again (subst (λ (l : List Line). Packs new l) (append_assoc front (but_last lines) (listed_option pending)) put));
+    }
+
+-- what the bytes to be loaded have, by a test of what is left
+loaded_by : (bytes : List ℕ) (at : ℕ) (given : List ListedLine) (lines : List Line) → end_of_lines given ≡ at → without_end (lines_of given) ≡ lines
+    → loaded_of bytes given ≡ (if list_all (λ byte. byte == 0) (drop at bytes) then Some lines else None)
+loaded_by bytes at given lines end same =
+    ap (λ (n : ℕ). if list_all (λ byte. byte == 0) (drop n bytes) then Some (without_end (lines_of given)) else None) end
+    ∙ ap (λ (l : List Line). if list_all (λ byte. byte == 0) (drop at bytes) then Some l else None) same
+
+-- the outcome of such a test
+pub tested : (b : Bool) (lines : List Line) (front : List Line) (new : Packer) → (b ≡ true → Packs new (front ++ lines))
+    → MatchOption (if b then Some lines else None) (◌≡◌ {A = Result (Unit {0}) Refusal} (if b then Ok tt else Err BrokenProgram) (Err BrokenProgram))
+    (λ loaded. (◌≡◌ {A = Result (Unit {0}) Refusal} (if b then Ok tt else Err BrokenProgram) (Ok tt)) × Packs new (front ++ loaded))
+tested true lines front new packs = (refl, packs refl)
+tested false lines front new packs = refl
+
+-- .END. is met
+pub loaded_final : (bytes : List ℕ) (old mid new : Packer) (pending : Option Line) (at : ℕ) (before given : List ListedLine) (taken : Taken) (front : List Line) → Loaded bytes old mid pending at before
+    → BytesHaveFirst bytes at taken → is_final_end taken.line ≡ true → ((front : List Line) → Packs mid front → Packs new (front ++ listed_option pending))
+    → Reads bytes (length bytes) 0 given → Packs old front
+    → (loaded_of bytes given ≡ (if list_all (λ byte. byte == 0) (drop taken.behind bytes) then Some (lines_of before) else None)) × Packs new (front ++ lines_of before)
+loaded_final bytes old mid new pending at before given taken front loaded is last puts reads packs =
+    let listed : ListedLine = record { position = taken.position; line = taken.line } in
+    let lines = lines_of before in
+    let all = ends_final bytes (length bytes) 0 at taken.behind before given listed loaded.read is last reads in
+    let end = ap end_of_lines all ∙ end_of_lines-more before listed ∙ sym is.behind in
+    let same = ap (λ (l : List ListedLine). without_end (lines_of l)) all ∙ ap without_end (lines_of-more before listed) ∙ without_end-final lines taken.line last in
+    let again : but_last lines ++ listed_option pending ≡ lines = ap (λ (o : Option Line). but_last lines ++ listed_option o) loaded.last ∙ with_last lines in
+    let put = puts (front ++ but_last lines) (loaded.packs front packs) in (
+      loaded_by bytes taken.behind given lines end same,
+      subst (λ (l : List Line). Packs new (front ++ l)) again (subst (λ (l : List Line). Packs new l) (append_assoc front (but_last lines) (listed_option pending)) put),
+    )
+
+-- no more line is met
+pub loaded_none : (bytes : List ℕ) (old mid : Packer) (pending : Option Line) (at : ℕ) (before given : List ListedLine) → Loaded bytes old mid pending at before
+    → BytesHaveNone bytes at → Reads bytes (length bytes) 0 given
+    → loaded_of bytes given ≡ (if list_all (λ byte. byte == 0) (drop at bytes) then Some (but_last (lines_of before) ++ kept_option pending) else None)
+loaded_none bytes old mid pending at before given loaded none reads =
+    let lines = lines_of before in
+    let all = ends_none bytes (length bytes) 0 at before given loaded.read none reads in
+    let end = ap end_of_lines all ∙ loaded.end in
+    let same = ap (λ (l : List ListedLine). without_end (lines_of l)) all
+    ∙ without_end-kept lines (λ line is. (loaded.line line (loaded.last ∙ is)).0)
+    ∙ ap (λ (o : Option Line). but_last lines ++ kept_option o) (sym loaded.last) in
+    loaded_by bytes at given (but_last lines ++ kept_option pending) end same
+
+-- nothing is taken yet
+pub loaded_nothing : (bytes : List ℕ) (packer : Packer) → Loaded bytes packer packer None 0 []
+loaded_nothing bytes packer = record {
+  read = up_to_none bytes (length bytes) 0;
+  end = refl;
+  inside = omega arith;
+  last = refl;
+  line = λ line same. absurd cc;
+  packs = λ front packs. subst (λ (l : List Line). Packs packer l) (sym (append-nil front)) packs;
+}

@@ -1,0 +1,212 @@
+-- The lines of sound memory.
+use Rattle.std.proofs.Common.{◌≡◌, ◌≢◌, ℕ, ◌+◌, ◌-◌, ◌<◌, ◌≤◌, Bool, true, false, List, [], ◌∷◌, map, min, length, take, drop, get_or, refl, sym, ◌∙◌, ap, subst, arith, inl, inr, Result, Ok, Err}
+use Rattle.std.specs.Prelude.{slice_range, MatchBool}
+use Rattle.std.specs.List.{range_with_len}
+use Rattle.std.proofs.lemmas.List.FromFn.{get_or-map-range_with_len, length-map-range_with_len, take-map-range_with_len}
+use Rattle.std.proofs.lemmas.Bool.{cases_lt, cases_Bool}
+use Rattle.std.proofs.lemmas.List.{length-take, length-drop}
+use Rattle.h41_codes.specs.ByteGrammar.{spelling, Begins, AnswersLine}
+use Rattle.h41_codes.specs.ByteLaws.{OneLine}
+use Rattle.h41_codes.specs.declared.line.Line.{Line}
+use Rattle.h41_ram.specs.RegisterMap.{RegisterMap, is_sound}
+use Rattle.h41_program.specs.declared.listed_line.ListedLine.{ListedLine}
+use Rattle.h41_program.specs.ProgramBytes.{byte_count, program_byte, program_bytes, final_position}
+use Rattle.h41_program.specs.declared.reading.Found.{Found}
+use Rattle.h41_program.specs.Lines.{is_final_end}
+use Rattle.h41_program.specs.ProgramLines.{line_bytes, FirstFrom, Reads, behind, next_of}
+use Rattle.h41_program.specs.Reading.{HasFirst, HasNoLine, FollowsAt}
+use Rattle.h41_program.proofs.FirstLines.{line_bytes-below, line_bytes-at, Passed, stands_there, found_first}
+use Rattle.h41_program.proofs.Sound.{final_byte}
+use Rattle.h41_program.proofs.Windows.{drop-map-range, take-window, begins_count, begins_least, begins_in, begins_out}
+
+-- the bytes that are looked at
+pub window_bytes : (f : ℕ → ℕ) (n final p limit : ℕ) → n ≡ final + 3 → p ≤ final → (p < final → limit ≡ final) → (p ≡ final → limit ≡ final + 3)
+    → take 18 (line_bytes (map f (range_with_len 0 n)) final p) ≡ map f (range_with_len p (min 18 (limit - p)))
+window_bytes f n final p limit count inside below last = elim (cases_lt p final) [
+  | inl before ↦
+      let size : final - p ≡ limit - p = ap (λ m. m - p) (sym (below before)) in
+      ap (take 18) (line_bytes-below (map f (range_with_len 0 n)) final p before ∙ ap (take (final - p)) (drop-map-range f n p (omega arith))
+      ∙ take-map-range_with_len f p (n - p) (final - p) (omega arith))
+      ∙ take-window f p (final - p) ∙ ap (λ m. map f (range_with_len p (min 18 m))) size
+  | inr above ↦
+      let same : p ≡ final = omega arith in
+      let size : n - p ≡ limit - p = omega (arith, last same) in
+      ap (take 18) (ap (line_bytes (map f (range_with_len 0 n)) final) same ∙ line_bytes-at (map f (range_with_len 0 n)) final
+      ∙ ap (λ m. drop m (map f (range_with_len 0 n))) (sym same) ∙ drop-map-range f n p (omega arith))
+      ∙ take-window f p (n - p) ∙ ap (λ m. map f (range_with_len p (min 18 m))) size
+]
+
+-- the byte of a position
+pub byte_there : (memory : RegisterMap) (k : ℕ) → k < byte_count memory → get_or (program_bytes memory) k 0 ≡ program_byte memory k
+byte_there memory k inside = get_or-map-range_with_len (program_byte memory) 0 (byte_count memory) k k 0 inside (omega arith)
+
+-- nulls that were passed over
+pub passed_nulls : (memory : RegisterMap) (at p : ℕ) → final_position memory + 3 ≡ byte_count memory → at ≤ p → p ≤ final_position memory
+    → ((k : ℕ) → at ≤ k → k < p → program_byte memory k ≡ 0) → (p < final_position memory → program_byte memory p ≢ 0)
+    → Passed (program_bytes memory) (final_position memory) at p
+passed_nulls memory at p count from to nulls stop = record {
+  from = from;
+  to = to;
+  nulls = λ k low high. byte_there memory k (omega (arith, count, to, high)) ∙ nulls k low high;
+  stop = λ before null. stop before (sym (byte_there memory p (omega (arith, count, to))) ∙ null);
+  inside = omega (arith, count, length-map-range_with_len (program_byte memory) 0 (byte_count memory));
+}
+
+-- the byte behind them is no null, since .END. ends memory
+pub stops_there : (memory : RegisterMap) (p : ℕ) → is_sound memory ≡ true → final_position memory + 3 ≡ byte_count memory → p ≤ final_position memory
+    → (p < final_position memory → program_byte memory p ≢ 0) → get_or (program_bytes memory) p 0 ≢ 0
+stops_there memory p sound count to stop = λ null. elim (cases_lt p (final_position memory)) [
+  | inl before ↦ stop before (sym (byte_there memory p (omega (arith, count, to))) ∙ null)
+  | inr above ↦
+      let same : p ≡ final_position memory = omega (arith, above, to) in
+      let here : program_byte memory (final_position memory) ≡ 0 = ap (program_byte memory) (sym same) ∙ sym (byte_there memory p (omega (arith, count, to))) ∙ null in
+      let high = final_byte memory sound in
+      absurd (omega (arith, here, high))
+]
+
+-- a line takes no more bytes than there are
+line_takes : (bytes : List ℕ) (final p : ℕ) (line : Line) (size : ℕ) → p ≤ final → final ≤ length bytes → Begins (line_bytes bytes final p) line size → p + size ≤ length bytes
+line_takes bytes final p line size inside all begins = elim (cases_lt p final) [
+  | inl before ↦
+      let taken : size ≤ length (slice_range bytes p final) = subst (λ (rest : List ℕ). size ≤ length rest) (line_bytes-below bytes final p before) begins.inside in
+      omega (arith, taken, length-take (final - p) (drop p bytes), length-drop p bytes)
+  | inr above ↦
+      let same : p ≡ final = omega arith in
+      let taken : size ≤ length (drop final bytes) = subst (λ (rest : List ℕ). size ≤ length rest) (ap (line_bytes bytes final) same ∙ line_bytes-at bytes final) begins.inside in
+      omega (arith, taken, length-drop final bytes)
+]
+
+-- an answer tells one line
+pub ok_line : {E : Type 0} (one other : Line) (size count : ℕ) → ◌≡◌ {A = Result (Line × ℕ) E} (Ok (one, size)) (Ok (other, count)) → one ≡ other
+ok_line one other size count same =
+    let pair : (one, size) ≡ (other, count) = cc in
+    ap (λ (answer : Line × ℕ). answer.0) pair
+
+pub no_error : {E : Type 0} (answer : Line × ℕ) (error : E) → ◌≡◌ {A = Result (Line × ℕ) E} (Ok answer) (Err error) → ⊥
+no_error answer error same = cc
+
+-- a line that was decoded is the first one
+module _ {E : Type 0} (one : OneLine) (memory : RegisterMap) (sound : is_sound memory ≡ true) (count : final_position memory + 3 ≡ byte_count memory)
+    (at p : ℕ) (passed : Passed (program_bytes memory) (final_position memory) at p) (other : get_or (program_bytes memory) p 0 ≢ 0)
+    (window : List ℕ) (same : take 18 (line_bytes (program_bytes memory) (final_position memory) p) ≡ window)
+    (result : Result (Line × ℕ) E) (answer : AnswersLine result window) where
+  abbrev pub taken : List ℕ
+  taken = line_bytes (program_bytes memory) (final_position memory) p
+
+  pub decoded : (line : Line) (size : ℕ) → result ≡ Ok (line, size) → Begins taken line size
+  decoded line size is =
+      begins_out taken line size (subst (λ (bytes : List ℕ). Begins bytes line size) (sym same) ((answer line size).0 is))
+
+  pub decoded_other : (first : ListedLine) → FirstFrom (program_bytes memory) (final_position memory) at first → result ≡ Ok (first.line, length (spelling first.line))
+  decoded_other first is =
+      let here = stands_there one (program_bytes memory) (final_position memory) at p passed first is in
+      let begins : Begins taken first.line (length (spelling first.line)) =
+      subst (λ (n : ℕ). Begins (line_bytes (program_bytes memory) (final_position memory) n) first.line (length (spelling first.line))) here is.begins in
+      (answer first.line (length (spelling first.line))).1
+      (subst (λ (bytes : List ℕ). Begins bytes first.line (length (spelling first.line))) same (begins_in taken first.line (length (spelling first.line)) begins))
+
+  line_inside : (line : Line) (size : ℕ) → Begins taken line size → p + size ≤ length (program_bytes memory)
+  line_inside line size begins = line_takes (program_bytes memory) (final_position memory) p line size passed.to passed.inside begins
+
+  pub is_first : (line : Line) (size next : ℕ) → result ≡ Ok (line, size) → next ≡ p + size
+      → HasFirst memory at (record { listed = record { position = p; line = line }; behind = next })
+  is_first line size next is sum =
+      let begins = decoded line size is in
+      let long = begins_count taken line size begins in
+      let least = begins_least taken line size begins in
+      record {
+        first = found_first (program_bytes memory) (final_position memory) at p line size passed other begins;
+        one = λ first is_other.
+            let here = stands_there one (program_bytes memory) (final_position memory) at p passed first is_other in
+            let same_result = sym (decoded_other first is_other) ∙ is in
+            let same_line = ok_line first.line line (length (spelling first.line)) size same_result in
+            (λ i. record { position = here i; line = same_line i });
+        behind = sum ∙ ap (λ n. p + n) long;
+        inside = subst (λ (n : ℕ). n ≤ length (program_bytes memory)) (sym sum) (line_inside line size begins);
+        onward = omega (arith, sum, least, passed.from);
+      }
+
+  pub none_first : (error : E) → result ≡ Err error → HasNoLine memory at
+  none_first error is first is_first = no_error (first.line, length (spelling first.line)) error (sym (decoded_other first is_first) ∙ is)
+
+-- what is known where a line was looked for: where the final bytes begin, where the nulls before it end, and the bytes that were looked at
+pub record Looked (memory : RegisterMap) (at p last limit : ℕ) (window : List ℕ) : Type 0 where
+  pub last_is : last ≡ final_position memory
+  pub count : last + 3 ≡ byte_count memory
+  pub from : at ≤ p
+  pub to : p ≤ last
+  pub nulls : (k : ℕ) → at ≤ k → k < p → program_byte memory k ≡ 0
+  pub stop : p < last → program_byte memory p ≢ 0
+  pub before : p < last → limit ≡ last
+  pub behind : p ≡ last → limit ≡ last + 3
+  pub bytes : window ≡ map (program_byte memory) (range_with_len p (min 18 (limit - p)))
+
+module _ {E : Type 0} (one : OneLine) (memory : RegisterMap) (sound : is_sound memory ≡ true) (at p last limit : ℕ) (window : List ℕ)
+    (looked : Looked memory at p last limit window) (result : Result (Line × ℕ) E) (answer : AnswersLine result window) where
+  count : final_position memory + 3 ≡ byte_count memory
+  count = ap (λ n. n + 3) (sym looked.last_is) ∙ looked.count
+
+  inside : p ≤ final_position memory
+  inside = subst (λ (n : ℕ). p ≤ n) looked.last_is looked.to
+
+  stops : p < final_position memory → program_byte memory p ≢ 0
+  stops before = looked.stop (subst (λ (n : ℕ). p < n) (sym looked.last_is) before)
+
+  passed : Passed (program_bytes memory) (final_position memory) at p
+  passed = passed_nulls memory at p count looked.from inside looked.nulls stops
+
+  same : take 18 (line_bytes (program_bytes memory) (final_position memory) p) ≡ window
+  same =
+      window_bytes (program_byte memory) (byte_count memory) (final_position memory) p limit (sym count) inside
+      (λ before. looked.before (subst (λ (n : ℕ). p < n) (sym looked.last_is) before) ∙ looked.last_is)
+      (λ here. looked.behind (here ∙ sym looked.last_is) ∙ ap (λ n. n + 3) looked.last_is)
+      ∙ sym looked.bytes
+
+  pub looked_first : (line : Line) (size next : ℕ) → result ≡ Ok (line, size) → next ≡ p + size
+      → HasFirst memory at (record { listed = record { position = p; line = line }; behind = next })
+  looked_first = is_first one memory sound count at p passed (stops_there memory p sound count inside stops) window same result answer
+
+  pub looked_none : (error : E) → result ≡ Err error → HasNoLine memory at
+  looked_none = none_first one memory sound count at p passed (stops_there memory p sound count inside stops) window same result answer
+
+-- the list of lines from a position on, by its first one
+pub rest_of : (memory : RegisterMap) (at : ℕ) (found : Found) (lines : List ListedLine) → HasFirst memory at found
+    → Reads (program_bytes memory) (final_position memory) at lines
+    → (rest : List ListedLine) × (lines ≡ found.listed ∷ rest)
+    × MatchBool (is_final_end found.listed.line) (rest ≡ []) (Reads (program_bytes memory) (final_position memory) found.behind rest)
+rest_of memory at found [] is reads = absurd (reads found.listed is.first)
+rest_of memory at found (first ∷ rest) is reads =
+    let same = is.one first reads.0 in (
+      rest,
+      ap (λ (l : ListedLine). l ∷ rest) same,
+      subst (λ (n : ℕ). MatchBool (is_final_end found.listed.line) (rest ≡ []) (Reads (program_bytes memory) (final_position memory) n rest)) (sym is.behind)
+          (subst (λ (l : ListedLine). MatchBool (is_final_end l.line) (rest ≡ []) (Reads (program_bytes memory) (final_position memory) (behind l) rest)) same reads.1),
+    )
+
+pub no_lines : (memory : RegisterMap) (at : ℕ) (lines : List ListedLine) → HasNoLine memory at
+    → Reads (program_bytes memory) (final_position memory) at lines → lines ≡ []
+no_lines memory at [] none reads = refl
+no_lines memory at (first ∷ rest) none reads = absurd (none first reads.0)
+
+-- the position behind a line is that of the next
+next_final : (memory : RegisterMap) (found : Found) (position : ℕ) (rest : List ListedLine) → FollowsAt memory found position
+    → is_final_end found.listed.line ≡ true → rest ≡ [] → Ok position ≡ next_of (found.listed ∷ rest)
+next_final memory found position rest follows final none =
+    rw (none, final) (ap (λ n. Ok n) (follows.final final))
+
+next_other : (memory : RegisterMap) (found : Found) (position : ℕ) (rest : List ListedLine) → found.behind ≡ behind found.listed → FollowsAt memory found position
+    → is_final_end found.listed.line ≡ false → Reads (program_bytes memory) (final_position memory) found.behind rest → Ok position ≡ next_of (found.listed ∷ rest)
+next_other memory found position [] next follows other none = rw other (ap (λ n. Ok n) (follows.none other none ∙ next))
+next_other memory found position (second ∷ rest) next follows other reads = ap (λ n. Ok n) (follows.second other second reads.0)
+
+pub next_is : (memory : RegisterMap) (found : Found) (position : ℕ) (rest : List ListedLine) → found.behind ≡ behind found.listed → FollowsAt memory found position
+    → MatchBool (is_final_end found.listed.line) (rest ≡ []) (Reads (program_bytes memory) (final_position memory) found.behind rest)
+    → Ok position ≡ next_of (found.listed ∷ rest)
+next_is memory found position rest next follows reads = elim (cases_Bool (is_final_end found.listed.line)) [
+  | inl final ↦
+      next_final memory found position rest follows final
+      (subst (λ (b : Bool). MatchBool b (rest ≡ []) (Reads (program_bytes memory) (final_position memory) found.behind rest)) final reads)
+  | inr other ↦
+      next_other memory found position rest next follows other
+      (subst (λ (b : Bool). MatchBool b (rest ≡ []) (Reads (program_bytes memory) (final_position memory) found.behind rest)) other reads)
+]

@@ -1,0 +1,159 @@
+-- Packed lines are read again.
+use Rattle.std.proofs.Common.{◌≡◌, ℕ, suc, zero, ◌+◌, ◌-◌, ◌<◌, ◌≤◌, Bool, true, false, List, [], ◌∷◌, ◌++◌, length, take, drop, get_or, replicate, refl, sym, ◌∙◌, ap, subst, arith, inl, inr, append_assoc, length-append, All}
+use Rattle.std.specs.Prelude.{MatchBool, ◌&&◌, if◌then◌else◌}
+use Rattle.std.proofs.lemmas.Bool.{cases_lt, cases_Bool}
+use Rattle.std.proofs.lemmas.List.{length-replicate, get_or_append_left, get_or-append-add, get_or-replicate}
+use Rattle.std.proofs.Math.ListN.{get_or-eq_default}
+use Rattle.std.proofs.Math.Seq.{drop-append_seam}
+use Rattle.h41_codes.specs.ByteGrammar.{spelling, IsLine, IsWhole, GoesOn, Begins}
+use Rattle.h41_codes.specs.ByteLaws.{ByteRoundTrip}
+use Rattle.h41_codes.specs.declared.line.Line.{Line}
+use Rattle.h41_codes.specs.declared.line.Line.TheVariants.{Number, FinalEnd}
+use Rattle.h41_program.specs.declared.listed_line.ListedLine.{ListedLine}
+use Rattle.h41_program.specs.Edits.{lines_of}
+use Rattle.h41_program.specs.Lines.{is_number}
+use Rattle.h41_program.specs.Packing.{gap, packed, filler, packing, written_end}
+use Rattle.h41_program.specs.ProgramLaws.{IsInner, PackingRoundTrip}
+use Rattle.h41_program.specs.ProgramLines.{line_bytes, FirstFrom, Reads, behind}
+use Rattle.h41_program.proofs.FirstBytes.{stops}
+use Rattle.h41_program.proofs.FirstLines.{line_bytes-below, line_bytes-at}
+use Rattle.h41_program.proofs.LineLengths.{spelling_least}
+use Rattle.h41_program.proofs.Packings.{length-packing}
+
+-- nulls that follow part a number from what is behind them
+nulls_stop : (n : ℕ) → GoesOn (replicate n 0) → ⊥
+nulls_stop zero goes = goes
+nulls_stop (suc n) goes = absurd (omega (arith, goes.0))
+
+parts : (next : Line) (lines : List Line) (n : ℕ) → packed (next ∷ lines) ++ replicate n 0 ≡ spelling next ++ (gap next lines ++ (packed lines ++ replicate n 0))
+parts next lines n = simp append_assoc
+
+abbrev one_null : Bool → List ℕ
+one_null b = if b then 0 ∷ [] else []
+
+chosen_null : (b : Bool) (k : ℕ) → get_or (one_null b) k 0 ≡ 0
+chosen_null true zero = refl
+chosen_null true (suc k) = refl
+chosen_null false k = refl
+
+all_null : (n k : ℕ) → ◌≡◌ {A = ℕ} (get_or (replicate n 0) k 0) 0
+all_null n k = elim (cases_lt k n) [
+  | inl inside ↦ get_or-replicate n k 0 0 inside
+  | inr past ↦ get_or-eq_default (replicate n 0) 0 (omega (arith, length-replicate {A = ℕ} n 0))
+]
+
+after_front : (xs ys : List ℕ) (k : ℕ) → length xs ≤ k → get_or (xs ++ ys) k 0 ≡ get_or ys (k - length xs) 0
+after_front xs ys k above =
+    let place : k ≡ length xs + (k - length xs) = omega arith in
+    ap (λ m. get_or (xs ++ ys) m 0) place ∙ get_or-append-add xs ys (k - length xs) 0
+
+-- the first of lines, and the others
+first_inner : (line : Line) (lines : List Line) → All IsInner (line ∷ lines) → IsInner line
+first_inner line lines inner = inner 0 line (omega arith)
+
+others_inner : (line : Line) (lines : List Line) → All IsInner (line ∷ lines) → All IsInner lines
+others_inner line lines inner = λ k d below. inner (suc k) d (omega (arith, below))
+
+-- a front that ends with nulls, and more of them
+body_null : (front : List ℕ) (n at : ℕ) → ((k : ℕ) → at ≤ k → k < length front → get_or front k 0 ≡ 0) → (k : ℕ) → at ≤ k → get_or (front ++ replicate n 0) k 0 ≡ 0
+body_null front n at nulls k low = elim (cases_lt k (length front)) [
+  | inl before ↦ get_or_append_left front (replicate n 0) 0 k before ∙ nulls k low before
+  | inr above ↦ after_front front (replicate n 0) k above ∙ all_null n (k - length front)
+]
+
+-- .END. as it is written
+end_begins : Begins written_end (FinalEnd 0 0) 3
+end_begins = record { inside = omega arith; spells = record { valid = (omega arith, omega arith); same = refl }; whole = tt }
+
+-- the bytes behind a number of lines that follow it
+number_stops : (next : Line) (behind : List ℕ) → IsLine next → GoesOn ((if is_number next then 0 ∷ [] else []) ++ (spelling next ++ behind)) → ⊥
+number_stops next behind valid goes = elim (cases_Bool (is_number next)) [
+  | inl number ↦
+      let stop : GoesOn (0 ∷ (spelling next ++ behind)) = subst (λ (b : Bool). GoesOn ((if b then 0 ∷ [] else []) ++ (spelling next ++ behind))) number goes in
+      absurd (omega (arith, stop.0))
+  | inr other ↦
+      stops next behind valid other (subst (λ (b : Bool). GoesOn ((if b then 0 ∷ [] else []) ++ (spelling next ++ behind))) other goes)
+]
+
+-- a line is whole before the lines that follow it
+follows_whole : (line : Line) (lines : List Line) (n : ℕ) → All IsInner lines → IsWhole line (gap line lines ++ (packed lines ++ replicate n 0))
+follows_whole (Number characters) [] n inner = λ goes. absurd (nulls_stop n goes)
+follows_whole (Number characters) (next ∷ lines) n inner =
+    λ goes. absurd (number_stops next (gap next lines ++ (packed lines ++ replicate n 0)) (first_inner next lines inner).valid
+    (subst (λ (l : List ℕ). GoesOn ((if is_number next then 0 ∷ [] else []) ++ l)) (parts next lines n) goes))
+follows_whole line lines n inner = tt
+
+-- the bytes behind a front
+take-front : (xs ys : List ℕ) → take (length xs) (xs ++ ys) ≡ xs
+take-front [] ys = refl
+take-front (x ∷ xs) ys = ap (λ (l : List ℕ). x ∷ l) (take-front xs ys)
+
+-- the bytes that a line may take between a front and the last three bytes
+between : (front middle end : List ℕ) → 1 ≤ length middle → line_bytes ((front ++ middle) ++ end) (length (front ++ middle)) (length front) ≡ middle
+between front middle end some =
+    let size = length-append front middle in
+    line_bytes-below ((front ++ middle) ++ end) (length (front ++ middle)) (length front) (omega (arith, size))
+    ∙ ap (take (length (front ++ middle) - length front)) (ap (drop (length front)) (append_assoc front middle end) ∙ drop-append_seam front (middle ++ end))
+    ∙ ap (λ n. take n (middle ++ end)) (let all : length (front ++ middle) - length front ≡ length middle = omega (arith, size) in all)
+    ∙ take-front middle end
+
+-- nulls stay nulls
+gap_null : (line : Line) (lines : List Line) (k : ℕ) → get_or (gap line lines) k 0 ≡ 0
+gap_null line [] k = refl
+gap_null line (next ∷ lines) k = chosen_null (is_number line && is_number next) k
+
+-- what is read of lines behind a front, where nulls may end the front
+module _ (again : ByteRoundTrip) where
+  pub trip : (lines : List Line) (front : List ℕ) (at n : ℕ) → All IsInner lines → at ≤ length front → ((k : ℕ) → at ≤ k → k < length front → get_or front k 0 ≡ 0)
+      → (listed : List ListedLine)
+      × Reads ((front ++ (packed lines ++ replicate n 0)) ++ written_end) (length (front ++ (packed lines ++ replicate n 0))) at listed
+      × (lines_of listed ≡ lines ++ FinalEnd 0 0 ∷ [])
+  trip [] front at n inner inside nulls =
+      let body = front ++ replicate n 0 in
+      let final = length body in
+      let last : ListedLine = record { position = final; line = FinalEnd 0 0 } in
+      let size : length body ≡ length front + n = length-append front (replicate n 0) ∙ ap (λ m. length front + m) (length-replicate n 0) in
+      let taken : line_bytes (body ++ written_end) final final ≡ written_end = line_bytes-at (body ++ written_end) final ∙ drop-append_seam body written_end in
+      let first : FirstFrom (body ++ written_end) final at last = record {
+        from = omega (arith, size, inside);
+        nulls = λ k low high. get_or_append_left body written_end 0 k high ∙ body_null front n at nulls k low;
+        begins = subst (λ (l : List ℕ). Begins l (FinalEnd 0 0) 3) (sym taken) end_begins;
+        not_null = λ same. cc;
+      } in
+      (last ∷ [], (first, refl), refl)
+  trip (line ∷ lines) front at n inner inside nulls =
+      let this = first_inner line lines inner in
+      let tail = packed lines ++ replicate n 0 in
+      let middle = packed (line ∷ lines) ++ replicate n 0 in
+      let next = front ++ spelling line ++ gap line lines in
+      let least = spelling_least line this.valid in
+      let size : length middle ≡ length (spelling line) + length (gap line lines ++ tail) = ap length (parts line lines n) ∙ length-append (spelling line) (gap line lines ++ tail) in
+      let whole : length (front ++ middle) ≡ length front + length middle = length-append front middle in
+      let first : ListedLine = record { position = length front; line = line } in
+      let taken = between front middle written_end (omega (arith, size, least)) in
+      let begins = again line (gap line lines ++ tail) this.valid (follows_whole line lines n (others_inner line lines inner)) in
+      let is_first : FirstFrom ((front ++ middle) ++ written_end) (length (front ++ middle)) at first = record {
+        from = inside;
+        nulls = λ k low high. get_or_append_left (front ++ middle) written_end 0 k (omega (arith, whole, high)) ∙ get_or_append_left front middle 0 k high ∙ nulls k low high;
+        begins = subst (λ (l : List ℕ). Begins l line (length (spelling line))) (sym (parts line lines n) ∙ sym taken) begins;
+        not_null = this.some;
+      } in
+      let before : length (front ++ spelling line) ≡ length front + length (spelling line) = length-append front (spelling line) in
+      let ahead : length next ≡ length (front ++ spelling line) + length (gap line lines) = length-append (front ++ spelling line) (gap line lines) in
+      let rest = trip lines next (length front + length (spelling line)) n (others_inner line lines inner) (omega (arith, before, ahead))
+      (λ k low high. after_front (front ++ spelling line) (gap line lines) k (omega (arith, before, low)) ∙ gap_null line lines (k - length (front ++ spelling line))) in
+      let same : next ++ tail ≡ front ++ middle = simp append_assoc in
+      let reads : Reads ((front ++ middle) ++ written_end) (length (front ++ middle)) (behind first) rest.0 =
+      subst (λ (body : List ℕ). Reads (body ++ written_end) (length body) (length front + length (spelling line)) rest.0) same rest.1 in (
+        first ∷ rest.0,
+        (is_first, subst (λ (b : Bool). MatchBool b (rest.0 ≡ []) (Reads ((front ++ middle) ++ written_end) (length (front ++ middle)) (behind first) rest.0)) (sym this.inner) reads),
+        ap (λ (l : List Line). line ∷ l) rest.2,
+      )
+
+pub reads_packing : ByteRoundTrip → PackingRoundTrip
+reads_packing again lines inner =
+    let count = filler (length (packed lines)) in
+    let found = trip again lines [] 0 count inner (omega arith) (λ k low high. absurd (omega (arith, high))) in
+    let size : length (packed lines ++ replicate count 0) ≡ length (packing lines) - 3 =
+    omega (arith, length-packing lines, length-append (packed lines) (replicate count 0), length-replicate {A = ℕ} count 0) in
+    (found.0, (subst (λ (n : ℕ). Reads (packing lines) n 0 found.0) size found.1, found.2))

@@ -1,0 +1,89 @@
+-- Searches, line after line.
+use Rattle.std.proofs.Common.{◌≡◌, ℕ, Bool, true, false, List, [], ◌∷◌, ◌++◌, refl, ◌∙◌, ap, Option, Some, None}
+use Rattle.std.specs.Prelude.{◌&&◌, not, nat_lt, reverse, find, if◌then◌else◌}
+use Rattle.std.specs.List.{take_while}
+use Rattle.std.specs.Option.{option_map_or, option_or}
+use Rattle.std.proofs.lemmas.List.{reverse-append}
+use Rattle.std.proofs.lemmas.List.Sums.{take_while-cons}
+use Rattle.h41_codes.specs.declared.line.Line.{Line}
+use Rattle.h41_codes.specs.declared.line.Line.TheVariants.{End, FinalEnd}
+use Rattle.h41_program.specs.declared.listed_line.ListedLine.{ListedLine}
+use Rattle.h41_program.specs.Lines.{is_end, is_final_end, is_label, is_named}
+use Rattle.h41_program.specs.ProgramLines.{behind}
+use Rattle.h41_program.specs.Searches.{start_in, label_in, named_in, position_of}
+
+-- .END. is no END and no label
+final_no_end : (line : Line) → is_final_end line ≡ true → is_end line ≡ false
+final_no_end (FinalEnd link marks) final = refl
+final_no_end line final = cc
+
+final_no_name : (name : List ℕ) (line : Line) → is_final_end line ≡ true → is_named name line ≡ false
+final_no_name name (FinalEnd link marks) final = refl
+final_no_name name line final = cc
+
+final_no_label : (n : ℕ) (line : Line) → is_final_end line ≡ true → is_label n line ≡ false
+final_no_label n (FinalEnd link marks) final = refl
+final_no_label n line final = cc
+
+-- a label is no END
+label_no_end : (n : ℕ) (line : Line) → is_label n line ≡ true → is_end line ≡ false
+label_no_end n (End link marks) is = cc
+label_no_end n line is = refl
+
+back : (before : List ListedLine) (listed : ListedLine) → reverse (before ++ listed ∷ []) ≡ listed ∷ reverse before
+back before listed = reverse-append before (listed ∷ [])
+
+chosen_start : (b : Bool) (listed : ListedLine) (found : Option ListedLine) → option_map_or behind (if b then Some listed else found) 0 ≡ (if b then behind listed else option_map_or behind found 0)
+chosen_start true listed found = refl
+chosen_start false listed found = refl
+
+chosen_position : (b : Bool) (listed : ListedLine) (found : Option ListedLine) → position_of (if b then Some listed else found) ≡ (if b then Some listed.position else position_of found)
+chosen_position true listed found = refl
+chosen_position false listed found = refl
+
+pub start_in-more : (at : ℕ) (before : List ListedLine) (listed : ListedLine)
+    → start_in at (before ++ listed ∷ []) ≡ (if is_end listed.line && nat_lt listed.position at then behind listed else start_in at before)
+start_in-more at before listed =
+    ap (λ (lines : List ListedLine). option_map_or behind (find (λ each. is_end each.line && nat_lt each.position at) lines) 0) (back before listed)
+    ∙ chosen_start (is_end listed.line && nat_lt listed.position at) listed (find (λ each. is_end each.line && nat_lt each.position at) (reverse before))
+
+pub start_in-final : (at : ℕ) (before : List ListedLine) (listed : ListedLine) → is_final_end listed.line ≡ true → start_in at (before ++ listed ∷ []) ≡ start_in at before
+start_in-final at before listed final = start_in-more at before listed ∙ (rw (final_no_end listed.line final) refl)
+
+pub named_in-more : (name : List ℕ) (before : List ListedLine) (listed : ListedLine)
+    → position_of (named_in name (before ++ listed ∷ [])) ≡ (if is_named name listed.line then Some listed.position else position_of (named_in name before))
+named_in-more name before listed =
+    ap (λ (lines : List ListedLine). position_of (find (λ each. is_named name each.line) lines)) (back before listed)
+    ∙ chosen_position (is_named name listed.line) listed (find (λ each. is_named name each.line) (reverse before))
+
+pub named_in-final : (name : List ℕ) (before : List ListedLine) (listed : ListedLine) → is_final_end listed.line ≡ true
+    → position_of (named_in name (before ++ listed ∷ [])) ≡ position_of (named_in name before)
+named_in-final name before listed final = named_in-more name before listed ∙ (rw (final_no_name name listed.line final) refl)
+
+-- one line of a search for a label
+module _ (n : ℕ) (listed : ListedLine) (rest : List ListedLine) where
+  abbrev kept : List ListedLine
+  kept = take_while (λ each. not (is_end each.line)) rest
+
+  by_tests : label_in n (listed ∷ rest) ≡ find (λ each. is_label n each.line) (if not (is_end listed.line) then listed ∷ kept else [])
+  by_tests = ap (find (λ each. is_label n each.line)) (take_while-cons (λ each. not (is_end each.line)) listed rest)
+
+  pub label_in-end : is_end listed.line ≡ true → label_in n (listed ∷ rest) ≡ None
+  label_in-end is = by_tests ∙ (rw is refl)
+
+  pub label_in-here : is_label n listed.line ≡ true → label_in n (listed ∷ rest) ≡ Some listed
+  label_in-here is = by_tests ∙ (rw (label_no_end n listed.line is, is) refl)
+
+  pub label_in-other : is_end listed.line ≡ false → is_label n listed.line ≡ false → label_in n (listed ∷ rest) ≡ label_in n rest
+  label_in-other other no_label = by_tests ∙ (rw (other, no_label) refl)
+
+pub label_in-final : (n : ℕ) (listed : ListedLine) → is_final_end listed.line ≡ true → label_in n (listed ∷ []) ≡ None
+label_in-final n listed final = label_in-other n listed [] (final_no_end listed.line final) (final_no_label n listed.line final)
+
+some_is_not_none : (n : ℕ) → ◌≡◌ {A = Option ℕ} (Some n) None → ⊥
+some_is_not_none n same = cc
+
+-- a search that found nothing gives way to another
+pub none_or : (first second : Option ListedLine) (result : Option ℕ) → position_of first ≡ None → result ≡ position_of second → result ≡ position_of (option_or first second)
+none_or None second result none same = same
+none_or (Some listed) second result none same = absurd (some_is_not_none listed.position none)

@@ -1,0 +1,95 @@
+-- What is known of sound memory: where its program memory lies, and that it ends with an END.
+use Rattle.std.proofs.Common.{◌≡◌, ℕ, ◌+◌, ◌-◌, ◌*◌, ◌/◌, ◌%◌, ◌<◌, ◌≤◌, Bool, true, false, List, length, arith, refl}
+use Rattle.std.proofs.lemmas.Bool.Decides.{nat_tests}
+use Rattle.std.specs.Prelude.{◌&&◌, nat_lt, nat_le, ◌==◌}
+use Rattle.h41_ram.specs.RegisterMap.{RegisterMap, main_start, top_of, curtain_of, end_of, is_sound, is_final_end, bit_of, register_at, constant_of, sound_constant}
+use Rattle.h41_digits.specs.Register.{byte_at}
+use Rattle.h41_program.specs.ProgramBytes.{program_byte, final_position}
+
+-- where program memory lies
+pub record Bounds (memory : RegisterMap) : Type 0 where
+  pub low : main_start ≤ end_of memory
+  pub order : end_of memory < curtain_of memory
+  pub high : curtain_of memory ≤ main_start + length memory.main
+
+and_first : (a b : Bool) → (a && b) ≡ true → a ≡ true
+and_first true b h = refl
+and_first false b h = h
+
+and_second : (a b : Bool) → (a && b) ≡ true → b ≡ true
+and_second true b h = h
+and_second false b h = cc
+
+-- a test that holds
+le_holds : (a b : ℕ) → nat_le a b ≡ true → a ≤ b
+le_holds a b h = grind (arith, nat_tests)
+
+lt_holds : (a b : ℕ) → nat_lt a b ≡ true → a < b
+lt_holds a b h = grind (arith, nat_tests)
+
+-- the parts of a test of five
+module _ (a b c d e : Bool) (h : (a && (b && c && d) && e) ≡ true) where
+  first_holds : b ≡ true
+  first_holds = and_first b c (and_first (b && c) d (and_second a (b && c && d) (and_first (a && (b && c && d)) e h)))
+
+  second_holds : c ≡ true
+  second_holds = and_second b c (and_first (b && c) d (and_second a (b && c && d) (and_first (a && (b && c && d)) e h)))
+
+  third_holds : d ≡ true
+  third_holds = and_second (b && c) d (and_second a (b && c && d) (and_first (a && (b && c && d)) e h))
+
+  last_holds : e ≡ true
+  last_holds = and_second (a && (b && c && d)) e h
+
+module _ (memory : RegisterMap) (sound : is_sound memory ≡ true) where
+  abbrev constant_test : Bool
+  constant_test = constant_of memory == sound_constant
+
+  abbrev low_test : Bool
+  low_test = nat_le main_start (end_of memory)
+
+  abbrev order_test : Bool
+  order_test = nat_lt (end_of memory) (curtain_of memory)
+
+  abbrev high_test : Bool
+  high_test = nat_le (curtain_of memory) (top_of memory)
+
+  abbrev end_test : Bool
+  end_test = is_final_end (register_at memory (end_of memory))
+
+  pub bounds : Bounds memory
+  bounds = record {
+    low = le_holds main_start (end_of memory) (first_holds constant_test low_test order_test high_test end_test sound);
+    order = lt_holds (end_of memory) (curtain_of memory) (second_holds constant_test low_test order_test high_test end_test sound);
+    high = le_holds (curtain_of memory) (top_of memory) (third_holds constant_test low_test order_test high_test end_test sound);
+  }
+
+  abbrev final : List ℕ
+  final = register_at memory (end_of memory)
+
+  final_test : nat_le 0xC0 (byte_at final 2) ≡ true
+  final_test =
+      let first = nat_le 0xC0 (byte_at final 2) in
+      let second = nat_le (byte_at final 2) 0xCD in
+      let third = nat_lt (byte_at final 0) 0xF0 in
+      and_first first second (and_first (first && second) third (and_first (first && second && third) (bit_of final 5)
+      (last_holds constant_test low_test order_test high_test end_test sound)))
+
+-- the byte of a position, by its register and its place there
+pub program_byte-at : (memory : RegisterMap) (position address place : ℕ) → curtain_of memory - 1 - position / 7 ≡ address → 6 - position % 7 ≡ place
+    → program_byte memory position ≡ byte_at (register_at memory address) place
+program_byte-at memory position address place here there = rw (here, there) refl
+
+-- .END. stands in the last three bytes of the last register
+last_register : (curtain end : ℕ) → end < curtain → curtain - 1 - (7 * (curtain - end) - 3) / 7 ≡ end
+last_register curtain end below = omega arith
+
+last_place : (curtain end : ℕ) → end < curtain → 6 - (7 * (curtain - end) - 3) % 7 ≡ 2
+last_place curtain end below = omega arith
+
+-- the first of the last three bytes
+pub final_byte : (memory : RegisterMap) → is_sound memory ≡ true → 0xC0 ≤ program_byte memory (final_position memory)
+final_byte memory sound =
+    let below = (bounds memory sound).order in
+    rw (program_byte-at memory (final_position memory) (end_of memory) 2 (last_register (curtain_of memory) (end_of memory) below) (last_place (curtain_of memory) (end_of memory) below))
+    (le_holds 0xC0 (byte_at (register_at memory (end_of memory)) 2) (final_test memory sound))

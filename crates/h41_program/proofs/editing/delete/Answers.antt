@@ -1,0 +1,12 @@
+use Rattle.std.proofs.Common.{sym, ◌∙◌}
+use Rattle.h41_program.specs.Edits.{without_deleted}
+use Rattle.h41_program.proofs.EditSteps.{edited_from, refused_from}
+use Rattle.h41_program.proofs.editing.delete.Goals as goal
+
+pub returns-in-Ok : goal.returns-in-Ok
+returns-in-Ok g c lines onward from here =
+    edited_from (without_deleted) c.args.ram.now c.delete_at.new.ram c.delete_at.result lines onward c.in-Ok.listed (sym c.in-Ok.is ∙ c.line_at.ensures onward here) (c.delete_at.ensures lines from)
+
+pub returns-in-Err : goal.returns-in-Err
+returns-in-Err g c lines onward from here =
+    refused_from (without_deleted) c.args.ram.now lines onward c.in-Err.refusal (sym c.in-Err.is ∙ c.line_at.ensures onward here)

@@ -1,0 +1,33 @@
+use Rattle.std.proofs.Common.{sym, ◌∙◌, subst, refl, ◌++◌, ◌∷◌, []}
+use Rattle.h41_program.specs.Edits.{lines_of}
+use Rattle.h41_program.specs.Packers.{Packs}
+use Rattle.h41_program.specs.ProgramBytes.{program_bytes, final_position}
+use Rattle.h41_program.proofs.Loads.{packed_lines, no_program, lines_of-more}
+use Rattle.h41_program.proofs.Walks.{up_to_more}
+use Rattle.h41_program.proofs.loading.packed_program.Goals as goal
+
+pub returns-then-is_final_end : goal.returns-then-is_final_end
+returns-then-is_final_end g c lines from =
+    let memory = c.args.ram.now in
+    let found = c.in-Some.found in
+    let before = c.loop-found.invariant in
+    packed_lines (program_bytes memory) (final_position memory) c.loop-found.at found.behind before.0 lines found.listed c.loop-found.packer before.1
+    c.in-Some.ensures.first (sym c.is_final_end.ensures ∙ c.if-is_final_end.true) (from.sound c.requires) before.2
+
+pub loop-found-preserved : goal.loop-found-preserved
+loop-found-preserved g c =
+    let memory = c.args.ram.now in
+    let found = c.in-Some.found in
+    let before = c.loop-found.invariant in (
+      before.0 ++ found.listed ∷ [],
+      up_to_more (program_bytes memory) (final_position memory) 0 c.loop-found.at found.behind before.0 found.listed before.1 c.in-Some.ensures.first
+          (sym c.is_final_end.ensures ∙ c.if-is_final_end.false),
+      subst (λ lines. Packs c.put.new.self lines) (sym (lines_of-more before.0 found.listed)) (c.put.ensures (lines_of before.0) before.2),
+    )
+
+pub returns : goal.returns
+returns g c lines from =
+    let memory = c.args.ram.now in
+    let before = c.loop-found.invariant in
+    let none = no_program (program_bytes memory) (final_position memory) c.loop-found.at before.0 lines before.1 c.in_default.ensures.none (from.sound c.requires) in
+    rw none refl

@@ -1,0 +1,20 @@
+use Rattle.std.proofs.Common.{◌≡◌, ◌+◌, ◌-◌, map, min, ap, ◌∙◌, arith}
+use Rattle.std.specs.List.{range_with_len}
+use Rattle.std.proofs.lemmas.List.FromFn.{map-range_with_len_more}
+use Rattle.h41_program.specs.ProgramBytes.{program_byte}
+use Rattle.h41_program.proofs.reading.window.Goals as goal
+
+pub loop-position-preserved : goal.loop-position-preserved
+loop-position-preserved g c = record {
+  items =
+      let here : c.args.at + (c.loop-position.position - c.args.at) ≡ c.loop-position.position = omega arith in
+      let next : c.loop-position.position + 1 - c.args.at ≡ c.loop-position.position - c.args.at + 1 = omega arith in
+      let more = map-range_with_len_more (program_byte c.args.ram.now) c.args.at (c.loop-position.position - c.args.at) c.loop-position.position here in
+      rw (next, more) cc;
+  count = omega arith;
+}
+
+pub returns : goal.returns
+returns g c =
+    let size : c.loop-position.position - c.args.at ≡ min 18 (c.args.limit - c.args.at) = omega arith in
+    c.loop-position.invariant.items ∙ ap (λ n. map (program_byte c.args.ram.now) (range_with_len c.args.at n)) size

@@ -1,0 +1,16 @@
+use Rattle.std.proofs.Common.{◌≡◌, List, length, ◌-◌, ◌++◌}
+use Rattle.h41_program.specs.declared.listed_line.ListedLine.{ListedLine}
+use Rattle.h41_program.specs.ProgramBytes.{program_bytes, final_position}
+use Rattle.h41_program.specs.Searches.{label_in}
+use Rattle.h41_program.proofs.Walks.{UpTo}
+use Rattle.h41_program.proofs.searches.label_from.Given as goal
+
+-- the lines so far have no such label and no END
+abbrev pub invariant-loop-found : goal.invariant-loop-found
+invariant-loop-found g l =
+    (before : List ListedLine) × UpTo (program_bytes l.ram) (final_position l.ram) l.at before l.position
+    × ((rest : List ListedLine) → label_in l.label (before ++ rest) ≡ label_in l.label rest)
+
+-- the bytes that are left
+abbrev pub decreases-loop-found : goal.decreases-loop-found
+decreases-loop-found g l = length (program_bytes l.ram) - l.position

@@ -1,0 +1,15 @@
+use Rattle.std.proofs.Common.{◌≡◌, List, length, ◌-◌}
+use Rattle.h41_program.specs.declared.listed_line.ListedLine.{ListedLine}
+use Rattle.h41_program.specs.ProgramBytes.{program_bytes, final_position}
+use Rattle.h41_program.specs.Searches.{start_in}
+use Rattle.h41_program.proofs.Walks.{UpTo}
+use Rattle.h41_program.proofs.searches.start_of.Given as goal
+
+-- the answer of the lines so far
+abbrev pub invariant-loop-found : goal.invariant-loop-found
+invariant-loop-found g l =
+    (before : List ListedLine) × UpTo (program_bytes l.ram) (final_position l.ram) 0 before l.position × (l.start ≡ start_in l.at before)
+
+-- the bytes that are left
+abbrev pub decreases-loop-found : goal.decreases-loop-found
+decreases-loop-found g l = length (program_bytes l.ram) - l.position

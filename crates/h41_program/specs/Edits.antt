@@ -1,0 +1,115 @@
+-- What lines program memory has after a line was inserted or deleted, or bytes were loaded.
+use Rattle.std.specs.Prelude.{◌≡◌, ℕ, Bool, false, not, ◌||◌, is_some, MatchBool, IsOkAnd, ◌&&◌, List, [], ◌∷◌, ◌++◌, map, length, drop, ◌==◌, if◌then◌else◌, Option, Some, None, Result, Ok, Err}
+use Rattle.std.specs.List.{list_all, list_any, flat_map}
+use Rattle.std.specs.Option.{option_map, option_map_or}
+use Rattle.h41_codes.specs.declared.line.Line.{Line}
+use Rattle.h41_codes.specs.declared.line.Line.TheVariants.{End}
+use Rattle.h41_ram.specs.RegisterMap.{RegisterMap}
+use Rattle.h41_program.specs.declared.listed_line.ListedLine.{ListedLine}
+use Rattle.h41_program.specs.declared.packer.Packer.{Packer}
+use Rattle.h41_program.specs.declared.refusal.Refusal.{Refusal}
+use Rattle.h41_program.specs.declared.refusal.Refusal.TheVariants.{BrokenProgram}
+use Rattle.h41_program.specs.Lines.{is_end, is_final_end}
+use Rattle.h41_program.specs.Packers.{Packs}
+use Rattle.h41_program.specs.Packing.{last_line, packed}
+use Rattle.h41_program.specs.ProgramLines.{LinesFrom, Reads, behind}
+use Rattle.h41_program.specs.Rewriting.{written, Gives}
+
+-- the lines alone, without their positions
+abbrev pub lines_of : List ListedLine → List Line
+lines_of listed = map (λ each. each.line) listed
+
+-- the lines before .END., where the list has one
+abbrev pub before_end : List ListedLine → Option (List ListedLine)
+before_end [] = None
+before_end (first ∷ rest) =
+    if is_final_end first.line then Some [] else option_map (λ lines. first ∷ lines) (before_end rest)
+
+-- whether the last program of these lines has lines and no END of its own
+abbrev pub is_open : List Line → Bool
+is_open lines = option_map_or (λ line. not (is_end line)) (last_line lines) false
+
+-- the lines with an END behind the last program, where it has lines
+abbrev pub closed : List Line → List Line
+closed lines = if is_open lines then lines ++ End 0 0 ∷ [] else lines
+
+-- lines to be loaded: an END or .END. at their end is dropped
+abbrev pub without_end : List Line → List Line
+without_end [] = []
+without_end (line ∷ []) = if is_end line || is_final_end line then [] else line ∷ []
+without_end (line ∷ next ∷ lines) = line ∷ without_end (next ∷ lines)
+
+-- the byte behind the last of lines; 0 where there is none
+abbrev pub end_of_lines : List ListedLine → ℕ
+end_of_lines [] = 0
+end_of_lines (first ∷ []) = behind first
+end_of_lines (first ∷ second ∷ rest) = end_of_lines (second ∷ rest)
+
+-- the lines to be loaded that bytes have: nothing but nulls is left behind the lines that are read of them
+abbrev pub loaded_of : List ℕ → List ListedLine → Option (List Line)
+loaded_of bytes given =
+    if list_all (λ byte. byte == 0x00) (drop (end_of_lines given) bytes) then Some (without_end (lines_of given)) else None
+
+-- memory with these lines, and an answer, or the refusal
+abbrev pub answered : {A : Type 0} → A → Result RegisterMap Refusal → Result (RegisterMap × A) Refusal
+answered answer (Ok memory) = Ok (memory, answer)
+answered answer (Err refusal) = Err refusal
+
+-- lines loaded behind others: the answer is where the first of them begins
+abbrev pub joined : RegisterMap → List Line → List Line → Result (RegisterMap × ℕ) Refusal
+joined memory lines loaded = answered (length (packed (closed lines))) (written memory (closed lines ++ loaded))
+
+abbrev pub load_outcome : RegisterMap → Option (List ListedLine) → Option (List Line) → Result (RegisterMap × ℕ) Refusal
+load_outcome memory None loaded = Err BrokenProgram
+load_outcome memory (Some lines) None = Err BrokenProgram
+load_outcome memory (Some lines) (Some loaded) = joined memory (lines_of lines) loaded
+
+-- bytes are loaded into memory
+abbrev pub Loads : RegisterMap → RegisterMap → List ℕ → Result ℕ Refusal → Type 0
+Loads old new bytes result =
+    (lines given : List ListedLine) → LinesFrom old 0 lines → Reads bytes (length bytes) 0 given
+    → Gives old new result (load_outcome old (before_end lines) (loaded_of bytes given))
+
+-- whether a line stands at a position in the list
+abbrev pub has_line_at : ℕ → List ListedLine → Bool
+has_line_at position lines = list_any (λ listed. listed.position == position) lines
+
+-- a line of the list as it is; .END. is written anew
+abbrev pub own_line : ListedLine → List Line
+own_line listed = if is_final_end listed.line then [] else listed.line ∷ []
+
+-- what a line becomes where another is inserted before the one at a position, and where the one at a position is deleted
+abbrev pub with_inserted : Line → ℕ → ListedLine → List Line
+with_inserted line position listed = (if listed.position == position then line ∷ [] else []) ++ own_line listed
+
+abbrev pub without_deleted : ℕ → ListedLine → List Line
+without_deleted position listed = if listed.position == position then [] else own_line listed
+
+-- memory with each line changed, where the list reaches .END. and has a line at the position
+abbrev pub changed_outcome : Bool → RegisterMap → List Line → Result (RegisterMap × Unit {0}) Refusal
+changed_outcome changed memory lines = if changed then answered tt (written memory lines) else Err BrokenProgram
+
+abbrev pub edit_outcome : RegisterMap → (ListedLine → List Line) → ℕ → List ListedLine → Result (RegisterMap × Unit {0}) Refusal
+edit_outcome memory change position lines =
+    changed_outcome (is_some (before_end lines) && has_line_at position lines) memory (flat_map change lines)
+
+-- the list is changed at the line that a position stands for
+abbrev pub edit_from : RegisterMap → (ℕ → ListedLine → List Line) → List ListedLine → List ListedLine → Result (RegisterMap × Unit {0}) Refusal
+edit_from memory change lines [] = Err BrokenProgram
+edit_from memory change lines (first ∷ rest) = edit_outcome memory (change first.position) first.position lines
+
+abbrev pub Edits : RegisterMap → RegisterMap → (ℕ → ListedLine → List Line) → ℕ → Result (Unit {0}) Refusal → Type 0
+Edits old new change at result =
+    (lines onward : List ListedLine) → LinesFrom old 0 lines → LinesFrom old at onward
+    → Gives old new result (edit_from old change lines onward)
+
+-- the same by the line's own position
+abbrev pub EditsAt : RegisterMap → RegisterMap → (ListedLine → List Line) → ℕ → Result (Unit {0}) Refusal → Type 0
+EditsAt old new change position result =
+    (lines : List ListedLine) → LinesFrom old 0 lines → Gives old new result (edit_outcome old change position lines)
+
+-- a packer has the changed lines, where the list reaches .END. and has a line at the position
+abbrev pub PacksChanged : RegisterMap → (ListedLine → List Line) → ℕ → Result Packer Refusal → Type 0
+PacksChanged memory change position result =
+    (lines : List ListedLine) → LinesFrom memory 0 lines
+    → MatchBool (is_some (before_end lines) && has_line_at position lines) (IsOkAnd result (λ packer. Packs packer (flat_map change lines))) (result ≡ Err BrokenProgram)

@@ -1,0 +1,12 @@
+pub mod Edits
+pub mod Lines
+pub mod LoadSteps
+pub mod Packers
+pub mod Packing
+pub mod ProgramBytes
+pub mod ProgramLaws
+pub mod ProgramLines
+pub mod Reading
+pub mod Rewriting
+pub mod Searches
+pub mod Size

@@ -1,0 +1,38 @@
+-- What the functions that load promise one another.
+use Rattle.std.specs.Prelude.{◌≡◌, ℕ, List, [], ◌∷◌, ◌++◌, length, ◌==◌, if◌then◌else◌, Option, Some, None, MatchOption, IsOkAnd, Result, Ok, Err}
+use Rattle.std.specs.List.{list_all}
+use Rattle.h41_program.specs.Lines.{is_end}
+use Rattle.h41_codes.specs.declared.line.Line.{Line}
+use Rattle.h41_ram.specs.RegisterMap.{RegisterMap}
+use Rattle.h41_program.specs.declared.listed_line.ListedLine.{ListedLine}
+use Rattle.h41_program.specs.declared.packer.Packer.{Packer}
+use Rattle.h41_program.specs.declared.refusal.Refusal.{Refusal}
+use Rattle.h41_program.specs.declared.refusal.Refusal.TheVariants.{BrokenProgram}
+use Rattle.h41_program.specs.Edits.{lines_of, before_end, loaded_of}
+use Rattle.h41_program.specs.Packers.{Packs}
+use Rattle.h41_program.specs.ProgramLines.{LinesFrom, Reads}
+
+-- a packer has the lines of memory before .END., or the list has none
+abbrev pub PacksProgram : RegisterMap → Result Packer Refusal → Type 0
+PacksProgram memory result =
+    (lines : List ListedLine) → LinesFrom memory 0 lines
+    → MatchOption (before_end lines) (result ≡ Err BrokenProgram) (λ listed. IsOkAnd result (λ packer. Packs packer (lines_of listed)))
+
+-- the lines to be loaded that bytes have were put behind others, or there are none
+abbrev pub PutsLoaded : Packer → Packer → List ℕ → Result (Unit {0}) Refusal → Type 0
+PutsLoaded old new bytes result =
+    (given : List ListedLine) (front : List Line) → Reads bytes (length bytes) 0 given → Packs old front
+    → MatchOption (loaded_of bytes given) (result ≡ Err BrokenProgram) (λ loaded. (result ≡ Ok tt) × Packs new (front ++ loaded))
+
+-- a line that may be there, and whether it is kept as the last
+abbrev pub listed_option : Option Line → List Line
+listed_option None = []
+listed_option (Some line) = line ∷ []
+
+abbrev pub kept_option : Option Line → List Line
+kept_option None = []
+kept_option (Some line) = if is_end line then [] else line ∷ []
+
+-- whether bytes are nulls
+abbrev pub checked_nulls : List ℕ → Result (Unit {0}) Refusal
+checked_nulls bytes = if list_all (λ byte. byte == 0x00) bytes then Ok tt else Err BrokenProgram

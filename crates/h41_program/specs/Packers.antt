@@ -1,0 +1,27 @@
+-- What a packer holds of the lines that were put into it.
+use Rattle.std.specs.Prelude.{◌≡◌, ◌⊎◌, ℕ, ◌+◌, ◌<◌, IsTrue, IsFalse, Bool, false, ◌&&◌, List, [], ◌∷◌, ◌++◌, length, Option, if◌then◌else◌}
+use Rattle.std.specs.Option.{option_map_or}
+use Rattle.h41_program.specs.Lines.{is_number}
+use Rattle.h41_codes.specs.declared.line.Line.{Line}
+use Rattle.h41_program.specs.declared.packer.Packer.{Packer}
+use Rattle.h41_program.specs.Packing.{last_line, packed}
+
+-- the most bytes that lines can have: .END. needs three of the largest memory
+abbrev pub packed_most : ℕ
+packed_most = 2237
+
+-- the bytes of these lines, or the mark that they are too many, and the last line
+pub record Packs (packer : Packer) (lines : List Line) : Type 0 where
+  pub held : IsFalse packer.full → packer.bytes.items ≡ packed lines
+  pub full : IsTrue packer.full → packed_most < length (packed lines)
+  pub last : packer.last ≡ last_line lines
+
+-- bytes were pushed: they stand behind the others, or the mark says that all would be too many
+pub record Pushes (old new : Packer) (more : List ℕ) : Type 0 where
+  pub held : IsFalse new.full → (IsFalse old.full) × (new.bytes.items ≡ old.bytes.items ++ more)
+  pub full : IsTrue new.full → (IsTrue old.full) ⊎ (packed_most < length old.bytes.items + length more)
+  pub last : new.last ≡ old.last
+
+-- what stands between the last of lines and one that is a number or not
+abbrev pub parting : Bool → Option Line → List ℕ
+parting number last = if option_map_or is_number last false && number then 0x00 ∷ [] else []

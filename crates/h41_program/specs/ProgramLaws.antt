@@ -1,0 +1,31 @@
+-- Laws of lists of lines.
+use Rattle.std.specs.Prelude.{◌≡◌, ◌≢◌, ℕ, ◌-◌, All, false, List, [], ◌∷◌, ◌++◌, length}
+use Rattle.h41_codes.specs.ByteGrammar.{IsLine}
+use Rattle.h41_codes.specs.declared.line.Line.{Line}
+use Rattle.h41_codes.specs.declared.line.Line.TheVariants.{Null, FinalEnd}
+use Rattle.h41_ram.specs.RegisterMap.{RegisterMap}
+use Rattle.h41_program.specs.declared.listed_line.ListedLine.{ListedLine}
+use Rattle.h41_program.specs.Edits.{lines_of}
+use Rattle.h41_program.specs.Lines.{is_final_end}
+use Rattle.h41_program.specs.Packing.{packing}
+use Rattle.h41_program.specs.ProgramLines.{LinesFrom, Reads}
+
+-- a line that programs can have: neither a null nor .END.
+pub record IsInner (line : Line) : Type 0 where
+  pub valid : IsLine line
+  pub some : line ≢ Null
+  pub inner : is_final_end line ≡ false
+
+-- the bytes of packed lines are read as these lines and .END.
+abbrev pub ReadsAgain : List Line → List ListedLine → Type 0
+ReadsAgain lines listed =
+    Reads (packing lines) (length (packing lines) - 3) 0 listed × (lines_of listed ≡ lines ++ FinalEnd 0 0 ∷ [])
+
+abbrev pub PackingRoundTrip : Type 0
+PackingRoundTrip = (lines : List Line) → All IsInner lines → (listed : List ListedLine) × ReadsAgain lines listed
+
+-- memory has one list of lines from each position on
+pub record HasOneList (memory : RegisterMap) (at : ℕ) : Type 0 where
+  pub lines : List ListedLine
+  pub from : LinesFrom memory at lines
+  pub one : (others : List ListedLine) → LinesFrom memory at others → others ≡ lines

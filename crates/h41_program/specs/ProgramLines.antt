@@ -1,0 +1,59 @@
+-- Program memory as a list of lines, each with its position: they are read from a position on, nulls passed over, up to the
+-- first .END. and with it, or up to bytes that are no line. The form of memory is HP's; what is no line is this project's choice.
+use Rattle.std.specs.Prelude.{◌≡◌, ◌≢◌, ℕ, ◌+◌, ◌<◌, ◌≤◌, IsTrue, IsFalse, MatchBool, List, [], ◌∷◌, length, drop, slice_index, slice_range, nat_lt, ◌==◌, if◌then◌else◌, Result, Ok, Err}
+use Rattle.h41_codes.specs.ByteGrammar.{spelling, Begins}
+use Rattle.h41_codes.specs.declared.line.Line.TheVariants.{Null}
+use Rattle.h41_ram.specs.RegisterMap.{RegisterMap, is_sound}
+use Rattle.h41_program.specs.declared.listed_line.ListedLine.{ListedLine}
+use Rattle.h41_program.specs.declared.refusal.Refusal.{Refusal}
+use Rattle.h41_program.specs.declared.refusal.Refusal.TheVariants.{BrokenProgram}
+use Rattle.h41_program.specs.Lines.{is_final_end}
+use Rattle.h41_program.specs.ProgramBytes.{program_bytes, final_position}
+
+-- the bytes that a line may take which begins at a position: those before the final ones, or these where it begins there
+abbrev pub line_bytes : List ℕ → ℕ → ℕ → List ℕ
+line_bytes bytes final position =
+    if nat_lt position final then slice_range bytes position final
+    else if position == final then drop position bytes
+    else []
+
+-- the byte behind a line
+abbrev pub behind : ListedLine → ℕ
+behind listed = listed.position + length (spelling listed.line)
+
+-- the first line from a position on, where the final bytes begin at another: nulls stand before it
+pub record FirstFrom (bytes : List ℕ) (final at : ℕ) (first : ListedLine) : Type 0 where
+  pub from : at ≤ first.position
+  pub nulls : (k : ℕ) → at ≤ k → k < first.position → slice_index bytes k ≡ 0
+  pub begins : Begins (line_bytes bytes final first.position) first.line (length (spelling first.line))
+  pub not_null : first.line ≢ Null
+
+-- no line from a position on
+abbrev pub NoneFrom : List ℕ → ℕ → ℕ → Type 0
+NoneFrom bytes final at = (first : ListedLine) → FirstFrom bytes final at first → ⊥
+
+-- these are the lines from a position on: none, or the first, and behind it those from there on where it is not .END.
+abbrev pub Reads : List ℕ → ℕ → ℕ → List ListedLine → Type 0
+Reads bytes final at [] = NoneFrom bytes final at
+Reads bytes final at (first ∷ rest) =
+    FirstFrom bytes final at first × MatchBool (is_final_end first.line) (rest ≡ []) (Reads bytes final (behind first) rest)
+
+-- the lines of memory from a position on; memory that is not sound has none
+pub record LinesFrom (memory : RegisterMap) (at : ℕ) (lines : List ListedLine) : Type 0 where
+  pub sound : IsTrue (is_sound memory) → Reads (program_bytes memory) (final_position memory) at lines
+  pub lost : IsFalse (is_sound memory) → lines ≡ []
+
+-- the first of the lines from a position on
+abbrev pub line_of : List ListedLine → Result ListedLine Refusal
+line_of [] = Err BrokenProgram
+line_of (first ∷ rest) = Ok first
+
+-- the position of the second, else the byte behind the first; .END. is behind itself
+abbrev pub next_of : List ListedLine → Result ℕ Refusal
+next_of [] = Err BrokenProgram
+next_of (first ∷ []) = Ok (if is_final_end first.line then first.position else behind first)
+next_of (first ∷ second ∷ rest) = Ok second.position
+
+-- an answer is that of the lines from a position on
+abbrev pub AnswersFrom : {A : Type 0} → (List ListedLine → A) → RegisterMap → ℕ → A → Type 0
+AnswersFrom answer memory at result = (lines : List ListedLine) → LinesFrom memory at lines → result ≡ answer lines

@@ -1,0 +1,34 @@
+-- Where programs begin and labels stand, as filters of the list of lines.
+use Rattle.std.specs.Prelude.{◌≡◌, ℕ, not, ◌&&◌, List, find, reverse, nat_lt, Option}
+use Rattle.std.specs.List.{take_while}
+use Rattle.std.specs.Option.{option_map, option_map_or, option_or}
+use Rattle.h41_ram.specs.RegisterMap.{RegisterMap}
+use Rattle.h41_program.specs.declared.listed_line.ListedLine.{ListedLine}
+use Rattle.h41_program.specs.Lines.{is_end, is_label, is_named}
+use Rattle.h41_program.specs.ProgramLines.{LinesFrom, behind}
+
+-- the last END before a position
+abbrev pub end_before : ℕ → List ListedLine → Option ListedLine
+end_before at lines = find (λ listed. is_end listed.line && nat_lt listed.position at) (reverse lines)
+
+-- where the program of a position begins: behind that END, or at 0
+abbrev pub start_in : ℕ → List ListedLine → ℕ
+start_in at lines = option_map_or behind (end_before at lines) 0
+
+-- the first LBL n of lines, up to their END
+abbrev pub label_in : ℕ → List ListedLine → Option ListedLine
+label_in n lines = find (λ listed. is_label n listed.line) (take_while (λ listed. not (is_end listed.line)) lines)
+
+-- the last LBL of a name
+abbrev pub named_in : List ℕ → List ListedLine → Option ListedLine
+named_in name lines = find (λ listed. is_named name listed.line) (reverse lines)
+
+abbrev pub position_of : Option ListedLine → Option ℕ
+position_of found = option_map (λ listed. listed.position) found
+
+-- where LBL n stands that a position finds: the first from there to the END, else the first of its program
+abbrev pub AnswersLocal : RegisterMap → ℕ → ℕ → Option ℕ → Type 0
+AnswersLocal memory at n result =
+    (lines onward own : List ListedLine) → LinesFrom memory 0 lines → LinesFrom memory at onward
+    → LinesFrom memory (start_in at lines) own
+    → result ≡ position_of (option_or (label_in n onward) (label_in n own))

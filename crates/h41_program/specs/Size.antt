@@ -1,0 +1,61 @@
+-- Memory with another number of data registers: the curtain moves, and with it the program and the statistics registers.
+use Rattle.std.specs.Prelude.{◌≡◌, ℕ, ◌<◌, ◌≤◌, ◌+◌, ◌-◌, ◌%◌, List, map, length, slice_set, nat_lt, if◌then◌else◌, Result, Ok, Err}
+use Rattle.h41_ram.specs.RegisterMap.{RegisterMap, main_start, top_of, c_address, zeros, register_at, c_of, curtain_of, end_of, three_digits, with_three_places}
+use Rattle.h41_program.specs.declared.refusal.Refusal.{Refusal}
+use Rattle.h41_program.specs.declared.refusal.Refusal.TheVariants.{NoRoom, SizeTooLarge}
+use Rattle.h41_program.specs.Rewriting.{addresses, free_register}
+
+-- the address of the first statistics register
+abbrev pub statistics_of : RegisterMap → ℕ
+statistics_of memory = three_digits (c_of memory) 11
+
+-- the curtain of a size, and where the program ends below it
+abbrev pub moved_curtain : RegisterMap → ℕ → ℕ
+moved_curtain memory size = top_of memory - size
+
+abbrev pub moved_end : RegisterMap → ℕ → ℕ
+moved_end memory size = moved_curtain memory size + end_of memory - curtain_of memory
+
+-- the statistics registers move by as much, modulo 4,096
+abbrev pub moved_statistics : RegisterMap → ℕ → ℕ
+moved_statistics memory size = (statistics_of memory + moved_curtain memory size + 4096 - curtain_of memory) % 4096
+
+-- data register n, which is zero where there was none
+abbrev pub data_register : RegisterMap → ℕ → List ℕ
+data_register memory n = if nat_lt (curtain_of memory + n) (top_of memory) then register_at memory (curtain_of memory + n) else zeros
+
+-- the register at an address: below the new end, of the program that moved, of the data
+abbrev pub resized_register : RegisterMap → ℕ → ℕ → List ℕ
+resized_register memory size address =
+    if nat_lt address (moved_end memory size) then free_register memory address
+    else if nat_lt address (moved_curtain memory size) then register_at memory (address + end_of memory - moved_end memory size)
+    else data_register memory (address - moved_curtain memory size)
+
+-- register c: the three addresses
+abbrev pub resized_c : RegisterMap → ℕ → List ℕ
+resized_c memory size =
+    with_three_places (with_three_places (with_three_places (c_of memory) 0 (moved_end memory size)) 3 (moved_curtain memory size)) 11
+    (moved_statistics memory size)
+
+abbrev pub resized : RegisterMap → ℕ → RegisterMap
+resized memory size = record {
+  status = slice_set memory.status c_address (resized_c memory size);
+  main = map (resized_register memory size) (addresses memory);
+}
+
+-- one data register fewer than main memory has registers is the most; the program must not pass below main memory
+abbrev pub size_outcome : RegisterMap → ℕ → Result (RegisterMap × Unit {0}) Refusal
+size_outcome memory size =
+    if nat_lt size (length memory.main) then
+    (if nat_lt (moved_curtain memory size + end_of memory) (main_start + curtain_of memory) then Err NoRoom
+    else Ok (resized memory size, tt))
+    else Err SizeTooLarge
+
+-- an end and a curtain to which the program of a memory moves
+pub record IsMove (memory : RegisterMap) (curtain end : ℕ) : Type 0 where
+  pub low : main_start ≤ end
+  pub high : curtain ≤ top_of memory
+  pub same : end + curtain_of memory ≡ curtain + end_of memory
+  pub order : end_of memory < curtain_of memory
+  pub inside : curtain_of memory ≤ top_of memory
+  pub small : top_of memory ≤ main_start + 320

@@ -1,0 +1,152 @@
+//! Lines inserted and deleted.
+ghost use Rattle.std.specs.Prelude.{◌≡◌, List, [], ◌∷◌, ◌++◌, ◌==◌, ◌||◌, if◌then◌else◌, IsTrue, Ok, Err};
+ghost use Rattle.h41_codes.specs.ByteGrammar.{IsLine};
+ghost use Rattle.h41_codes.specs.declared.line.Line.{Line as Spoken};
+ghost use Rattle.h41_ram.specs.RegisterMap.{is_sound};
+ghost use Rattle.h41_program.specs.Edits.{Edits, EditsAt, PacksChanged, with_inserted, without_deleted};
+ghost use Rattle.h41_program.specs.Packers.{Packs};
+ghost use Rattle.h41_program.specs.declared.refusal.Refusal.TheVariants.{BrokenProgram};
+
+use crate::kinds::is_final_end;
+use crate::listed_line::ListedLine;
+use crate::packer::Packer;
+use crate::ranges::know_ranges;
+use crate::reading::{Found, first_from, line_at};
+use crate::refusal::Refusal;
+use h41_codes::Line;
+use h41_ram::Ram;
+
+/// Inserts a line, which is neither a null nor `.END.`, before the one that a position stands for; at `.END.` it becomes the
+/// last. 14 where the list has no such line or does not reach `.END.`, 16 where the program would pass below main memory.
+pub fn insert<const REGS: usize>(
+    ram: &mut Ram<REGS>,
+    before: u16,
+    line: Line,
+) -> Result<(), Refusal>
+    requires { IsTrue (is_sound ram.old) }
+    ensures { Edits ram.old ram.new (with_inserted line) before result }
+{
+    know_ranges(&line);
+    match line_at(ram, before) {
+        Ok(listed) => insert_at(ram, listed.position, &line),
+        Err(refusal) => Err(refusal),
+    }
+}
+
+/// Deletes the line that a position stands for; `.END.` stays. 14 where the list has no such line or does not reach `.END.`, 16
+/// where the program would pass below main memory: only where numbers stood together without a null.
+pub fn delete<const REGS: usize>(ram: &mut Ram<REGS>, at: u16) -> Result<(), Refusal>
+    requires { IsTrue (is_sound ram.old) }
+    ensures { Edits ram.old ram.new without_deleted at result }
+{
+    match line_at(ram, at) {
+        Ok(listed) => delete_at(ram, listed.position),
+        Err(refusal) => Err(refusal),
+    }
+}
+
+/// Inserts a line before the one at its own position.
+fn insert_at<const REGS: usize>(ram: &mut Ram<REGS>, place: u16, line: &Line) -> Result<(), Refusal>
+    requires sound { IsTrue (is_sound ram.old) }
+    requires line { IsLine line.now }
+    ensures { EditsAt ram.old ram.new (with_inserted line.now place) place result }
+{
+    match packed_with(ram, place, line) {
+        Ok(packer) => packer.write(ram),
+        Err(refusal) => Err(refusal),
+    }
+}
+
+/// Deletes the line at its own position.
+fn delete_at<const REGS: usize>(ram: &mut Ram<REGS>, place: u16) -> Result<(), Refusal>
+    requires { IsTrue (is_sound ram.old) }
+    ensures { EditsAt ram.old ram.new (without_deleted place) place result }
+{
+    match packed_without(ram, place) {
+        Ok(packer) => packer.write(ram),
+        Err(refusal) => Err(refusal),
+    }
+}
+
+/// The lines of memory before `.END.` with one more before the line at a position.
+fn packed_with<const REGS: usize>(
+    ram: &Ram<REGS>,
+    place: u16,
+    line: &Line,
+) -> Result<Packer, Refusal>
+    requires sound { IsTrue (is_sound ram.now) }
+    requires line { IsLine line.now }
+    ensures { PacksChanged ram.now (with_inserted line.now place) place result }
+{
+    let mut packer = Packer::new();
+    let mut met = false;
+    let mut at = 0;
+    while let Some(found) = first_from(ram, at) {
+        let Found { listed, behind } = found;
+        let here = stands_at(&listed, place);
+        put_if(&mut packer, line, here);
+        met = either(met, here);
+        if is_final_end(listed.line) {
+            return where_met(packer, met);
+        }
+        packer.put(listed.line);
+        at = behind;
+    }
+    Err(Refusal::BrokenProgram)
+}
+
+/// The lines of memory before `.END.` without the line at a position.
+fn packed_without<const REGS: usize>(ram: &Ram<REGS>, place: u16) -> Result<Packer, Refusal>
+    requires { IsTrue (is_sound ram.now) }
+    ensures { PacksChanged ram.now (without_deleted place) place result }
+{
+    let mut packer = Packer::new();
+    let mut met = false;
+    let mut at = 0;
+    while let Some(found) = first_from(ram, at) {
+        let Found { listed, behind } = found;
+        let here = stands_at(&listed, place);
+        met = either(met, here);
+        if is_final_end(listed.line) {
+            return where_met(packer, met);
+        }
+        put_if(&mut packer, &listed.line, !here);
+        at = behind;
+    }
+    Err(Refusal::BrokenProgram)
+}
+
+/// Whether a line stands at a position.
+fn stands_at(listed: &ListedLine, place: u16) -> bool
+    ensures { result ≡ (listed.now.position == place) }
+{
+    listed.position == place
+}
+
+/// Whether one of two holds.
+fn either(one: bool, other: bool) -> bool
+    ensures { result ≡ (one || other) }
+{
+    one || other
+}
+
+/// Puts a line behind others where it is wanted.
+fn put_if(packer: &mut Packer, line: &Line, wanted: bool)
+    requires { IsLine line.now }
+    ensures { (lines : List Spoken) → Packs packer.old lines → Packs packer.new (lines ++ (if wanted then line.now ∷ [] else [])) }
+{
+    if wanted {
+        packer.put(*line);
+    }
+}
+
+/// The lines, where the one to be changed was among them.
+fn where_met(packer: Packer, met: bool) -> Result<Packer, Refusal>
+    ensures { result ≡ (if met then Ok packer else Err BrokenProgram) }
+{
+    if met {
+        Ok(packer)
+    } else {
+        Err(Refusal::BrokenProgram)
+    }
+}

@@ -1,0 +1,60 @@
+//! Kinds of lines that program memory treats each in its own way.
+ghost use Rattle.std.specs.Prelude.{◌≡◌};
+ghost use Rattle.h41_codes.specs.declared.line.Line.TheVariants.{WithOperand};
+ghost use Rattle.h41_program.specs.Lines as spec;
+
+use h41_codes::{Line, Operand, Parameter, ParameterFunction};
+
+/// Whether a line is `.END.`.
+pub fn is_final_end(line: Line) -> bool
+    ensures { result ≡ spec.is_final_end line }
+{
+    matches!(line, Line::FinalEnd(_, _))
+}
+
+/// Whether a line is `END`; `.END.` is none.
+pub fn is_end(line: &Line) -> bool
+    ensures { result ≡ spec.is_end line.now }
+{
+    matches!(line, Line::End(_, _))
+}
+
+/// Whether a line is a number.
+pub fn is_number(line: Line) -> bool
+    ensures { result ≡ spec.is_number line }
+{
+    matches!(line, Line::Number(_))
+}
+
+/// Whether a line is `LBL n`, in one byte or in two.
+pub fn is_label(line: Line, label: Parameter) -> bool
+    ensures { result ≡ spec.is_label label line }
+{
+    match line {
+        Line::LocalLabel(short) => short.number() == label.number(),
+        Line::WithOperand(function, operand) => is_long_label(function, operand, label),
+        _ => false,
+    }
+}
+
+/// Whether a function and its operand are `LBL n`.
+fn is_long_label(function: ParameterFunction, operand: Operand, label: Parameter) -> bool
+    ensures { result ≡ spec.is_label label (WithOperand function operand) }
+{
+    match operand {
+        Operand::Direct(long) => {
+            matches!(function, ParameterFunction::Label) && long.number() == label.number()
+        }
+        Operand::Indirect(_) => false,
+    }
+}
+
+/// Whether a line is `LBL` of a name.
+pub fn is_named(line: Line, name: &[u8]) -> bool
+    ensures { result ≡ spec.is_named name.now line }
+{
+    match line {
+        Line::GlobalLabel(_, _, label) => label.characters() == name,
+        _ => false,
+    }
+}

@@ -1,0 +1,31 @@
+//! Laws of program memory: each is the contract of a function whose result is not looked at.
+ghost use Rattle.h41_program.specs.ProgramLaws.{HasOneList, PackingRoundTrip};
+
+use crate::kinds::is_final_end;
+use crate::reading::{Found, first_from};
+use h41_codes::laws::byte_round_trip;
+use h41_ram::Ram;
+
+/// The packing round trip: the bytes of packed lines, none of them a null or `.END.`, are read as these lines and `.END.`.
+pub fn packing_round_trip()
+    ensures { PackingRoundTrip }
+{
+    byte_round_trip();
+}
+
+/// Memory has one list of lines from each position on, and no other.
+pub fn one_list<const REGS: usize>(ram: &Ram<REGS>, at: u16)
+    ensures { HasOneList ram.now at }
+{
+    if !ram.is_sound() {
+        return;
+    }
+    let mut position = at;
+    while let Some(found) = first_from(ram, position) {
+        let Found { listed, behind } = found;
+        if is_final_end(listed.line) {
+            return;
+        }
+        position = behind;
+    }
+}

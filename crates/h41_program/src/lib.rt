@@ -1,0 +1,29 @@
+//! Program memory of the HP-41: the lines of the programs in memory, found, inserted, deleted and loaded, and the number of
+//! data registers above them.
+#![tactic(auto)]
+
+mod editing;
+mod given;
+mod kinds;
+pub mod laws;
+mod listed_line;
+mod loading;
+mod packer;
+mod ranges;
+mod reading;
+mod refusal;
+mod registers;
+mod rewriting;
+mod searches;
+mod size;
+
+pub use editing::{delete, insert};
+pub use listed_line::ListedLine;
+pub use loading::load;
+pub use reading::{line_at, next};
+pub use refusal::Refusal;
+pub use searches::{global, local, start_of};
+pub use size::set_size;
+
+#[cfg(test)]
+mod tests;

@@ -1,0 +1,106 @@
+//! Programs loaded behind those in memory.
+ghost use Rattle.std.specs.Prelude.{◌≡◌, ◌≤◌, List, ◌++◌, drop, length, IsTrue};
+ghost use Rattle.std.specs.Option.{ForSome};
+ghost use Rattle.h41_codes.specs.ByteGrammar.{IsLine};
+ghost use Rattle.h41_codes.specs.declared.line.Line.{Line as Spoken};
+ghost use Rattle.h41_ram.specs.RegisterMap.{is_sound};
+ghost use Rattle.h41_program.specs.Edits.{Loads};
+ghost use Rattle.h41_program.specs.LoadSteps.{PacksProgram, PutsLoaded, listed_option, kept_option, checked_nulls};
+ghost use Rattle.h41_program.specs.Packers.{Packs};
+
+use crate::given::{are_nulls, line_in};
+use crate::kinds::{is_end, is_final_end};
+use crate::packer::Packer;
+use crate::reading::{Found, first_from};
+use crate::refusal::Refusal;
+use h41_codes::Line;
+use h41_ram::Ram;
+
+/// Loads the lines of bytes behind those in memory, and answers the position where the first of them begins. An END is put
+/// behind the last program in memory where it has lines and no END; a final END or `.END.` of the bytes is dropped, nulls are
+/// passed over (this project's choice). 14 where bytes of memory or given bytes are no line, or an `.END.` stands elsewhere
+/// than at the end of those given; 16 where the program would pass below main memory.
+pub fn load<const REGS: usize>(ram: &mut Ram<REGS>, bytes: &[u8]) -> Result<u16, Refusal>
+    requires { IsTrue (is_sound ram.old) }
+    ensures { Loads ram.old ram.new bytes.now result }
+{
+    let mut packer = packed_program(ram)?;
+    packer.close();
+    let start = packer.bytes.len() as u16;
+    put_loaded(&mut packer, bytes)?;
+    packer.write(ram)?;
+    Ok(start)
+}
+
+/// The lines of memory before `.END.`.
+pub fn packed_program<const REGS: usize>(ram: &Ram<REGS>) -> Result<Packer, Refusal>
+    requires { IsTrue (is_sound ram.now) }
+    ensures { PacksProgram ram.now result }
+{
+    let mut packer = Packer::new();
+    let mut at = 0;
+    while let Some(found) = first_from(ram, at) {
+        let Found { listed, behind } = found;
+        if is_final_end(listed.line) {
+            return Ok(packer);
+        }
+        packer.put(listed.line);
+        at = behind;
+    }
+    Err(Refusal::BrokenProgram)
+}
+
+/// Puts the lines of bytes behind others, but for a final END or `.END.`.
+fn put_loaded(packer: &mut Packer, bytes: &[u8]) -> Result<(), Refusal>
+    ensures { PutsLoaded packer.old packer.new bytes.now result }
+{
+    let mut pending: Option<Line> = None;
+    let mut at = 0;
+    while let Some(taken) = line_in(bytes, at) {
+        put_pending(packer, pending);
+        at = taken.behind;
+        if is_final_end(taken.line) {
+            return nulls_from(bytes, at);
+        }
+        pending = Some(taken.line);
+    }
+    if !are_nulls(bytes, at) {
+        return Err(Refusal::BrokenProgram);
+    }
+    put_last(packer, pending);
+    Ok(())
+}
+
+/// Puts the line that is pending, where one is.
+fn put_pending(packer: &mut Packer, pending: Option<Line>)
+    requires { ForSome pending IsLine }
+    ensures { (front : List Spoken) → Packs packer.old front → Packs packer.new (front ++ listed_option pending) }
+{
+    if let Some(line) = pending {
+        packer.put(line);
+    }
+}
+
+/// Puts the line that is pending last, where it is no END.
+fn put_last(packer: &mut Packer, pending: Option<Line>)
+    requires { ForSome pending IsLine }
+    ensures { (front : List Spoken) → Packs packer.old front → Packs packer.new (front ++ kept_option pending) }
+{
+    if let Some(line) = pending {
+        if !is_end(&line) {
+            packer.put(line);
+        }
+    }
+}
+
+/// 14 where bytes from a position on are not all nulls.
+fn nulls_from(bytes: &[u8], at: usize) -> Result<(), Refusal>
+    requires { at ≤ length bytes.now }
+    ensures { result ≡ checked_nulls (drop at bytes.now) }
+{
+    if are_nulls(bytes, at) {
+        Ok(())
+    } else {
+        Err(Refusal::BrokenProgram)
+    }
+}

@@ -1,0 +1,161 @@
+//! Lines packed one behind the other.
+ghost use Rattle.std.specs.Prelude.{◌≡◌, ◌≢◌, ◌+◌, ◌∷◌, ◌++◌, [], ◌<◌, ◌≤◌, List, length, IsTrue, IsFalse, not, false, replicate};
+ghost use Rattle.std.specs.Option.{option_map_or};
+ghost use Rattle.h41_program.specs.Lines.{is_number, is_end};
+ghost use Rattle.h41_codes.specs.ByteGrammar.{spelling, IsLine};
+ghost use Rattle.h41_codes.specs.declared.line.Line.{Line as Spoken};
+ghost use Rattle.h41_program.specs.Edits.{answered, closed};
+ghost use Rattle.h41_program.specs.Rewriting.{Gives, written};
+ghost use Rattle.h41_ram.specs.RegisterMap.{curtain_of, is_sound, main_start};
+ghost use Rattle.h41_program.specs.Packers.{Packs, Pushes, parting};
+ghost use Rattle.h41_program.specs.Packing.{filler, written_end};
+
+use crate::kinds::{is_end, is_number};
+use crate::refusal::Refusal;
+use crate::rewriting::rewrite;
+use arrayvec::ArrayVec;
+use h41_codes::{EndMarks, Line, Link, encode};
+use h41_ram::{MAIN_START, Ram};
+
+/// The most bytes of lines: with `.END.` they fill the largest memory.
+const MOST: usize = 2237;
+
+/// The bytes of lines with which memory can be filled, and of `.END.`.
+pub type Bytes = ArrayVec<u8, 2240>;
+
+/// Lines put one behind the other, as program memory holds them.
+#[derive(Debug, Drop)]
+pub struct Packer {
+    /// Their bytes, where they are not too many.
+    pub bytes: Bytes,
+    /// Whether they are too many.
+    pub full: bool,
+    /// The last of them.
+    pub last: Option<Line>,
+}
+
+impl Packer {
+    /// No lines.
+    pub fn new() -> Self
+        ensures { Packs result [] }
+    {
+        Packer {
+            bytes: Bytes::new(),
+            full: false,
+            last: None,
+        }
+    }
+
+    /// Puts a line behind the others.
+    pub fn put(&mut self, line: Line)
+        requires { IsLine line }
+        ensures { (lines : List Spoken) → Packs self.old lines → Packs self.new (lines ++ line ∷ []) }
+    {
+        self.part(is_number(line));
+        self.push_line(&line);
+        self.last = Some(line);
+    }
+
+    /// Pushes a null where the last line is a number and another number follows.
+    fn part(&mut self, number: bool)
+        ensures { Pushes self.old self.new (parting number self.old.last) }
+    {
+        if number && self.ends_with_number() {
+            self.push_null();
+        }
+    }
+
+    /// Puts an END behind the lines where the last of them is none.
+    pub fn close(&mut self)
+        ensures { (lines : List Spoken) → Packs self.old lines → Packs self.new (closed lines) }
+    {
+        if self.is_open() {
+            self.put(Line::End(Link::new(0), EndMarks::new(0)));
+        }
+    }
+
+    /// Writes the lines into program memory. 16 where they would pass below main memory.
+    pub fn write<const REGS: usize>(self, ram: &mut Ram<REGS>) -> Result<(), Refusal>
+        requires { IsTrue (is_sound ram.old) }
+        ensures lines { (lines : List Spoken) → Packs self lines → Gives ram.old ram.new result (answered tt (written ram.old lines)) }
+        ensures small { curtain_of ram.old ≤ main_start + 320 }
+    {
+        let Packer { bytes, full, .. } = self;
+        let curtain = ram.curtain();
+        let room = usize::from(curtain) - MAIN_START;
+        if full || bytes.len() + 3 > 7 * room {
+            return Err(Refusal::NoRoom);
+        }
+        let program = filled(bytes);
+        let registers = program.len() / 7;
+        rewrite(ram, program.as_slice(), curtain - registers as u16);
+        Ok(())
+    }
+
+    /// Whether there are lines and the last is a number.
+    fn ends_with_number(&self) -> bool
+        ensures { result ≡ option_map_or is_number self.now.last false }
+    {
+        match self.last {
+            Some(line) => is_number(line),
+            None => false,
+        }
+    }
+
+    /// Whether there are lines and the last is no END.
+    fn is_open(&self) -> bool
+        ensures { result ≡ option_map_or (λ line. not (is_end line)) self.now.last false }
+    {
+        match &self.last {
+            Some(line) => !is_end(line),
+            None => false,
+        }
+    }
+
+    /// Pushes a null.
+    fn push_null(&mut self)
+        ensures { Pushes self.old self.new (0x00 ∷ []) }
+    {
+        let null = [0x00];
+        self.push(&null);
+    }
+
+    /// Pushes a line's bytes.
+    fn push_line(&mut self, line: &Line)
+        requires { IsLine line.now }
+        ensures { Pushes self.old self.new (spelling line.now) }
+    {
+        let mut out = [0; 18];
+        let count = encode(*line, &mut out).unwrap_or(0);
+        self.push(&out[..count]);
+    }
+
+    /// Pushes bytes, or marks that there are too many.
+    fn push(&mut self, more: &[u8])
+        ensures { Pushes self.old self.new more.now }
+    {
+        if self.full || more.len() > MOST.saturating_sub(self.bytes.len()) {
+            self.full = true;
+            return;
+        }
+        for byte in more {
+            self.bytes.push(*byte);
+        }
+    }
+}
+
+/// Bytes of lines with the nulls behind them that fill the registers, and `.END.` as it is written.
+fn filled(lines: Bytes) -> Bytes
+    requires { length lines.items ≤ 2237 }
+    ensures { result.items ≡ lines.items ++ replicate (filler (length lines.items)) 0x00 ++ written_end }
+{
+    let mut bytes = lines;
+    let nulls = 6 - (bytes.len() + 2) % 7;
+    for _null in 0..nulls {
+        bytes.push(0x00);
+    }
+    bytes.push(0xC0);
+    bytes.push(0x00);
+    bytes.push(0x20);
+    bytes
+}

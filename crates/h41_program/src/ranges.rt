@@ -1,0 +1,68 @@
+//! The ranges of a line's parts.
+ghost use Rattle.h41_codes.specs.ByteGrammar.{IsLine, IsOperand};
+
+use h41_codes::{Line, Operand};
+
+/// The parts of each line are in their ranges, as their types say: this makes it known.
+pub fn know_ranges(line: &Line)
+    ensures { IsLine line.now }
+{
+    match line {
+        Line::Null | Line::Plain(_) => {}
+        Line::LocalLabel(label) => {
+            label.number();
+        }
+        Line::Number(number) => {
+            number.characters();
+        }
+        Line::Named(_, name) => {
+            name.characters();
+        }
+        Line::Register(_, register) => {
+            register.number();
+        }
+        Line::WithOperand(_, operand) => know_operand(operand),
+        Line::Module(number, entry) => {
+            number.number();
+            entry.number();
+        }
+        Line::BranchIndirect(_, register) => {
+            register.number();
+        }
+        Line::ShortGoTo(label, distance) => {
+            let _distance = *distance;
+            label.number();
+        }
+        Line::GlobalLabel(link, key, name) => {
+            let _key = *key;
+            link.number();
+            name.characters();
+        }
+        Line::End(link, marks) => {
+            link.number();
+            marks.number();
+        }
+        Line::FinalEnd(link, marks) => {
+            link.number();
+            marks.number();
+        }
+        Line::BranchTo(_, distance, _, label) => {
+            distance.number();
+            label.number();
+        }
+        Line::Text(text) => {
+            text.characters();
+        }
+    }
+}
+
+/// The same of an operand.
+fn know_operand(operand: &Operand)
+    ensures { IsOperand operand.now }
+{
+    match operand {
+        Operand::Direct(parameter) | Operand::Indirect(parameter) => {
+            parameter.number();
+        }
+    }
+}

@@ -1,0 +1,161 @@
+//! The line that stands at a position.
+ghost use Rattle.std.specs.Prelude.{◌≡◌, ◌≢◌, ℕ, ◌+◌, ◌-◌, ◌<◌, ◌≤◌, map, slice_index, min, IsTrue, IfSome, IfNone};
+ghost use Rattle.std.specs.List.{range_with_len};
+ghost use Rattle.h41_ram.specs.RegisterMap.{is_sound};
+ghost use Rattle.h41_program.specs.ProgramBytes.{byte_count, program_byte, program_bytes};
+ghost use Rattle.h41_program.specs.ProgramBytes as spec;
+ghost use Rattle.h41_program.specs.ProgramLines.{line_of, next_of, AnswersFrom};
+ghost use Rattle.h41_program.specs.Reading.{HasFirst, HasNoLine, FollowsAt};
+
+use crate::kinds::is_final_end;
+use crate::listed_line::ListedLine;
+use crate::refusal::Refusal;
+use arrayvec::ArrayVec;
+use h41_codes::decode;
+use h41_codes::laws::byte_round_trip;
+use h41_ram::Ram;
+
+/// How many bytes a register has.
+pub const REGISTER_BYTES: u16 = 7;
+
+/// How many bytes `.END.` has, which stands in the last ones.
+const END_BYTES: u16 = 3;
+
+/// The most bytes of a line: a label with a name of 14 characters.
+const LINE_MOST: u16 = 18;
+
+/// The bytes of program memory of which a line is read.
+type Window = ArrayVec<u8, 18>;
+
+/// A line that was found, and the byte behind it.
+#[derive(Clone, Copy, Debug)]
+pub struct Found {
+    /// The line.
+    pub listed: ListedLine,
+    /// The byte behind it.
+    pub behind: u16,
+}
+
+/// Where the last three bytes of program memory begin.
+pub fn final_position<const REGS: usize>(ram: &Ram<REGS>) -> u16
+    requires { IsTrue (is_sound ram.now) }
+    ensures value { result ≡ spec.final_position ram.now }
+    ensures count { result + 3 ≡ byte_count ram.now }
+    ensures bound { result < 2240 }
+{
+    (ram.curtain() - ram.end_register()) * REGISTER_BYTES - END_BYTES
+}
+
+/// The byte at a position of program memory.
+fn byte_at<const REGS: usize>(ram: &Ram<REGS>, position: u16) -> u8
+    requires { position < byte_count ram.now }
+    ensures { result ≡ program_byte ram.now position }
+{
+    let register = ram.read(ram.curtain() - 1 - position / REGISTER_BYTES);
+    register.byte(usize::from(6 - position % REGISTER_BYTES))
+}
+
+/// The first position from one on, and before the last three bytes, whose byte is no null; else where these begin.
+fn past_nulls<const REGS: usize>(ram: &Ram<REGS>, at: u16, last: u16) -> u16
+    requires from { at ≤ last }
+    requires last { last < byte_count ram.now }
+    ensures from { at ≤ result }
+    ensures to { result ≤ last }
+    ensures nulls { (k : ℕ) → at ≤ k → k < result → program_byte ram.now k ≡ 0 }
+    ensures stop { result < last → program_byte ram.now result ≢ 0 }
+{
+    for position in at..last {
+        if byte_at(ram, position) != 0 {
+            return position;
+        }
+    }
+    last
+}
+
+/// The bytes from a position to another, or the first 18 of them.
+fn window<const REGS: usize>(ram: &Ram<REGS>, at: u16, limit: u16) -> Window
+    requires from { at ≤ limit }
+    requires limit { limit ≤ byte_count ram.now }
+    requires bound { limit < 65000 }
+    ensures { result.items ≡ map (program_byte ram.now) (range_with_len at (min 18 (limit - at))) }
+{
+    let mut window = Window::new();
+    for position in at..limit.min(at + LINE_MOST) {
+        window.push(byte_at(ram, position));
+    }
+    window
+}
+
+/// The byte behind those that a line may take which begins at a position: the last three are taken from their first on alone.
+fn line_limit(position: u16, last: u16) -> u16
+    requires from { position ≤ last }
+    requires bound { last < 2240 }
+    ensures before { position < last → result ≡ last }
+    ensures last { position ≡ last → result ≡ last + 3 }
+{
+    if position < last {
+        last
+    } else {
+        last + END_BYTES
+    }
+}
+
+/// The first line from a position on.
+pub fn first_from<const REGS: usize>(ram: &Ram<REGS>, at: u16) -> Option<Found>
+    requires { IsTrue (is_sound ram.now) }
+    ensures first { IfSome result (λ found. HasFirst ram.now at found) }
+    ensures none { IfNone result (HasNoLine ram.now at) }
+{
+    byte_round_trip();
+    let last = final_position(ram);
+    if at > last {
+        return None;
+    }
+    let position = past_nulls(ram, at, last);
+    let window = window(ram, position, line_limit(position, last));
+    match decode(window.as_slice()) {
+        Ok((line, count)) => Some(Found {
+            listed: ListedLine { position, line },
+            behind: position + count as u16,
+        }),
+        Err(_) => None,
+    }
+}
+
+/// The line that a position stands for: the first from there on, nulls passed over. 14 where there is none.
+pub fn line_at<const REGS: usize>(ram: &Ram<REGS>, at: u16) -> Result<ListedLine, Refusal>
+    requires { IsTrue (is_sound ram.now) }
+    ensures { AnswersFrom line_of ram.now at result }
+{
+    match first_from(ram, at) {
+        Some(found) => Ok(found.listed),
+        None => Err(Refusal::BrokenProgram),
+    }
+}
+
+/// The position of the line behind the one that a position stands for, or the byte behind that one where no line follows;
+/// of `.END.` its own. 14 where there is no line.
+pub fn next<const REGS: usize>(ram: &Ram<REGS>, at: u16) -> Result<u16, Refusal>
+    requires { IsTrue (is_sound ram.now) }
+    ensures { AnswersFrom next_of ram.now at result }
+{
+    match first_from(ram, at) {
+        Some(first) => Ok(position_behind(ram, first)),
+        None => Err(Refusal::BrokenProgram),
+    }
+}
+
+/// The position of the line behind one, or the byte behind it where no line follows; of `.END.` its own.
+fn position_behind<const REGS: usize>(ram: &Ram<REGS>, first: Found) -> u16
+    requires { IsTrue (is_sound ram.now) }
+    ensures { FollowsAt ram.now first result }
+{
+    let Found { listed, behind } = first;
+    if is_final_end(listed.line) {
+        return listed.position;
+    }
+    match first_from(ram, behind) {
+        Some(second) => second.listed.position,
+        None => behind,
+    }
+}

@@ -1,0 +1,58 @@
+//! Registers and the addresses that they hold.
+ghost use Rattle.std.specs.Prelude.{◌≡◌, ◌+◌, ◌*◌, ◌<◌, ◌≤◌, length};
+ghost use Rattle.h41_ram.specs.RegisterMap as spec;
+ghost use Rattle.h41_program.specs.Rewriting.{program_register};
+
+use h41_digits::Reg;
+
+/// The address of register c, which holds the curtain and the end of program memory.
+pub const C: u16 = 0x00D;
+
+/// Where in register c the end, the curtain and the first statistics register stand.
+pub const END_PLACE: usize = 0;
+
+pub const CURTAIN_PLACE: usize = 3;
+
+pub const STATISTICS_PLACE: usize = 11;
+
+/// How many addresses three digits can hold.
+pub const ADDRESSES: u16 = 4096;
+
+/// The address of three digits, from a place up.
+pub fn address_at(register: Reg, place: usize) -> u16
+    requires { place < 12 }
+    ensures value { result ≡ spec.three_digits register place }
+    ensures bound { result < 4096 }
+{
+    u16::from(register.get(place))
+        + 16 * u16::from(register.get(place + 1))
+        + 256 * u16::from(register.get(place + 2))
+}
+
+/// The register with the three digits of an address, from a place up.
+pub fn with_address(register: Reg, place: usize, address: u16) -> Reg
+    requires place { place < 12 }
+    requires address { address < 4096 }
+    ensures { result ≡ spec.with_three_places register place address }
+{
+    register
+        .with(place, (address % 16) as u8)
+        .with(place + 1, (address / 16 % 16) as u8)
+        .with(place + 2, (address / 256) as u8)
+}
+
+/// The register of seven bytes, the leftmost first, that stand so many registers behind the first byte.
+pub fn register_of(bytes: &[u8], below: usize) -> Reg
+    requires { 7 * below + 7 ≤ length bytes.now }
+    ensures { result ≡ program_register bytes.now below }
+{
+    let first = 7 * below;
+    Reg::zero()
+        .with_byte(6, bytes[first])
+        .with_byte(5, bytes[first + 1])
+        .with_byte(4, bytes[first + 2])
+        .with_byte(3, bytes[first + 3])
+        .with_byte(2, bytes[first + 4])
+        .with_byte(1, bytes[first + 5])
+        .with_byte(0, bytes[first + 6])
+}

@@ -1,0 +1,52 @@
+//! Program memory written anew.
+ghost use Rattle.std.specs.Prelude.{◌≡◌, ◌<◌, length};
+ghost use Rattle.h41_ram.specs.RegisterMap.{IsMemory, top_of};
+ghost use Rattle.h41_program.specs.Rewriting.{IsPlace, rewritten, rewritten_register};
+ghost use Rattle.h41_program.specs.Rewriting as spec;
+
+use crate::registers::{C, END_PLACE, register_of, with_address};
+use h41_digits::Reg;
+use h41_ram::{MAIN_START, Ram};
+
+/// Makes bytes that fill registers the program's, and writes where it ends. Registers that the program leaves become zero (this
+/// project's choice).
+pub fn rewrite<const REGS: usize>(ram: &mut Ram<REGS>, bytes: &[u8], end: u16)
+    requires place { IsPlace ram.old (length bytes.now) end }
+    requires memory { IsMemory REGS ram.old }
+    ensures { ram.new ≡ rewritten ram.old bytes.now }
+{
+    let c = with_address(ram.status(usize::from(C)), END_PLACE, end);
+    let mut main = ram.main_memory();
+    for (index, register) in main.iter_mut().enumerate() {
+        *register = new_register(ram, bytes, end, MAIN_START as u16 + index as u16);
+    }
+    ram.write(C, c);
+    ram.set_main_memory(main);
+}
+
+/// The register that stands at an address once a program's bytes were written.
+fn new_register<const REGS: usize>(ram: &Ram<REGS>, bytes: &[u8], end: u16, address: u16) -> Reg
+    requires place { IsPlace ram.now (length bytes.now) end }
+    requires address { address < top_of ram.now }
+    ensures { result ≡ rewritten_register ram.now bytes.now address }
+{
+    let curtain = ram.curtain();
+    if address < end {
+        free_register(ram, address)
+    } else if address < curtain {
+        register_of(bytes, usize::from(curtain - 1 - address))
+    } else {
+        ram.read(address)
+    }
+}
+
+/// A register below the end: what stood there below the former end, else zero.
+pub fn free_register<const REGS: usize>(ram: &Ram<REGS>, address: u16) -> Reg
+    ensures { result ≡ spec.free_register ram.now address }
+{
+    if address < ram.end_register() {
+        ram.read(address)
+    } else {
+        Reg::zero()
+    }
+}

@@ -1,0 +1,93 @@
+//! Where programs begin and labels stand.
+ghost use Rattle.std.specs.Prelude.{◌≡◌, ◌&&◌, nat_lt, IsTrue};
+ghost use Rattle.h41_ram.specs.RegisterMap.{is_sound};
+ghost use Rattle.h41_program.specs.Lines as spec;
+ghost use Rattle.h41_program.specs.ProgramLines.{AnswersFrom};
+ghost use Rattle.h41_program.specs.Searches.{AnswersLocal, label_in, named_in, position_of, start_in};
+
+use crate::kinds::{is_end, is_final_end, is_label, is_named};
+use crate::listed_line::ListedLine;
+use crate::reading::{Found, first_from};
+use h41_codes::Parameter;
+use h41_ram::Ram;
+
+/// Where the program of a position begins: behind the last END whose first byte is before the position, or at 0. `.END.` is
+/// no END here.
+pub fn start_of<const REGS: usize>(ram: &Ram<REGS>, at: u16) -> u16
+    requires { IsTrue (is_sound ram.now) }
+    ensures { AnswersFrom (start_in at) ram.now 0 result }
+{
+    let mut start = 0;
+    let mut position = 0;
+    while let Some(found) = first_from(ram, position) {
+        let Found { listed, behind } = found;
+        if is_final_end(listed.line) {
+            return start;
+        }
+        if ends_before(&listed, at) {
+            start = behind;
+        }
+        position = behind;
+    }
+    start
+}
+
+/// Whether a line is an END before a position.
+fn ends_before(listed: &ListedLine, at: u16) -> bool
+    ensures { result ≡ (spec.is_end listed.now.line && nat_lt listed.now.position at) }
+{
+    is_end(&listed.line) && listed.position < at
+}
+
+/// Where the `LBL n` stands that a position finds: the first from there to the END, else the first of its program.
+pub fn local<const REGS: usize>(ram: &Ram<REGS>, at: u16, label: Parameter) -> Option<u16>
+    requires { IsTrue (is_sound ram.now) }
+    ensures { AnswersLocal ram.now at label result }
+{
+    match label_from(ram, at, label) {
+        Some(position) => Some(position),
+        None => label_from(ram, start_of(ram, at), label),
+    }
+}
+
+/// Where the first `LBL n` stands from a position to the END.
+fn label_from<const REGS: usize>(ram: &Ram<REGS>, at: u16, label: Parameter) -> Option<u16>
+    requires { IsTrue (is_sound ram.now) }
+    ensures { AnswersFrom (λ lines. position_of (label_in label lines)) ram.now at result }
+{
+    let mut position = at;
+    while let Some(found) = first_from(ram, position) {
+        let Found { listed, behind } = found;
+        if is_label(listed.line, label) {
+            return Some(listed.position);
+        }
+        if is_end(&listed.line) {
+            return None;
+        }
+        if is_final_end(listed.line) {
+            return None;
+        }
+        position = behind;
+    }
+    None
+}
+
+/// Where the last `LBL` of a name stands in memory.
+pub fn global<const REGS: usize>(ram: &Ram<REGS>, name: &[u8]) -> Option<u16>
+    requires { IsTrue (is_sound ram.now) }
+    ensures { AnswersFrom (λ lines. position_of (named_in name.now lines)) ram.now 0 result }
+{
+    let mut last = None;
+    let mut position = 0;
+    while let Some(found) = first_from(ram, position) {
+        let Found { listed, behind } = found;
+        if is_final_end(listed.line) {
+            return last;
+        }
+        if is_named(listed.line, name) {
+            last = Some(listed.position);
+        }
+        position = behind;
+    }
+    last
+}

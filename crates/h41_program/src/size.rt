@@ -1,0 +1,90 @@
+//! The number of data registers.
+ghost use Rattle.std.specs.Prelude.{◌≡◌, ◌+◌, ◌-◌, ◌<◌, ◌≤◌, IsTrue};
+ghost use Rattle.h41_ram.specs.RegisterMap.{IsMemory, is_sound, curtain_of, top_of};
+ghost use Rattle.h41_program.specs.Rewriting.{Gives};
+ghost use Rattle.h41_program.specs.Size as place;
+ghost use Rattle.h41_program.specs.Size.{IsMove, resized, resized_c, resized_register, size_outcome};
+
+use crate::refusal::Refusal;
+use crate::registers::{
+    ADDRESSES, C, CURTAIN_PLACE, END_PLACE, STATISTICS_PLACE, address_at, with_address,
+};
+use crate::rewriting::free_register;
+use h41_digits::Reg;
+use h41_ram::{MAIN_START, Ram};
+
+/// Makes memory have so many data registers. The program and the statistics registers move with the curtain, the data registers
+/// that there were and are keep their values, new ones are zero, and so are registers that the program leaves (this project's
+/// choice). 17 where there are not more registers than that, 16 where the program would pass below main memory.
+pub fn set_size<const REGS: usize>(ram: &mut Ram<REGS>, size: u16) -> Result<(), Refusal>
+    requires { IsTrue (is_sound ram.old) }
+    ensures { Gives ram.old ram.new result (size_outcome ram.old size) }
+{
+    let curtain = ram.curtain();
+    let end = ram.end_register();
+    if usize::from(size) >= REGS {
+        return Err(Refusal::SizeTooLarge);
+    }
+    let new_curtain = MAIN_START as u16 + REGS as u16 - size;
+    if new_curtain + end < MAIN_START as u16 + curtain {
+        return Err(Refusal::NoRoom);
+    }
+    resize(ram, new_curtain, new_curtain + end - curtain);
+    Ok(())
+}
+
+/// Moves the curtain and the end.
+fn resize<const REGS: usize>(ram: &mut Ram<REGS>, curtain: u16, end: u16)
+    requires place { IsMove ram.old curtain end }
+    requires memory { IsMemory REGS ram.old }
+    ensures { ram.new ≡ resized ram.old (top_of ram.old - curtain) }
+{
+    let c = moved_addresses(ram, curtain, end);
+    let mut main = ram.main_memory();
+    for (index, register) in main.iter_mut().enumerate() {
+        *register = moved_register(ram, curtain, end, MAIN_START as u16 + index as u16);
+    }
+    ram.write(C, c);
+    ram.set_main_memory(main);
+}
+
+/// Register c with the addresses of a curtain and an end: the statistics registers move with the curtain.
+fn moved_addresses<const REGS: usize>(ram: &Ram<REGS>, curtain: u16, end: u16) -> Reg
+    requires { IsMove ram.now curtain end }
+    ensures { result ≡ resized_c ram.now (top_of ram.now - curtain) }
+{
+    let c = ram.status(usize::from(C));
+    let statistics = (address_at(c, STATISTICS_PLACE) + curtain + ADDRESSES - ram.curtain())
+        % ADDRESSES;
+    let c = with_address(c, END_PLACE, end);
+    let c = with_address(c, CURTAIN_PLACE, curtain);
+    with_address(c, STATISTICS_PLACE, statistics)
+}
+
+/// The register that stands at an address once the curtain and the end moved.
+fn moved_register<const REGS: usize>(ram: &Ram<REGS>, curtain: u16, end: u16, address: u16) -> Reg
+    requires place { IsMove ram.now curtain end }
+    requires address { address < top_of ram.now }
+    ensures { result ≡ resized_register ram.now (top_of ram.now - curtain) address }
+{
+    if address < end {
+        free_register(ram, address)
+    } else if address < curtain {
+        ram.read(address + ram.end_register() - end)
+    } else {
+        data_register(ram, address - curtain)
+    }
+}
+
+/// A data register by its number: zero where there is none.
+fn data_register<const REGS: usize>(ram: &Ram<REGS>, number: u16) -> Reg
+    requires { curtain_of ram.now + number < 2048 }
+    ensures { result ≡ place.data_register ram.now number }
+{
+    let address = ram.curtain() + number;
+    if usize::from(address) < MAIN_START + REGS {
+        ram.read(address)
+    } else {
+        Reg::zero()
+    }
+}

@@ -17,16 +17,14 @@ use Rattle.clap.specs.declared.error.kind.ErrorKind.{ErrorKind}
 use Rattle.clap.specs.declared.error.kind.ErrorKind.TheVariants as kind
 use Rattle.clap.proofs.OnLiterals.{clap_on_literals}
 use Rattle.clap.proofs.FaultLemmas.{fault_ends, stopped_fault}
-use Rattle.clap.proofs.WalkLemmas.{both, bundle_ends, first_value-rows, walk_stopped}
-use Rattle.clap.specs.Words.{HasMatchesOf, first_value, rows_of, kind_of, subcommand_rows, subcommand_rows_of}
+use Rattle.clap.proofs.WalkLemmas.{both, bundle_ends, walk_stopped}
+use Rattle.clap.specs.Words.{HasMatchesOf, kind_of, subcommand_rows, subcommand_rows_of}
 use Rattle.clap.specs.Matches.{subcommand_name_of}
 use Rattle.clap.specs.Kinds.{HasKind}
 use Rattle.clap.specs.declared.error.Error.{Error}
 use Rattle.clap.specs.declared.parser.matches.ArgMatches.{ArgMatches}
 use Rattle.clap.specs.declared.parser.matches.ArgMatches.TheViews.{out-ArgMatches, out-SubCommand}
-use Rattle.std.specs.Prelude.{IfSome, IfNone, IsSome, IsSomeAnd}
-use Rattle.std.specs.Borrow.{Bor}
-use Rattle.clap.specs.declared.parser.matches.Found.{Found}
+use Rattle.std.specs.Prelude.{IfSome, IfNone}
 use Rattle.std.specs.Box.{box_value}
 use Rattle.h41_bench.specs.BenchCommand.{bench_app, command_in, file_in, job_asked, job_in, origin_app, origin_asked, run_app, task_asked}
 use Rattle.h41_bench.specs.declared.arguments.Task.{Task}

@@ -1,9 +1,10 @@
 -- The command `bench`, with its subcommands, as what a parse reads of it, and the job that the parse of some words asks for.
 use Rattle.std.specs.Prelude.{ℕ, Bool, List, Option, Some, None, true, codes, if◌then◌else◌, option_and_then, option_map}
 use Rattle.std.specs.Str.{bytes_eq}
-use Rattle.clap.specs.Words.{App, Row, Rule, Text, first_of, new_app, new_rule, subcommand_of, with_rule, with_subcommand}
+use Rattle.clap.specs.Words.{App, Row, Rule, Text, first_of, found_of, new_app, new_rule, rows_of, subcommand_of, with_rule, with_subcommand}
 use Rattle.clap.specs.declared.builder.command.Command.{Command}
 use Rattle.clap.specs.declared.builder.command.Command.TheViews.{out-Command}
+use Rattle.clap.specs.declared.parser.matches.ArgMatches.{ArgMatches}
 use Rattle.clap.specs.declared.builder.action.ArgAction.TheVariants.{Set}
 use Rattle.h41_bench.specs.declared.arguments.Task.{Task}
 use Rattle.h41_bench.specs.declared.arguments.Task.TheVariants as tasks
@@ -49,6 +50,10 @@ file_in = option_map (λ p. first_of (codes "FILE") p.1)
 abbrev pub origin_asked : Option Text → Option ℕ
 origin_asked None = Some 0x8000
 origin_asked (Some digits) = origin_value digits
+
+-- the value of `--origin` in what a parse read of a command, where there is one
+abbrev pub origin_in : ArgMatches → Option Text
+origin_in command = first_of (codes "origin") (rows_of (found_of command))
 
 -- the task that a command's name asks for, where its origin is one
 abbrev pub task_asked : Text → Option Text → Option Task

@@ -6,6 +6,7 @@ use Rattle.h41_deck.specs.declared.ends.source.Source as sources
 use Rattle.h41_deck.specs.declared.fault.Fault.{Fault}
 use Rattle.h41_deck.specs.declared.fault.Fault.TheVariants.{ReadFault, WriteFault}
 use Rattle.h41_deck.specs.Refusals.{of_fault, refusal_line}
+use Rattle.h41_bench.specs.declared.arguments.Job.{Job}
 use Rattle.h41_bench.specs.declared.arguments.Task.{Task}
 use Rattle.h41_bench.specs.declared.arguments.Task.TheVariants as tasks
 use Rattle.h41_bench.specs.declared.ended.Ended.{Ended}
@@ -39,6 +40,9 @@ status_of_ended (WrongWord number) = 2
 -- the task ends over the input so that this is its status
 abbrev pub EndsTask : Task → ℕ → List ℕ → Type 0
 EndsTask task status input = (ended : Ended) × TaskEnds task ended input × (status ≡ status_of_ended ended)
+
+abbrev pub EndsJob : Job → ℕ → List ℕ → Type 0
+EndsJob job status input = EndsTask job.task status input
 
 -- the line that tells a fault
 abbrev pub fault_line : Fault → List ℕ

@@ -1,6 +1,6 @@
 -- What a job makes of its input: the text that it prints, how it ends, and what is said where it goes wrong.
 use Rattle.std.specs.Global.{Global}
-use Rattle.std.specs.Prelude.{◌≡◌, ◌⊎◌, ℕ, ◌<◌, ◌≤◌, true, false, Vec, List, [], ◌++◌, length, codes, Option, Some, IfSome, Result, Ok, Err, IfOk}
+use Rattle.std.specs.Prelude.{◌≡◌, ◌≢◌, ◌⊎◌, OnOk, ℕ, ◌<◌, ◌≤◌, true, false, Vec, List, [], ◌++◌, length, codes, Option, Some, IfSome, Result, Ok, Err, IfOk}
 use Rattle.std.specs.Fmt.{decimal}
 use Rattle.h41_deck.specs.declared.ends.sink.Sink as sinks
 use Rattle.h41_deck.specs.declared.ends.source.Source as sources
@@ -14,6 +14,7 @@ use Rattle.h41_deck.specs.Ends.{Appended}
 use Rattle.h41_deck.specs.Fillings as fillings
 use Rattle.h41_deck.specs.Refusals.{refusal_line}
 use Rattle.h41_dis.specs.Spelling.{spell}
+use Rattle.h41_bench.specs.declared.arguments.Job.{Job}
 use Rattle.h41_bench.specs.declared.arguments.Task.{Task}
 use Rattle.h41_bench.specs.declared.arguments.Task.TheVariants as tasks
 use Rattle.h41_bench.specs.declared.ended.Ended.{Ended}
@@ -66,6 +67,23 @@ HasText (tasks.List origin) = ListingText
 -- where the input is known, its text is written
 abbrev pub TaskPrints : {W : Type 0} → Task → Option (List ℕ) → (W → Option (List ℕ)) → W → W → Type 0
 TaskPrints task known contents old new = IfSome known (decks.Gives (HasText task) (contents old) (contents new))
+
+-- where a task ends without a fault: a task, a source at an origin, and a list of words
+abbrev pub Prints : {A E R W : Type 0} → Result A E → Task → sources.Ghosts R → sinks.Ghosts W → R → W → W → Type 0
+Prints result task source sink before old new =
+    OnOk result (TaskPrints task (source.remaining before) sink.contents old new)
+
+abbrev pub Assembled : {A E R W : Type 0} → ℕ → Result A E → sources.Ghosts R → sinks.Ghosts W → R → W → W → Type 0
+Assembled origin result source sink before old new = Prints result (tasks.Assemble origin) source sink before old new
+
+abbrev pub Listed : {A E R W : Type 0} → Result A E → sources.Ghosts R → sinks.Ghosts W → R → W → W → Type 0
+Listed result source sink before old new =
+    OnOk result (IfSome (source.remaining before) (decks.Gives ListingText (sink.contents old) (sink.contents new)))
+
+-- and where a job's status is not that of a fault
+abbrev pub JobPrints : {R W : Type 0} → ℕ → Job → sources.Ghosts R → sinks.Ghosts W → R → W → W → Type 0
+JobPrints status job source sink before old new =
+    status ≢ 3 → TaskPrints job.task (source.remaining before) sink.contents old new
 
 -- how a deck, a source and a text of words end
 abbrev pub of_outcome : Outcome → Ended
@@ -131,6 +149,11 @@ abbrev pub Unread : {A R W : Type 0} → Result A Fault → Task → sources.Gho
 Unread result task source sink before after old new =
     result ≡ Err ReadFault → FailedOrTooLong task source sink before after old new
 
+-- that of a source or of a list of words, of which nothing is printed then
+abbrev pub UnreadWhole : {A R W : Type 0} → Result A Fault → sources.Ghosts R → sinks.Ghosts W → R → R → W → W → Type 0
+UnreadWhole result source sink before after old new = result ≡ Err ReadFault
+    → (source.failed after ≡ true) ⊎ IfSome (source.remaining before) (decks.Gives IsTooLong (sink.contents old) (sink.contents new))
+
 -- the text that tells a wrong word by its number
 abbrev pub mistake_line : ℕ → List ℕ
 mistake_line number = codes "error: word " ++ (decimal number ++ codes " is not a hexadecimal number up to 3FF\n")
@@ -139,3 +162,12 @@ mistake_line number = codes "error: word " ++ (decimal number ++ codes " is not 
 abbrev pub TellsMistake : {E : Type 0} → Task → Option (List ℕ) → sinks.Ghosts E → E → E → Type 0
 TellsMistake task known told old new = told.failed new ≡ false
     → (number : ℕ) × IfSome known (TaskEnds task (WrongWord number)) × Appended told.contents old new (mistake_line number)
+
+-- where a job has the status of a wrong word
+abbrev pub TellsWord : {R E : Type 0} → ℕ → Job → sources.Ghosts R → sinks.Ghosts E → R → E → E → Type 0
+TellsWord status job source told before old new =
+    status ≡ 2 → TellsMistake job.task (source.remaining before) told old new
+
+-- a text is told, as far as the end for faults takes it
+abbrev pub Tells : {E : Type 0} → sinks.Ghosts E → E → E → List ℕ → Type 0
+Tells told old new text = told.failed new ≡ false → Appended told.contents old new text

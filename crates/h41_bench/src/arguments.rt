@@ -1,9 +1,9 @@
 //! Reads the command line.
 
 ghost use Rattle.std.specs.Prelude.{◌≡◌, ◌≢◌, [], true, false, codes, map, IfOk, IfSome, IfNone, IsErr, option_map};
-ghost use Rattle.clap.specs.Words.{FailsBy, HasMatchesOf, app_of, fault_of, first_of, found_of, kind_of, rows_of, rule_of, subcommand_rows_of};
+ghost use Rattle.clap.specs.Words.{FailsBy, HasMatchesOf, app_of, fault_of, kind_of, rule_of, subcommand_rows_of};
 ghost use Rattle.clap.specs.declared.error.kind.ErrorKind.TheVariants as kind;
-ghost use Rattle.h41_bench.specs.BenchCommand.{bench_app, file_rule, has_globals, job_in, origin_app, origin_asked, task_asked};
+ghost use Rattle.h41_bench.specs.BenchCommand.{bench_app, file_rule, has_globals, job_in, origin_app, origin_asked, origin_in, task_asked};
 ghost use Rattle.h41_bench.specs.CommandLine.{asks_help, file_to_run, is_mistake};
 ghost use Rattle.h41_bench.specs.Ending.{AsksForNoRun, AsksToRun, EndsAtOnce, EndsWith, GivesJob, GivesJobOf, IsNoHelp, parts_of, status_of, text_of};
 
@@ -207,7 +207,7 @@ fn job_of<'a>(matches: &ArgMatches<'a>) -> Option<Job<'a>>
 
 /// The task that a command's name asks for.
 fn task_of(name: &str, command: &ArgMatches<'_>) -> Option<Task>
-    ensures { result ≡ task_asked name.now (first_of (codes "origin") (rows_of (found_of command.now))) }
+    ensures { result ≡ task_asked name.now (origin_in command.now) }
 {
     match name {
         "run" => Some(Task::Run),
@@ -223,7 +223,7 @@ fn task_of(name: &str, command: &ArgMatches<'_>) -> Option<Task>
 
 /// The address of the first word: 8000 where it is not given. None where the one that is given has not four hexadecimal digits.
 fn origin_of(command: &ArgMatches<'_>) -> Option<u16>
-    ensures { result ≡ origin_asked (first_of (codes "origin") (rows_of (found_of command.now))) }
+    ensures { result ≡ origin_asked (origin_in command.now) }
 {
     match command.get_str("origin") {
         Some(digits) => origin_value(digits),

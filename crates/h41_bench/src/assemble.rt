@@ -3,7 +3,7 @@
 ghost use Rattle.std.specs.Prelude.{◌≡◌, ◌≢◌, ◌<◌, true, false, Err, IfOk, OnOk};
 ghost use Rattle.std.specs.Fmt.{digit_glyph};
 ghost use Rattle.h41_bench.specs.declared.arguments.Task.TheVariants as tasks;
-ghost use Rattle.h41_bench.specs.Tasks.{Ends, MayEnd, TaskPrints, Unread};
+ghost use Rattle.h41_bench.specs.Tasks.{Assembled, Ends, MayEnd, UnreadWhole};
 ghost use Rattle.h41_bench.specs.WordTexts.{word_line, word_lines};
 
 use crate::ended::Ended;
@@ -29,11 +29,11 @@ pub fn assemble_input<R: Source, W: Sink>(
 ) -> Result<Ended, Fault>
     requires reader_clear { R.failed reader.old ≡ false }
     requires writer_clear { W.failed writer.old ≡ false }
-    ensures text { OnOk result (TaskPrints (tasks.Assemble origin) (R.remaining reader.old) W.contents writer.old writer.new) }
+    ensures text { Assembled origin result R.Source W.Sink reader.old writer.old writer.new }
     ensures ends { Ends result (tasks.Assemble origin) (R.remaining reader.old) }
     ensures kind { IfOk result (MayEnd (tasks.Assemble origin)) }
     ensures flushed { OnOk result (W.flushed writer.new ≡ true) }
-    ensures read_fault { Unread result (tasks.Assemble origin) R.Source W.Sink reader.old reader.new writer.old writer.new }
+    ensures read { UnreadWhole result R.Source W.Sink reader.old reader.new writer.old writer.new }
 
     // The marks tell which end failed.
     ensures write_fault { result ≡ Err Fault.WriteFault → W.failed writer.new ≡ true }

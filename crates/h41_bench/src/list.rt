@@ -2,7 +2,7 @@
 
 ghost use Rattle.std.specs.Prelude.{◌≡◌, ◌≢◌, true, false, Err, IfOk, OnOk};
 ghost use Rattle.h41_bench.specs.declared.arguments.Task.TheVariants as tasks;
-ghost use Rattle.h41_bench.specs.Tasks.{Ends, MayEnd, Says, TaskPrints, Unread, said_in};
+ghost use Rattle.h41_bench.specs.Tasks.{Ends, Listed, MayEnd, Says, UnreadWhole, said_in};
 ghost use Rattle.h41_bench.specs.WordTexts.{is_white_space};
 
 use crate::ended::Ended;
@@ -29,11 +29,11 @@ pub fn list_input<R: Source, W: Sink>(
 ) -> Result<Ended, Fault>
     requires reader_clear { R.failed reader.old ≡ false }
     requires writer_clear { W.failed writer.old ≡ false }
-    ensures text { OnOk result (TaskPrints (tasks.List origin) (R.remaining reader.old) W.contents writer.old writer.new) }
+    ensures text { Listed result R.Source W.Sink reader.old writer.old writer.new }
     ensures ends { Ends result (tasks.List origin) (R.remaining reader.old) }
     ensures kind { IfOk result (MayEnd (tasks.List origin)) }
     ensures flushed { OnOk result (W.flushed writer.new ≡ true) }
-    ensures read_fault { Unread result (tasks.List origin) R.Source W.Sink reader.old reader.new writer.old writer.new }
+    ensures read { UnreadWhole result R.Source W.Sink reader.old reader.new writer.old writer.new }
 
     // The marks tell which end failed.
     ensures write_fault { result ≡ Err Fault.WriteFault → W.failed writer.new ≡ true }

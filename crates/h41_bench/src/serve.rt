@@ -3,8 +3,8 @@
 ghost use Rattle.std.specs.Prelude.{◌≡◌, ◌≢◌, ◌≤◌, true, false, Err, OnOk, OnErr, IfOk, IfSome};
 ghost use Rattle.std.specs.Io.KnownBytes.{Keeps};
 ghost use Rattle.h41_deck.specs.Ends.{Appended};
-ghost use Rattle.h41_bench.specs.Statuses.{EndsTask, IsTaskStatus, TellsFault, fault_line};
-ghost use Rattle.h41_bench.specs.Tasks.{Ends, MayEnd, TaskPrints, TellsMistake, Unread, mistake_line};
+ghost use Rattle.h41_bench.specs.Statuses.{EndsJob, IsTaskStatus, TellsFault, fault_line};
+ghost use Rattle.h41_bench.specs.Tasks.{Ends, JobPrints, MayEnd, Prints, Tells, TellsWord, Unread, mistake_line};
 
 use crate::arguments::{Job, Task};
 use crate::assemble::assemble_input;
@@ -43,13 +43,13 @@ pub fn serve<R: Source, W: Sink, E: Sink>(
     ensures status { IsTaskStatus job.entry.task result }
 
     // Where nothing failed, the task's text was written, and the status tells how it ended.
-    ensures text { result ≢ 3 → TaskPrints job.entry.task (R.remaining reader.old) W.contents writer.old writer.new }
+    ensures text { JobPrints result job.entry R.Source W.Sink reader.old writer.old writer.new }
     ensures flushed { result ≢ 3 → W.flushed writer.new ≡ true }
-    ensures outcome { result ≢ 3 → IfSome (R.remaining reader.old) (EndsTask job.entry.task result) }
+    ensures outcome { result ≢ 3 → IfSome (R.remaining reader.old) (EndsJob job.entry result) }
 
     // A wrong word is told by its number, if it can be, and where nothing is wrong nothing is told.
     ensures silent { result ≤ 1 → Keeps (E.contents faults.old) (E.contents faults.new) }
-    ensures mistake { result ≡ 2 → TellsMistake job.entry.task (R.remaining reader.old) E.Sink faults.old faults.new }
+    ensures mistake { TellsWord result job.entry R.Source E.Sink reader.old faults.old faults.new }
 
     // Where something failed, the fault's line is told, if it can be.
     ensures fault { TellsFault result job.entry.task R.Source W.Sink E.Sink
@@ -72,11 +72,11 @@ fn carry_out<R: Source, W: Sink>(
 ) -> Result<Ended, Fault>
     requires reader_clear { R.failed reader.old ≡ false }
     requires writer_clear { W.failed writer.old ≡ false }
-    ensures text { OnOk result (TaskPrints task (R.remaining reader.old) W.contents writer.old writer.new) }
+    ensures text { Prints result task R.Source W.Sink reader.old writer.old writer.new }
     ensures ends { Ends result task (R.remaining reader.old) }
     ensures kind { IfOk result (MayEnd task) }
     ensures flushed { OnOk result (W.flushed writer.new ≡ true) }
-    ensures read_fault { Unread result task R.Source W.Sink reader.old reader.new writer.old writer.new }
+    ensures read { Unread result task R.Source W.Sink reader.old reader.new writer.old writer.new }
     ensures write_fault { result ≡ Err Fault.WriteFault → W.failed writer.new ≡ true }
     ensures reader { result ≢ Err Fault.ReadFault → R.failed reader.new ≡ false }
     ensures writer { result ≢ Err Fault.WriteFault → W.failed writer.new ≡ false }
@@ -92,7 +92,7 @@ fn carry_out<R: Source, W: Sink>(
 fn tell_mistake<E: Sink>(number: usize, faults: &mut E) -> u8
     requires { E.failed faults.old ≡ false }
     ensures status { result ≡ 2 }
-    ensures line { E.failed faults.new ≡ false → Appended E.contents faults.old faults.new (mistake_line number) }
+    ensures line { Tells E.Sink faults.old faults.new (mistake_line number) }
 {
     let _ = write_text(faults, mistake_line(number).as_str().as_bytes());
     MISTAKEN
@@ -102,7 +102,7 @@ fn tell_mistake<E: Sink>(number: usize, faults: &mut E) -> u8
 pub fn tell<E: Sink>(fault: Fault, faults: &mut E) -> u8
     requires { E.failed faults.old ≡ false }
     ensures status { result ≡ 3 }
-    ensures line { E.failed faults.new ≡ false → Appended E.contents faults.old faults.new (fault_line fault) }
+    ensures line { Tells E.Sink faults.old faults.new (fault_line fault) }
 {
     let _ = report(fault, faults);
     FAILED

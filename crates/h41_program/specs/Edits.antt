@@ -113,3 +113,8 @@ abbrev pub PacksChanged : RegisterMap → (ListedLine → List Line) → ℕ →
 PacksChanged memory change position result =
     (lines : List ListedLine) → LinesFrom memory 0 lines
     → MatchBool (is_some (before_end lines) && has_line_at position lines) (IsOkAnd result (λ packer. Packs packer (flat_map change lines))) (result ≡ Err BrokenProgram)
+
+-- the lines of a packer were written into program memory, or refused
+abbrev pub WritesPacked : Packer → RegisterMap → RegisterMap → Result (Unit {0}) Refusal → Type 0
+WritesPacked packer old new result =
+    (lines : List Line) → Packs packer lines → Gives old new result (answered tt (written old lines))

@@ -30,6 +30,12 @@ file_to_run (name ∷ []) = None
 file_to_run (name ∷ command ∷ rest) =
     if bytes_eq (codes "run") command then only_file rest else None
 
+-- the FILE that the words hand to a command, with nothing beside it, where they do
+abbrev pub file_for : List ℕ → List (List ℕ) → Option (List ℕ)
+file_for command [] = None
+file_for command (name ∷ []) = None
+file_for command (name ∷ word ∷ rest) = if bytes_eq command word then only_file rest else None
+
 -- the names of the commands
 abbrev pub is_command : List ℕ → Bool
 is_command word = bytes_eq (codes "run") word || (bytes_eq (codes "asm") word || bytes_eq (codes "dis") word)

@@ -1,7 +1,7 @@
-use Rattle.std.proofs.Common.{◌≡◌, List, codes, Option, Some, None, ap, sym, option_map, ◌∙◌}
+use Rattle.std.proofs.Common.{◌≡◌, codes, Some, None, ap, sym, option_map, ◌∙◌}
 use Rattle.std.specs.Prelude.{option_and_then}
 use Rattle.clap.proofs.WalkLemmas.{first_value-rows}
-use Rattle.clap.specs.Words.{Row, Text, first_of, found_of, rows_of, subcommand_rows_of}
+use Rattle.clap.specs.Words.{first_of, found_of, rows_of, subcommand_rows_of}
 use Rattle.h41_bench.specs.BenchCommand.{job_in, task_asked}
 use Rattle.h41_bench.specs.Ending.{parts_of}
 use Rattle.h41_bench.proofs.CommandLemmas.{met_row, named_rows}

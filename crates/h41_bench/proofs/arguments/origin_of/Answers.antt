@@ -1,4 +1,4 @@
-use Rattle.std.proofs.Common.{◌≡◌, codes, Option, Some, None, List, ℕ, ap, sym, option_map, ◌∙◌}
+use Rattle.std.proofs.Common.{◌≡◌, codes, Some, None, ap, sym, option_map, ◌∙◌}
 use Rattle.clap.proofs.WalkLemmas.{first_value-rows}
 use Rattle.clap.specs.Words.{first_of, found_of, rows_of}
 use Rattle.h41_bench.specs.BenchCommand.{origin_asked}

@@ -1,6 +1,6 @@
 -- What a job makes of its input: the text that it prints, how it ends, and what is said where it goes wrong.
 use Rattle.std.specs.Global.{Global}
-use Rattle.std.specs.Prelude.{◌≡◌, ◌⊎◌, ℕ, ◌<◌, ◌≤◌, true, false, Vec, List, [], ◌++◌, length, codes, Option, Some, IfSome, Result, Ok, Err, IfOk}
+use Rattle.std.specs.Prelude.{◌≡◌, ◌⊎◌, ℕ, ◌<◌, ◌≤◌, true, false, Vec, List, [], ◌++◌, length, codes, Option, Some, IfSome, Result, Ok, Err, IfOk, OnOk}
 use Rattle.std.specs.Fmt.{decimal}
 use Rattle.h41_deck.specs.declared.ends.sink.Sink as sinks
 use Rattle.h41_deck.specs.declared.ends.source.Source as sources
@@ -66,6 +66,10 @@ HasText (tasks.List origin) = ListingText
 -- where the input is known, its text is written
 abbrev pub TaskPrints : {W : Type 0} → Task → Option (List ℕ) → (W → Option (List ℕ)) → W → W → Type 0
 TaskPrints task known contents old new = IfSome known (decks.Gives (HasText task) (contents old) (contents new))
+
+-- where a task ends without a fault, it is
+abbrev pub Prints : {E W : Type 0} → Result Ended E → Task → Option (List ℕ) → (W → Option (List ℕ)) → W → W → Type 0
+Prints result task known contents old new = OnOk result (TaskPrints task known contents old new)
 
 -- how a deck, a source and a text of words end
 abbrev pub of_outcome : Outcome → Ended

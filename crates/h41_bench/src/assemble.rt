@@ -3,7 +3,7 @@
 ghost use Rattle.std.specs.Prelude.{◌≡◌, ◌≢◌, ◌<◌, true, false, Err, IfOk, OnOk};
 ghost use Rattle.std.specs.Fmt.{digit_glyph};
 ghost use Rattle.h41_bench.specs.declared.arguments.Task.TheVariants as tasks;
-ghost use Rattle.h41_bench.specs.Tasks.{Ends, MayEnd, TaskPrints, Unread};
+ghost use Rattle.h41_bench.specs.Tasks.{Ends, MayEnd, Prints, Unread};
 ghost use Rattle.h41_bench.specs.WordTexts.{word_line, word_lines};
 
 use crate::ended::Ended;
@@ -29,7 +29,7 @@ pub fn assemble_input<R: Source, W: Sink>(
 ) -> Result<Ended, Fault>
     requires reader_clear { R.failed reader.old ≡ false }
     requires writer_clear { W.failed writer.old ≡ false }
-    ensures text { OnOk result (TaskPrints (tasks.Assemble origin) (R.remaining reader.old) W.contents writer.old writer.new) }
+    ensures text { Prints result (tasks.Assemble origin) (R.remaining reader.old) W.contents writer.old writer.new }
     ensures ends { Ends result (tasks.Assemble origin) (R.remaining reader.old) }
     ensures kind { IfOk result (MayEnd (tasks.Assemble origin)) }
     ensures flushed { OnOk result (W.flushed writer.new ≡ true) }

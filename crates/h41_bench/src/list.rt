@@ -2,7 +2,7 @@
 
 ghost use Rattle.std.specs.Prelude.{◌≡◌, ◌≢◌, true, false, Err, IfOk, OnOk};
 ghost use Rattle.h41_bench.specs.declared.arguments.Task.TheVariants as tasks;
-ghost use Rattle.h41_bench.specs.Tasks.{Ends, MayEnd, Says, TaskPrints, Unread, said_in};
+ghost use Rattle.h41_bench.specs.Tasks.{Ends, MayEnd, Prints, Says, Unread, said_in};
 ghost use Rattle.h41_bench.specs.WordTexts.{is_white_space};
 
 use crate::ended::Ended;
@@ -29,7 +29,7 @@ pub fn list_input<R: Source, W: Sink>(
 ) -> Result<Ended, Fault>
     requires reader_clear { R.failed reader.old ≡ false }
     requires writer_clear { W.failed writer.old ≡ false }
-    ensures text { OnOk result (TaskPrints (tasks.List origin) (R.remaining reader.old) W.contents writer.old writer.new) }
+    ensures text { Prints result (tasks.List origin) (R.remaining reader.old) W.contents writer.old writer.new }
     ensures ends { Ends result (tasks.List origin) (R.remaining reader.old) }
     ensures kind { IfOk result (MayEnd (tasks.List origin)) }
     ensures flushed { OnOk result (W.flushed writer.new ≡ true) }

@@ -4,7 +4,7 @@ ghost use Rattle.std.specs.Prelude.{◌≡◌, ◌≢◌, ◌≤◌, true, false
 ghost use Rattle.std.specs.Io.KnownBytes.{Keeps};
 ghost use Rattle.h41_deck.specs.Ends.{Appended};
 ghost use Rattle.h41_bench.specs.Statuses.{EndsTask, IsTaskStatus, TellsFault, fault_line};
-ghost use Rattle.h41_bench.specs.Tasks.{Ends, MayEnd, TaskPrints, TellsMistake, Unread, mistake_line};
+ghost use Rattle.h41_bench.specs.Tasks.{Ends, MayEnd, Prints, TaskPrints, TellsMistake, Unread, mistake_line};
 
 use crate::arguments::{Job, Task};
 use crate::assemble::assemble_input;
@@ -72,7 +72,7 @@ fn carry_out<R: Source, W: Sink>(
 ) -> Result<Ended, Fault>
     requires reader_clear { R.failed reader.old ≡ false }
     requires writer_clear { W.failed writer.old ≡ false }
-    ensures text { OnOk result (TaskPrints task (R.remaining reader.old) W.contents writer.old writer.new) }
+    ensures text { Prints result task (R.remaining reader.old) W.contents writer.old writer.new }
     ensures ends { Ends result task (R.remaining reader.old) }
     ensures kind { IfOk result (MayEnd task) }
     ensures flushed { OnOk result (W.flushed writer.new ≡ true) }

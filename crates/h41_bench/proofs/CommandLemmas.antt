@@ -32,8 +32,8 @@ use Rattle.h41_bench.specs.declared.arguments.Task.TheVariants as tasks
 use Rattle.h41_bench.specs.declared.arguments.Ending.{Ending}
 use Rattle.h41_bench.specs.declared.arguments.Ending.TheVariants as endings
 use Rattle.h41_bench.specs.declared.arguments.Job.{Job}
-use Rattle.h41_bench.specs.Ending.{AsksForNoRun, AsksToRun, GivesJob, parts_of}
-use Rattle.h41_bench.specs.CommandLine.{asks_help, has_wrong_files, is_command, is_help_flag, is_mistake, is_flag, is_last_flag, only_file, file_to_run}
+use Rattle.h41_bench.specs.Ending.{AsksFor, AsksForNoRun, AsksToRun, GivesJob, parts_of}
+use Rattle.h41_bench.specs.CommandLine.{asks_help, has_wrong_files, is_command, is_help_flag, is_mistake, is_flag, is_last_flag, only_file, file_for, file_to_run}
 
 pub simple_bench : is_simple_and_free bench_app ≡ true
 simple_bench = refl
@@ -282,44 +282,70 @@ leaf_end : (file : Text) (t : Bool) → level_end leaf (taken file t) [] false [
 unfolding defaults_fault
 leaf_end file t = refl
 
-abbrev Reads : List Text → Text → Type 0
-Reads rest file = (t : Bool) × (walk leaf.rules [] nothing_held rest ≡ taken file t) × (walk_fault leaf [] (walk_from nothing_held) rest ≡ [])
+abbrev Reads : Shape → List Text → Text → Type 0
+Reads s rest file = (t : Bool) × (walk s.rules [] nothing_held rest ≡ taken file t) × (walk_fault s [] (walk_from nothing_held) rest ≡ [])
 
-reads_one : (file : Text) → is_flag file ≡ false → Reads (file ∷ []) file
+reads_one : (file : Text) → is_flag file ≡ false → Reads leaf (file ∷ []) file
 unfolding walk_fault
 reads_one file plain =
     let first = first_plain file plain in
     (false, first.1, ap (λ k. or_else k []) first.0)
 
-reads_after : (file : Text) → Reads (last_flag ∷ file ∷ []) file
+reads_after : (file : Text) → Reads leaf (last_flag ∷ file ∷ []) file
 unfolding walk_fault walked
 reads_after file = (true, refl, refl)
 
-reads_before : (file : Text) → is_flag file ≡ false → Reads (file ∷ last_flag ∷ []) file
+reads_before : (file : Text) → is_flag file ≡ false → Reads leaf (file ∷ last_flag ∷ []) file
 unfolding walk_fault walked
 reads_before file plain =
     let first = first_plain file plain in
     (true, ap (λ w. walked leaf.rules [] w last_flag) first.1, ap₂ (λ k w. or_else k (walk_fault leaf [] w (last_flag ∷ []))) first.0 first.1)
 
--- the words after `run` that have one FILE
-reads_file : (rest : List Text) (file : Text) → only_file rest ≡ Some file → Reads rest file
-reads_file [] file is = cc
-reads_file (a ∷ []) file is = go (is_flag a) refl
+-- the same of a command that takes an origin, where none is given
+origin_first : (n word : Text) → is_flag word ≡ false
+    → (turn_fault (origin_leaf n) [] (at [] None 1 false) word ≡ []) × (walked (origin_leaf n).rules [] (at [] None 1 false) word ≡ taken word false)
+origin_first n word plain = plain_turn (origin_leaf n) [] [] None 1 word refl plain
+
+origin_end : (n file : Text) (t : Bool) → level_end (origin_leaf n) (taken file t) [] false [] ≡ []
+unfolding defaults_fault
+origin_end n file t = refl
+
+origin_reads_one : (n file : Text) → is_flag file ≡ false → Reads (origin_leaf n) (file ∷ []) file
+unfolding walk_fault
+origin_reads_one n file plain =
+    let first = origin_first n file plain in
+    (false, first.1, ap (λ k. or_else k []) first.0)
+
+origin_reads_after : (n file : Text) → Reads (origin_leaf n) (last_flag ∷ file ∷ []) file
+unfolding walk_fault walked
+origin_reads_after n file = (true, refl, refl)
+
+origin_reads_before : (n file : Text) → is_flag file ≡ false → Reads (origin_leaf n) (file ∷ last_flag ∷ []) file
+unfolding walk_fault walked
+origin_reads_before n file plain =
+    let first = origin_first n file plain in
+    (true, ap (λ w. walked (origin_leaf n).rules [] w last_flag) first.1, ap₂ (λ k w. or_else k (walk_fault (origin_leaf n) [] w (last_flag ∷ []))) first.0 first.1)
+
+-- the words after a command that have one FILE
+reads_file : (s : Shape) → ((file : Text) → is_flag file ≡ false → Reads s (file ∷ []) file) → ((file : Text) → Reads s (last_flag ∷ file ∷ []) file)
+    → ((file : Text) → is_flag file ≡ false → Reads s (file ∷ last_flag ∷ []) file) → (rest : List Text) (file : Text) → only_file rest ≡ Some file → Reads s rest file
+reads_file s one after before [] file is = cc
+reads_file s one after before (a ∷ []) file is = go (is_flag a) refl
   where
-    go : (t : Bool) → is_flag a ≡ t → Reads (a ∷ []) file
+    go : (t : Bool) → is_flag a ≡ t → Reads s (a ∷ []) file
     go true flag =
         let bad : None ≡ Some file = ap (λ t. cond t None (Some a)) (sym flag) ∙ is in cc
     go false plain =
         let same : Some a ≡ Some file = ap (λ t. cond t None (Some a)) (sym plain) ∙ is in
         let equal : a ≡ file = cc in
-        subst (λ (x : Text). Reads (a ∷ []) x) equal (reads_one a plain)
-reads_file (a ∷ b ∷ []) file is = go (is_last_flag a) refl (is_last_flag b) refl (is_flag a) refl
+        subst (λ (x : Text). Reads s (a ∷ []) x) equal (one a plain)
+reads_file s one after before (a ∷ b ∷ []) file is = go (is_last_flag a) refl (is_last_flag b) refl (is_flag a) refl
   where
-    go : (t : Bool) → is_last_flag a ≡ t → (u : Bool) → is_last_flag b ≡ u → (v : Bool) → is_flag a ≡ v → Reads (a ∷ b ∷ []) file
+    go : (t : Bool) → is_last_flag a ≡ t → (u : Bool) → is_last_flag b ≡ u → (v : Bool) → is_flag a ≡ v → Reads s (a ∷ b ∷ []) file
     go true last u _ v _ =
         let same : Some b ≡ Some file = ap (λ t. cond t (Some b) (cond (is_last_flag b && not (is_flag a)) (Some a) None)) (sym last) ∙ is in
         let equal : b ≡ file = cc in
-        subst (λ (x : Text). Reads (a ∷ b ∷ []) x) equal (subst (λ (x : Text). Reads (x ∷ b ∷ []) b) (sym (is_last a last)) (reads_after b))
+        subst (λ (x : Text). Reads s (a ∷ b ∷ []) x) equal (subst (λ (x : Text). Reads s (x ∷ b ∷ []) b) (sym (is_last a last)) (after b))
     go false more false none v _ =
         let bad : None ≡ Some file = ap₂ (λ t u. cond t (Some b) (cond (u && not (is_flag a)) (Some a) None)) (sym more) (sym none) ∙ is in cc
     go false more true last true flag =
@@ -331,8 +357,8 @@ reads_file (a ∷ b ∷ []) file is = go (is_last_flag a) refl (is_last_flag b) 
         ap₂ (λ t u. cond t (Some b) (cond (u && not (is_flag a)) (Some a) None)) (sym more) (sym last) ∙ is in
         let same : Some a ≡ Some file = ap (λ v. cond (true && not v) (Some a) None) (sym plain) ∙ opened in
         let equal : a ≡ file = cc in
-        subst (λ (x : Text). Reads (a ∷ b ∷ []) x) equal (subst (λ (x : Text). Reads (a ∷ x ∷ []) a) (sym (is_last b last)) (reads_before a plain))
-reads_file (a ∷ b ∷ c ∷ rest) file is = cc
+        subst (λ (x : Text). Reads s (a ∷ b ∷ []) x) equal (subst (λ (x : Text). Reads s (a ∷ x ∷ []) a) (sym (is_last b last)) (before a plain))
+reads_file s one after before (a ∷ b ∷ c ∷ rest) file is = cc
 
 -- the walk over the words after `run` fails
 Stops : List Text → Type 0
@@ -492,7 +518,7 @@ pub record Asks (words : List Text) (file : Text) : Type 0 where
 
 asks_run : (name : Text) (rest : List Text) (file : Text) → only_file rest ≡ Some file → Asks (name ∷ codes "run" ∷ rest) file
 asks_run name rest file is =
-    let reads = reads_file rest file is in
+    let reads = reads_file leaf reads_one reads_after reads_before rest file is in
     let below : level_fault leaf [] nothing_held rest false [] ≡ [] =
     ap₂ (λ w k. level_end leaf w k false []) reads.1 reads.2 ∙ leaf_end file reads.0 in
     let here : subcommand_of bench_app (name ∷ codes "run" ∷ rest) ≡ Some (codes "run", finished leaf.rules (taken file reads.0).held) =
@@ -830,6 +856,65 @@ asked_run (Some p) file named found =
     let run : task_asked p.0 (first_of (codes "origin") p.1) ≡ Some tasks.Run = ap (λ (n : Text). task_asked n (first_of (codes "origin") p.1)) name in
     λ i. option_and_then (λ task. option_map (λ file. (task, file)) (one i)) (run i)
 
+-- a FILE alone for a command: the parse takes the words, and meets this job
+pub record Meets (words : List Text) (task : Task) (file : Text) : Type 0 where
+  pub no_fault : fault_of bench_app words ≡ []
+  pub asked : job_asked words ≡ Some (task, file)
+
+asm_row : (file : Text) (t : Bool) → job_in (Some (codes "asm", finished (origin_leaf (codes "asm")).rules (taken file t).held)) ≡ Some (tasks.Assemble 0x8000, file)
+asm_row file t = refl
+
+meets_asm : (name : Text) (rest : List Text) (file : Text) → only_file rest ≡ Some file → Meets (name ∷ codes "asm" ∷ rest) (tasks.Assemble 0x8000) file
+meets_asm name rest file is =
+    let reads = reads_file (origin_leaf (codes "asm")) (origin_reads_one (codes "asm")) (origin_reads_after (codes "asm")) (origin_reads_before (codes "asm")) rest file is in
+    let below : level_fault (origin_leaf (codes "asm")) [] nothing_held rest false [] ≡ [] =
+    ap₂ (λ w k. level_end (origin_leaf (codes "asm")) w k false []) reads.1 reads.2 ∙ origin_end (codes "asm") file reads.0 in
+    let here : subcommand_of bench_app (name ∷ codes "asm" ∷ rest) ≡ Some (codes "asm", finished (origin_leaf (codes "asm")).rules (taken file reads.0).held) =
+    ap (λ (w : Walk). entered (built bench_app) w.stopped) (asm_walk rest) ∙ ap (λ (w : Walk). Some (codes "asm", finished (origin_leaf (codes "asm")).rules w.held)) reads.1 in
+    record {
+      no_fault = asm_fault name rest ∙ ap (λ k. or_else k []) below;
+      asked = ap job_in here ∙ asm_row file reads.0;
+    }
+
+pub asm_meets : (words : List Text) (file : Text) → file_for (codes "asm") words ≡ Some file → Meets words (tasks.Assemble 0x8000) file
+asm_meets [] file is = cc
+asm_meets (name ∷ []) file is = cc
+asm_meets (name ∷ command ∷ rest) file is = go (bytes_eq (codes "asm") command) refl
+  where
+    go : (t : Bool) → bytes_eq (codes "asm") command ≡ t → Meets (name ∷ command ∷ rest) (tasks.Assemble 0x8000) file
+    go false other =
+        let bad : None ≡ Some file = ap (λ t. cond t (only_file rest) None) (sym other) ∙ is in cc
+    go true named =
+        let one : only_file rest ≡ Some file = ap (λ t. cond t (only_file rest) None) (sym named) ∙ is in
+        subst (λ (x : Text). Meets (name ∷ x ∷ rest) (tasks.Assemble 0x8000) file) ((bytes_eq-Decides (codes "asm") command).0 named) (meets_asm name rest file one)
+
+dis_row : (file : Text) (t : Bool) → job_in (Some (codes "dis", finished (origin_leaf (codes "dis")).rules (taken file t).held)) ≡ Some (tasks.List 0x8000, file)
+dis_row file t = refl
+
+meets_dis : (name : Text) (rest : List Text) (file : Text) → only_file rest ≡ Some file → Meets (name ∷ codes "dis" ∷ rest) (tasks.List 0x8000) file
+meets_dis name rest file is =
+    let reads = reads_file (origin_leaf (codes "dis")) (origin_reads_one (codes "dis")) (origin_reads_after (codes "dis")) (origin_reads_before (codes "dis")) rest file is in
+    let below : level_fault (origin_leaf (codes "dis")) [] nothing_held rest false [] ≡ [] =
+    ap₂ (λ w k. level_end (origin_leaf (codes "dis")) w k false []) reads.1 reads.2 ∙ origin_end (codes "dis") file reads.0 in
+    let here : subcommand_of bench_app (name ∷ codes "dis" ∷ rest) ≡ Some (codes "dis", finished (origin_leaf (codes "dis")).rules (taken file reads.0).held) =
+    ap (λ (w : Walk). entered (built bench_app) w.stopped) (dis_walk rest) ∙ ap (λ (w : Walk). Some (codes "dis", finished (origin_leaf (codes "dis")).rules w.held)) reads.1 in
+    record {
+      no_fault = dis_fault name rest ∙ ap (λ k. or_else k []) below;
+      asked = ap job_in here ∙ dis_row file reads.0;
+    }
+
+pub dis_meets : (words : List Text) (file : Text) → file_for (codes "dis") words ≡ Some file → Meets words (tasks.List 0x8000) file
+dis_meets [] file is = cc
+dis_meets (name ∷ []) file is = cc
+dis_meets (name ∷ command ∷ rest) file is = go (bytes_eq (codes "dis") command) refl
+  where
+    go : (t : Bool) → bytes_eq (codes "dis") command ≡ t → Meets (name ∷ command ∷ rest) (tasks.List 0x8000) file
+    go false other =
+        let bad : None ≡ Some file = ap (λ t. cond t (only_file rest) None) (sym other) ∙ is in cc
+    go true named =
+        let one : only_file rest ≡ Some file = ap (λ t. cond t (only_file rest) None) (sym named) ∙ is in
+        subst (λ (x : Text). Meets (name ∷ x ∷ rest) (tasks.List 0x8000) file) ((bytes_eq-Decides (codes "dis") command).0 named) (meets_dis name rest file one)
+
 -- words that ask to run a file have this job
 pub run_asked : (words : List Text) (file : Text) → file_to_run words ≡ Some file → job_asked words ≡ Some (tasks.Run, file)
 run_asked words file is = let asked = asks words file is in asked_run (subcommand_of bench_app words) file asked.named asked.found
@@ -950,3 +1035,7 @@ failed_memory words e has passed = go (subst (λ kinds. HasKind kinds e) passed 
     go : HasKind [] e → kind_of e ≡ kind.OutOfMemory
     go (inl memory) = memory
     go (inr none) = absurd none
+
+-- a job with these parts
+pub gives_these : (asked : Option (Task × Text)) (result : Result Job Ending) (task : Task) (file : Text) → asked ≡ Some (task, file) → GivesJob asked result → AsksFor result (task, file)
+gives_these asked result task file is gives = rw is at gives

@@ -1,5 +1,6 @@
 -- What the words of a command line ask for. The first word is the program's name.
-use Rattle.std.specs.Prelude.{◌==◌, ◌&&◌, ◌||◌, ℕ, Bool, true, false, not, List, [], ◌∷◌, Option, Some, None, is_some, if◌then◌else◌, codes, drop, slice_get}
+use Rattle.std.specs.Prelude.{map, ◌==◌, ◌&&◌, ◌||◌, ℕ, Bool, true, false, not, List, [], ◌∷◌, Option, Some, None, is_some, if◌then◌else◌, codes, drop, slice_get}
+use Rattle.std.specs.Borrow.{Bor}
 use Rattle.std.specs.Str.{bytes_eq, chars}
 
 -- the words that the program was started with, the first of them its own name, whatever that was
@@ -30,6 +31,12 @@ file_to_run (name ∷ []) = None
 file_to_run (name ∷ command ∷ rest) =
     if bytes_eq (codes "run") command then only_file rest else None
 
+-- the FILE that the words hand to a command, with nothing beside it, where they do
+abbrev pub file_for : List ℕ → List (List ℕ) → Option (List ℕ)
+file_for command [] = None
+file_for command (name ∷ []) = None
+file_for command (name ∷ word ∷ rest) = if bytes_eq command word then only_file rest else None
+
 -- the names of the commands
 abbrev pub is_command : List ℕ → Bool
 is_command word = bytes_eq (codes "run") word || (bytes_eq (codes "asm") word || bytes_eq (codes "dis") word)
@@ -57,3 +64,10 @@ is_mistake [] = true
 is_mistake (name ∷ []) = true
 is_mistake (name ∷ command ∷ rest) = if is_command command then has_wrong_files rest
     else (not (bytes_eq (codes "help") command) && not (is_flag command))
+
+-- the FILE alone that the words ask to assemble, and to list
+abbrev pub asm_file : List (Bor (List ℕ)) → Option (List ℕ)
+asm_file words = file_for (codes "asm") (map (λ word. word.now) words)
+
+abbrev pub dis_file : List (Bor (List ℕ)) → Option (List ℕ)
+dis_file words = file_for (codes "dis") (map (λ word. word.now) words)

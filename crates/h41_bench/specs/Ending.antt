@@ -49,6 +49,10 @@ parts_of job = (job.task, job.file.now)
 abbrev pub AsksFor : Result Job Ending → Task × List ℕ → Type 0
 AsksFor result parts = MatchResult result (λ job. parts_of job ≡ parts) (λ ending. ending ≡ endings.OutOfMemory)
 
+-- this task over this file, where memory did not run out
+abbrev pub AsksTo : Result Job Ending → Task → List ℕ → Type 0
+AsksTo result task file = AsksFor result (task, file)
+
 -- no run
 abbrev pub AsksForNoRun : Result Job Ending → Type 0
 AsksForNoRun result = IfOk result (λ job. job.task ≢ tasks.Run)

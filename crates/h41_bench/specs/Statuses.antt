@@ -1,5 +1,5 @@
 -- The statuses that the program ends with, and what they tell.
-use Rattle.std.specs.Prelude.{◌≡◌, ◌≢◌, ◌⊎◌, ℕ, true, false, List}
+use Rattle.std.specs.Prelude.{◌≡◌, ◌≢◌, ◌⊎◌, ℕ, true, false, List, [], MatchOption}
 use Rattle.std.specs.Io.KnownBytes.{Appends}
 use Rattle.h41_deck.specs.declared.ends.sink.Sink as sinks
 use Rattle.h41_deck.specs.declared.ends.source.Source as sources
@@ -11,6 +11,8 @@ use Rattle.h41_bench.specs.declared.arguments.Task.{Task}
 use Rattle.h41_bench.specs.declared.arguments.Task.TheVariants as tasks
 use Rattle.h41_bench.specs.declared.ended.Ended.{Ended}
 use Rattle.h41_bench.specs.declared.ended.Ended.TheVariants.{Accepted, Refused, WrongWord}
+use Rattle.clap.specs.Words.{fault_of}
+use Rattle.h41_bench.specs.BenchCommand.{bench_app, job_asked}
 use Rattle.h41_bench.specs.Tasks.{FailedOrTooLong, TaskEnds}
 
 -- the status of a deck or a source that was begun: 0, 1 or 3
@@ -30,6 +32,11 @@ IsTaskStatus (tasks.List origin) = IsListStatus
 -- this status, or 3 where memory or an end failed
 abbrev pub IsOrFailed : ℕ → ℕ → Type 0
 IsOrFailed status result = (result ≡ status) ⊎ (result ≡ 3)
+
+-- where a parse takes the words, a status of the task that it meets, or 2 or 3 where its origin is wrong
+abbrev pub EndsJobOf : List (List ℕ) → ℕ → Type 0
+EndsJobOf words status =
+    fault_of bench_app words ≡ [] → MatchOption (job_asked words) (IsOrFailed 2 status) (λ parts. IsTaskStatus parts.0 status)
 
 -- the status that tells how a job ended
 abbrev pub status_of_ended : Ended → ℕ

@@ -1,6 +1,6 @@
 -- What a job makes of its input: the text that it prints, how it ends, and what is said where it goes wrong.
 use Rattle.std.specs.Global.{Global}
-use Rattle.std.specs.Prelude.{◌≡◌, ◌≢◌, ◌⊎◌, OnOk, ℕ, ◌<◌, ◌≤◌, true, false, Vec, List, [], ◌++◌, length, codes, Option, Some, IfSome, Result, Ok, Err, IfOk}
+use Rattle.std.specs.Prelude.{◌≡◌, ◌≢◌, ◌⊎◌, ℕ, ◌<◌, ◌≤◌, true, false, Vec, List, [], ◌++◌, length, codes, Option, Some, IfSome, Result, Ok, Err, IfOk, OnOk}
 use Rattle.std.specs.Fmt.{decimal}
 use Rattle.h41_deck.specs.declared.ends.sink.Sink as sinks
 use Rattle.h41_deck.specs.declared.ends.source.Source as sources
@@ -68,15 +68,15 @@ HasText (tasks.List origin) = ListingText
 abbrev pub TaskPrints : {W : Type 0} → Task → Option (List ℕ) → (W → Option (List ℕ)) → W → W → Type 0
 TaskPrints task known contents old new = IfSome known (decks.Gives (HasText task) (contents old) (contents new))
 
--- where a task ends without a fault: a task, a source at an origin, and a list of words
-abbrev pub Prints : {A E R W : Type 0} → Result A E → Task → sources.Ghosts R → sinks.Ghosts W → R → W → W → Type 0
+-- where a task ends without a fault, it is: any task, a source at an origin, a list of words
+abbrev pub Prints : {E R W : Type 0} → Result Ended E → Task → sources.Ghosts R → sinks.Ghosts W → R → W → W → Type 0
 Prints result task source sink before old new =
     OnOk result (TaskPrints task (source.remaining before) sink.contents old new)
 
-abbrev pub Assembled : {A E R W : Type 0} → ℕ → Result A E → sources.Ghosts R → sinks.Ghosts W → R → W → W → Type 0
+abbrev pub Assembled : {E R W : Type 0} → ℕ → Result Ended E → sources.Ghosts R → sinks.Ghosts W → R → W → W → Type 0
 Assembled origin result source sink before old new = Prints result (tasks.Assemble origin) source sink before old new
 
-abbrev pub Listed : {A E R W : Type 0} → Result A E → sources.Ghosts R → sinks.Ghosts W → R → W → W → Type 0
+abbrev pub Listed : {E R W : Type 0} → Result Ended E → sources.Ghosts R → sinks.Ghosts W → R → W → W → Type 0
 Listed result source sink before old new =
     OnOk result (IfSome (source.remaining before) (decks.Gives ListingText (sink.contents old) (sink.contents new)))
 

@@ -4,8 +4,8 @@ ghost use Rattle.std.specs.Prelude.{◌≡◌, ◌≢◌, [], true, false, codes
 ghost use Rattle.clap.specs.Words.{FailsBy, HasMatchesOf, app_of, fault_of, kind_of, rule_of, subcommand_rows_of};
 ghost use Rattle.clap.specs.declared.error.kind.ErrorKind.TheVariants as kind;
 ghost use Rattle.h41_bench.specs.BenchCommand.{bench_app, file_rule, has_globals, job_in, origin_app, origin_asked, origin_in, task_asked};
-ghost use Rattle.h41_bench.specs.CommandLine.{asks_help, file_to_run, is_mistake};
-ghost use Rattle.h41_bench.specs.Ending.{AsksForNoRun, AsksToRun, EndsAtOnce, EndsWith, GivesJob, GivesJobOf, IsNoHelp, parts_of, status_of, text_of};
+ghost use Rattle.h41_bench.specs.CommandLine.{asks_help, asm_file, dis_file, file_to_run, is_mistake};
+ghost use Rattle.h41_bench.specs.Ending.{AsksForNoRun, AsksTo, AsksToRun, EndsAtOnce, EndsWith, GivesJob, GivesJobOf, IsNoHelp, parts_of, status_of, text_of};
 
 use crate::numbers::origin_value;
 use clap::error::ErrorKind;
@@ -277,6 +277,8 @@ fn make_ending(alloc: Global, error: Error) -> Ending
 pub fn read_words<'a>(alloc: Global, words: &'a [&'a str]) -> Result<Job<'a>, Ending>
     ensures run { IfSome (file_to_run (map (λ w. w.now) words.now)) (AsksToRun result) }
     ensures no_run { IfNone (file_to_run (map (λ w. w.now) words.now)) (AsksForNoRun result) }
+    ensures asm { IfSome (asm_file words.now) (AsksTo result (Task.Assemble 0x8000)) }
+    ensures dis { IfSome (dis_file words.now) (AsksTo result (Task.List 0x8000)) }
     ensures help { asks_help (map (λ w. w.now) words.now) ≡ true → EndsAtOnce 0 result }
     ensures mistake { is_mistake (map (λ w. w.now) words.now) ≡ true → EndsAtOnce 2 result }
 

@@ -15,7 +15,7 @@ mod tests;
 ghost use Rattle.std.specs.Prelude.{◌≡◌, ◌≢◌, ◌∷◌, ◌≤◌, true, Err, IfOk, IfSome, IsSome, Ok, OnErr, codes, drop, map, string_bytes};
 ghost use Rattle.h41_bench.specs.CommandLine.{asks_help, file_to_run, is_mistake, named};
 ghost use Rattle.h41_bench.specs.Ending.{status_of};
-ghost use Rattle.h41_bench.specs.Statuses.{EndsTask, IsOrFailed, IsStatus, IsTaskStatus};
+ghost use Rattle.h41_bench.specs.Statuses.{EndsJobOf, EndsTask, IsOrFailed, IsStatus, IsTaskStatus};
 
 use crate::arguments::{Ending, Job, read_words};
 use crate::serve::{serve, tell};
@@ -53,6 +53,7 @@ fn run_words(rt: &HostRuntime, alloc: Global, words: &[String]) -> u8
     ensures help { asks_help (named (map string_bytes words.now)) ≡ true → IsOrFailed 0 result }
     ensures mistake { is_mistake (named (map string_bytes words.now)) ≡ true → IsOrFailed 2 result }
     ensures run { IsSome (file_to_run (named (map string_bytes words.now))) → IsStatus result }
+    ensures job { EndsJobOf (named (map string_bytes words.now)) result }
     ensures bound { result ≤ 3 }
 {
     let Ok(words) = named(alloc, words) else {

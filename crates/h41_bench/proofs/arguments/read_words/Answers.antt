@@ -1,8 +1,9 @@
-use Rattle.std.proofs.Common.{inl, inr, map, List, ℕ}
-use Rattle.h41_bench.specs.CommandLine.{file_to_run}
+use Rattle.std.proofs.Common.{inl, inr, codes, map, List, ℕ}
+use Rattle.h41_bench.specs.declared.arguments.Task.TheVariants as tasks
+use Rattle.h41_bench.specs.CommandLine.{file_for, file_to_run}
 use Rattle.h41_bench.specs.Ending.{GivesJob}
 use Rattle.h41_bench.specs.BenchCommand.{job_asked}
-use Rattle.h41_bench.proofs.CommandLemmas.{asked_of, failed_help, failed_memory, failed_mistake, failed_run, if_none, if_some, no_help_run, no_mistaken_run, run_asked, runs_file, runs_none, runs_out}
+use Rattle.h41_bench.proofs.CommandLemmas.{asked_of, asm_meets, dis_meets, gives_these, failed_help, failed_memory, failed_mistake, failed_run, if_none, if_some, no_help_run, no_mistaken_run, run_asked, runs_file, runs_none, runs_out}
 use Rattle.h41_bench.proofs.arguments.read_words.Goals as goal
 
 pub returns-in-Ok-clause-run : goal.returns-in-Ok-clause-run
@@ -55,3 +56,25 @@ pub returns-in-Err-clause-job : goal.returns-in-Err-clause-job
 returns-in-Err-clause-job c = λ passed.
     let words : List (List ℕ) = map (λ w. w.now) c.args.words.now in
     runs_out (job_asked words) c.make_ending.result (c.make_ending.ensures.memory (failed_memory words c.in-Err.error c.in-Err.ensures.kinds passed))
+
+pub returns-in-Ok-clause-asm : goal.returns-in-Ok-clause-asm
+returns-in-Ok-clause-asm c =
+    let words : List (List ℕ) = map (λ w. w.now) c.args.words.now in
+    let gives : GivesJob (job_asked words) c.job_or_mistake.result = rw (asked_of words c.in-Ok.matches c.in-Ok.ensures.matches) at c.job_or_mistake.ensures in
+    if_some (file_for (codes "asm") words) _ (λ file is. gives_these (job_asked words) c.job_or_mistake.result (tasks.Assemble 0x8000) file (asm_meets words file is).asked gives)
+
+pub returns-in-Err-clause-asm : goal.returns-in-Err-clause-asm
+returns-in-Err-clause-asm c =
+    let words : List (List ℕ) = map (λ w. w.now) c.args.words.now in
+    if_some (file_for (codes "asm") words) _ (λ file is. c.make_ending.ensures.memory (failed_memory words c.in-Err.error c.in-Err.ensures.kinds (asm_meets words file is).no_fault))
+
+pub returns-in-Ok-clause-dis : goal.returns-in-Ok-clause-dis
+returns-in-Ok-clause-dis c =
+    let words : List (List ℕ) = map (λ w. w.now) c.args.words.now in
+    let gives : GivesJob (job_asked words) c.job_or_mistake.result = rw (asked_of words c.in-Ok.matches c.in-Ok.ensures.matches) at c.job_or_mistake.ensures in
+    if_some (file_for (codes "dis") words) _ (λ file is. gives_these (job_asked words) c.job_or_mistake.result (tasks.List 0x8000) file (dis_meets words file is).asked gives)
+
+pub returns-in-Err-clause-dis : goal.returns-in-Err-clause-dis
+returns-in-Err-clause-dis c =
+    let words : List (List ℕ) = map (λ w. w.now) c.args.words.now in
+    if_some (file_for (codes "dis") words) _ (λ file is. c.make_ending.ensures.memory (failed_memory words c.in-Err.error c.in-Err.ensures.kinds (dis_meets words file is).no_fault))

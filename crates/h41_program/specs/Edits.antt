@@ -55,6 +55,10 @@ abbrev pub answered : {A : Type 0} → A → Result RegisterMap Refusal → Resu
 answered answer (Ok memory) = Ok (memory, answer)
 answered answer (Err refusal) = Err refusal
 
+-- the lines of a packer are written into memory
+abbrev pub Writes : Packer → RegisterMap → RegisterMap → Result (Unit {0}) Refusal → Type 0
+Writes packer old new result = (lines : List Line) → Packs packer lines → Gives old new result (answered tt (written old lines))
+
 -- lines loaded behind others: the answer is where the first of them begins
 abbrev pub joined : RegisterMap → List Line → List Line → Result (RegisterMap × ℕ) Refusal
 joined memory lines loaded = answered (length (packed (closed lines))) (written memory (closed lines ++ loaded))

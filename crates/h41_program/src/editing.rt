@@ -1,10 +1,9 @@
 //! Lines inserted and deleted.
-ghost use Rattle.std.specs.Prelude.{◌≡◌, List, [], ◌∷◌, ◌++◌, ◌==◌, ◌||◌, if◌then◌else◌, IsTrue, Ok, Err};
+ghost use Rattle.std.specs.Prelude.{◌≡◌, ◌==◌, ◌||◌, if◌then◌else◌, IsTrue, Ok, Err};
 ghost use Rattle.h41_codes.specs.ByteGrammar.{IsLine};
-ghost use Rattle.h41_codes.specs.declared.line.Line.{Line as Spoken};
 ghost use Rattle.h41_ram.specs.RegisterMap.{is_sound};
 ghost use Rattle.h41_program.specs.Edits.{Edits, EditsAt, PacksChanged, with_inserted, without_deleted};
-ghost use Rattle.h41_program.specs.Packers.{Packs};
+ghost use Rattle.h41_program.specs.Packers.{Puts, line_if};
 ghost use Rattle.h41_program.specs.declared.refusal.Refusal.TheVariants.{BrokenProgram};
 
 use crate::kinds::is_final_end;
@@ -133,7 +132,7 @@ fn either(one: bool, other: bool) -> bool
 /// Puts a line behind others where it is wanted.
 fn put_if(packer: &mut Packer, line: &Line, wanted: bool)
     requires { IsLine line.now }
-    ensures { (lines : List Spoken) → Packs packer.old lines → Packs packer.new (lines ++ (if wanted then line.now ∷ [] else [])) }
+    ensures { Puts packer.old packer.new (line_if wanted line.now) }
 {
     if wanted {
         packer.put(*line);

@@ -1,12 +1,11 @@
 //! Programs loaded behind those in memory.
-ghost use Rattle.std.specs.Prelude.{◌≡◌, ◌≤◌, List, ◌++◌, drop, length, IsTrue};
+ghost use Rattle.std.specs.Prelude.{◌≡◌, ◌≤◌, drop, length, IsTrue};
 ghost use Rattle.std.specs.Option.{ForSome};
 ghost use Rattle.h41_codes.specs.ByteGrammar.{IsLine};
-ghost use Rattle.h41_codes.specs.declared.line.Line.{Line as Spoken};
 ghost use Rattle.h41_ram.specs.RegisterMap.{is_sound};
 ghost use Rattle.h41_program.specs.Edits.{Loads};
 ghost use Rattle.h41_program.specs.LoadSteps.{PacksProgram, PutsLoaded, listed_option, kept_option, checked_nulls};
-ghost use Rattle.h41_program.specs.Packers.{Packs};
+ghost use Rattle.h41_program.specs.Packers.{Puts};
 
 use crate::given::{are_nulls, line_in};
 use crate::kinds::{is_end, is_final_end};
@@ -74,7 +73,7 @@ fn put_loaded(packer: &mut Packer, bytes: &[u8]) -> Result<(), Refusal>
 /// Puts the line that is pending, where one is.
 fn put_pending(packer: &mut Packer, pending: Option<Line>)
     requires { ForSome pending IsLine }
-    ensures { (front : List Spoken) → Packs packer.old front → Packs packer.new (front ++ listed_option pending) }
+    ensures { Puts packer.old packer.new (listed_option pending) }
 {
     if let Some(line) = pending {
         packer.put(line);
@@ -84,7 +83,7 @@ fn put_pending(packer: &mut Packer, pending: Option<Line>)
 /// Puts the line that is pending last, where it is no END.
 fn put_last(packer: &mut Packer, pending: Option<Line>)
     requires { ForSome pending IsLine }
-    ensures { (front : List Spoken) → Packs packer.old front → Packs packer.new (front ++ kept_option pending) }
+    ensures { Puts packer.old packer.new (kept_option pending) }
 {
     if let Some(line) = pending {
         if !is_end(&line) {

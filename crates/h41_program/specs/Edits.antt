@@ -82,9 +82,12 @@ has_line_at position lines = list_any (λ listed. listed.position == position) l
 abbrev pub own_line : ListedLine → List Line
 own_line listed = if is_final_end listed.line then [] else listed.line ∷ []
 
--- what a line becomes where another is inserted before the one at a position, and where the one at a position is deleted
+-- what a line becomes where another is inserted before the one at a position, put in its place, and where that one is deleted
 abbrev pub with_inserted : Line → ℕ → ListedLine → List Line
 with_inserted line position listed = (if listed.position == position then line ∷ [] else []) ++ own_line listed
+
+abbrev pub with_replaced : Line → ℕ → ListedLine → List Line
+with_replaced line position listed = if listed.position == position then line ∷ [] else own_line listed
 
 abbrev pub without_deleted : ℕ → ListedLine → List Line
 without_deleted position listed = if listed.position == position then [] else own_line listed

@@ -10,7 +10,7 @@ use Rattle.h41_program.specs.declared.listed_line.ListedLine.{ListedLine}
 use Rattle.h41_program.specs.declared.packer.Packer.{Packer}
 use Rattle.h41_program.specs.declared.refusal.Refusal.{Refusal}
 use Rattle.h41_program.specs.declared.refusal.Refusal.TheVariants.{BrokenProgram}
-use Rattle.h41_program.specs.Edits.{before_end, has_line_at, own_line, with_inserted, without_deleted, answered, changed_outcome, edit_outcome, edit_from}
+use Rattle.h41_program.specs.Edits.{before_end, has_line_at, own_line, with_inserted, with_replaced, without_deleted, answered, changed_outcome, edit_outcome, edit_from}
 use Rattle.h41_program.specs.Lines.{is_final_end}
 use Rattle.h41_program.specs.Packers.{Packs}
 use Rattle.h41_program.specs.ProgramLines.{Reads, NoneFrom, line_of}
@@ -66,6 +66,36 @@ inserted_packs packer line place before listed own is packs =
     (sym (changed-more (with_inserted line place) before listed
     ∙ ap (λ (l : List Line). flat_map (with_inserted line place) before ++ ((if listed.position == place then line ∷ [] else []) ++ l)) is
     ∙ sym (append_assoc (flat_map (with_inserted line place) before) (if listed.position == place then line ∷ [] else []) own)))
+    packs
+
+-- one more line, in whose place another may be put
+replaced_other : (b : Bool) (line : Line) (listed : ListedLine) → is_final_end listed.line ≡ false
+    → (if b then line ∷ [] else []) ++ (if not b then listed.line ∷ [] else []) ≡ (if b then line ∷ [] else own_line listed)
+replaced_other true line listed other = refl
+replaced_other false line listed other = sym (own_line-other listed other)
+
+replaced_final : (b : Bool) (line : Line) (listed : ListedLine) → is_final_end listed.line ≡ true → (if b then line ∷ [] else []) ≡ (if b then line ∷ [] else own_line listed)
+replaced_final true line listed final = refl
+replaced_final false line listed final = sym (own_line-final listed final)
+
+pub replaced_packs : (packer : Packer) (line : Line) (place : ℕ) (before : List ListedLine) (listed : ListedLine) (here : Bool) → here ≡ (listed.position == place) → is_final_end listed.line ≡ false
+    → Packs packer ((flat_map (with_replaced line place) before ++ (if here then line ∷ [] else [])) ++ (if not here then listed.line ∷ [] else []))
+    → Packs packer (flat_map (with_replaced line place) (before ++ listed ∷ []))
+replaced_packs packer line place before listed here is other packs =
+    subst (λ (l : List Line). Packs packer l)
+    (append_assoc (flat_map (with_replaced line place) before) (if here then line ∷ [] else []) (if not here then listed.line ∷ [] else [])
+    ∙ ap (λ (l : List Line). flat_map (with_replaced line place) before ++ l)
+    (replaced_other here line listed other ∙ ap (λ (b : Bool). if b then line ∷ [] else own_line listed) is)
+    ∙ sym (changed-more (with_replaced line place) before listed))
+    packs
+
+pub replaced_last : (packer : Packer) (line : Line) (place : ℕ) (before : List ListedLine) (listed : ListedLine) (here : Bool) → here ≡ (listed.position == place) → is_final_end listed.line ≡ true
+    → Packs packer (flat_map (with_replaced line place) before ++ (if here then line ∷ [] else [])) → Packs packer (flat_map (with_replaced line place) (before ++ listed ∷ []))
+replaced_last packer line place before listed here is final packs =
+    subst (λ (l : List Line). Packs packer l)
+    (ap (λ (l : List Line). flat_map (with_replaced line place) before ++ l)
+    (replaced_final here line listed final ∙ ap (λ (b : Bool). if b then line ∷ [] else own_line listed) is)
+    ∙ sym (changed-more (with_replaced line place) before listed))
     packs
 
 -- the list was read so far, and each line changed

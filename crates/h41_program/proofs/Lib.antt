@@ -1,5 +1,6 @@
 pub mod Givens
 pub mod LineLengths
+pub mod ListLaws
 pub mod LoadSteps
 pub mod Loads
 pub mod Mains

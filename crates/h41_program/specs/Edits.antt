@@ -55,6 +55,10 @@ abbrev pub answered : {A : Type 0} → A → Result RegisterMap Refusal → Resu
 answered answer (Ok memory) = Ok (memory, answer)
 answered answer (Err refusal) = Err refusal
 
+-- the lines of a packer are written into memory
+abbrev pub Writes : Packer → RegisterMap → RegisterMap → Result (Unit {0}) Refusal → Type 0
+Writes packer old new result = (lines : List Line) → Packs packer lines → Gives old new result (answered tt (written old lines))
+
 -- lines loaded behind others: the answer is where the first of them begins
 abbrev pub joined : RegisterMap → List Line → List Line → Result (RegisterMap × ℕ) Refusal
 joined memory lines loaded = answered (length (packed (closed lines))) (written memory (closed lines ++ loaded))
@@ -78,9 +82,12 @@ has_line_at position lines = list_any (λ listed. listed.position == position) l
 abbrev pub own_line : ListedLine → List Line
 own_line listed = if is_final_end listed.line then [] else listed.line ∷ []
 
--- what a line becomes where another is inserted before the one at a position, and where the one at a position is deleted
+-- what a line becomes where another is inserted before the one at a position, put in its place, and where that one is deleted
 abbrev pub with_inserted : Line → ℕ → ListedLine → List Line
 with_inserted line position listed = (if listed.position == position then line ∷ [] else []) ++ own_line listed
+
+abbrev pub with_replaced : Line → ℕ → ListedLine → List Line
+with_replaced line position listed = if listed.position == position then line ∷ [] else own_line listed
 
 abbrev pub without_deleted : ℕ → ListedLine → List Line
 without_deleted position listed = if listed.position == position then [] else own_line listed
@@ -113,8 +120,3 @@ abbrev pub PacksChanged : RegisterMap → (ListedLine → List Line) → ℕ →
 PacksChanged memory change position result =
     (lines : List ListedLine) → LinesFrom memory 0 lines
     → MatchBool (is_some (before_end lines) && has_line_at position lines) (IsOkAnd result (λ packer. Packs packer (flat_map change lines))) (result ≡ Err BrokenProgram)
-
--- the lines of a packer were written into program memory, or refused
-abbrev pub WritesPacked : Packer → RegisterMap → RegisterMap → Result (Unit {0}) Refusal → Type 0
-WritesPacked packer old new result =
-    (lines : List Line) → Packs packer lines → Gives old new result (answered tt (written old lines))

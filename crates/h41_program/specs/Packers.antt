@@ -26,6 +26,10 @@ pub record Pushes (old new : Packer) (more : List ℕ) : Type 0 where
 abbrev pub parting : Bool → Option Line → List ℕ
 parting number last = if option_map_or is_number last false && number then 0x00 ∷ [] else []
 
--- lines were put behind whatever others it had
+-- lines were put behind others
 abbrev pub Puts : Packer → Packer → List Line → Type 0
 Puts old new more = (lines : List Line) → Packs old lines → Packs new (lines ++ more)
+
+-- a line where it is wanted
+abbrev pub line_if : Bool → Line → List Line
+line_if wanted line = if wanted then line ∷ [] else []

@@ -29,10 +29,10 @@ filler count = 6 - (count + 2) % 7
 abbrev pub written_end : List ℕ
 written_end = 0xC0 ∷ 0x00 ∷ 0x20 ∷ []
 
--- bytes, the nulls that fill the registers, and .END.
-abbrev pub filled : List ℕ → List ℕ
-filled bytes = bytes ++ replicate (filler (length bytes)) 0x00 ++ written_end
+-- bytes, the nulls behind them that fill the registers, and .END.
+abbrev pub filled_up : List ℕ → List ℕ
+filled_up bytes = bytes ++ replicate (filler (length bytes)) 0x00 ++ written_end
 
--- those of lines
+-- the lines so filled up
 abbrev pub packing : List Line → List ℕ
-packing lines = filled (packed lines)
+packing lines = filled_up (packed lines)

@@ -29,3 +29,15 @@ pub record HasOneList (memory : RegisterMap) (at : ℕ) : Type 0 where
   pub lines : List ListedLine
   pub from : LinesFrom memory at lines
   pub one : (others : List ListedLine) → LinesFrom memory at others → others ≡ lines
+
+-- a position stands for its line: the list from the line's own position on is the same
+abbrev pub StandsForItsLine : Type 0
+StandsForItsLine =
+    (memory : RegisterMap) (at : ℕ) (first : ListedLine) (rest : List ListedLine)
+    → LinesFrom memory at (first ∷ rest) → LinesFrom memory first.position (first ∷ rest)
+
+-- the list from the next line's position on is the rest of the list
+abbrev pub GoesOnFromNext : Type 0
+GoesOnFromNext =
+    (memory : RegisterMap) (at : ℕ) (first second : ListedLine) (rest : List ListedLine)
+    → LinesFrom memory at (first ∷ second ∷ rest) → LinesFrom memory second.position (second ∷ rest)

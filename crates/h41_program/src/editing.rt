@@ -1,9 +1,9 @@
 //! Lines inserted and deleted.
-ghost use Rattle.std.specs.Prelude.{◌≡◌, List, [], ◌∷◌, ◌++◌, ◌==◌, ◌||◌, if◌then◌else◌, IsTrue, Ok, Err};
+ghost use Rattle.std.specs.Prelude.{◌≡◌, ◌==◌, ◌||◌, if◌then◌else◌, IsTrue, Ok, Err};
 ghost use Rattle.h41_codes.specs.ByteGrammar.{IsLine};
 ghost use Rattle.h41_ram.specs.RegisterMap.{is_sound};
-ghost use Rattle.h41_program.specs.Edits.{Edits, EditsAt, PacksChanged, with_inserted, without_deleted};
-ghost use Rattle.h41_program.specs.Packers.{Puts};
+ghost use Rattle.h41_program.specs.Edits.{Edits, EditsAt, PacksChanged, with_inserted, with_replaced, without_deleted};
+ghost use Rattle.h41_program.specs.Packers.{Puts, line_if};
 ghost use Rattle.h41_program.specs.declared.refusal.Refusal.TheVariants.{BrokenProgram};
 
 use crate::kinds::is_final_end;
@@ -44,6 +44,20 @@ pub fn delete<const REGS: usize>(ram: &mut Ram<REGS>, at: u16) -> Result<(), Ref
     }
 }
 
+/// Puts a line, which is neither a null nor `.END.`, in the place of the one that a position stands for; at `.END.` it becomes
+/// the last. This is one change: 16 is judged on the new lines alone. 14 where the list has no such line or does not reach
+/// `.END.`, 16 where the program would pass below main memory.
+pub fn replace<const REGS: usize>(ram: &mut Ram<REGS>, at: u16, line: Line) -> Result<(), Refusal>
+    requires { IsTrue (is_sound ram.old) }
+    ensures { Edits ram.old ram.new (with_replaced line) at result }
+{
+    know_ranges(&line);
+    match line_at(ram, at) {
+        Ok(listed) => replace_at(ram, listed.position, &line),
+        Err(refusal) => Err(refusal),
+    }
+}
+
 /// Inserts a line before the one at its own position.
 fn insert_at<const REGS: usize>(ram: &mut Ram<REGS>, place: u16, line: &Line) -> Result<(), Refusal>
     requires sound { IsTrue (is_sound ram.old) }
@@ -62,6 +76,22 @@ fn delete_at<const REGS: usize>(ram: &mut Ram<REGS>, place: u16) -> Result<(), R
     ensures { EditsAt ram.old ram.new (without_deleted place) place result }
 {
     match packed_without(ram, place) {
+        Ok(packer) => packer.write(ram),
+        Err(refusal) => Err(refusal),
+    }
+}
+
+/// Puts a line in the place of the one at its own position.
+fn replace_at<const REGS: usize>(
+    ram: &mut Ram<REGS>,
+    place: u16,
+    line: &Line,
+) -> Result<(), Refusal>
+    requires sound { IsTrue (is_sound ram.old) }
+    requires line { IsLine line.now }
+    ensures { EditsAt ram.old ram.new (with_replaced line.now place) place result }
+{
+    match packed_replaced(ram, place, line) {
         Ok(packer) => packer.write(ram),
         Err(refusal) => Err(refusal),
     }
@@ -115,6 +145,33 @@ fn packed_without<const REGS: usize>(ram: &Ram<REGS>, place: u16) -> Result<Pack
     Err(Refusal::BrokenProgram)
 }
 
+/// The lines of memory before `.END.` with another in the place of the line at a position.
+fn packed_replaced<const REGS: usize>(
+    ram: &Ram<REGS>,
+    place: u16,
+    line: &Line,
+) -> Result<Packer, Refusal>
+    requires sound { IsTrue (is_sound ram.now) }
+    requires line { IsLine line.now }
+    ensures { PacksChanged ram.now (with_replaced line.now place) place result }
+{
+    let mut packer = Packer::new();
+    let mut met = false;
+    let mut at = 0;
+    while let Some(found) = first_from(ram, at) {
+        let Found { listed, behind } = found;
+        let there = stands_at(&listed, place);
+        put_if(&mut packer, line, there);
+        met = either(met, there);
+        if is_final_end(listed.line) {
+            return where_met(packer, met);
+        }
+        put_if(&mut packer, &listed.line, !there);
+        at = behind;
+    }
+    Err(Refusal::BrokenProgram)
+}
+
 /// Whether a line stands at a position.
 fn stands_at(listed: &ListedLine, place: u16) -> bool
     ensures { result ≡ (listed.now.position == place) }
@@ -132,7 +189,7 @@ fn either(one: bool, other: bool) -> bool
 /// Puts a line behind others where it is wanted.
 fn put_if(packer: &mut Packer, line: &Line, wanted: bool)
     requires { IsLine line.now }
-    ensures { Puts packer.old packer.new (if wanted then line.now ∷ [] else []) }
+    ensures { Puts packer.old packer.new (line_if wanted line.now) }
 {
     if wanted {
         packer.put(*line);

@@ -1,5 +1,5 @@
 //! Laws of program memory: each is the contract of a function whose result is not looked at.
-ghost use Rattle.h41_program.specs.ProgramLaws.{HasOneList, PackingRoundTrip};
+ghost use Rattle.h41_program.specs.ProgramLaws.{GoesOnFromNext, HasOneList, PackingRoundTrip, StandsForItsLine};
 
 use crate::kinds::is_final_end;
 use crate::reading::{Found, first_from};
@@ -29,3 +29,9 @@ pub fn one_list<const REGS: usize>(ram: &Ram<REGS>, at: u16)
         position = behind;
     }
 }
+
+/// The list from a line's own position on begins with that line, and from the next line's position on it is the rest.
+pub fn list_of_each_line()
+    ensures own { StandsForItsLine }
+    ensures next { GoesOnFromNext }
+{}

@@ -17,7 +17,7 @@ mod rewriting;
 mod searches;
 mod size;
 
-pub use editing::{delete, insert};
+pub use editing::{delete, insert, replace};
 pub use listed_line::ListedLine;
 pub use loading::load;
 pub use reading::{line_at, next};

@@ -1,13 +1,13 @@
 //! Lines packed one behind the other.
-ghost use Rattle.std.specs.Prelude.{◌≡◌, ◌≢◌, ◌+◌, ◌∷◌, ◌++◌, [], ◌<◌, ◌≤◌, List, length, IsTrue, IsFalse, not, false};
+ghost use Rattle.std.specs.Prelude.{◌≡◌, ◌+◌, ◌∷◌, [], ◌≤◌, List, length, IsTrue, not, false};
 ghost use Rattle.std.specs.Option.{option_map_or};
 ghost use Rattle.h41_program.specs.Lines.{is_number, is_end};
 ghost use Rattle.h41_codes.specs.ByteGrammar.{spelling, IsLine};
 ghost use Rattle.h41_codes.specs.declared.line.Line.{Line as Spoken};
-ghost use Rattle.h41_program.specs.Edits.{WritesPacked, closed};
+ghost use Rattle.h41_program.specs.Edits.{Writes, closed};
 ghost use Rattle.h41_ram.specs.RegisterMap.{curtain_of, is_sound, main_start};
 ghost use Rattle.h41_program.specs.Packers.{Packs, Pushes, Puts, parting};
-ghost use Rattle.h41_program.specs.Packing.{filled};
+ghost use Rattle.h41_program.specs.Packing.{filled_up};
 
 use crate::kinds::{is_end, is_number};
 use crate::refusal::Refusal;
@@ -76,7 +76,7 @@ impl Packer {
     /// Writes the lines into program memory. 16 where they would pass below main memory.
     pub fn write<const REGS: usize>(self, ram: &mut Ram<REGS>) -> Result<(), Refusal>
         requires { IsTrue (is_sound ram.old) }
-        ensures lines { WritesPacked self ram.old ram.new result }
+        ensures lines { Writes self ram.old ram.new result }
         ensures small { curtain_of ram.old ≤ main_start + 320 }
     {
         let Packer { bytes, full, .. } = self;
@@ -146,7 +146,7 @@ impl Packer {
 /// Bytes of lines with the nulls behind them that fill the registers, and `.END.` as it is written.
 fn filled(lines: Bytes) -> Bytes
     requires { length lines.items ≤ 2237 }
-    ensures { result.items ≡ filled lines.items }
+    ensures { result.items ≡ filled_up lines.items }
 {
     let mut bytes = lines;
     let nulls = 6 - (bytes.len() + 2) % 7;

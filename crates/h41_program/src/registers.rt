@@ -8,11 +8,13 @@ use h41_digits::Reg;
 /// The address of register c, which holds the curtain and the end of program memory.
 pub const C: u16 = 0x00D;
 
-/// Where in register c the end, the curtain and the first statistics register stand.
+/// Where the address of the register with `.END.` stands in register c.
 pub const END_PLACE: usize = 0;
 
+/// Where the curtain stands in it.
 pub const CURTAIN_PLACE: usize = 3;
 
+/// Where the address of the first statistics register stands in it.
 pub const STATISTICS_PLACE: usize = 11;
 
 /// How many addresses three digits can hold.

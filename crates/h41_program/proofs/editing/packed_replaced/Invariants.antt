@@ -1,0 +1,14 @@
+use Rattle.std.proofs.Common.{List, length, ◌-◌}
+use Rattle.h41_program.specs.declared.listed_line.ListedLine.{ListedLine}
+use Rattle.h41_program.specs.Edits.{with_replaced}
+use Rattle.h41_program.specs.ProgramBytes.{program_bytes, final_position}
+use Rattle.h41_program.proofs.EditSteps.{Changed}
+use Rattle.h41_program.proofs.editing.packed_replaced.Given as goal
+
+-- the lines so far, changed
+abbrev pub invariant-loop-found : goal.invariant-loop-found
+invariant-loop-found g l = (before : List ListedLine) × Changed (program_bytes l.ram) (final_position l.ram) l.packer l.met (with_replaced l.line l.place) l.place l.at before
+
+-- the bytes that are left
+abbrev pub decreases-loop-found : goal.decreases-loop-found
+decreases-loop-found g l = length (program_bytes l.ram) - l.at

@@ -85,7 +85,7 @@ A deck is a text file of commands, one a line. Such as:
 
   words P [rw]  fills page P, 4 to F, with the words on the lines up to `end`
   image P [rw]  likewise with the bytes of an image file, in hexadecimal
-  asm P [rw]    likewise with the words that the block's source spells
+  asm P [rw]    likewise with the words that the source on these lines spells
   unplug P      takes the page out again
   reset         begins anew; pages stay plugged
   call hhhh     begins the function at an address
@@ -134,7 +134,8 @@ part. Such as:
 
     130 123 226 3E0
 
-They are printed as instructions, one a line. A word that is none ends the
+They are printed as instructions, one a line. The origin changes none of them,
+since a jump tells its address or its distance. A word that is none ends the
 program with status 2, and nothing is listed.";
 
 /// The command `bench` with its subcommands.

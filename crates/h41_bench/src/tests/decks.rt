@@ -218,6 +218,12 @@ fn shows_the_display(rt: HostRuntime) -> Result<(), Fail> {
 
 #[test]
 fn judges_the_size_of_sources(rt: HostRuntime) -> Result<(), Fail> {
+    let words = "NOP\n".repeat(rt.alloc(), 4095)?;
+    let deck = format!(in rt.alloc();
+        "asm 8\n{words}CON 130\nend\nlist 8FFF 1\ncall 8FFF\nstep\n"
+    )?;
+    let text = "8FFF  130      CON 130\n! 09 EmptyPage 9000\n";
+    prints(&rt, rt.alloc(), deck.as_str(), text)?;
     let words = "NOP\n".repeat(rt.alloc(), 4097)?;
     for (page, text) in [("8", "! 04 BadImage\n"), ("F", "! 35 TooLong 4097\n")] {
         let deck = format!(in rt.alloc(); "asm {page}\n{words}end\n")?;

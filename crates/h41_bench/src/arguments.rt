@@ -145,7 +145,7 @@ fn bench<'a>(alloc: Global) -> Result<Command<'a>, AllocError>
     let run = Command::new(alloc, "run")
         .about("Runs a deck of commands")
         .after_help(DECKS)
-        .arg(file_argument(alloc, "The deck of commands, or - for standard input"))?;
+        .arg(file_argument(alloc))?;
     let assemble = origin_command(alloc, "asm")?
         .about("Assembles a source")
         .after_help(SOURCES);
@@ -162,12 +162,12 @@ fn bench<'a>(alloc: Global) -> Result<Command<'a>, AllocError>
 }
 
 /// The argument FILE.
-fn file_argument<'a>(alloc: Global, help: &'a str) -> Arg<'a>
+fn file_argument<'a>(alloc: Global) -> Arg<'a>
     ensures rule { rule_of result ≡ file_rule }
     ensures local { result.global ≡ false }
 {
     Arg::new(alloc, "FILE")
-        .help(help)
+        .help("The file to read, or - for standard input")
         .required(true)
         .action(ArgAction::Set)
 }
@@ -182,10 +182,9 @@ fn origin_command<'a>(alloc: Global, name: &'a str) -> Result<Command<'a>, Alloc
         .value_name("HHHH")
         .help("The address of the first word, in four hexadecimal digits: 8000 if not given")
         .action(ArgAction::Set);
-    Command::new(alloc, name).arg(origin)?.arg(file_argument(
-        alloc,
-        "The text to read, or - for standard input",
-    ))
+    Command::new(alloc, name)
+        .arg(origin)?
+        .arg(file_argument(alloc))
 }
 
 /// The words of the command line, matched.

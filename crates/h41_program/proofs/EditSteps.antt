@@ -13,8 +13,7 @@ use Rattle.h41_program.specs.declared.refusal.Refusal.TheVariants.{BrokenProgram
 use Rattle.h41_program.specs.Edits.{before_end, has_line_at, own_line, with_inserted, with_replaced, without_deleted, answered, changed_outcome, edit_outcome, edit_from}
 use Rattle.h41_program.specs.Lines.{is_final_end}
 use Rattle.h41_program.specs.Packers.{Packs}
-use Rattle.h41_program.specs.ProgramLines.{Reads, NoneFrom, line_of}
-use Rattle.h41_program.specs.Reading.{IsFirst}
+use Rattle.h41_program.specs.ProgramLines.{IsFirst, Reads, NoneFrom, line_of}
 use Rattle.h41_program.specs.Rewriting.{Gives, written}
 use Rattle.h41_program.proofs.Walks.{UpTo, ends_none, ends_final, before_end-none, before_end-final}
 

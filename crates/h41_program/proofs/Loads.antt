@@ -5,7 +5,7 @@ use Rattle.std.specs.List.{list_all}
 use Rattle.h41_program.specs.declared.given.Taken.{Taken}
 use Rattle.h41_program.specs.declared.refusal.Refusal.{Refusal}
 use Rattle.h41_program.specs.declared.refusal.Refusal.TheVariants.{BrokenProgram}
-use Rattle.h41_program.specs.Reading.{IsFirst, BytesHaveFirst, BytesHaveNone}
+use Rattle.h41_program.specs.Reading.{BytesHaveFirst, BytesHaveNone}
 use Rattle.h41_codes.specs.ByteGrammar.{IsLine}
 use Rattle.h41_codes.specs.declared.line.Line.{Line}
 use Rattle.h41_program.specs.declared.listed_line.ListedLine.{ListedLine}
@@ -15,7 +15,7 @@ use Rattle.h41_program.specs.Lines.{is_end, is_final_end}
 use Rattle.h41_program.specs.LoadSteps.{listed_option, kept_option}
 use Rattle.h41_program.specs.Packers.{Packs}
 use Rattle.h41_program.specs.Packing.{last_line}
-use Rattle.h41_program.specs.ProgramLines.{Reads, NoneFrom, behind}
+use Rattle.h41_program.specs.ProgramLines.{IsFirst, Reads, NoneFrom, behind}
 use Rattle.h41_program.proofs.Packings.{last_line-more}
 use Rattle.h41_program.proofs.Walks.{UpTo, up_to_none, up_to_more, ends_none, ends_final, before_end-none, before_end-final}
 

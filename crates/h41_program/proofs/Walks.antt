@@ -5,8 +5,7 @@ use Rattle.std.specs.Option.{option_map}
 use Rattle.h41_program.specs.declared.listed_line.ListedLine.{ListedLine}
 use Rattle.h41_program.specs.Edits.{before_end}
 use Rattle.h41_program.specs.Lines.{is_final_end}
-use Rattle.h41_program.specs.ProgramLines.{NoneFrom, Reads, behind}
-use Rattle.h41_program.specs.Reading.{IsFirst}
+use Rattle.h41_program.specs.ProgramLines.{IsFirst, NoneFrom, Reads, behind}
 
 -- the list of lines from a position on, by its first one
 pub first_rest : (bytes : List ℕ) (final at next : ℕ) (listed : ListedLine) (lines : List ListedLine) → IsFirst bytes final at listed next

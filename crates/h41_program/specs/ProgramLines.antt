@@ -5,6 +5,7 @@ use Rattle.h41_codes.specs.ByteGrammar.{spelling, Begins}
 use Rattle.h41_codes.specs.declared.line.Line.TheVariants.{Null}
 use Rattle.h41_ram.specs.RegisterMap.{RegisterMap, is_sound}
 use Rattle.h41_program.specs.declared.listed_line.ListedLine.{ListedLine}
+use Rattle.h41_program.specs.declared.reading.Found.{Found}
 use Rattle.h41_program.specs.declared.refusal.Refusal.{Refusal}
 use Rattle.h41_program.specs.declared.refusal.Refusal.TheVariants.{BrokenProgram}
 use Rattle.h41_program.specs.Lines.{is_final_end}
@@ -31,6 +32,22 @@ pub record FirstFrom (bytes : List ℕ) (final at : ℕ) (first : ListedLine) : 
 -- no line from a position on
 abbrev pub NoneFrom : List ℕ → ℕ → ℕ → Type 0
 NoneFrom bytes final at = (first : ListedLine) → FirstFrom bytes final at first → ⊥
+
+-- this is the first line from a position on and no other is; the next byte is the one behind it, at most where bytes end
+pub record IsFirst (bytes : List ℕ) (final at : ℕ) (listed : ListedLine) (next : ℕ) : Type 0 where
+  pub first : FirstFrom bytes final at listed
+  pub one : (other : ListedLine) → FirstFrom bytes final at other → other ≡ listed
+  pub behind : next ≡ behind listed
+  pub inside : next ≤ length bytes
+  pub onward : at < next
+
+-- memory has this line first from a position on, and this byte behind it
+abbrev pub HasFirst : RegisterMap → ℕ → Found → Type 0
+HasFirst memory at found = IsFirst (program_bytes memory) (final_position memory) at found.listed found.behind
+
+-- memory has no line from a position on
+abbrev pub HasNoLine : RegisterMap → ℕ → Type 0
+HasNoLine memory at = NoneFrom (program_bytes memory) (final_position memory) at
 
 -- these are the lines from a position on: none, or the first, and behind it those from there on where it is not .END.
 abbrev pub Reads : List ℕ → ℕ → ℕ → List ListedLine → Type 0

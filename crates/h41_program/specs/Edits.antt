@@ -63,16 +63,24 @@ Writes packer old new result = (lines : List Line) → Packs packer lines → Gi
 abbrev pub joined : RegisterMap → List Line → List Line → Result (RegisterMap × ℕ) Refusal
 joined memory lines loaded = answered (length (packed (closed lines))) (written memory (closed lines ++ loaded))
 
-abbrev pub load_outcome : RegisterMap → Option (List ListedLine) → Option (List Line) → Result (RegisterMap × ℕ) Refusal
-load_outcome memory None loaded = Err BrokenProgram
-load_outcome memory (Some lines) None = Err BrokenProgram
-load_outcome memory (Some lines) (Some loaded) = joined memory (lines_of lines) loaded
+-- the same where the bytes have lines to be loaded
+abbrev pub load_outcome : RegisterMap → List ListedLine → Option (List Line) → Result (RegisterMap × ℕ) Refusal
+load_outcome memory lines None = Err BrokenProgram
+load_outcome memory lines (Some loaded) = joined memory (lines_of lines) loaded
+
+-- what loading bytes behind the lines before .END. gives: the bytes are looked at where the list reaches it
+abbrev pub LoadsBehind : RegisterMap → List ℕ → Option (List ListedLine) → Result (RegisterMap × ℕ) Refusal → Type 0
+LoadsBehind memory bytes None outcome = outcome ≡ Err BrokenProgram
+LoadsBehind memory bytes (Some lines) outcome =
+    (given : List ListedLine) × Reads bytes (length bytes) 0 given × (outcome ≡ load_outcome memory lines (loaded_of bytes given))
+
+-- what loading bytes gives: memory with their lines behind its own and where the first of them begins, or the refusal
+abbrev pub LoadGives : RegisterMap → List ℕ → Result (RegisterMap × ℕ) Refusal → Type 0
+LoadGives memory bytes outcome = (lines : List ListedLine) × LinesFrom memory 0 lines × LoadsBehind memory bytes (before_end lines) outcome
 
 -- bytes are loaded into memory
 abbrev pub Loads : RegisterMap → RegisterMap → List ℕ → Result ℕ Refusal → Type 0
-Loads old new bytes result =
-    (lines given : List ListedLine) → LinesFrom old 0 lines → Reads bytes (length bytes) 0 given
-    → Gives old new result (load_outcome old (before_end lines) (loaded_of bytes given))
+Loads old new bytes result = (outcome : Result (RegisterMap × ℕ) Refusal) × LoadGives old bytes outcome × Gives old new result outcome
 
 -- whether a line stands at a position in the list
 abbrev pub has_line_at : ℕ → List ListedLine → Bool

@@ -4,13 +4,14 @@ use Rattle.std.specs.Prelude.{MatchBool}
 use Rattle.std.proofs.lemmas.Bool.{cases_lt, cases_Bool}
 use Rattle.h41_codes.specs.ByteGrammar.{spelling, Begins}
 use Rattle.h41_codes.specs.ByteLaws.{OneLine}
+use Rattle.h41_codes.specs.declared.line.Line.{Line}
 use Rattle.h41_ram.specs.RegisterMap.{RegisterMap, is_sound}
 use Rattle.h41_program.specs.declared.listed_line.ListedLine.{ListedLine}
 use Rattle.h41_program.specs.declared.refusal.Refusal.{Refusal}
-use Rattle.h41_program.specs.Edits.{before_end, load_outcome, loaded_of, LoadsBehind}
+use Rattle.h41_program.specs.Edits.{before_end, edit_outcome, load_outcome, loaded_of, ChangeGives, LoadsBehind}
 use Rattle.h41_program.specs.Lines.{is_final_end}
 use Rattle.h41_program.specs.ProgramBytes.{program_bytes, final_position}
-use Rattle.h41_program.specs.ProgramLaws.{FirstIsDetermined, ListsAreDetermined, LoadsAreDetermined}
+use Rattle.h41_program.specs.ProgramLaws.{EditsAreDetermined, FirstIsDetermined, ListsAreDetermined, LoadsAreDetermined}
 use Rattle.h41_program.specs.ProgramLines.{line_bytes, FirstFrom, Reads, behind}
 use Rattle.h41_program.proofs.FirstLines.{first_inside, first_byte, only_null}
 use Rattle.h41_program.proofs.Windows.{begins_least}
@@ -82,3 +83,24 @@ loads_determined one memory bytes outcome other loads again =
     let same = lists_determined one memory 0 loads.0 again.0 loads.1 again.1 in
     loads_behind_determined one memory bytes (before_end again.0) outcome other
     (subst (λ (lines : List ListedLine). LoadsBehind memory bytes (before_end lines) outcome) same loads.2) again.2
+
+changes_determined : OneLine → (memory : RegisterMap) (change : ListedLine → List Line) (position : ℕ) (outcome other : Result (RegisterMap × Unit {0}) Refusal)
+    → ChangeGives memory change position outcome → ChangeGives memory change position other → outcome ≡ other
+changes_determined one memory change position outcome other gives again =
+    let same = lists_determined one memory 0 gives.0 again.0 gives.1 again.1 in
+    gives.2 ∙ ap (λ (lines : List ListedLine). edit_outcome memory change position lines) same ∙ sym again.2
+
+pub edits_determined : OneLine → EditsAreDetermined
+edits_determined one memory change at outcome other gives again = elim gives [
+  | inl edit ↦ elim again [
+    | inl second ↦
+        let same = first_determined one (program_bytes memory) (final_position memory) at edit.0 second.0 edit.1 second.1 in
+        changes_determined one memory (change second.0.position) second.0.position outcome other
+        (subst (λ (first : ListedLine). ChangeGives memory (change first.position) first.position outcome) same edit.2) second.2
+    | inr none ↦ absurd (none.0 edit.0 edit.1)
+  ]
+  | inr none ↦ elim again [
+    | inl second ↦ absurd (none.0 second.0 second.1)
+    | inr nothing ↦ none.1 ∙ sym nothing.1
+  ]
+]

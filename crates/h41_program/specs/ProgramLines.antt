@@ -1,6 +1,6 @@
 -- Program memory as a list of lines, each with its position: they are read from a position on, nulls passed over, up to the
 -- first .END. and with it, or up to bytes that are no line. The form of memory is HP's; what is no line is this project's choice.
-use Rattle.std.specs.Prelude.{◌≡◌, ◌≢◌, ℕ, ◌+◌, ◌<◌, ◌≤◌, IsTrue, IsFalse, MatchBool, List, [], ◌∷◌, length, drop, slice_index, slice_range, nat_lt, ◌==◌, if◌then◌else◌, Result, Ok, Err}
+use Rattle.std.specs.Prelude.{◌≡◌, ◌≢◌, ◌⊎◌, ℕ, ◌+◌, ◌<◌, ◌≤◌, IsTrue, IsFalse, MatchBool, List, [], ◌∷◌, length, drop, slice_index, slice_range, nat_lt, ◌==◌, if◌then◌else◌, Result, Ok, Err}
 use Rattle.h41_codes.specs.ByteGrammar.{spelling, Begins}
 use Rattle.h41_codes.specs.declared.line.Line.TheVariants.{Null}
 use Rattle.h41_ram.specs.RegisterMap.{RegisterMap, is_sound}
@@ -70,6 +70,27 @@ abbrev pub next_of : List ListedLine → Result ℕ Refusal
 next_of [] = Err BrokenProgram
 next_of (first ∷ []) = Ok (if is_final_end first.line then first.position else behind first)
 next_of (first ∷ second ∷ rest) = Ok second.position
+
+-- an answer is the first line from a position on, or a refusal where there is none
+abbrev pub AnswersFirst : RegisterMap → ℕ → Result ListedLine Refusal → Type 0
+AnswersFirst memory at (Ok first) = FirstFrom (program_bytes memory) (final_position memory) at first
+AnswersFirst memory at (Err refusal) = (refusal ≡ BrokenProgram) × HasNoLine memory at
+
+-- the position of the first line from a position on, or that position where no line follows
+abbrev pub PositionFrom : RegisterMap → ℕ → ℕ → Type 0
+PositionFrom memory at position =
+    ((first : ListedLine) × FirstFrom (program_bytes memory) (final_position memory) at first × (position ≡ first.position))
+    ⊎ (HasNoLine memory at × (position ≡ at))
+
+-- the position of the line behind a line, or the byte behind it where no line follows; that of .END. is its own
+abbrev pub PositionBehind : RegisterMap → ListedLine → ℕ → Type 0
+PositionBehind memory first position = MatchBool (is_final_end first.line) (position ≡ first.position) (PositionFrom memory (behind first) position)
+
+-- an answer is the position behind the first line from a position on, or a refusal where there is none
+abbrev pub AnswersNext : RegisterMap → ℕ → Result ℕ Refusal → Type 0
+AnswersNext memory at (Ok position) =
+    (first : ListedLine) × FirstFrom (program_bytes memory) (final_position memory) at first × PositionBehind memory first position
+AnswersNext memory at (Err refusal) = (refusal ≡ BrokenProgram) × HasNoLine memory at
 
 -- an answer is that of the lines from a position on
 abbrev pub AnswersFrom : {A : Type 0} → (List ListedLine → A) → RegisterMap → ℕ → A → Type 0

@@ -1,5 +1,5 @@
 //! Laws of program memory: each is the contract of a function whose result is not looked at.
-ghost use Rattle.h41_program.specs.ProgramLaws.{FirstIsDetermined, GoesOnFromNext, HasOneList, ListsAreDetermined, LoadsAreDetermined, PackingRoundTrip, ReadIsDetermined, StandsForItsLine};
+ghost use Rattle.h41_program.specs.ProgramLaws.{EditsAreDetermined, FirstIsDetermined, GoesOnFromNext, HasOneList, ListsAreDetermined, LoadsAreDetermined, PackingRoundTrip, ReadIsDetermined, StandsForItsLine};
 
 use crate::kinds::is_final_end;
 use crate::reading::{Found, first_from};
@@ -43,6 +43,14 @@ pub fn lists_are_determined()
 /// No bytes have two outcomes when they are loaded into a memory: the relation by which `load` promises leaves nothing open.
 pub fn loads_are_determined()
     ensures { LoadsAreDetermined }
+{
+    byte_round_trip();
+}
+
+/// No change of the list has two outcomes, at whatever position: so it is with the relation by which `insert`, `replace` and
+/// `delete` promise.
+pub fn edits_are_determined()
+    ensures { EditsAreDetermined }
 {
     byte_round_trip();
 }

@@ -1,4 +1,4 @@
-//! The bytes of a page's image, as the lines of an `image` block give them.
+//! Bytes, as the lines of an `image` or a `load` block give them.
 
 ghost use Rattle.std.specs.Prelude.{◌≡◌, IfOk};
 ghost use Rattle.h41_deck.specs.Blocks.{line_digits};
@@ -11,26 +11,26 @@ use h41_pages::{ReadRefusal, image_read, is_image_bytes};
 use hex::FromHexError;
 use std::alloc::{AllocError, Global};
 
-/// The bytes of an image so far.
+/// The bytes so far.
 #[derive(Debug, Drop)]
-pub struct PageBytes {
+pub struct HexBytes {
     bytes: Vec<u8>,
     /// Whether a line was no row of bytes: two hexadecimal digits each, of either case, with blanks and tabs anywhere.
     is_wrong: bool,
 }
 
-impl PageBytes {
+impl HexBytes {
     ghost use Rattle.std.specs.Prelude.{◌≡◌, ◌≤◌, [], IfOk, None, Ok, vec_len};
     ghost use Rattle.std.specs.Result.{result_err};
     ghost use Rattle.h41_pages.specs.Addresses.{page_size};
     ghost use Rattle.h41_deck.specs.Blocks.{block_bytes, image_content};
     ghost use Rattle.h41_deck.specs.Contents.{TakesBytes, bytes_in};
 
-    /// An image of no bytes.
+    /// No bytes.
     pub fn new(alloc: Global) -> Self
         ensures { bytes_in result ≡ block_bytes [] }
     {
-        PageBytes {
+        HexBytes {
             bytes: Vec::new(alloc),
             is_wrong: false,
         }
@@ -54,8 +54,15 @@ impl PageBytes {
         Ok(())
     }
 
-    /// Why the bytes are refused, if they are: 51 before 4.
+    /// Why they are refused, if they are: 51.
     pub fn refusal(&self) -> Option<Refusal>
+        ensures { result ≡ result_err (bytes_in self.now) }
+    {
+        self.is_wrong.then_some(Refusal::BadNumber)
+    }
+
+    /// Why they are refused as an image, if they are: 51 before 4.
+    pub fn image_refusal(&self) -> Option<Refusal>
         ensures { result ≡ result_err (image_content (bytes_in self.now)) }
     {
         if self.is_wrong {
@@ -67,7 +74,15 @@ impl PageBytes {
         }
     }
 
-    /// The words of the image, where the bytes are not refused. 21 where memory is refused.
+    /// The bytes, where they are not refused.
+    pub fn into_bytes(self) -> Vec<u8>
+        requires { result_err (bytes_in self) ≡ None }
+        ensures { bytes_in self ≡ Ok result.items }
+    {
+        self.bytes
+    }
+
+    /// The words of the image, where the bytes are not refused as one. 21 where memory is refused.
     pub fn into_words(self, alloc: Global) -> Result<Vec<u16>, AllocError>
         requires { result_err (image_content (bytes_in self)) ≡ None }
         ensures words { IfOk result (λ words. image_content (bytes_in self) ≡ Ok words.items) }

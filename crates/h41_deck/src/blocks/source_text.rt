@@ -1,10 +1,11 @@
-//! The source of a page's words, as the lines of an `asm` block are.
+//! The source of a page's words and the text of a program, as the lines of an `asm` or a `program` block are.
 
 ghost use Rattle.std.specs.Prelude.{◌≡◌, ◌≤◌, IfOk, vec_len};
 ghost use Rattle.h41_pages.specs.Addresses.{page_size};
 ghost use Rattle.h41_deck.specs.Fillings.{fitting, values_in};
 
 use crate::blocks::page_words::PAGE_WORDS;
+use crate::blocks::program_text::program_bytes;
 use crate::lines::line::is_skipped;
 use crate::refusal::Refusal;
 use h41_asm::{AssembleError, assemble};
@@ -14,24 +15,25 @@ use std::alloc::{AllocError, Global};
 /// How many pages there are.
 const PAGES: u8 = 16;
 
-/// The source of a page's words so far.
+/// The source or the text so far.
 #[derive(Debug, Drop)]
-pub struct PageSource {
+pub struct SourceText {
     text: Vec<u8>,
 }
 
-impl PageSource {
+impl SourceText {
     ghost use Rattle.std.specs.Prelude.{◌≡◌, ◌≤◌, [], IfOk, vec_len};
     ghost use Rattle.h41_pages.specs.Addresses.{page_size};
     ghost use Rattle.h41_deck.specs.Blocks.{block_source};
     ghost use Rattle.h41_deck.specs.Contents.{TakesSource, source_in};
-    ghost use Rattle.h41_deck.specs.Fillings.{FillsFrom};
+    ghost use Rattle.h41_deck.specs.Fillings.{FillsFrom, values_in};
+    ghost use Rattle.h41_deck.specs.Programs.{Spells};
 
-    /// A source of no lines.
+    /// A text of no lines.
     pub fn new(alloc: Global) -> Self
         ensures { source_in result ≡ block_source [] }
     {
-        PageSource {
+        SourceText {
             text: Vec::new(alloc),
         }
     }
@@ -45,6 +47,14 @@ impl PageSource {
         }
         self.text.push(b'\n')?;
         Ok(())
+    }
+
+    /// The bytes of the program whose text it is, or 41 with the number of the first line that is none. 21 where memory is
+    /// refused.
+    pub fn into_bytes(self, alloc: Global) -> Result<Result<Vec<u8>, Refusal>, AllocError>
+        ensures { IfOk result (λ made. Spells (source_in self) (values_in made)) }
+    {
+        program_bytes(alloc, &self.text)
     }
 
     /// The words that it spells at a page's first address. Refused as 30 to 35 by its first fault, as 4 where there are more

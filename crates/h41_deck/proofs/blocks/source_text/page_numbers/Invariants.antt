@@ -1,5 +1,5 @@
 use Rattle.std.proofs.Common.{◌≡◌, take}
-use Rattle.h41_deck.proofs.blocks.page_source.page_numbers.Given as goal
+use Rattle.h41_deck.proofs.blocks.source_text.page_numbers.Given as goal
 
 -- the numbers so far
 abbrev pub invariant-loop-word : goal.invariant-loop-word

@@ -1,7 +1,7 @@
 use Rattle.std.proofs.Common.{◌≡◌, arith}
 use Rattle.h41_deck.specs.Refusals.{of_source_fault}
 use Rattle.h41_deck.proofs.Filling.{fills_fault, fills_words}
-use Rattle.h41_deck.proofs.blocks.page_source.PageSource.into_words.Goals as goal
+use Rattle.h41_deck.proofs.blocks.source_text.SourceText.into_words.Goals as goal
 
 pub returns-in-Ok-clause-words : goal.returns-in-Ok-clause-words
 returns-in-Ok-clause-words c =

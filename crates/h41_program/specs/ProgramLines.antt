@@ -95,3 +95,7 @@ AnswersNext memory at (Err refusal) = (refusal ≡ BrokenProgram) × HasNoLine m
 -- an answer is that of the lines from a position on
 abbrev pub AnswersFrom : {A : Type 0} → (List ListedLine → A) → RegisterMap → ℕ → A → Type 0
 AnswersFrom answer memory at result = (lines : List ListedLine) → LinesFrom memory at lines → result ≡ answer lines
+
+-- the same of a walk to the list's end: there is such a list
+abbrev pub AnswersOf : {A : Type 0} → (List ListedLine → A) → RegisterMap → ℕ → A → Type 0
+AnswersOf answer memory at result = (lines : List ListedLine) × LinesFrom memory at lines × (result ≡ answer lines)

@@ -2,7 +2,6 @@
 use Rattle.std.proofs.Common.{◌≡◌, ℕ, Bool, List, Option, Some, None, Result, Ok, Err, OnOk, OnErr, IfOk, refl, sym, ap, subst, append-nil, ◌∙◌}
 use Rattle.std.specs.Result.{result_err}
 use Rattle.std.specs.Io.KnownBytes.{Appends}
-use Rattle.h41_deck.specs.declared.commands.BlockKind.{BlockKind}
 use Rattle.h41_deck.specs.declared.commands.BlockKind.TheVariants.{Page, Program}
 use Rattle.h41_deck.specs.declared.commands.PageKind.{PageKind}
 use Rattle.h41_deck.specs.declared.commands.ProgramKind.{ProgramKind}

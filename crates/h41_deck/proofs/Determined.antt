@@ -28,10 +28,10 @@ use Rattle.h41_deck.specs.declared.calculator.Mode.TheVariants as modes
 use Rattle.h41_deck.specs.declared.commands.Command.{Command}
 use Rattle.h41_deck.specs.declared.commands.Command.TheVariants as commands
 use Rattle.h41_deck.specs.declared.refusal.Refusal.{Refusal}
-use Rattle.h41_deck.specs.Calculator.{RefusesLine, RefusesStep, RefusesStepIn, State, start, StepIn, Step, Steps, mode_at}
+use Rattle.h41_deck.specs.Calculator.{RefusesLine, RefusesStepIn, State, start, StepIn, Step, Steps, mode_at}
 use Rattle.h41_deck.specs.Deck.{Answers, DeckDeterminesOutcome, DeckDeterminesText, LongDeckDeterminesText, outcome_of}
 use Rattle.h41_deck.specs.Items.{Spelled}
-use Rattle.h41_deck.specs.Programs.{IsBadText, LoadMakes, Loads, Means, Say, Says, change_refusal, listed_line, loaded, texts_of, with_more}
+use Rattle.h41_deck.specs.Programs.{IsBadText, Loads, Means, Say, Says, change_refusal, listed_line, loaded, texts_of, with_more}
 use Rattle.h41_deck.specs.Replies.{Answer, LoadsBytes, PlugsWords, Reply, ItemReply, printed, says_or_ends}
 use Rattle.h41_deck.specs.Views.{Shows}
 

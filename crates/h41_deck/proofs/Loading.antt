@@ -1,5 +1,5 @@
 -- What loading leaves, by the answer of program memory.
-use Rattle.std.proofs.Common.{◌≡◌, ℕ, List, [], Option, Some, None, Result, Ok, Err, Vec, refl, sym, ap, subst, ◌∙◌}
+use Rattle.std.proofs.Common.{◌≡◌, ℕ, List, [], Some, None, Result, Ok, Err, Vec, refl, sym, ap, subst, ◌∙◌}
 use Rattle.h41_program.specs.declared.refusal.Refusal as program
 use Rattle.h41_program.specs.Edits as edits
 use Rattle.h41_program.specs.Edits.{LoadGives}

@@ -1,5 +1,5 @@
 -- How single steps follow one another.
-use Rattle.std.proofs.Common.{◌≡◌, ℕ, suc, Option, Some, None, refl, sym}
+use Rattle.std.proofs.Common.{◌≡◌, ℕ, suc, Option, Some, None, refl}
 use Rattle.h41_deck.specs.declared.refusal.Refusal.{Refusal}
 use Rattle.h41_deck.specs.Calculator.{State, RefusesStep, Step, Steps}
 

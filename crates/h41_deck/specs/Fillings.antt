@@ -1,6 +1,6 @@
 -- The words that a block's values fill a page with, and how it is plugged with them. The language is this project's own.
 use Rattle.std.specs.Global.{Global}
-use Rattle.std.specs.Prelude.{◌≡◌, ℕ, ◌*◌, ◌%◌, Vec, List, length, nat_lt, if◌then◌else◌, Option, Some, None, Result, Ok, Err, option_map}
+use Rattle.std.specs.Prelude.{◌≡◌, ℕ, ◌*◌, ◌%◌, Vec, List, length, nat_lt, if◌then◌else◌, Option, Some, Result, Ok, Err, option_map}
 use Rattle.h41_asm.specs.Assembly.{Assembles}
 use Rattle.h41_asm.specs.Faults.{assembly_fault}
 use Rattle.h41_pages.specs.Addresses.{page_count, page_size}

@@ -1,7 +1,6 @@
 -- Programs in memory: loaded as bytes or as text, listed, and the number of data registers above them. What memory becomes is
 -- said by the list of its lines; the commands are this project's choice.
-use Rattle.std.specs.Global.{Global}
-use Rattle.std.specs.Prelude.{◌≡◌, ◌≢◌, ◌⊎◌, ℕ, suc, ◌/◌, ◌%◌, ◌==◌, Bool, true, not, ◌++◌, List, [], ◌∷◌, flat_map, Vec, Option, Some, None, MatchOption, Result, Ok, Err, codes}
+use Rattle.std.specs.Prelude.{◌≡◌, ◌⊎◌, ℕ, suc, ◌/◌, ◌%◌, ◌==◌, true, not, ◌++◌, List, [], ◌∷◌, flat_map, Option, Some, None, MatchOption, Result, Ok, Err, codes}
 use Rattle.std.specs.Bool.{then_some}
 use Rattle.std.specs.List.{slice_split}
 use Rattle.std.specs.Option.{option_or}

@@ -44,7 +44,7 @@ returns-in_err-print_ending-2-clause-reply g c =
       | in-Unplug w ↦ rw (w.bench-is, w.ended-is) (unplug_reply (judgement c.args.block) c.args.command w.in-Unplug.page w.unplug-ended.result c.args.bench.now _
           w.in-Unplug.is c.in_default.ensures w.unplug-ended.ensures.refusal w.unplug-ended.ensures.change w.unplug-ended.ensures.err)
       | in-Reset w ↦ rw (w.bench-is, w.ended-is) (reset_reply (judgement c.args.block) c.args.command c.args.bench.now _
-          w.in-Reset.is c.in_default.ensures (rw w.bench.view_is at w.reset.ensures))
+          w.in-Reset.is c.in_default.ensures (rw w.bench-in-Reset.view_is at w.reset.ensures))
       | in-Call w ↦ rw (w.bench-is, w.ended-is) (call_reply (judgement c.args.block) c.args.command w.in-Call.address w.call-ended.result c.args.bench.now _
           w.in-Call.is c.in_default.ensures (rw w.bench-in-Call.view_is at w.call-ended.ensures.refusal) (rw w.bench-in-Call.view_is at w.call-ended.ensures.change) (rw w.bench-in-Call.view_is at w.call-ended.ensures.err))
       | in-Step w ↦ rw (w.bench-is, w.ended-is) (step_reply (judgement c.args.block) c.args.command w.in-Step.count w.steps-ended.result c.args.bench.now _ w.in-Step.is c.in_default.ensures w.steps-ended.ensures)
@@ -65,7 +65,7 @@ returns-clause-reply g c =
       | in-Unplug w ↦ rw (w.bench-is, w.ended-is) (unplug_reply (judgement c.args.block) c.args.command w.in-Unplug.page w.unplug-ended.result c.args.bench.now _
           w.in-Unplug.is c.in_default.ensures w.unplug-ended.ensures.refusal w.unplug-ended.ensures.change w.unplug-ended.ensures.err)
       | in-Reset w ↦ rw (w.bench-is, w.ended-is) (reset_reply (judgement c.args.block) c.args.command c.args.bench.now _
-          w.in-Reset.is c.in_default.ensures (rw w.bench.view_is at w.reset.ensures))
+          w.in-Reset.is c.in_default.ensures (rw w.bench-in-Reset.view_is at w.reset.ensures))
       | in-Call w ↦ rw (w.bench-is, w.ended-is) (call_reply (judgement c.args.block) c.args.command w.in-Call.address w.call-ended.result c.args.bench.now _
           w.in-Call.is c.in_default.ensures (rw w.bench-in-Call.view_is at w.call-ended.ensures.refusal) (rw w.bench-in-Call.view_is at w.call-ended.ensures.change) (rw w.bench-in-Call.view_is at w.call-ended.ensures.err))
       | in-Step w ↦ rw (w.bench-is, w.ended-is) (step_reply (judgement c.args.block) c.args.command w.in-Step.count w.steps-ended.result c.args.bench.now _ w.in-Step.is c.in_default.ensures w.steps-ended.ensures)

@@ -1,4 +1,4 @@
-use Rattle.std.proofs.Common.{◌≡◌, ◌+◌, ◌≤◌, ◌∷◌, [], ◌++◌, ℕ, List, Ok, Err, length, arith, ap, sym, refl, subst, append-nil, ◌∙◌}
+use Rattle.std.proofs.Common.{◌∷◌, [], ◌++◌, ℕ, List, Ok, Err, length, arith, ap, sym, refl, subst, append-nil, ◌∙◌}
 use Rattle.std.proofs.lemmas.Bool.{eqb-false, eqb-true}
 use Rattle.h41_codes.specs.declared.line.Line.{Line}
 use Rattle.h41_deck.specs.declared.refusal.Refusal.TheVariants.{BadText}

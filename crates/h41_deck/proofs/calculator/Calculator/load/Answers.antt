@@ -1,4 +1,3 @@
-use Rattle.std.proofs.Common.{◌≡◌, sym, ◌∙◌}
 use Rattle.std.proofs.lemmas.Result.{err_from_is_err_and}
 use Rattle.h41_deck.proofs.Loading.{load_done, load_failed, load_refused}
 use Rattle.h41_deck.proofs.calculator.Calculator.load.Goals as goal

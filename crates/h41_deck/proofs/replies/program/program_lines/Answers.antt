@@ -1,4 +1,4 @@
-use Rattle.std.proofs.Common.{◌≡◌, sym, ◌∙◌}
+use Rattle.std.proofs.Common.{sym, ◌∙◌}
 use Rattle.h41_deck.proofs.ProgramWalks.{listed_more, lists_final, lists_none}
 use Rattle.h41_deck.proofs.replies.program.program_lines.Goals as goal
 

@@ -1,4 +1,4 @@
-use Rattle.std.proofs.Common.{◌≡◌, ◌++◌, List, ℕ, ap, ◌∙◌}
+use Rattle.std.proofs.Common.{◌++◌, List, ℕ, ap, ◌∙◌}
 use Rattle.h41_codes.specs.ByteGrammar.{spelling}
 use Rattle.h41_deck.specs.ProgramTexts.{parting}
 use Rattle.h41_deck.proofs.ProgramTextLines.{pushed}

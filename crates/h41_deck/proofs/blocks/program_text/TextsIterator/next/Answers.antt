@@ -1,6 +1,5 @@
-use Rattle.std.proofs.Common.{◌≡◌, ◌∷◌, [], Bool, List, ℕ, if◌then◌else◌, length, arith, ap, sym, ◌∙◌}
+use Rattle.std.proofs.Common.{length, arith, ap}
 use Rattle.std.proofs.lemmas.List.{take_rest}
-use Rattle.h41_deck.specs.Programs.{texts_of}
 use Rattle.h41_deck.proofs.ProgramTextLines.{texts_at, texts_last}
 use Rattle.h41_deck.proofs.blocks.program_text.TextsIterator.next.Goals as goal
 

@@ -23,6 +23,10 @@ abbrev pub NoPrefix : Type 0
 NoPrefix = (line other : Line) (rest : List ℕ) → IsLine line → IsLine other → (IsNumber line → ⊥) → spelling other ≡ spelling line ++ rest
     → (other ≡ line) × (rest ≡ [])
 
+-- a line has 1 to 18 bytes
+abbrev pub LineHasBytes : Type 0
+LineHasBytes = (line : Line) → IsLine line → (1 ≤ length (spelling line)) × (length (spelling line) ≤ 18)
+
 -- the canonical line is a line, of no more bytes, and its own canonical line
 abbrev pub CanonicalIsLine : Type 0
 CanonicalIsLine = (line : Line) → IsLine line → IsLine (canonical line)

@@ -19,10 +19,10 @@ use crate::table::{
 use arrayvec::ArrayVec;
 
 /// The most bytes of a line: a label with a name of 14 characters.
-const MOST: usize = 18;
+pub const LINE_CAPACITY: usize = 18;
 
 /// The bytes of a line.
-type Bytes = ArrayVec<u8, MOST>;
+type Bytes = ArrayVec<u8, LINE_CAPACITY>;
 
 /// Writes a line's bytes at the front of a slice, and answers how many there are. The rest of the slice stays as it is, and
 /// all of it where the line does not fit.

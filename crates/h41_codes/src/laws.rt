@@ -1,6 +1,6 @@
 //! Laws of lines and their bytes: each is the contract of a function with nothing to do.
 
-ghost use Rattle.h41_codes.specs.ByteLaws.{ByteRoundTrip, OneLine, NoPrefix, CanonicalIsLine, CanonicalIsShortest, CanonicalOnce};
+ghost use Rattle.h41_codes.specs.ByteLaws.{ByteRoundTrip, OneLine, NoPrefix, CanonicalIsLine, CanonicalIsShortest, CanonicalOnce, LineHasBytes};
 
 /// The byte round trip: the bytes of a line begin with that line, whatever follows them, and with no other. A number of
 /// fewer than 16 characters is read again where no character of a number follows.
@@ -12,6 +12,11 @@ pub fn byte_round_trip()
 /// No line's bytes begin with those of another, but for two numbers.
 pub fn no_prefix()
     ensures { NoPrefix }
+{}
+
+/// A line has 1 to 18 bytes.
+pub fn line_has_bytes()
+    ensures { LineHasBytes }
 {}
 
 /// The canonical line takes no more bytes than the line, and is its own canonical line.

@@ -16,7 +16,7 @@ mod table;
 pub use canonical::canon;
 pub use characters::{Character, Number, Text};
 pub use decoder::decode;
-pub use encoder::encode;
+pub use encoder::{LINE_CAPACITY, encode};
 pub use faults::{BrokenProgram, BufferShort};
 pub use functions::{Branch, Function, NameFunction, ParameterFunction, RegisterFunction};
 pub use line::{Line, Operand};

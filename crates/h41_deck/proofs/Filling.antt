@@ -4,7 +4,7 @@ use Rattle.std.specs.Global.{Global}
 use Rattle.h41_asm.specs.Assembly.{Assembles}
 use Rattle.h41_asm.specs.Faults.{assembly_fault}
 use Rattle.h41_asm.specs.declared.fault.Fault.{Fault}
-use Rattle.h41_deck.specs.declared.commands.BlockKind.TheVariants.{Asm}
+use Rattle.h41_deck.specs.declared.commands.PageKind.TheVariants.{Asm}
 use Rattle.h41_deck.specs.declared.refusal.Refusal.{Refusal}
 use Rattle.h41_deck.specs.Fillings.{Fills, fitting, page_address, values_in}
 use Rattle.h41_deck.specs.Refusals.{of_source_fault}
@@ -12,12 +12,12 @@ use Rattle.h41_deck.specs.Refusals.{of_source_fault}
 -- words that it spells
 pub fills_words : {E : Type 0} (source text : List ℕ) (page origin : ℕ) (words : List ℕ) (ended : Result (Result (Vec ℕ Global) Refusal) E)
     → text ≡ source → origin ≡ page_address page → Assembles text origin words → IfOk ended (λ made. values_in made ≡ fitting words)
-    → IfOk ended (λ made. Fills (Some Asm) page source (values_in made))
+    → IfOk ended (λ made. Fills Asm page source (values_in made))
 fills_words source text page origin words (Ok made) same at spelled fits = (Ok words, rw (sym same, sym at) spelled, fits)
 fills_words source text page origin words (Err why) same at spelled fits = fits
 
 -- a source with a fault
 pub fills_fault : (source text : List ℕ) (page origin line : ℕ) (fault : Fault) (why : Refusal) → text ≡ source → origin ≡ page_address page
-    → assembly_fault text origin ≡ Some (fault, line) → why ≡ of_source_fault fault line → Fills (Some Asm) page source (Err why)
+    → assembly_fault text origin ≡ Some (fault, line) → why ≡ of_source_fault fault line → Fills Asm page source (Err why)
 fills_fault source text page origin line fault why same at found own =
     (Err why, rw (sym same, sym at) (rw (found, own) refl), refl)

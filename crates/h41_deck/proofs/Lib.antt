@@ -18,8 +18,11 @@ pub mod ListingSource
 pub mod ListingTable
 pub mod ListingTexts
 pub mod ListingWords
+pub mod Loading
 pub mod Numbers
 pub mod Plugging
+pub mod ProgramTextLines
+pub mod ProgramWalks
 pub mod StepsInTurn
 pub mod WholeDecks
 pub mod WordValues

@@ -8,7 +8,9 @@ use Rattle.hex.specs.declared.error.FromHexError.{FromHexError}
 use Rattle.h41_pages.specs.Addresses.{last_word, page_size}
 use Rattle.h41_pages.specs.Images.{is_image_bytes, words_in}
 use Rattle.h41_deck.specs.declared.commands.BlockKind.{BlockKind}
-use Rattle.h41_deck.specs.declared.commands.BlockKind.TheVariants.{Words, Image, Asm}
+use Rattle.h41_deck.specs.declared.commands.BlockKind.TheVariants.{Page, Program}
+use Rattle.h41_deck.specs.declared.commands.PageKind.TheVariants.{Words, Image, Asm}
+use Rattle.h41_deck.specs.declared.commands.ProgramKind.TheVariants.{Bytes, Text}
 use Rattle.h41_deck.specs.declared.refusal.Refusal.{Refusal}
 use Rattle.h41_deck.specs.declared.refusal.Refusal.TheVariants.{BadImage, BadNumber, LineTooLong}
 use Rattle.h41_deck.specs.Lines.{is_blank, is_long, is_skipped, words_of}
@@ -50,29 +52,33 @@ abbrev pub image_content : Result (List ℕ) Refusal → Result (List ℕ) Refus
 image_content (Ok bytes) = if is_image_bytes bytes then Ok (words_in bytes) else Err BadImage
 image_content (Err refusal) = Err refusal
 
--- the source that a block's lines are: each with its end, where those that say nothing are left empty
+-- the source or the text that a block's lines are: each with its end, where those that say nothing are left empty
 abbrev pub source_line : List ℕ → List ℕ
 source_line line = (if is_skipped line then [] else line) ++ codes "\n"
 
 abbrev pub block_source : List (List ℕ) → List ℕ
 block_source lines = flat_map source_line lines
 
--- what the lines of a block say, before it is judged: values of words, bytes, or a source; a command without a block has none
+-- what the lines of a block say, before it is judged: values of words, bytes, a source or a text; a command without a block
+-- has none
 abbrev pub said_by : Option BlockKind → List (List ℕ) → Result (List ℕ) Refusal
 said_by None lines = Ok []
-said_by (Some Words) lines = word_values (block_words lines)
-said_by (Some Image) lines = block_bytes lines
-said_by (Some Asm) lines = Ok (block_source lines)
+said_by (Some (Page Words)) lines = word_values (block_words lines)
+said_by (Some (Page Image)) lines = block_bytes lines
+said_by (Some (Page Asm)) lines = Ok (block_source lines)
+said_by (Some (Program Bytes)) lines = block_bytes lines
+said_by (Some (Program Text)) lines = Ok (block_source lines)
 
--- the words of a page that they say, or the source of these
-abbrev pub words_said : Option BlockKind → Result (List ℕ) Refusal → Result (List ℕ) Refusal
-words_said None said = said
-words_said (Some Words) said = said
-words_said (Some Image) said = image_content said
-words_said (Some Asm) said = said
+-- an image is judged as a whole: it is the words of its bytes
+abbrev pub whole_said : Option BlockKind → Result (List ℕ) Refusal → Result (List ℕ) Refusal
+whole_said None said = said
+whole_said (Some (Page Words)) said = said
+whole_said (Some (Page Image)) said = image_content said
+whole_said (Some (Page Asm)) said = said
+whole_said (Some (Program kind)) said = said
 
 abbrev pub content_of : Option BlockKind → List (List ℕ) → Result (List ℕ) Refusal
-content_of kind lines = words_said kind (said_by kind lines)
+content_of kind lines = whole_said kind (said_by kind lines)
 
 -- a line that is too long comes before what else is wrong
 abbrev pub judged : Bool → Result (List ℕ) Refusal → Result (List ℕ) Refusal
@@ -112,4 +118,4 @@ pub record Takes (old : TakenBlock) (line : List ℕ) (new : TakenBlock) : Type 
 
 -- its judgement
 abbrev pub judgement : TakenBlock → Result (List ℕ) Refusal
-judgement block = judged block.has_long (words_said block.kind block.content)
+judgement block = judged block.has_long (whole_said block.kind block.content)

@@ -1,5 +1,5 @@
 -- The calculator: its mode, a call, and single steps. All of it is this project's choice, but for what the words do.
-use Rattle.std.specs.Prelude.{◌≡◌, ℕ, zero, suc, Bool, true, false, not, nat_lt, ◌==◌, if◌then◌else◌, Option, Some, None, List, option_map, MatchOption}
+use Rattle.std.specs.Prelude.{◌≡◌, ℕ, zero, suc, Bool, true, false, not, nat_lt, ◌==◌, IsTrue, MatchBool, if◌then◌else◌, Option, Some, None, List, [], ◌∷◌, option_map, MatchOption}
 use Rattle.std.specs.Bool.{then_some}
 use Rattle.std.specs.Option.{option_or}
 use Rattle.h41_nut.specs.declared.refusal.Refusal as nut
@@ -10,6 +10,9 @@ use Rattle.h41_pages.specs.declared.refusal.UnplugRefusal as unplug
 use Rattle.h41_pages.specs.declared.refusal.UnplugRefusal.TheVariants as unplugs
 use Rattle.h41_pages.specs.declared.refusal.ImageRefusal as image
 use Rattle.h41_pages.specs.declared.refusal.ImageRefusal.TheVariants as images
+use Rattle.h41_program.specs.declared.listed_line.ListedLine.{ListedLine}
+use Rattle.h41_program.specs.Lines.{is_final_end}
+use Rattle.h41_program.specs.ProgramLines.{LinesFrom}
 use Rattle.h41_ram.specs.RegisterMap as ram
 use Rattle.h41_nut.specs.Processor.{initial, entered}
 use Rattle.h41_nut.specs.Addresses.{end_of_function}
@@ -21,13 +24,18 @@ use Rattle.h41_nut.specs.WordStep.{Nut, nut_of, refused, Micro}
 use Rattle.h41_deck.specs.declared.calculator.Mode.{Mode}
 use Rattle.h41_deck.specs.declared.calculator.Mode.TheVariants as modes
 use Rattle.h41_deck.specs.declared.refusal.Refusal.{Refusal}
-use Rattle.h41_deck.specs.declared.refusal.Refusal.TheVariants.{UndefinedWord, WordNotInProfile, SystemRom, EmptyPage, PeripheralNotHeld, Asleep, ReadOnly, NoSuchPage, Occupied, NotPlugged, BadImage, OutOfMemory, Busy}
+use Rattle.h41_deck.specs.declared.refusal.Refusal.TheVariants.{UndefinedWord, WordNotInProfile, SystemRom, EmptyPage, PeripheralNotHeld, Asleep, ReadOnly, NoSuchPage, Occupied, NotPlugged, BadImage, OutOfMemory, Busy, NotInProfile, MemoryLost}
 
 -- The state of the calculator.
 pub record State : Type 0 where
   -- the processor, its memory, pages and keys
   pub nut : Nut
   pub mode : Mode
+  -- where the next line stands in program memory, and whether that is line 00, the place before its program's first line
+  pub position : ℕ
+  pub at_line_00 : Bool
+  -- the positions to return to
+  pub returns : List ℕ
 
 -- how many registers main memory has
 abbrev pub registers : ℕ
@@ -37,9 +45,15 @@ registers = 320
 abbrev pub no_key : Keys
 no_key = record { ky = 0; flag = false }
 
--- nothing is plugged, nothing runs, and memory has an empty program
+-- nothing is plugged, nothing runs, and memory has an empty program, at whose line 00 the calculator stands
 abbrev pub start : State
-start = record { nut = nut_of initial (ram.start registers) pages.no_pages no_key; mode = modes.Idle }
+start = record {
+  nut = nut_of initial (ram.start registers) pages.no_pages no_key;
+  mode = modes.Idle;
+  position = 0;
+  at_line_00 = true;
+  returns = [];
+}
 
 abbrev pub is_idle : Mode → Bool
 is_idle modes.Idle = true
@@ -120,15 +134,29 @@ without_page page s = with_pages (pages.unplugged s.nut.pages page) s
 abbrev pub restarted : State → State
 restarted s = with_pages (pages.with_first_banks s.nut.pages) start
 
--- why a step is refused: a word's refusal while a function runs, and nothing else
-abbrev pub step_refusal : State → Option Refusal
-step_refusal s = if is_idle s.mode then None else option_map of_nut (refused s.nut)
+-- the program at a position is empty: the line there is .END.
+abbrev pub IsEmptyFrom : ram.RegisterMap → ℕ → Type 0
+IsEmptyFrom memory at = (final : ListedLine) × LinesFrom memory at (final ∷ []) × IsTrue (is_final_end final.line)
+
+-- why a line is not carried out: 13 until lines are carried out; an empty program has none
+abbrev pub RefusesLine : State → Option Refusal → Type 0
+RefusesLine s None = IsEmptyFrom s.nut.ram s.position
+RefusesLine s (Some why) = (why ≡ NotInProfile) × (IsEmptyFrom s.nut.ram s.position → ⊥)
+
+-- why a step is refused, or that it is not: a word's refusal while a function runs; else 15 where memory is not sound, and
+-- then a line's
+abbrev pub RefusesStepIn : Mode → State → Option Refusal → Type 0
+RefusesStepIn modes.Idle s why = MatchBool (ram.is_sound s.nut.ram) (RefusesLine s why) (why ≡ Some MemoryLost)
+RefusesStepIn modes.Micro s why = why ≡ option_map of_nut (refused s.nut)
+
+abbrev pub RefusesStep : State → Option Refusal → Type 0
+RefusesStep s why = RefusesStepIn s.mode s why
 
 -- a function ends where it arrives at 00F0
 abbrev pub mode_at : ℕ → Mode
 mode_at address = if address == end_of_function then modes.Idle else modes.Micro
 
--- one step: while a function runs the word's change, and its end where it arrives at 00F0; else nothing
+-- one step: while a function runs the word's change, and its end where it arrives at 00F0; else nothing, for the program is empty
 abbrev pub StepIn : Mode → State → State → Type 0
 StepIn modes.Idle s t = t ≡ s
 StepIn modes.Micro s t = Micro s.nut t.nut × (t ≡ record s { nut = t.nut; mode = mode_at t.nut.processor.pc })
@@ -140,4 +168,5 @@ Step s t = StepIn s.mode s t
 abbrev pub Steps : ℕ → State → State → Option Refusal → Type 0
 Steps zero s t refusal = (t ≡ s) × (refusal ≡ None)
 Steps (suc count) s t refusal =
-    MatchOption (step_refusal s) ((next : State) × Step s next × Steps count next t refusal) (λ why. (t ≡ s) × (refusal ≡ Some why))
+    (why : Option Refusal) × RefusesStep s why
+    × MatchOption why ((next : State) × Step s next × Steps count next t refusal) (λ why. (t ≡ s) × (refusal ≡ Some why))

@@ -6,10 +6,12 @@ use Rattle.h41_deck.specs.declared.blocks.Content.{Content}
 use Rattle.h41_deck.specs.declared.blocks.Content.TheVariants as contents
 use Rattle.h41_deck.specs.declared.blocks.page_words.PageWords.{PageWords}
 use Rattle.h41_deck.specs.declared.commands.BlockKind.{BlockKind}
-use Rattle.h41_deck.specs.declared.commands.BlockKind.TheVariants.{Words, Image, Asm}
+use Rattle.h41_deck.specs.declared.commands.BlockKind.TheVariants.{Page, Program}
+use Rattle.h41_deck.specs.declared.commands.PageKind.TheVariants.{Words, Image, Asm}
+use Rattle.h41_deck.specs.declared.commands.ProgramKind.TheVariants.{Bytes, Text}
 use Rattle.h41_deck.specs.declared.refusal.Refusal.{Refusal}
-use Rattle.h41_deck.specs.declared.blocks.page_bytes.PageBytes.{PageBytes}
-use Rattle.h41_deck.specs.declared.blocks.page_source.PageSource.{PageSource}
+use Rattle.h41_deck.specs.declared.blocks.hex_bytes.HexBytes.{HexBytes}
+use Rattle.h41_deck.specs.declared.blocks.source_text.SourceText.{SourceText}
 use Rattle.h41_deck.specs.Blocks.{block_bytes, block_source, block_words, line_bytes, word_values}
 
 abbrev pub unless_fault : Option Refusal → List ℕ → Result (List ℕ) Refusal
@@ -30,12 +32,12 @@ abbrev pub TakesWord : PageWords → List ℕ → PageWords → Type 0
 TakesWord old word new =
     (words : List (List ℕ)) → words_in old ≡ word_values words → words_in new ≡ word_values (words ++ word ∷ [])
 
--- the bytes of an image, or their fault
-abbrev pub bytes_in : PageBytes → Result (List ℕ) Refusal
-bytes_in page = if page.is_wrong then Err BadNumber else Ok page.bytes.items
+-- the bytes of lines, or their fault
+abbrev pub bytes_in : HexBytes → Result (List ℕ) Refusal
+bytes_in said = if said.is_wrong then Err BadNumber else Ok said.bytes.items
 
 -- whatever lines the bytes were those of, they are now those of one line more
-abbrev pub TakesBytes : PageBytes → List ℕ → PageBytes → Type 0
+abbrev pub TakesBytes : HexBytes → List ℕ → HexBytes → Type 0
 TakesBytes old line new =
     (lines : List (List ℕ)) → bytes_in old ≡ block_bytes lines → bytes_in new ≡ block_bytes (lines ++ line ∷ [])
 
@@ -44,12 +46,12 @@ abbrev pub AreBytesOf : List ℕ → Option (Vec ℕ Global) → Type 0
 AreBytesOf line None = is_ok (line_bytes line) ≡ false
 AreBytesOf line (Some bytes) = line_bytes line ≡ Ok bytes.items
 
--- the source of a page's words
-abbrev pub source_in : PageSource → List ℕ
-source_in page = page.text.items
+-- a source or a text
+abbrev pub source_in : SourceText → List ℕ
+source_in said = said.text.items
 
 -- whatever lines the source was that of, it is now that of one line more
-abbrev pub TakesSource : PageSource → List ℕ → PageSource → Type 0
+abbrev pub TakesSource : SourceText → List ℕ → SourceText → Type 0
 TakesSource old line new =
     (lines : List (List ℕ)) → source_in old ≡ block_source lines → source_in new ≡ block_source (lines ++ line ∷ [])
 
@@ -59,9 +61,13 @@ content_in contents.Nothing = Ok []
 content_in (contents.Words words) = words_in words
 content_in (contents.Image bytes) = bytes_in bytes
 content_in (contents.Source source) = Ok (source_in source)
+content_in (contents.Bytes bytes) = bytes_in bytes
+content_in (contents.Text text) = Ok (source_in text)
 
 abbrev pub kind_in : Content → Option BlockKind
 kind_in contents.Nothing = None
-kind_in (contents.Words words) = Some Words
-kind_in (contents.Image bytes) = Some Image
-kind_in (contents.Source source) = Some Asm
+kind_in (contents.Words words) = Some (Page Words)
+kind_in (contents.Image bytes) = Some (Page Image)
+kind_in (contents.Source source) = Some (Page Asm)
+kind_in (contents.Bytes bytes) = Some (Program Bytes)
+kind_in (contents.Text text) = Some (Program Text)

@@ -14,6 +14,8 @@ pub mod Listings
 pub mod ListingRoundTrip
 pub mod Numbers
 pub mod PageViews
+pub mod Programs
+pub mod ProgramTexts
 pub mod Refusals
 pub mod Replies
 pub mod Views

@@ -7,7 +7,7 @@ use Rattle.h41_asm.specs.declared.fault.Fault.TheVariants as asms
 use Rattle.h41_deck.specs.declared.refusal.Detail.{Detail}
 use Rattle.h41_deck.specs.declared.refusal.Detail.TheVariants.{Address, Line}
 use Rattle.h41_deck.specs.declared.refusal.Refusal.{Refusal}
-use Rattle.h41_deck.specs.declared.refusal.Refusal.TheVariants.{NoSuchPage, Occupied, NotPlugged, BadImage, UndefinedWord, WordNotInProfile, SystemRom, EmptyPage, PeripheralNotHeld, Asleep, ReadOnly, OutOfMemory, ReadFault, WriteFault, Busy, BadLine, BadOperand, LabelTwice, NoLabel, TooFar, TooLong, BadCommand, BadNumber, NoEnd, LineTooLong}
+use Rattle.h41_deck.specs.declared.refusal.Refusal.TheVariants.{NoSuchPage, Occupied, NotPlugged, BadImage, UndefinedWord, WordNotInProfile, SystemRom, EmptyPage, PeripheralNotHeld, Asleep, ReadOnly, NotInProfile, BrokenProgram, MemoryLost, NoRoom, SizeTooLarge, OutOfMemory, ReadFault, WriteFault, Busy, BadLine, BadOperand, LabelTwice, NoLabel, TooFar, TooLong, BadText, BadCommand, BadNumber, NoEnd, LineTooLong}
 use Rattle.h41_deck.specs.declared.fault.Fault.{Fault}
 use Rattle.h41_deck.specs.declared.fault.Fault.TheVariants as faults
 
@@ -24,6 +24,11 @@ number_and_name (EmptyPage address) = codes "09 EmptyPage"
 number_and_name (PeripheralNotHeld address) = codes "10 PeripheralNotHeld"
 number_and_name (Asleep address) = codes "11 Asleep"
 number_and_name (ReadOnly address) = codes "12 ReadOnly"
+number_and_name NotInProfile = codes "13 NotInProfile"
+number_and_name BrokenProgram = codes "14 BrokenProgram"
+number_and_name MemoryLost = codes "15 MemoryLost"
+number_and_name NoRoom = codes "16 NoRoom"
+number_and_name SizeTooLarge = codes "17 SizeTooLarge"
 number_and_name OutOfMemory = codes "21 OutOfMemory"
 number_and_name ReadFault = codes "22 ReadFault"
 number_and_name WriteFault = codes "23 WriteFault"
@@ -34,12 +39,13 @@ number_and_name (LabelTwice line) = codes "32 LabelTwice"
 number_and_name (NoLabel line) = codes "33 NoLabel"
 number_and_name (TooFar line) = codes "34 TooFar"
 number_and_name (TooLong line) = codes "35 TooLong"
+number_and_name (BadText line) = codes "41 BadText"
 number_and_name BadCommand = codes "50 BadCommand"
 number_and_name BadNumber = codes "51 BadNumber"
 number_and_name NoEnd = codes "52 NoEnd"
 number_and_name LineTooLong = codes "53 LineTooLong"
 
--- the address, or the line of a source, that a refusal tells, where it tells one
+-- the address, or the line of a source or of a block, that a refusal tells, where it tells one
 abbrev pub detail : Refusal → Option Detail
 detail (UndefinedWord address) = Some (Address address)
 detail (WordNotInProfile address) = Some (Address address)
@@ -54,6 +60,7 @@ detail (LabelTwice line) = Some (Line line)
 detail (NoLabel line) = Some (Line line)
 detail (TooFar line) = Some (Line line)
 detail (TooLong line) = Some (Line line)
+detail (BadText line) = Some (Line line)
 detail refusal = None
 
 -- a blank, and the address of four hexadecimal digits or the line's number

@@ -2,9 +2,11 @@
 use Rattle.std.specs.Prelude.{◌≡◌, ℕ, Bool, true, false, List, [], ◌++◌, Option, Some, None, Result, Ok, Err}
 use Rattle.std.specs.Io.KnownBytes.{Appends, Keeps}
 use Rattle.std.specs.Result.{result_err}
-use Rattle.h41_deck.specs.declared.commands.BlockKind.{BlockKind}
+use Rattle.h41_deck.specs.declared.commands.BlockKind.TheVariants.{Page, Program}
+use Rattle.h41_deck.specs.declared.commands.PageKind.{PageKind}
+use Rattle.h41_deck.specs.declared.commands.ProgramKind.{ProgramKind}
 use Rattle.h41_deck.specs.declared.commands.Command.{Command}
-use Rattle.h41_deck.specs.declared.commands.Command.TheVariants.{Plug, Unplug, Reset, Call, Step, Show}
+use Rattle.h41_deck.specs.declared.commands.Command.TheVariants.{Plug, Load, Unplug, Size, Reset, Call, Step, Show}
 use Rattle.h41_deck.specs.declared.commands.Command.TheVariants as commands
 use Rattle.h41_deck.specs.declared.fault.CommandFault.{CommandFault}
 use Rattle.h41_deck.specs.declared.fault.CommandFault.TheVariants.{OutOfMemory, WriteFault}
@@ -18,7 +20,8 @@ use Rattle.h41_deck.specs.Fillings.{Fills}
 use Rattle.h41_deck.specs.Items.{Spelled, with_values}
 use Rattle.h41_deck.specs.Refusals.{refusal_line}
 use Rattle.h41_deck.specs.Listings.{listed}
-use Rattle.h41_deck.specs.Views.{shown}
+use Rattle.h41_deck.specs.Programs.{Becomes, Loads, Means, size_makes}
+use Rattle.h41_deck.specs.Views.{Shows}
 use Rattle.h41_deck.specs.declared.commands.View.{View}
 
 -- What a command answers: a text, and then its refusal, where it is refused.
@@ -65,16 +68,29 @@ PlugsWords page writable (Ok words) s t answer =
 PlugsWords page writable (Err refusal) s t answer = (t ≡ s) × (answer ≡ ends_by (Some refusal))
 
 -- with the words that a block's values say for it
-abbrev pub Plugs : Option BlockKind → ℕ → Bool → List ℕ → State → State → Answer → Type 0
+abbrev pub Plugs : PageKind → ℕ → Bool → List ℕ → State → State → Answer → Type 0
 Plugs kind page writable values s t answer =
     (words : Result (List ℕ) Refusal) × Fills kind page values words × PlugsWords page writable words s t answer
+
+-- bytes are loaded, or refused; nothing changes where a block says none
+abbrev pub LoadsBytes : Result (List ℕ) Refusal → State → State → Option Refusal → Type 0
+LoadsBytes (Ok bytes) s t refusal = Loads bytes s t refusal
+LoadsBytes (Err why) s t refusal = (t ≡ s) × (refusal ≡ Some why)
+
+-- with the bytes that a block's values mean
+abbrev pub LoadsBlock : ProgramKind → List ℕ → State → State → Option Refusal → Type 0
+LoadsBlock kind values s t refusal = (bytes : Result (List ℕ) Refusal) × Means kind values bytes × LoadsBytes bytes s t refusal
 
 -- each command's change of the calculator, from s to t, and its answer; a command with a block has its block's values
 abbrev pub Reply : Command → List ℕ → State → State → Answer → Type 0
 -- words P [rw], image P [rw], asm P [rw] .. end: the page is plugged with what the block says, or refused
-Reply (Plug kind page writable) values s t answer = Plugs (Some kind) page writable values s t answer
+Reply (Plug kind page writable) values s t answer = Plugs kind page writable values s t answer
+-- load .. end, program .. end: the program that the block says is loaded, or refused: 41, 24, 15, 14, 16
+Reply (Load kind) values s t answer = LoadsBlock kind values s t answer.refusal × (answer.text ≡ [])
 -- unplug P: all banks of the page are taken out, or 1 or 3
 Reply (Unplug page) values s t answer = ChangesUnless (unplug_refusal s page) (without_page page s) s t answer
+-- size n: so many data registers, or 24, 15, 17, 16
+Reply (Size count) values s t answer = Becomes (size_makes s count) s t answer.refusal × (answer.text ≡ [])
 -- reset: as at the start, but that the pages stay plugged
 Reply Reset values s t answer = (t ≡ restarted s) × (answer ≡ ends_by None)
 -- call hhhh: the function runs, or 24 or 8
@@ -84,7 +100,7 @@ Reply (Step count) values s t answer = Steps count s t answer.refusal × (answer
 -- list hhhh n: the words' listing, or 8, 9 or 4, and nothing changes
 Reply (commands.List address count) values s t answer = (t ≡ s) × (answer ≡ says_or_ends (listed s.nut.pages address count))
 -- show WHAT: the view's text, or why it is refused, and nothing changes
-Reply (Show view) values s t answer = (t ≡ s) × (answer ≡ says_or_ends (shown view s))
+Reply (Show view) values s t answer = (t ≡ s) × (made : Result (List ℕ) Refusal) × Shows view s made × (answer ≡ says_or_ends made)
 
 -- what the lines of a command do; those that are refused are answered by their refusal
 abbrev pub ItemReply : Spelled → State → State → Answer → Type 0
@@ -94,7 +110,9 @@ ItemReply (Ok given) s t answer = Reply given.0 given.1 s t answer
 -- the commands that take memory; the others never end a deck for want of it
 abbrev pub takes_memory : Command → Bool
 takes_memory (Plug kind page writable) = true
+takes_memory (Load kind) = true
 takes_memory (Unplug page) = false
+takes_memory (Size count) = false
 takes_memory Reset = false
 takes_memory (Call address) = false
 takes_memory (Step count) = false
@@ -104,7 +122,14 @@ takes_memory (Show view) = true
 -- what a block leaves that fills a page, and the refusal that ended it
 abbrev pub PlugsBlock : TakenBlock → ℕ → Bool → State → State → Result (Unit {0}) Refusal → Type 0
 PlugsBlock block page writable s t ended =
-    (values : List ℕ) × (judgement block ≡ Ok values) × Plugs block.kind page writable values s t (ends_by (result_err ended))
+    (kind : PageKind) × (block.kind ≡ Some (Page kind)) × (values : List ℕ) × (judgement block ≡ Ok values)
+    × Plugs kind page writable values s t (ends_by (result_err ended))
+
+-- what a block leaves that is a program, and the refusal that ended it
+abbrev pub LoadsTaken : TakenBlock → State → State → Result (Unit {0}) Refusal → Type 0
+LoadsTaken block s t ended =
+    (kind : ProgramKind) × (block.kind ≡ Some (Program kind)) × (values : List ℕ) × (judgement block ≡ Ok values)
+    × LoadsBlock kind values s t (result_err ended)
 
 -- how an answer is printed
 abbrev pub ending_line : Option Refusal → List ℕ
@@ -122,9 +147,6 @@ ending_text ended = ending_line (result_err ended)
 abbrev pub shown_text : Result (List ℕ) Refusal → List ℕ
 shown_text (Ok text) = text
 shown_text (Err refusal) = refusal_line refusal
-
-abbrev pub shows : View → State → List ℕ
-shows view s = shown_text (shown view s)
 
 abbrev pub lists : ℕ → ℕ → State → List ℕ
 lists address count s = shown_text (listed s.nut.pages address count)
@@ -155,6 +177,14 @@ abbrev pub Tells : {A W : Type 0} → Result A CommandFault → (W → Option (L
 Tells (Ok done) contents old new text = Appends (contents old) (contents new) text
 Tells (Err WriteFault) contents old new text = AppendsPart (contents old) (contents new) text
 Tells (Err OutOfMemory) contents old new text = Keeps (contents old) (contents new)
+
+-- what a view leaves, by its answer: its text or its refusal, a front of that, or where memory was refused nothing
+abbrev pub TellsView : {W : Type 0} → View → State → Result Outcome CommandFault → (W → Option (List ℕ)) → W → W → Type 0
+TellsView view s (Ok outcome) contents old new =
+    (made : Result (List ℕ) Refusal) × Shows view s made × EndsAs (result_err made) outcome × Appends (contents old) (contents new) (shown_text made)
+TellsView view s (Err WriteFault) contents old new =
+    (made : Result (List ℕ) Refusal) × Shows view s made × AppendsPart (contents old) (contents new) (shown_text made)
+TellsView view s (Err OutOfMemory) contents old new = Keeps (contents old) (contents new)
 
 -- what a command and its block leave, by its answer: their reply, a front of it, or where memory was refused nothing
 abbrev pub Leaves : {W : Type 0} → Result Outcome CommandFault → Spelled → State → State → (W → Option (List ℕ)) → W → W → Type 0

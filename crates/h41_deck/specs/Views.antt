@@ -12,7 +12,7 @@ use Rattle.h41_pages.specs.FunctionTables.{functions}
 use Rattle.h41_ram.specs.RegisterMap.{RegisterMap, flag_of, register_at}
 use Rattle.h41_nut.specs.Processor.{Processor}
 use Rattle.h41_deck.specs.declared.commands.View.{View}
-use Rattle.h41_deck.specs.declared.commands.View.TheVariants.{Cpu, Register, Stack, Flags, Alpha, Display, Position, Image, Functions}
+use Rattle.h41_deck.specs.declared.commands.View.TheVariants.{Cpu, Register, Stack, Flags, Alpha, Display, Position, Lines, Image, Functions}
 use Rattle.h41_deck.specs.declared.calculator.Mode.{Mode}
 use Rattle.h41_deck.specs.declared.calculator.Mode.TheVariants as modes
 use Rattle.h41_pages.specs.PageMap.{PageMap}
@@ -20,6 +20,7 @@ use Rattle.h41_deck.specs.Calculator.{State, image_refusal}
 use Rattle.h41_deck.specs.Display.{alpha_line, display_line}
 use Rattle.h41_deck.specs.declared.refusal.Refusal.{Refusal}
 use Rattle.h41_deck.specs.PageViews.{two_digits, functions_text, image_at_text}
+use Rattle.h41_deck.specs.Programs.{ListsProgram, position_digits}
 
 abbrev pub bit_text : Bool → List ℕ
 bit_text bit = if bit then codes "1" else codes "0"
@@ -76,9 +77,9 @@ flags_below count ram = join_with_byte 32 (map two_digits (filter (flag_of ram) 
 unfoldable pub flags_line : RegisterMap → List ℕ
 flags_line ram = flags_below 56 ram ++ codes "\n"
 
--- the mode, and the address of the next word; while nothing runs it is 0000, until there are positions in program memory
+-- the mode, and the address of the next word; while nothing runs the position in program memory
 abbrev pub position_line : State → Mode → List ℕ
-position_line s modes.Idle = codes "Idle 0000\n"
+position_line s modes.Idle = codes "Idle " ++ position_digits s.position ++ codes "\n"
 position_line s modes.Micro = codes "Micro " ++ hexadecimal_text 4 s.nut.processor.pc ++ codes "\n"
 
 -- the line of where the calculator is
@@ -95,16 +96,17 @@ abbrev pub image_view : PageMap → ℕ → Result (List ℕ) Refusal
 image_view pages page = text_unless (image_refusal pages page) (image_at_text pages page)
 
 -- the text of each view, or why it is refused
-abbrev pub shown : View → State → Result (List ℕ) Refusal
-shown Cpu s = Ok (processor_text s.nut.processor s.nut.keys)
-shown (Register address) s = Ok (register_line s.nut.ram address)
-shown Stack s = Ok (stack_text s.nut.ram)
-shown Flags s = Ok (flags_line s.nut.ram)
-shown Alpha s = Ok (alpha_line s)
-shown Display s = Ok (display_line s)
-shown Position s = Ok (position_text s)
-shown (Image page) s = image_view s.nut.pages page
-shown Functions s = Ok (functions_text (functions s.nut.pages))
+abbrev pub Shows : View → State → Result (List ℕ) Refusal → Type 0
+Shows Cpu s made = made ≡ Ok (processor_text s.nut.processor s.nut.keys)
+Shows (Register address) s made = made ≡ Ok (register_line s.nut.ram address)
+Shows Stack s made = made ≡ Ok (stack_text s.nut.ram)
+Shows Flags s made = made ≡ Ok (flags_line s.nut.ram)
+Shows Alpha s made = made ≡ Ok (alpha_line s)
+Shows Display s made = made ≡ Ok (display_line s)
+Shows Position s made = made ≡ Ok (position_text s)
+Shows Lines s made = (listing : List ℕ) × ListsProgram s.nut.ram listing × (made ≡ Ok listing)
+Shows (Image page) s made = made ≡ image_view s.nut.pages page
+Shows Functions s made = made ≡ Ok (functions_text (functions s.nut.pages))
 
 -- what was made is the text of a view, or why it is refused
 abbrev pub text_in : Result (Vec ℕ Global) Refusal → Result (List ℕ) Refusal
@@ -112,7 +114,7 @@ text_in (Ok text) = Ok text.items
 text_in (Err refusal) = Err refusal
 
 abbrev pub IsShown : View → State → Result (Vec ℕ Global) Refusal → Type 0
-IsShown view s made = text_in made ≡ shown view s
+IsShown view s made = Shows view s (text_in made)
 
 abbrev pub IsImageShown : PageMap → ℕ → Result (Vec ℕ Global) Refusal → Type 0
 IsImageShown pages page made = text_in made ≡ image_view pages page

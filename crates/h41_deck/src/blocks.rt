@@ -1,24 +1,25 @@
 //! The block of a command: one mechanism for all kinds, which takes the lines one at a time and is judged in one place.
 
-ghost use Rattle.std.specs.Prelude.{◌≡◌, ◌≤◌, IfOk, IsSome, None, vec_len};
+ghost use Rattle.std.specs.Prelude.{◌≡◌, ◌≤◌, IfOk, None, vec_len};
 ghost use Rattle.std.specs.Result.{result_err};
 ghost use Rattle.h41_pages.specs.Addresses.{page_size};
 ghost use Rattle.h41_deck.specs.Blocks.{IsNew, Takes, judgement};
 ghost use Rattle.h41_deck.specs.Commands.{kind_of};
-ghost use Rattle.h41_deck.specs.Fillings.{FillsBy};
+ghost use Rattle.h41_deck.specs.Fillings.{FillsBy, IsForPage, IsForProgram, MeansBy};
 
-use crate::blocks::page_bytes::PageBytes;
-use crate::blocks::page_source::PageSource;
+use crate::blocks::hex_bytes::HexBytes;
 use crate::blocks::page_words::PageWords;
-use crate::commands::{BlockKind, Command};
+use crate::blocks::source_text::SourceText;
+use crate::commands::{BlockKind, Command, PageKind, ProgramKind};
 use crate::lines::line::is_long;
 use crate::refusal::Refusal;
 use std::alloc::{AllocError, Global};
 use std::marker::Model;
 
-pub mod page_bytes;
-pub mod page_source;
+pub mod hex_bytes;
 pub mod page_words;
+mod program_text;
+pub mod source_text;
 
 /// The block of a command: what its lines have said so far. A command that has none has an empty one.
 #[derive(Debug, Drop)]
@@ -35,9 +36,13 @@ enum Content {
     /// The words of a page.
     Words(PageWords),
     /// The bytes of a page's image.
-    Image(PageBytes),
+    Image(HexBytes),
     /// The source of a page's words.
-    Source(PageSource),
+    Source(SourceText),
+    /// The bytes of a program.
+    Bytes(HexBytes),
+    /// The text of a program.
+    Text(SourceText),
 }
 
 impl Model for Block {
@@ -67,9 +72,11 @@ impl Block {
     {
         let content = match kind {
             None => Content::Nothing,
-            Some(BlockKind::Words) => Content::Words(PageWords::new(alloc)),
-            Some(BlockKind::Image) => Content::Image(PageBytes::new(alloc)),
-            Some(BlockKind::Asm) => Content::Source(PageSource::new(alloc)),
+            Some(BlockKind::Page(PageKind::Words)) => Content::Words(PageWords::new(alloc)),
+            Some(BlockKind::Page(PageKind::Image)) => Content::Image(HexBytes::new(alloc)),
+            Some(BlockKind::Page(PageKind::Asm)) => Content::Source(SourceText::new(alloc)),
+            Some(BlockKind::Program(ProgramKind::Bytes)) => Content::Bytes(HexBytes::new(alloc)),
+            Some(BlockKind::Program(ProgramKind::Text)) => Content::Text(SourceText::new(alloc)),
         };
         Block {
             content,
@@ -91,6 +98,8 @@ impl Block {
             Content::Words(words) => words.add_line(text),
             Content::Image(bytes) => bytes.add_line(text),
             Content::Source(source) => source.add_line(text),
+            Content::Bytes(bytes) => bytes.add_line(text),
+            Content::Text(lines) => lines.add_line(text),
         }
     }
 
@@ -100,9 +109,10 @@ impl Block {
     {
         match &self.content {
             _ if self.has_long => Some(Refusal::LineTooLong),
-            Content::Nothing | Content::Source(_) => None,
+            Content::Nothing | Content::Source(_) | Content::Text(_) => None,
             Content::Words(words) => words.refusal(),
-            Content::Image(bytes) => bytes.refusal(),
+            Content::Image(bytes) => bytes.image_refusal(),
+            Content::Bytes(bytes) => bytes.refusal(),
         }
     }
 
@@ -112,7 +122,7 @@ impl Block {
         alloc: Global,
         page: u8,
     ) -> Result<Result<Vec<u16>, Refusal>, AllocError>
-        requires kind { IsSome self.kind }
+        requires kind { IsForPage self }
         requires accepted { result_err (judgement self) ≡ None }
         ensures words { IfOk result (FillsBy self page) }
         ensures bound { IfOk result (λ made. IfOk made (λ words. vec_len words ≤ page_size)) }
@@ -121,7 +131,22 @@ impl Block {
             Content::Words(words) => Ok(Ok(words.into_words())),
             Content::Image(bytes) => Ok(Ok(bytes.into_words(alloc)?)),
             Content::Source(source) => source.into_words(alloc, page),
-            Content::Nothing => unreachable!(),
+            Content::Nothing | Content::Bytes(_) | Content::Text(_) => unreachable!(),
+        }
+    }
+
+    /// The bytes of a program that its lines say, or why they say none (41). 21 where memory is refused.
+    pub(crate) fn into_bytes(self, alloc: Global) -> Result<Result<Vec<u8>, Refusal>, AllocError>
+        requires kind { IsForProgram self }
+        requires accepted { result_err (judgement self) ≡ None }
+        ensures bytes { IfOk result (MeansBy self) }
+    {
+        match self.content {
+            Content::Bytes(bytes) => Ok(Ok(bytes.into_bytes())),
+            Content::Text(text) => text.into_bytes(alloc),
+            Content::Nothing | Content::Words(_) | Content::Image(_) | Content::Source(_) => {
+                unreachable!()
+            }
         }
     }
 }

@@ -1,19 +1,29 @@
 //! The calculator: processor, memory, pages and keys, and what it does.
 
-ghost use Rattle.std.specs.Prelude.{◌≡◌, None, IfOk, IfErr, OnOk, OnErr};
+ghost use Rattle.std.specs.Prelude.{◌≡◌, ◌<◌, ◌↔◌, IsTrue, None, IfOk, IfErr, OnOk, OnErr};
 ghost use Rattle.std.specs.Result.{result_err};
 ghost use Rattle.h41_pages.specs.PageMap.{unplug_refusal};
-ghost use Rattle.h41_deck.specs.Calculator.{RefusesPage, Step, TakesPage, call_refusal, called, restarted, start, step_refusal, with_page, without_page};
+ghost use Rattle.h41_deck.specs.Calculator.{IsEmptyFrom, RefusesPage, RefusesStep, RefusesStepIn, Step, StepIn, TakesPage, call_refusal, called, restarted, start, with_page, without_page};
+ghost use Rattle.h41_deck.specs.declared.calculator.Mode.TheVariants.{Idle, Micro};
+ghost use Rattle.h41_program.specs.Lines as lines;
+ghost use Rattle.h41_ram.specs.RegisterMap.{is_sound};
+ghost use Rattle.h41_deck.specs.Programs.{Becomes, Loads, change_refusal, size_makes};
 
 use crate::refusal::Refusal;
+use arrayvec::ArrayVec;
+use h41_codes::Line;
 use h41_nut::{Cpu, END_OF_FUNCTION, Keys, step};
 use h41_pages::{FIRST_ADDRESS, Pages, PlugRefusal, UnplugRefusal};
+use h41_program::{first_from, load, set_size};
 use h41_ram::Ram;
 use std::alloc::{AllocError, Global};
 use std::marker::Model;
 
 /// How many registers main memory has.
 pub const REGISTERS: usize = 320;
+
+/// How many positions of a program can be returned to.
+const RETURNS: usize = 6;
 
 /// What the calculator does.
 #[derive(Clone, Copy, Debug, PartialEq, Eq)]
@@ -32,6 +42,13 @@ pub struct Calculator {
     pages: Pages,
     keys: Keys,
     mode: Mode,
+    /// Where the next line stands in program memory: bytes are counted from 0.
+    position: u16,
+    /// Whether that is line 00, the place before its program's first line.
+    is_at_line_00: bool,
+    /// The positions to return to.
+    returns: ArrayVec<u16, RETURNS>,
+    ghost printed: { position < 10000 },
 }
 
 impl Model for Calculator {
@@ -40,7 +57,13 @@ impl Model for Calculator {
 
     ghost Value = { State };
 
-    ghost view = { λ all. record { nut = nut_of all.cpu all.ram all.pages all.keys; mode = all.mode } };
+    ghost view = { λ all. record {
+      nut = nut_of all.cpu all.ram all.pages all.keys;
+      mode = all.mode;
+      position = all.position;
+      at_line_00 = all.is_at_line_00;
+      returns = all.returns.items;
+    } };
 }
 
 impl Calculator {
@@ -54,6 +77,9 @@ impl Calculator {
             pages: Pages::new(alloc)?,
             keys: Keys::new(),
             mode: Mode::Idle,
+            position: 0,
+            is_at_line_00: true,
+            returns: ArrayVec::new(),
         })
     }
 
@@ -92,6 +118,14 @@ impl Calculator {
         &self.keys
     }
 
+    /// Where the next line stands in program memory. A position counts bytes from 0, below 10,000.
+    pub fn position(&self) -> u16
+        ensures value { result ≡ self.now.position }
+        ensures printed { result < 10000 }
+    {
+        self.position
+    }
+
     /// Begins the function at an address. Refused as 24 while a function runs, and as 8 below address 4000, 00F0 with
     /// them: a call is no arrival. Nothing is changed then.
     pub fn call(&mut self, address: u16) -> Result<(), Refusal>
@@ -110,16 +144,51 @@ impl Calculator {
         Ok(())
     }
 
-    /// One step: a word while a function runs, which ends where it arrives at 00F0, and else nothing. A word is refused
-    /// as 6 to 12, and nothing is changed then.
+    /// One step: a word while a function runs, which ends where it arrives at 00F0, and else a line. A word is refused
+    /// as 6 to 12, a line as 15 and 13, and nothing is changed then.
     pub fn step(&mut self) -> Result<(), Refusal>
-        ensures refusal { result_err result ≡ step_refusal self.old }
+        ensures refusal { RefusesStep self.old (result_err result) }
         ensures change { OnOk result (Step self.old self.new) }
         ensures err { OnErr result (self.new ≡ self.old) }
     {
-        if self.mode == Mode::Idle {
-            return Ok(());
+        match self.mode {
+            Mode::Idle => self.step_line(),
+            Mode::Micro => self.step_word(),
         }
+    }
+
+    /// One line. Refused as 15 where memory is not sound, and as 13 until lines are carried out; over an empty program
+    /// there is nothing to do.
+    fn step_line(&self) -> Result<(), Refusal>
+        ensures { RefusesStepIn Idle self.now (result_err result) }
+    {
+        if !self.ram.is_sound() {
+            return Err(Refusal::MemoryLost);
+        }
+        if !self.is_program_empty() {
+            return Err(Refusal::NotInProfile);
+        }
+        Ok(())
+    }
+
+    /// Whether the program at the position is empty: the line there is `.END.`.
+    fn is_program_empty(&self) -> bool
+        requires { IsTrue (is_sound self.now.nut.ram) }
+        ensures { IsTrue result ↔ IsEmptyFrom self.now.nut.ram self.now.position }
+    {
+        match first_from(&self.ram, self.position) {
+            Some(found) => is_final_end(&found.listed.line),
+            None => false,
+        }
+    }
+
+    /// One word, while a function runs.
+    fn step_word(&mut self) -> Result<(), Refusal>
+        requires { self.old.mode ≡ Micro }
+        ensures refusal { RefusesStepIn Micro self.old (result_err result) }
+        ensures change { OnOk result (StepIn Micro self.old self.new) }
+        ensures err { OnErr result (self.new ≡ self.old) }
+    {
         step(
             &mut self.cpu,
             &mut self.ram,
@@ -128,6 +197,42 @@ impl Calculator {
         )?;
         if self.cpu.pc() == END_OF_FUNCTION {
             self.mode = Mode::Idle;
+        }
+        Ok(())
+    }
+
+    /// Loads the lines of bytes behind the programs of memory, goes to line 00 of the first of them, and forgets the positions
+    /// to return to. Refused as 24 while a function runs, as 15 where memory is not sound, as 14 where bytes of memory or of
+    /// these are no line, as 16 where there is no room. Nothing is changed then.
+    pub fn load(&mut self, bytes: &[u8]) -> Result<(), Refusal>
+        ensures { Loads bytes.now self.old self.new (result_err result) }
+    {
+        self.check_change()?;
+        let position = load(&mut self.ram, bytes)?;
+        self.position = position;
+        self.is_at_line_00 = true;
+        self.returns.clear();
+        Ok(())
+    }
+
+    /// Gives memory so many data registers. Refused as 24 while a function runs, as 15 where memory is not sound, as 17
+    /// where there are not more registers, as 16 where there is no room. Nothing is changed then.
+    pub fn set_size(&mut self, count: u16) -> Result<(), Refusal>
+        ensures { Becomes (size_makes self.old count) self.old self.new (result_err result) }
+    {
+        self.check_change()?;
+        Ok(set_size(&mut self.ram, count)?)
+    }
+
+    /// Whether programs can be changed: 24 while a function runs, 15 where memory is not sound.
+    fn check_change(&self) -> Result<(), Refusal>
+        ensures { result_err result ≡ change_refusal self.now }
+    {
+        if self.mode != Mode::Idle {
+            return Err(Refusal::Busy);
+        }
+        if !self.ram.is_sound() {
+            return Err(Refusal::MemoryLost);
         }
         Ok(())
     }
@@ -170,5 +275,15 @@ impl Calculator {
         self.pages.choose_first_banks();
         self.keys = Keys::new();
         self.mode = Mode::Idle;
+        self.position = 0;
+        self.is_at_line_00 = true;
+        self.returns.clear();
     }
+}
+
+/// Whether a line is `.END.`, the last of program memory.
+pub(crate) fn is_final_end(line: &Line) -> bool
+    ensures { result ≡ lines.is_final_end line.now }
+{
+    matches!(line, Line::FinalEnd(_, _))
 }

@@ -5,15 +5,33 @@ ghost use Rattle.std.specs.Prelude.{◌≡◌};
 pub mod number;
 pub mod parse;
 
-/// What the lines of a command's block are.
+/// What a command's block is for.
 #[derive(Clone, Copy, Debug, PartialEq, Eq)]
 pub enum BlockKind {
+    /// A page.
+    Page(PageKind),
+    /// A program.
+    Program(ProgramKind),
+}
+
+/// What the lines of a page's block are.
+#[derive(Clone, Copy, Debug, PartialEq, Eq)]
+pub enum PageKind {
     /// Words of a page, of 1 to 3 hexadecimal digits each.
     Words,
     /// The bytes of a page's image, of 2 hexadecimal digits each.
     Image,
     /// The source of a page's words, for the assembler.
     Asm,
+}
+
+/// What the lines of a program's block are.
+#[derive(Clone, Copy, Debug, PartialEq, Eq)]
+pub enum ProgramKind {
+    /// `load`: the bytes of a program, of 2 hexadecimal digits each.
+    Bytes,
+    /// `program`: the text of a program, a line of it on each.
+    Text,
 }
 
 impl BlockKind {
@@ -23,10 +41,14 @@ impl BlockKind {
     pub(crate) fn of_word(word: &[u8]) -> Option<Self>
         ensures { result ≡ kind_of_word word.now }
     {
+        if word == b"program".as_slice() {
+            return Some(BlockKind::Program(ProgramKind::Text));
+        }
         match word {
-            b"words" => Some(BlockKind::Words),
-            b"image" => Some(BlockKind::Image),
-            b"asm" => Some(BlockKind::Asm),
+            b"load" => Some(BlockKind::Program(ProgramKind::Bytes)),
+            b"words" => Some(BlockKind::Page(PageKind::Words)),
+            b"image" => Some(BlockKind::Page(PageKind::Image)),
+            b"asm" => Some(BlockKind::Page(PageKind::Asm)),
             _ => None,
         }
     }
@@ -49,6 +71,8 @@ pub enum View {
     Display,
     /// `pos`: the mode, and the position in it.
     Position,
+    /// `lines`: the lines of program memory.
+    Lines,
     /// `image P`: the image at page P, 0 to 15. Pages 0 to 3 are refused when it is carried out.
     Image(u8),
     /// `functions`: the functions of the modules that are plugged.
@@ -61,12 +85,16 @@ pub enum Command {
     /// `words P [rw]`, `image P [rw]` or `asm P [rw]`, with a block up to `end`: plugs what the block says at page P, 0 to 15,
     /// writable with `rw`. Pages 0 to 3 are refused when it is carried out.
     Plug {
-        kind: BlockKind,
+        kind: PageKind,
         page: u8,
         writable: bool,
     },
+    /// `load` or `program`, with a block up to `end`: loads the program that the block says behind those in memory.
+    Load(ProgramKind),
     /// `unplug P`: takes out all banks of page P, 0 to 15. Pages 0 to 3 are refused when it is carried out.
     Unplug(u8),
+    /// `size n`: gives memory n data registers, 0 to 9,999. 320 and above are refused when it is carried out.
+    Size(u16),
     /// `reset`: all as at the start, but for the pages, which stay plugged.
     Reset,
     /// `call hhhh`: begins the function at an address.
@@ -90,7 +118,8 @@ impl Command {
         ensures { result ≡ kind_of self }
     {
         match self {
-            Command::Plug { kind, .. } => Some(kind),
+            Command::Plug { kind, .. } => Some(BlockKind::Page(kind)),
+            Command::Load(kind) => Some(BlockKind::Program(kind)),
             _ => None,
         }
     }

@@ -51,7 +51,7 @@ impl<'a> Iterator for Lines<'a> {
 }
 
 /// Where the first LF of a deck stands.
-fn line_end(deck: &[u8]) -> Option<usize>
+pub fn line_end(deck: &[u8]) -> Option<usize>
     ensures { result ≡ position (λ byte. byte == 10) deck.now }
 {
     deck.iter().position(|byte| *byte == b'\n')

@@ -11,6 +11,7 @@ use arrayvec::ArrayString;
 use h41_asm::Fault as AsmFault;
 use h41_nut::Refusal as NutRefusal;
 use h41_pages::{FetchRefusal, ImageRefusal, PlugRefusal, UnplugRefusal};
+use h41_program::Refusal as ProgramRefusal;
 use itoa::Buffer;
 
 /// The most bytes of a refusal's line: 22 without its detail, a blank, the 20 digits of a line's number, and LF.
@@ -42,6 +43,16 @@ pub enum Refusal {
     Asleep(u16),
     /// 12: the page of this address is not plugged as writable.
     ReadOnly(u16),
+    /// 13: this line of a program is not carried out.
+    NotInProfile,
+    /// 14: bytes of a program are no line.
+    BrokenProgram,
+    /// 15: memory is not sound.
+    MemoryLost,
+    /// 16: program memory would pass below main memory.
+    NoRoom,
+    /// 17: there are not more registers than that.
+    SizeTooLarge,
     /// 21: no memory is left.
     OutOfMemory,
     /// 22: the input cannot be read, or is too long.
@@ -62,6 +73,8 @@ pub enum Refusal {
     TooFar(usize),
     /// 35: a word or the label of this line of a source is past FFFF.
     TooLong(usize),
+    /// 41: this line of a block is the text of no line of a program.
+    BadText(usize),
     /// 50: no command, or a word of it is missing or too many.
     BadCommand,
     /// 51: a number that is none, or is out of its range.
@@ -114,6 +127,11 @@ impl Refusal {
             Refusal::PeripheralNotHeld(_) => "! 10 PeripheralNotHeld",
             Refusal::Asleep(_) => "! 11 Asleep",
             Refusal::ReadOnly(_) => "! 12 ReadOnly",
+            Refusal::NotInProfile => "! 13 NotInProfile",
+            Refusal::BrokenProgram => "! 14 BrokenProgram",
+            Refusal::MemoryLost => "! 15 MemoryLost",
+            Refusal::NoRoom => "! 16 NoRoom",
+            Refusal::SizeTooLarge => "! 17 SizeTooLarge",
             Refusal::OutOfMemory => "! 21 OutOfMemory",
             Refusal::ReadFault => "! 22 ReadFault",
             Refusal::WriteFault => "! 23 WriteFault",
@@ -124,6 +142,7 @@ impl Refusal {
             Refusal::NoLabel(_) => "! 33 NoLabel",
             Refusal::TooFar(_) => "! 34 TooFar",
             Refusal::TooLong(_) => "! 35 TooLong",
+            Refusal::BadText(_) => "! 41 BadText",
             Refusal::BadCommand => "! 50 BadCommand",
             Refusal::BadNumber => "! 51 BadNumber",
             Refusal::NoEnd => "! 52 NoEnd",
@@ -148,7 +167,8 @@ impl Refusal {
             | Refusal::LabelTwice(line)
             | Refusal::NoLabel(line)
             | Refusal::TooFar(line)
-            | Refusal::TooLong(line) => Some(Detail::Line(line)),
+            | Refusal::TooLong(line)
+            | Refusal::BadText(line) => Some(Detail::Line(line)),
             _ => None,
         }
     }
@@ -228,6 +248,21 @@ impl From<FetchRefusal> for Refusal {
         match refusal {
             FetchRefusal::SystemRom(address) => Refusal::SystemRom(address),
             FetchRefusal::EmptyPage(address) => Refusal::EmptyPage(address),
+        }
+    }
+}
+
+impl From<ProgramRefusal> for Refusal {
+    ghost use Rattle.std.specs.Prelude.{◌≡◌};
+    ghost use Rattle.h41_deck.specs.Programs.{of_program};
+
+    ghost from_gives = { λ refusal own. own ≡ of_program refusal };
+
+    fn from(refusal: ProgramRefusal) -> Self {
+        match refusal {
+            ProgramRefusal::BrokenProgram => Refusal::BrokenProgram,
+            ProgramRefusal::NoRoom => Refusal::NoRoom,
+            ProgramRefusal::SizeTooLarge => Refusal::SizeTooLarge,
         }
     }
 }

@@ -7,9 +7,10 @@ ghost use Rattle.h41_deck.specs.Blocks.{judgement};
 ghost use Rattle.h41_deck.specs.Calculator.{unplug_refusal, without_page};
 ghost use Rattle.h41_deck.specs.Commands.{kind_of};
 ghost use Rattle.h41_deck.specs.Ends.{Writes};
-ghost use Rattle.h41_deck.specs.Replies.{Does, EndsAs, PlugsBlock, RefusedAs, Tells, block_refusal, ending_text, lists, shown_text, shows, takes_memory, with_block};
+ghost use Rattle.h41_deck.specs.Fillings.{IsForPage, IsForProgram};
+ghost use Rattle.h41_deck.specs.Replies.{Does, EndsAs, LoadsTaken, PlugsBlock, RefusedAs, TellsView, Tells, block_refusal, ending_text, lists, shown_text, takes_memory, with_block};
 ghost use Rattle.h41_deck.specs.Listings.{listed};
-ghost use Rattle.h41_deck.specs.Views.{shown, text_in};
+ghost use Rattle.h41_deck.specs.Views.{text_in};
 
 use crate::bench::Bench;
 use crate::blocks::Block;
@@ -32,6 +33,7 @@ mod listing;
 mod memory;
 mod position;
 mod processor;
+mod program;
 mod view;
 
 /// The bank of a page that a deck's blocks fill.
@@ -93,7 +95,9 @@ pub fn apply<W: Sink>(
     }
     let ended = match command {
         Command::Plug { page, writable, .. } => { plug(alloc, bench, block, page, writable)? }
+        Command::Load(_kind) => load(alloc, bench, block)?,
         Command::Unplug(page) => unplug(bench, page),
+        Command::Size(count) => bench.calculator.set_size(count),
         Command::Reset => {
             bench.calculator.reset();
             Ok(())
@@ -114,7 +118,7 @@ fn plug(
     page: u8,
     writable: bool,
 ) -> Result<Result<(), Refusal>, AllocError>
-    requires kind { IsSome block.kind }
+    requires kind { IsForPage block }
     requires accepted { result_err (judgement block) ≡ None }
     ensures plugs { IfOk result (PlugsBlock block page writable bench.old bench.new) }
     ensures err { OnErr result (bench.new ≡ bench.old) }
@@ -149,6 +153,19 @@ fn plug_words(
     }
 }
 
+/// Loads the program that a block says. 21 where memory is refused: nothing is changed then.
+fn load(alloc: Global, bench: &mut Bench, block: Block) -> Result<Result<(), Refusal>, AllocError>
+    requires kind { IsForProgram block }
+    requires accepted { result_err (judgement block) ≡ None }
+    ensures loads { IfOk result (LoadsTaken block bench.old bench.new) }
+    ensures err { OnErr result (bench.new ≡ bench.old) }
+{
+    match block.into_bytes(alloc)? {
+        Ok(bytes) => Ok(bench.calculator.load(&bytes)),
+        Err(refusal) => Ok(Err(refusal)),
+    }
+}
+
 /// Takes out all banks of a page.
 fn unplug(bench: &mut Bench, page: u8) -> Result<(), Refusal>
     ensures refusal { result_err result ≡ unplug_refusal bench.old page }
@@ -166,8 +183,7 @@ fn show<W: Sink>(
     writer: &mut W,
 ) -> Result<Outcome, CommandFault>
     requires { W.failed writer.old ≡ false }
-    ensures outcome { IfOk result (EndsAs (result_err (shown view bench.now))) }
-    ensures written { Tells result W.contents writer.old writer.new (shows view bench.now) }
+    ensures view { TellsView view bench.now result W.contents writer.old writer.new }
     ensures mark { result ≡ Err CommandFault.WriteFault → W.failed writer.new ≡ true }
     ensures clear { result ≢ Err CommandFault.WriteFault → W.failed writer.new ≡ false }
 {

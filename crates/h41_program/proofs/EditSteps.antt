@@ -10,11 +10,10 @@ use Rattle.h41_program.specs.declared.listed_line.ListedLine.{ListedLine}
 use Rattle.h41_program.specs.declared.packer.Packer.{Packer}
 use Rattle.h41_program.specs.declared.refusal.Refusal.{Refusal}
 use Rattle.h41_program.specs.declared.refusal.Refusal.TheVariants.{BrokenProgram}
-use Rattle.h41_program.specs.Edits.{before_end, has_line_at, own_line, with_inserted, with_replaced, without_deleted, answered, changed_outcome, edit_outcome, edit_from}
+use Rattle.h41_program.specs.Edits.{before_end, has_line_at, own_line, with_inserted, with_replaced, without_deleted, answered, changed_outcome}
 use Rattle.h41_program.specs.Lines.{is_final_end}
 use Rattle.h41_program.specs.Packers.{Packs}
-use Rattle.h41_program.specs.ProgramLines.{Reads, NoneFrom, line_of}
-use Rattle.h41_program.specs.Reading.{IsFirst}
+use Rattle.h41_program.specs.ProgramLines.{IsFirst, Reads, NoneFrom}
 use Rattle.h41_program.specs.Rewriting.{Gives, written}
 use Rattle.h41_program.proofs.Walks.{UpTo, ends_none, ends_final, before_end-none, before_end-final}
 
@@ -150,27 +149,3 @@ changed_refused old change lines result refusal false matches err = (same_refusa
   where
     same_refusal : (result : Result Packer Refusal) (refusal : Refusal) → result ≡ Err refusal → result ≡ Err BrokenProgram → ◌≡◌ {A = Result (Unit {0}) Refusal} (Err refusal) (Err BrokenProgram)
     same_refusal result refusal one other = let e : refusal ≡ BrokenProgram = cc in ap (λ (r : Refusal). Err r) e
-
--- the line that a position stands for
-pub edited_from : (change : ℕ → ListedLine → List Line) (old new : RegisterMap) (result : Result (Unit {0}) Refusal) (lines onward : List ListedLine) (listed : ListedLine)
-    → Ok listed ≡ line_of onward → Gives old new result (edit_outcome old (change listed.position) listed.position lines) → Gives old new result (edit_from old change lines onward)
-edited_from change old new result lines [] listed same gives = absurd (no_ok listed same)
-  where
-    no_ok : (listed : ListedLine) → ◌≡◌ {A = Result ListedLine Refusal} (Ok listed) (Err BrokenProgram) → ⊥
-    no_ok listed same = cc
-edited_from change old new result lines (first ∷ rest) listed same gives =
-    subst (λ (l : ListedLine). Gives old new result (edit_outcome old (change l.position) l.position lines)) (one listed first same) gives
-  where
-    one : (listed first : ListedLine) → ◌≡◌ {A = Result ListedLine Refusal} (Ok listed) (Ok first) → listed ≡ first
-    one listed first same = cc
-
-pub refused_from : (change : ℕ → ListedLine → List Line) (old : RegisterMap) (lines onward : List ListedLine) (refusal : Refusal)
-    → Err refusal ≡ line_of onward → Gives {A = Unit {0}} old old (Err refusal) (edit_from old change lines onward)
-refused_from change old lines [] refusal same = (ap_err refusal same, refl)
-  where
-    ap_err : (refusal : Refusal) → ◌≡◌ {A = Result ListedLine Refusal} (Err refusal) (Err BrokenProgram) → ◌≡◌ {A = Result (Unit {0}) Refusal} (Err refusal) (Err BrokenProgram)
-    ap_err refusal same = let e : refusal ≡ BrokenProgram = cc in ap (λ (r : Refusal). Err r) e
-refused_from change old lines (first ∷ rest) refusal same = absurd (no_err refusal first same)
-  where
-    no_err : (refusal : Refusal) (first : ListedLine) → ◌≡◌ {A = Result ListedLine Refusal} (Err refusal) (Ok first) → ⊥
-    no_err refusal first same = cc

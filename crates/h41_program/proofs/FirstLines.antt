@@ -76,7 +76,7 @@ null_begins (byte ∷ bytes) some null = record {
 }
 
 -- and with no other line
-only_null : OneLine → (bytes : List ℕ) (line : Line) (count : ℕ) → 1 ≤ length bytes → get_or bytes 0 0 ≡ 0 → Begins bytes line count → line ≡ Null
+pub only_null : OneLine → (bytes : List ℕ) (line : Line) (count : ℕ) → 1 ≤ length bytes → get_or bytes 0 0 ≡ 0 → Begins bytes line count → line ≡ Null
 only_null one bytes line count some null begins = (one bytes line Null count 1 begins (null_begins bytes some null)).0
 
 -- nulls were passed over up to a position

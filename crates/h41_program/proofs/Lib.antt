@@ -1,3 +1,4 @@
+pub mod Determined
 pub mod Givens
 pub mod LineLengths
 pub mod ListLaws

@@ -1,16 +1,17 @@
 -- The steps of a load, one after the other.
 use Rattle.std.proofs.Common.{◌≡◌, ℕ, ◌+◌, ◌<◌, ◌≤◌, inl, inr, List, ◌++◌, length, refl, sym, ◌∙◌, ap, subst, arith, Option, Some, None, Result, Ok, Err}
 use Rattle.std.specs.Prelude.{MatchOption, IsOkAnd}
-use Rattle.std.proofs.lemmas.Bool.{cases_Bool}
+use Rattle.std.proofs.lemmas.Bool.{cases_Bool, cases_lt}
 use Rattle.h41_codes.specs.declared.line.Line.{Line}
 use Rattle.h41_ram.specs.RegisterMap.{RegisterMap, main_start, curtain_of}
 use Rattle.h41_program.specs.declared.listed_line.ListedLine.{ListedLine}
 use Rattle.h41_program.specs.declared.packer.Packer.{Packer}
 use Rattle.h41_program.specs.declared.refusal.Refusal.{Refusal}
 use Rattle.h41_program.specs.declared.refusal.Refusal.TheVariants.{BrokenProgram, NoRoom}
-use Rattle.h41_program.specs.Edits.{lines_of, closed, answered, load_outcome}
+use Rattle.h41_program.specs.Edits.{lines_of, closed, answered, load_outcome, loaded_of, LoadsBehind}
 use Rattle.h41_program.specs.Packers.{Packs}
 use Rattle.h41_program.specs.Packing.{packed, packing}
+use Rattle.h41_program.specs.ProgramLines.{Reads}
 use Rattle.h41_program.specs.Rewriting.{written, Gives}
 use Rattle.h41_program.proofs.Packings.{packed-less, length-packing, no_room}
 use Rattle.h41_program.proofs.Rooms.{written-none}
@@ -51,11 +52,35 @@ begins_there memory packer lines more after start small packs is done = elim (ca
   | inr room ↦ is ∙ ap length (packs.held room)
 ]
 
+-- lines that are written
+was_written : (old new : RegisterMap) (result : Result (Unit {0}) Refusal) (outcome : Result RegisterMap Refusal) → result ≡ Ok tt
+    → Gives old new result (answered tt outcome) → (after : RegisterMap) × (outcome ≡ Ok after)
+was_written old new result (Ok memory) ok gives = (memory, refl)
+was_written old new result (Err refusal) ok gives = absurd (not_both result tt refusal ok gives.0)
+
 gives_start : (old new : RegisterMap) (result : Result (Unit {0}) Refusal) (start place : ℕ) (outcome : Result RegisterMap Refusal) → result ≡ Ok tt
     → ((after : RegisterMap) → outcome ≡ Ok after → start ≡ place)
     → Gives old new result (answered tt outcome) → Gives old new (Ok start) (answered place outcome)
 gives_start old new result start place (Ok memory) ok same gives = (ap (λ (n : ℕ). Ok n) (same memory refl), gives.1)
 gives_start old new result start place (Err refusal) ok same gives = absurd (not_both result tt refusal ok gives.0)
+
+-- what a load gives by the lines before .END. and those of the bytes
+abbrev pub outcome_of : RegisterMap → Option (List ListedLine) → Option (List Line) → Result (RegisterMap × ℕ) Refusal
+outcome_of memory None loaded = Err BrokenProgram
+outcome_of memory (Some lines) loaded = load_outcome memory lines loaded
+
+pub loads_behind : (memory : RegisterMap) (bytes : List ℕ) (before : Option (List ListedLine)) (given : List ListedLine) → Reads bytes (length bytes) 0 given
+    → LoadsBehind memory bytes before (outcome_of memory before (loaded_of bytes given))
+loads_behind memory bytes None given reads = refl
+loads_behind memory bytes (Some lines) given reads = (given, reads, refl)
+
+-- the list of memory does not reach .END.
+pub load_broken : (memory : RegisterMap) (bytes : List ℕ) (first : Result Packer Refusal) (before : Option (List ListedLine)) (refusal : Refusal) (answer : Result ℕ Refusal)
+    → MatchOption before (first ≡ Err BrokenProgram) (λ listed. IsOkAnd first (λ held. Packs held (lines_of listed))) → first ≡ Err refusal → answer ≡ Err refusal
+    → LoadsBehind memory bytes before (Err BrokenProgram) × (answer ≡ Err BrokenProgram)
+load_broken memory bytes first None refusal answer is err same = (refl, same ∙ ap (λ (e : Refusal). Err e) (same_error first refusal BrokenProgram err is))
+load_broken memory bytes first (Some listed) refusal answer is err same =
+    absurd (subst (λ (r : Result Packer Refusal). IsOkAnd r (λ held. Packs held (lines_of listed))) err is)
 
 -- what is known of a load when the lines of memory were packed
 pub record Loading (before : Option (List ListedLine)) (loaded : Option (List Line)) (first : Result Packer Refusal) (packer closed_packer new : Packer) (put : Result (Unit {0}) Refusal) : Type 0 where
@@ -73,7 +98,7 @@ module _ (memory after : RegisterMap) (first : Result Packer Refusal) (packer cl
 
   -- given bytes are refused
   pub load_refused : (before : Option (List ListedLine)) (loaded : Option (List Line)) (refusal : Refusal) (answer : Result ℕ Refusal) → Loading before loaded first packer closed_packer new put
-      → put ≡ Err refusal → answer ≡ Err refusal → Gives memory memory answer (load_outcome memory before loaded)
+      → put ≡ Err refusal → answer ≡ Err refusal → Gives memory memory answer (outcome_of memory before loaded)
   load_refused None loaded refusal answer is err same = absurd (not_both first packer BrokenProgram is.begun is.program)
   load_refused (Some listed) None refusal answer is err same =
       (same ∙ ap (λ (e : Refusal). Err e) (same_error put refusal BrokenProgram err (is.puts (closed (lines_of listed)) (packs_closed listed None is))), refl)
@@ -83,7 +108,7 @@ module _ (memory after : RegisterMap) (first : Result Packer Refusal) (packer cl
   -- the lines have no room
   pub load_unwritten : (before : Option (List ListedLine)) (loaded : Option (List Line)) (wrote : Result (Unit {0}) Refusal) (refusal : Refusal) (answer : Result ℕ Refusal)
       → Loading before loaded first packer closed_packer new put → put ≡ Ok tt → wrote ≡ Err refusal → answer ≡ Err refusal
-      → ((lines : List Line) → Packs new lines → Gives memory after wrote (answered tt (written memory lines))) → Gives memory after answer (load_outcome memory before loaded)
+      → ((lines : List Line) → Packs new lines → Gives memory after wrote (answered tt (written memory lines))) → Gives memory after answer (outcome_of memory before loaded)
   load_unwritten None loaded wrote refusal answer is ok err same writes = absurd (not_both first packer BrokenProgram is.begun is.program)
   load_unwritten (Some listed) None wrote refusal answer is ok err same writes =
       absurd (not_both put tt BrokenProgram ok (is.puts (closed (lines_of listed)) (packs_closed listed None is)))
@@ -95,7 +120,7 @@ module _ (memory after : RegisterMap) (first : Result Packer Refusal) (packer cl
   -- the lines were written
   pub load_written : (before : Option (List ListedLine)) (loaded : Option (List Line)) (wrote : Result (Unit {0}) Refusal) (start : ℕ)
       → Loading before loaded first packer closed_packer new put → put ≡ Ok tt → wrote ≡ Ok tt → start ≡ length closed_packer.bytes.items → curtain_of memory ≤ main_start + 320
-      → ((lines : List Line) → Packs new lines → Gives memory after wrote (answered tt (written memory lines))) → Gives memory after (Ok start) (load_outcome memory before loaded)
+      → ((lines : List Line) → Packs new lines → Gives memory after wrote (answered tt (written memory lines))) → Gives memory after (Ok start) (outcome_of memory before loaded)
   load_written None loaded wrote start is ok done same small writes = absurd (not_both first packer BrokenProgram is.begun is.program)
   load_written (Some listed) None wrote start is ok done same small writes =
       absurd (not_both put tt BrokenProgram ok (is.puts (closed (lines_of listed)) (packs_closed listed None is)))
@@ -104,3 +129,21 @@ module _ (memory after : RegisterMap) (first : Result Packer Refusal) (packer cl
       gives_start memory after wrote start (length (packed all)) (written memory (all ++ lines)) done
       (λ memory_after room. begins_there memory closed_packer all lines memory_after start small (packs_closed listed (Some lines) is) same room)
       (writes (all ++ lines) (is.puts all (packs_closed listed (Some lines) is)).1)
+
+  pub load_bound : (before : Option (List ListedLine)) (loaded : Option (List Line)) (wrote : Result (Unit {0}) Refusal) (start : ℕ)
+      → Loading before loaded first packer closed_packer new put → put ≡ Ok tt → wrote ≡ Ok tt → start ≡ length closed_packer.bytes.items → curtain_of memory ≤ main_start + 320
+      → ((lines : List Line) → Packs new lines → Gives memory after wrote (answered tt (written memory lines))) → start ≤ 2237
+  load_bound None loaded wrote start is ok done same small writes = absurd (not_both first packer BrokenProgram is.begun is.program)
+  load_bound (Some listed) None wrote start is ok done same small writes =
+      absurd (not_both put tt BrokenProgram ok (is.puts (closed (lines_of listed)) (packs_closed listed None is)))
+  load_bound (Some listed) (Some lines) wrote start is ok done same small writes =
+      let all = closed (lines_of listed) in
+      let begun = packs_closed listed (Some lines) is in
+      let after_all = was_written memory after wrote (written memory (all ++ lines)) done (writes (all ++ lines) (is.puts all begun).1) in
+      let there = begins_there memory closed_packer all lines after_all.0 start small begun same after_all.1 in
+      elim (cases_lt 2237 start) [
+        | inl above ↦
+            let many : 2237 < length (packed all) = omega (arith, above, there) in
+            absurd (not_both (written memory (all ++ lines)) after_all.0 NoRoom after_all.1 (too_many memory all lines small many))
+        | inr below ↦ below
+      ]

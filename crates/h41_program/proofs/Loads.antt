@@ -5,7 +5,7 @@ use Rattle.std.specs.List.{list_all}
 use Rattle.h41_program.specs.declared.given.Taken.{Taken}
 use Rattle.h41_program.specs.declared.refusal.Refusal.{Refusal}
 use Rattle.h41_program.specs.declared.refusal.Refusal.TheVariants.{BrokenProgram}
-use Rattle.h41_program.specs.Reading.{IsFirst, BytesHaveFirst, BytesHaveNone}
+use Rattle.h41_program.specs.Reading.{BytesHaveFirst}
 use Rattle.h41_codes.specs.ByteGrammar.{IsLine}
 use Rattle.h41_codes.specs.declared.line.Line.{Line}
 use Rattle.h41_program.specs.declared.listed_line.ListedLine.{ListedLine}
@@ -15,9 +15,9 @@ use Rattle.h41_program.specs.Lines.{is_end, is_final_end}
 use Rattle.h41_program.specs.LoadSteps.{listed_option, kept_option}
 use Rattle.h41_program.specs.Packers.{Packs}
 use Rattle.h41_program.specs.Packing.{last_line}
-use Rattle.h41_program.specs.ProgramLines.{Reads, NoneFrom, behind}
+use Rattle.h41_program.specs.ProgramLines.{behind}
 use Rattle.h41_program.proofs.Packings.{last_line-more}
-use Rattle.h41_program.proofs.Walks.{UpTo, up_to_none, up_to_more, ends_none, ends_final, before_end-none, before_end-final}
+use Rattle.h41_program.proofs.Walks.{UpTo, up_to_none, up_to_more, before_end-final}
 
 -- lines but for the last
 abbrev pub but_last : List Line → List Line
@@ -74,16 +74,12 @@ pub record Loaded (bytes : List ℕ) (old new : Packer) (pending : Option Line) 
   pub packs : (front : List Line) → Packs old front → Packs new (front ++ but_last (lines_of before))
 
 -- the lines of memory are packed where .END. is met
-pub packed_lines : (bytes : List ℕ) (final at next : ℕ) (before lines : List ListedLine) (listed : ListedLine) (packer : Packer) → UpTo bytes final 0 before at
-    → IsFirst bytes final at listed next → is_final_end listed.line ≡ true → Reads bytes final 0 lines → Packs packer (lines_of before)
-    → MatchOption (before_end lines) (◌≡◌ {A = Result Packer Refusal} (Ok packer) (Err BrokenProgram)) (λ each. IsOkAnd {E = Refusal} (Ok packer) (λ held. Packs held (lines_of each)))
-packed_lines bytes final at next before lines listed packer upto is last reads packs =
-    let all = ap before_end (ends_final bytes final 0 at next before lines listed upto is last reads) ∙ before_end-final bytes final 0 at before listed upto last in
+pub packed_lines : (bytes : List ℕ) (final at : ℕ) (before : List ListedLine) (listed : ListedLine) (packer : Packer) → UpTo bytes final 0 before at
+    → is_final_end listed.line ≡ true → Packs packer (lines_of before)
+    → MatchOption (before_end (before ++ listed ∷ [])) (◌≡◌ {A = Result Packer Refusal} (Ok packer) (Err BrokenProgram)) (λ each. IsOkAnd {E = Refusal} (Ok packer) (λ held. Packs held (lines_of each)))
+packed_lines bytes final at before listed packer upto last packs =
+    let all = before_end-final bytes final 0 at before listed upto last in
     subst (λ (o : Option (List ListedLine)). MatchOption o (◌≡◌ {A = Result Packer Refusal} (Ok packer) (Err BrokenProgram)) (λ each. IsOkAnd {E = Refusal} (Ok packer) (λ held. Packs held (lines_of each)))) (sym all) packs
-
-pub no_program : (bytes : List ℕ) (final at : ℕ) (before lines : List ListedLine) → UpTo bytes final 0 before at → NoneFrom bytes final at → Reads bytes final 0 lines → before_end lines ≡ None
-no_program bytes final at before lines upto none reads =
-    ap before_end (ends_none bytes final 0 at before lines upto none reads) ∙ before_end-none bytes final 0 at before upto
 
 -- one more line is taken: the one that was pending is put
 pub loaded_more : (bytes : List ℕ) (old mid new : Packer) (pending : Option Line) (at : ℕ) (before : List ListedLine) (taken : Taken) → Loaded bytes old mid pending at before
@@ -122,34 +118,29 @@ tested true lines front new packs = (refl, packs refl)
 tested false lines front new packs = refl
 
 -- .END. is met
-pub loaded_final : (bytes : List ℕ) (old mid new : Packer) (pending : Option Line) (at : ℕ) (before given : List ListedLine) (taken : Taken) (front : List Line) → Loaded bytes old mid pending at before
+pub loaded_final : (bytes : List ℕ) (old mid new : Packer) (pending : Option Line) (at : ℕ) (before : List ListedLine) (taken : Taken) (front : List Line) → Loaded bytes old mid pending at before
     → BytesHaveFirst bytes at taken → is_final_end taken.line ≡ true → ((front : List Line) → Packs mid front → Packs new (front ++ listed_option pending))
-    → Reads bytes (length bytes) 0 given → Packs old front
-    → (loaded_of bytes given ≡ (if list_all (λ byte. byte == 0) (drop taken.behind bytes) then Some (lines_of before) else None)) × Packs new (front ++ lines_of before)
-loaded_final bytes old mid new pending at before given taken front loaded is last puts reads packs =
+    → Packs old front
+    → (loaded_of bytes (before ++ (record { position = taken.position; line = taken.line }) ∷ []) ≡ (if list_all (λ byte. byte == 0) (drop taken.behind bytes) then Some (lines_of before) else None)) × Packs new (front ++ lines_of before)
+loaded_final bytes old mid new pending at before taken front loaded is last puts packs =
     let listed : ListedLine = record { position = taken.position; line = taken.line } in
     let lines = lines_of before in
-    let all = ends_final bytes (length bytes) 0 at taken.behind before given listed loaded.read is last reads in
-    let end = ap end_of_lines all ∙ end_of_lines-more before listed ∙ sym is.behind in
-    let same = ap (λ (l : List ListedLine). without_end (lines_of l)) all ∙ ap without_end (lines_of-more before listed) ∙ without_end-final lines taken.line last in
+    let end = end_of_lines-more before listed ∙ sym is.behind in
+    let same = ap without_end (lines_of-more before listed) ∙ without_end-final lines taken.line last in
     let again : but_last lines ++ listed_option pending ≡ lines = ap (λ (o : Option Line). but_last lines ++ listed_option o) loaded.last ∙ with_last lines in
     let put = puts (front ++ but_last lines) (loaded.packs front packs) in (
-      loaded_by bytes taken.behind given lines end same,
+      loaded_by bytes taken.behind (before ++ listed ∷ []) lines end same,
       subst (λ (l : List Line). Packs new (front ++ l)) again (subst (λ (l : List Line). Packs new l) (append_assoc front (but_last lines) (listed_option pending)) put),
     )
 
 -- no more line is met
-pub loaded_none : (bytes : List ℕ) (old mid : Packer) (pending : Option Line) (at : ℕ) (before given : List ListedLine) → Loaded bytes old mid pending at before
-    → BytesHaveNone bytes at → Reads bytes (length bytes) 0 given
-    → loaded_of bytes given ≡ (if list_all (λ byte. byte == 0) (drop at bytes) then Some (but_last (lines_of before) ++ kept_option pending) else None)
-loaded_none bytes old mid pending at before given loaded none reads =
+pub loaded_none : (bytes : List ℕ) (old mid : Packer) (pending : Option Line) (at : ℕ) (before : List ListedLine) → Loaded bytes old mid pending at before
+    → loaded_of bytes before ≡ (if list_all (λ byte. byte == 0) (drop at bytes) then Some (but_last (lines_of before) ++ kept_option pending) else None)
+loaded_none bytes old mid pending at before loaded =
     let lines = lines_of before in
-    let all = ends_none bytes (length bytes) 0 at before given loaded.read none reads in
-    let end = ap end_of_lines all ∙ loaded.end in
-    let same = ap (λ (l : List ListedLine). without_end (lines_of l)) all
-    ∙ without_end-kept lines (λ line is. (loaded.line line (loaded.last ∙ is)).0)
+    let same = without_end-kept lines (λ line is. (loaded.line line (loaded.last ∙ is)).0)
     ∙ ap (λ (o : Option Line). but_last lines ++ kept_option o) (sym loaded.last) in
-    loaded_by bytes at given (but_last lines ++ kept_option pending) end same
+    loaded_by bytes at before (but_last lines ++ kept_option pending) loaded.end same
 
 -- nothing is taken yet
 pub loaded_nothing : (bytes : List ℕ) (packer : Packer) → Loaded bytes packer packer None 0 []

@@ -13,8 +13,8 @@ use Rattle.h41_program.specs.declared.listed_line.ListedLine.{ListedLine}
 use Rattle.h41_program.specs.ProgramBytes.{byte_count, program_byte, program_bytes, final_position}
 use Rattle.h41_program.specs.declared.reading.Found.{Found}
 use Rattle.h41_program.specs.Lines.{is_final_end}
-use Rattle.h41_program.specs.ProgramLines.{line_bytes, FirstFrom, Reads, behind, next_of}
-use Rattle.h41_program.specs.Reading.{HasFirst, HasNoLine, FollowsAt}
+use Rattle.h41_program.specs.ProgramLines.{line_bytes, FirstFrom, HasFirst, HasNoLine, Reads, behind, next_of}
+use Rattle.h41_program.specs.Reading.{FollowsAt}
 use Rattle.h41_program.proofs.FirstLines.{line_bytes-below, line_bytes-at, Passed, stands_there, found_first}
 use Rattle.h41_program.proofs.Sound.{final_byte}
 use Rattle.h41_program.proofs.Windows.{drop-map-range, take-window, begins_count, begins_least, begins_in, begins_out}

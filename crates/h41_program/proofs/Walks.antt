@@ -5,8 +5,10 @@ use Rattle.std.specs.Option.{option_map}
 use Rattle.h41_program.specs.declared.listed_line.ListedLine.{ListedLine}
 use Rattle.h41_program.specs.Edits.{before_end}
 use Rattle.h41_program.specs.Lines.{is_final_end}
-use Rattle.h41_program.specs.ProgramLines.{NoneFrom, Reads, behind}
-use Rattle.h41_program.specs.Reading.{IsFirst}
+use Rattle.h41_program.specs.ProgramBytes.{program_bytes, final_position}
+use Rattle.h41_program.specs.ProgramLines.{IsFirst, NoneFrom, Reads, LinesFrom, behind}
+use Rattle.h41_ram.specs.RegisterMap.{RegisterMap, is_sound}
+use Rattle.std.proofs.lemmas.Bool.{true≢false}
 
 -- the list of lines from a position on, by its first one
 pub first_rest : (bytes : List ℕ) (final at next : ℕ) (listed : ListedLine) (lines : List ListedLine) → IsFirst bytes final at listed next
@@ -103,6 +105,22 @@ ends_final bytes final from at next before lines listed upto is last reads =
     let parts = upto.split lines reads in
     let rest = first_rest bytes final at next listed parts.0 is parts.2 in
     parts.1 ∙ ap (λ (l : List ListedLine). before ++ l) (rest.1 ∙ ap (λ (l : List ListedLine). listed ∷ l) (last_rest bytes final next (is_final_end listed.line) rest.0 last rest.2))
+
+-- the list was read to its end
+pub all_none : (bytes : List ℕ) (final from at : ℕ) (before : List ListedLine) → UpTo bytes final from before at → NoneFrom bytes final at → Reads bytes final from before
+all_none bytes final from at before upto none = subst (λ (l : List ListedLine). Reads bytes final from l) (append-nil before) (upto.joins [] none)
+
+pub all_final : (bytes : List ℕ) (final from at next : ℕ) (before : List ListedLine) (listed : ListedLine) → UpTo bytes final from before at
+    → IsFirst bytes final at listed next → is_final_end listed.line ≡ true → Reads bytes final from (before ++ listed ∷ [])
+all_final bytes final from at next before listed upto is last = upto.joins (listed ∷ []) (reads_last bytes final at next listed is last)
+
+-- the lines of sound memory
+pub from_reads : (memory : RegisterMap) (at : ℕ) (lines : List ListedLine) → is_sound memory ≡ true → Reads (program_bytes memory) (final_position memory) at lines
+    → LinesFrom memory at lines
+from_reads memory at lines sound reads = record {
+  sound = λ _. reads;
+  lost = λ lost. absurd (true≢false (sym sound ∙ lost));
+}
 
 -- the lines before .END.: none where the list ends otherwise
 pub before_end-none : (bytes : List ℕ) (final from at : ℕ) (before : List ListedLine) → UpTo bytes final from before at → before_end before ≡ None

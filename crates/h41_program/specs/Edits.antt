@@ -1,5 +1,5 @@
 -- What lines program memory has after a line was inserted or deleted, or bytes were loaded.
-use Rattle.std.specs.Prelude.{◌≡◌, ℕ, Bool, false, not, ◌||◌, is_some, MatchBool, IsOkAnd, ◌&&◌, List, [], ◌∷◌, ◌++◌, map, length, drop, ◌==◌, if◌then◌else◌, Option, Some, None, Result, Ok, Err}
+use Rattle.std.specs.Prelude.{◌≡◌, ◌⊎◌, ℕ, Bool, false, not, ◌||◌, is_some, MatchBool, IsOkAnd, ◌&&◌, List, [], ◌∷◌, ◌++◌, map, length, drop, ◌==◌, if◌then◌else◌, Option, Some, None, Result, Ok, Err}
 use Rattle.std.specs.List.{list_all, list_any, flat_map}
 use Rattle.std.specs.Option.{option_map, option_map_or}
 use Rattle.h41_codes.specs.declared.line.Line.{Line}
@@ -12,7 +12,8 @@ use Rattle.h41_program.specs.declared.refusal.Refusal.TheVariants.{BrokenProgram
 use Rattle.h41_program.specs.Lines.{is_end, is_final_end}
 use Rattle.h41_program.specs.Packers.{Packs}
 use Rattle.h41_program.specs.Packing.{last_line, packed}
-use Rattle.h41_program.specs.ProgramLines.{LinesFrom, Reads, behind}
+use Rattle.h41_program.specs.ProgramBytes.{program_bytes, final_position}
+use Rattle.h41_program.specs.ProgramLines.{FirstFrom, HasNoLine, LinesFrom, Reads, behind}
 use Rattle.h41_program.specs.Rewriting.{written, Gives}
 
 -- the lines alone, without their positions
@@ -63,16 +64,24 @@ Writes packer old new result = (lines : List Line) → Packs packer lines → Gi
 abbrev pub joined : RegisterMap → List Line → List Line → Result (RegisterMap × ℕ) Refusal
 joined memory lines loaded = answered (length (packed (closed lines))) (written memory (closed lines ++ loaded))
 
-abbrev pub load_outcome : RegisterMap → Option (List ListedLine) → Option (List Line) → Result (RegisterMap × ℕ) Refusal
-load_outcome memory None loaded = Err BrokenProgram
-load_outcome memory (Some lines) None = Err BrokenProgram
-load_outcome memory (Some lines) (Some loaded) = joined memory (lines_of lines) loaded
+-- the same where the bytes have lines to be loaded
+abbrev pub load_outcome : RegisterMap → List ListedLine → Option (List Line) → Result (RegisterMap × ℕ) Refusal
+load_outcome memory lines None = Err BrokenProgram
+load_outcome memory lines (Some loaded) = joined memory (lines_of lines) loaded
+
+-- what loading bytes behind the lines before .END. gives: the bytes are looked at where the list reaches it
+abbrev pub LoadsBehind : RegisterMap → List ℕ → Option (List ListedLine) → Result (RegisterMap × ℕ) Refusal → Type 0
+LoadsBehind memory bytes None outcome = outcome ≡ Err BrokenProgram
+LoadsBehind memory bytes (Some lines) outcome =
+    (given : List ListedLine) × Reads bytes (length bytes) 0 given × (outcome ≡ load_outcome memory lines (loaded_of bytes given))
+
+-- what loading bytes gives: memory with their lines behind its own and where the first of them begins, or the refusal
+abbrev pub LoadGives : RegisterMap → List ℕ → Result (RegisterMap × ℕ) Refusal → Type 0
+LoadGives memory bytes outcome = (lines : List ListedLine) × LinesFrom memory 0 lines × LoadsBehind memory bytes (before_end lines) outcome
 
 -- bytes are loaded into memory
 abbrev pub Loads : RegisterMap → RegisterMap → List ℕ → Result ℕ Refusal → Type 0
-Loads old new bytes result =
-    (lines given : List ListedLine) → LinesFrom old 0 lines → Reads bytes (length bytes) 0 given
-    → Gives old new result (load_outcome old (before_end lines) (loaded_of bytes given))
+Loads old new bytes result = (outcome : Result (RegisterMap × ℕ) Refusal) × LoadGives old bytes outcome × Gives old new result outcome
 
 -- whether a line stands at a position in the list
 abbrev pub has_line_at : ℕ → List ListedLine → Bool
@@ -100,23 +109,28 @@ abbrev pub edit_outcome : RegisterMap → (ListedLine → List Line) → ℕ →
 edit_outcome memory change position lines =
     changed_outcome (is_some (before_end lines) && has_line_at position lines) memory (flat_map change lines)
 
--- the list is changed at the line that a position stands for
-abbrev pub edit_from : RegisterMap → (ℕ → ListedLine → List Line) → List ListedLine → List ListedLine → Result (RegisterMap × Unit {0}) Refusal
-edit_from memory change lines [] = Err BrokenProgram
-edit_from memory change lines (first ∷ rest) = edit_outcome memory (change first.position) first.position lines
+-- what a change at a line's own position gives
+abbrev pub ChangeGives : RegisterMap → (ListedLine → List Line) → ℕ → Result (RegisterMap × Unit {0}) Refusal → Type 0
+ChangeGives memory change position outcome =
+    (lines : List ListedLine) × LinesFrom memory 0 lines × (outcome ≡ edit_outcome memory change position lines)
 
+-- what a change at the line that a position stands for gives: the refusal where there is no such line
+abbrev pub EditGives : RegisterMap → (ℕ → ListedLine → List Line) → ℕ → Result (RegisterMap × Unit {0}) Refusal → Type 0
+EditGives memory change at outcome =
+    ((first : ListedLine) × FirstFrom (program_bytes memory) (final_position memory) at first × ChangeGives memory (change first.position) first.position outcome)
+    ⊎ (HasNoLine memory at × (outcome ≡ Err BrokenProgram))
+
+-- the list is changed at the line that a position stands for
 abbrev pub Edits : RegisterMap → RegisterMap → (ℕ → ListedLine → List Line) → ℕ → Result (Unit {0}) Refusal → Type 0
-Edits old new change at result =
-    (lines onward : List ListedLine) → LinesFrom old 0 lines → LinesFrom old at onward
-    → Gives old new result (edit_from old change lines onward)
+Edits old new change at result = (outcome : Result (RegisterMap × Unit {0}) Refusal) × EditGives old change at outcome × Gives old new result outcome
 
 -- the same by the line's own position
 abbrev pub EditsAt : RegisterMap → RegisterMap → (ListedLine → List Line) → ℕ → Result (Unit {0}) Refusal → Type 0
 EditsAt old new change position result =
-    (lines : List ListedLine) → LinesFrom old 0 lines → Gives old new result (edit_outcome old change position lines)
+    (outcome : Result (RegisterMap × Unit {0}) Refusal) × ChangeGives old change position outcome × Gives old new result outcome
 
 -- a packer has the changed lines, where the list reaches .END. and has a line at the position
 abbrev pub PacksChanged : RegisterMap → (ListedLine → List Line) → ℕ → Result Packer Refusal → Type 0
 PacksChanged memory change position result =
-    (lines : List ListedLine) → LinesFrom memory 0 lines
-    → MatchBool (is_some (before_end lines) && has_line_at position lines) (IsOkAnd result (λ packer. Packs packer (flat_map change lines))) (result ≡ Err BrokenProgram)
+    (lines : List ListedLine) × LinesFrom memory 0 lines
+    × MatchBool (is_some (before_end lines) && has_line_at position lines) (IsOkAnd result (λ packer. Packs packer (flat_map change lines))) (result ≡ Err BrokenProgram)

@@ -15,14 +15,15 @@ use Rattle.h41_program.specs.ProgramLines.{LinesFrom, Reads}
 -- a packer has the lines of memory before .END., or the list has none
 abbrev pub PacksProgram : RegisterMap → Result Packer Refusal → Type 0
 PacksProgram memory result =
-    (lines : List ListedLine) → LinesFrom memory 0 lines
-    → MatchOption (before_end lines) (result ≡ Err BrokenProgram) (λ listed. IsOkAnd result (λ packer. Packs packer (lines_of listed)))
+    (lines : List ListedLine) × LinesFrom memory 0 lines
+    × MatchOption (before_end lines) (result ≡ Err BrokenProgram) (λ listed. IsOkAnd result (λ packer. Packs packer (lines_of listed)))
 
 -- the lines to be loaded that bytes have were put behind others, or there are none
 abbrev pub PutsLoaded : Packer → Packer → List ℕ → Result (Unit {0}) Refusal → Type 0
 PutsLoaded old new bytes result =
-    (given : List ListedLine) (front : List Line) → Reads bytes (length bytes) 0 given → Packs old front
-    → MatchOption (loaded_of bytes given) (result ≡ Err BrokenProgram) (λ loaded. (result ≡ Ok tt) × Packs new (front ++ loaded))
+    (given : List ListedLine) × Reads bytes (length bytes) 0 given
+    × ((front : List Line) → Packs old front
+    → MatchOption (loaded_of bytes given) (result ≡ Err BrokenProgram) (λ loaded. (result ≡ Ok tt) × Packs new (front ++ loaded)))
 
 -- a line that may be there, and whether it is kept as the last
 abbrev pub listed_option : Option Line → List Line

@@ -1,14 +1,15 @@
 -- Laws of lists of lines.
-use Rattle.std.specs.Prelude.{◌≡◌, ◌≢◌, ℕ, ◌-◌, All, false, List, [], ◌∷◌, ◌++◌, length}
+use Rattle.std.specs.Prelude.{◌≡◌, ◌≢◌, ℕ, ◌-◌, All, false, List, [], ◌∷◌, ◌++◌, length, Result}
 use Rattle.h41_codes.specs.ByteGrammar.{IsLine}
 use Rattle.h41_codes.specs.declared.line.Line.{Line}
 use Rattle.h41_codes.specs.declared.line.Line.TheVariants.{Null, FinalEnd}
 use Rattle.h41_ram.specs.RegisterMap.{RegisterMap}
 use Rattle.h41_program.specs.declared.listed_line.ListedLine.{ListedLine}
-use Rattle.h41_program.specs.Edits.{lines_of}
+use Rattle.h41_program.specs.Edits.{lines_of, EditGives, LoadGives}
+use Rattle.h41_program.specs.declared.refusal.Refusal.{Refusal}
 use Rattle.h41_program.specs.Lines.{is_final_end}
 use Rattle.h41_program.specs.Packing.{packing}
-use Rattle.h41_program.specs.ProgramLines.{LinesFrom, Reads}
+use Rattle.h41_program.specs.ProgramLines.{FirstFrom, LinesFrom, Reads}
 
 -- a line that programs can have: neither a null nor .END.
 pub record IsInner (line : Line) : Type 0 where
@@ -29,6 +30,35 @@ pub record HasOneList (memory : RegisterMap) (at : ℕ) : Type 0 where
   pub lines : List ListedLine
   pub from : LinesFrom memory at lines
   pub one : (others : List ListedLine) → LinesFrom memory at others → others ≡ lines
+
+-- no bytes have two first lines from a position on
+abbrev pub FirstIsDetermined : Type 0
+FirstIsDetermined =
+    (bytes : List ℕ) (final at : ℕ) (first other : ListedLine)
+    → FirstFrom bytes final at first → FirstFrom bytes final at other → first ≡ other
+
+-- no bytes are read as two lists of lines, and no memory has two from a position on
+abbrev pub ReadIsDetermined : Type 0
+ReadIsDetermined =
+    (bytes : List ℕ) (final at : ℕ) (lines others : List ListedLine)
+    → Reads bytes final at lines → Reads bytes final at others → lines ≡ others
+
+abbrev pub ListsAreDetermined : Type 0
+ListsAreDetermined =
+    (memory : RegisterMap) (at : ℕ) (lines others : List ListedLine)
+    → LinesFrom memory at lines → LinesFrom memory at others → lines ≡ others
+
+-- no load gives two outcomes
+abbrev pub LoadsAreDetermined : Type 0
+LoadsAreDetermined =
+    (memory : RegisterMap) (bytes : List ℕ) (outcome other : Result (RegisterMap × ℕ) Refusal)
+    → LoadGives memory bytes outcome → LoadGives memory bytes other → outcome ≡ other
+
+-- no change of the list gives two outcomes
+abbrev pub EditsAreDetermined : Type 0
+EditsAreDetermined =
+    (memory : RegisterMap) (change : ℕ → ListedLine → List Line) (at : ℕ) (outcome other : Result (RegisterMap × Unit {0}) Refusal)
+    → EditGives memory change at outcome → EditGives memory change at other → outcome ≡ other
 
 -- a position stands for its line: the list from the line's own position on is the same
 abbrev pub StandsForItsLine : Type 0

@@ -1,10 +1,11 @@
 -- Program memory as a list of lines, each with its position: they are read from a position on, nulls passed over, up to the
 -- first .END. and with it, or up to bytes that are no line. The form of memory is HP's; what is no line is this project's choice.
-use Rattle.std.specs.Prelude.{◌≡◌, ◌≢◌, ℕ, ◌+◌, ◌<◌, ◌≤◌, IsTrue, IsFalse, MatchBool, List, [], ◌∷◌, length, drop, slice_index, slice_range, nat_lt, ◌==◌, if◌then◌else◌, Result, Ok, Err}
+use Rattle.std.specs.Prelude.{◌≡◌, ◌≢◌, ◌⊎◌, ℕ, ◌+◌, ◌<◌, ◌≤◌, IsTrue, IsFalse, MatchBool, List, [], ◌∷◌, length, drop, slice_index, slice_range, nat_lt, ◌==◌, if◌then◌else◌, Result, Ok, Err}
 use Rattle.h41_codes.specs.ByteGrammar.{spelling, Begins}
 use Rattle.h41_codes.specs.declared.line.Line.TheVariants.{Null}
 use Rattle.h41_ram.specs.RegisterMap.{RegisterMap, is_sound}
 use Rattle.h41_program.specs.declared.listed_line.ListedLine.{ListedLine}
+use Rattle.h41_program.specs.declared.reading.Found.{Found}
 use Rattle.h41_program.specs.declared.refusal.Refusal.{Refusal}
 use Rattle.h41_program.specs.declared.refusal.Refusal.TheVariants.{BrokenProgram}
 use Rattle.h41_program.specs.Lines.{is_final_end}
@@ -32,6 +33,22 @@ pub record FirstFrom (bytes : List ℕ) (final at : ℕ) (first : ListedLine) : 
 abbrev pub NoneFrom : List ℕ → ℕ → ℕ → Type 0
 NoneFrom bytes final at = (first : ListedLine) → FirstFrom bytes final at first → ⊥
 
+-- this is the first line from a position on and no other is; the next byte is the one behind it, at most where bytes end
+pub record IsFirst (bytes : List ℕ) (final at : ℕ) (listed : ListedLine) (next : ℕ) : Type 0 where
+  pub first : FirstFrom bytes final at listed
+  pub one : (other : ListedLine) → FirstFrom bytes final at other → other ≡ listed
+  pub behind : next ≡ behind listed
+  pub inside : next ≤ length bytes
+  pub onward : at < next
+
+-- memory has this line first from a position on, and this byte behind it
+abbrev pub HasFirst : RegisterMap → ℕ → Found → Type 0
+HasFirst memory at found = IsFirst (program_bytes memory) (final_position memory) at found.listed found.behind
+
+-- memory has no line from a position on
+abbrev pub HasNoLine : RegisterMap → ℕ → Type 0
+HasNoLine memory at = NoneFrom (program_bytes memory) (final_position memory) at
+
 -- these are the lines from a position on: none, or the first, and behind it those from there on where it is not .END.
 abbrev pub Reads : List ℕ → ℕ → ℕ → List ListedLine → Type 0
 Reads bytes final at [] = NoneFrom bytes final at
@@ -54,6 +71,31 @@ next_of [] = Err BrokenProgram
 next_of (first ∷ []) = Ok (if is_final_end first.line then first.position else behind first)
 next_of (first ∷ second ∷ rest) = Ok second.position
 
+-- an answer is the first line from a position on, or a refusal where there is none
+abbrev pub AnswersFirst : RegisterMap → ℕ → Result ListedLine Refusal → Type 0
+AnswersFirst memory at (Ok first) = FirstFrom (program_bytes memory) (final_position memory) at first
+AnswersFirst memory at (Err refusal) = (refusal ≡ BrokenProgram) × HasNoLine memory at
+
+-- the position of the first line from a position on, or that position where no line follows
+abbrev pub PositionFrom : RegisterMap → ℕ → ℕ → Type 0
+PositionFrom memory at position =
+    ((first : ListedLine) × FirstFrom (program_bytes memory) (final_position memory) at first × (position ≡ first.position))
+    ⊎ (HasNoLine memory at × (position ≡ at))
+
+-- the position of the line behind a line, or the byte behind it where no line follows; that of .END. is its own
+abbrev pub PositionBehind : RegisterMap → ListedLine → ℕ → Type 0
+PositionBehind memory first position = MatchBool (is_final_end first.line) (position ≡ first.position) (PositionFrom memory (behind first) position)
+
+-- an answer is the position behind the first line from a position on, or a refusal where there is none
+abbrev pub AnswersNext : RegisterMap → ℕ → Result ℕ Refusal → Type 0
+AnswersNext memory at (Ok position) =
+    (first : ListedLine) × FirstFrom (program_bytes memory) (final_position memory) at first × PositionBehind memory first position
+AnswersNext memory at (Err refusal) = (refusal ≡ BrokenProgram) × HasNoLine memory at
+
 -- an answer is that of the lines from a position on
 abbrev pub AnswersFrom : {A : Type 0} → (List ListedLine → A) → RegisterMap → ℕ → A → Type 0
 AnswersFrom answer memory at result = (lines : List ListedLine) → LinesFrom memory at lines → result ≡ answer lines
+
+-- the same of a walk to the list's end: there is such a list
+abbrev pub AnswersOf : {A : Type 0} → (List ListedLine → A) → RegisterMap → ℕ → A → Type 0
+AnswersOf answer memory at result = (lines : List ListedLine) × LinesFrom memory at lines × (result ≡ answer lines)

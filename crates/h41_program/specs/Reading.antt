@@ -1,34 +1,23 @@
 -- What the functions that read program memory promise one another.
-use Rattle.std.specs.Prelude.{◌≡◌, ℕ, ◌<◌, ◌≤◌, IsTrue, IsFalse, List, length}
+use Rattle.std.specs.Prelude.{◌≡◌, ℕ, IsTrue, IsFalse, MatchBool, List, length}
 use Rattle.h41_ram.specs.RegisterMap.{RegisterMap}
 use Rattle.h41_program.specs.declared.listed_line.ListedLine.{ListedLine}
 use Rattle.h41_program.specs.declared.given.Taken.{Taken}
 use Rattle.h41_program.specs.declared.reading.Found.{Found}
 use Rattle.h41_program.specs.Lines.{is_final_end}
 use Rattle.h41_program.specs.ProgramBytes.{program_bytes, final_position}
-use Rattle.h41_program.specs.ProgramLines.{FirstFrom, NoneFrom, behind}
-
--- this is the first line from a position on, no other is, and these are the bytes behind it
-pub record IsFirst (bytes : List ℕ) (final at : ℕ) (listed : ListedLine) (next : ℕ) : Type 0 where
-  pub first : FirstFrom bytes final at listed
-  pub one : (other : ListedLine) → FirstFrom bytes final at other → other ≡ listed
-  pub behind : next ≡ behind listed
-  pub inside : next ≤ length bytes
-  pub onward : at < next
-
--- memory has this line first from a position on
-abbrev pub HasFirst : RegisterMap → ℕ → Found → Type 0
-HasFirst memory at found = IsFirst (program_bytes memory) (final_position memory) at found.listed found.behind
-
--- memory has no line from a position on
-abbrev pub HasNoLine : RegisterMap → ℕ → Type 0
-HasNoLine memory at = NoneFrom (program_bytes memory) (final_position memory) at
+use Rattle.h41_program.specs.ProgramLines.{FirstFrom, NoneFrom, IsFirst, HasNoLine, PositionFrom}
 
 -- the position of the line behind a line; that of .END. is its own, and where no line follows it is the byte behind
 pub record FollowsAt (memory : RegisterMap) (first : Found) (position : ℕ) : Type 0 where
   pub final : IsTrue (is_final_end first.listed.line) → position ≡ first.listed.position
   pub second : IsFalse (is_final_end first.listed.line) → (second : ListedLine) → FirstFrom (program_bytes memory) (final_position memory) first.behind second → position ≡ second.position
   pub none : IsFalse (is_final_end first.listed.line) → HasNoLine memory first.behind → position ≡ first.behind
+
+-- the same by the line that follows, where one does
+abbrev pub FoundBehind : RegisterMap → Found → ℕ → Type 0
+FoundBehind memory first position =
+    MatchBool (is_final_end first.listed.line) (position ≡ first.listed.position) (PositionFrom memory first.behind position)
 
 -- bytes have this line first from a position on
 abbrev pub BytesHaveFirst : List ℕ → ℕ → Taken → Type 0

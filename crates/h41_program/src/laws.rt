@@ -1,5 +1,5 @@
 //! Laws of program memory: each is the contract of a function whose result is not looked at.
-ghost use Rattle.h41_program.specs.ProgramLaws.{GoesOnFromNext, HasOneList, PackingRoundTrip, StandsForItsLine};
+ghost use Rattle.h41_program.specs.ProgramLaws.{EditsAreDetermined, FirstIsDetermined, GoesOnFromNext, HasOneList, ListsAreDetermined, LoadsAreDetermined, PackingRoundTrip, ReadIsDetermined, StandsForItsLine};
 
 use crate::kinds::is_final_end;
 use crate::reading::{Found, first_from};
@@ -28,6 +28,31 @@ pub fn one_list<const REGS: usize>(ram: &Ram<REGS>, at: u16)
         }
         position = behind;
     }
+}
+
+/// No memory has two lists of lines from a position on, whether a `Ram` holds it or not: no bytes are read as two lists, since
+/// no bytes have two first lines.
+pub fn lists_are_determined()
+    ensures lines { ListsAreDetermined }
+    ensures read { ReadIsDetermined }
+    ensures first { FirstIsDetermined }
+{
+    byte_round_trip();
+}
+
+/// No bytes have two outcomes when they are loaded into a memory: the relation by which `load` promises leaves nothing open.
+pub fn loads_are_determined()
+    ensures { LoadsAreDetermined }
+{
+    byte_round_trip();
+}
+
+/// No change of the list has two outcomes, at whatever position: so it is with the relation by which `insert`, `replace` and
+/// `delete` promise.
+pub fn edits_are_determined()
+    ensures { EditsAreDetermined }
+{
+    byte_round_trip();
 }
 
 /// The list from a line's own position on begins with that line, and from the next line's position on it is the rest.

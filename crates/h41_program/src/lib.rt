@@ -20,7 +20,7 @@ mod size;
 pub use editing::{delete, insert, replace};
 pub use listed_line::ListedLine;
 pub use loading::load;
-pub use reading::{line_at, next};
+pub use reading::{Found, first_from, line_at, next};
 pub use refusal::Refusal;
 pub use searches::{global, local, start_of};
 pub use size::set_size;

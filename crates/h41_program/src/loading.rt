@@ -1,5 +1,5 @@
 //! Programs loaded behind those in memory.
-ghost use Rattle.std.specs.Prelude.{◌≡◌, ◌≤◌, drop, length, IsTrue};
+ghost use Rattle.std.specs.Prelude.{◌≡◌, ◌≤◌, drop, length, IsTrue, IfOk};
 ghost use Rattle.std.specs.Option.{ForSome};
 ghost use Rattle.h41_codes.specs.ByteGrammar.{IsLine};
 ghost use Rattle.h41_ram.specs.RegisterMap.{is_sound};
@@ -21,7 +21,8 @@ use h41_ram::Ram;
 /// than at the end of those given; 16 where the program would pass below main memory.
 pub fn load<const REGS: usize>(ram: &mut Ram<REGS>, bytes: &[u8]) -> Result<u16, Refusal>
     requires { IsTrue (is_sound ram.old) }
-    ensures { Loads ram.old ram.new bytes.now result }
+    ensures lines { Loads ram.old ram.new bytes.now result }
+    ensures bound { IfOk result (λ start. start ≤ 2237) }
 {
     let mut packer = packed_program(ram)?;
     packer.close();

@@ -4,8 +4,8 @@ ghost use Rattle.std.specs.List.{range_with_len};
 ghost use Rattle.h41_ram.specs.RegisterMap.{is_sound};
 ghost use Rattle.h41_program.specs.ProgramBytes.{byte_count, program_byte, program_bytes};
 ghost use Rattle.h41_program.specs.ProgramBytes as spec;
-ghost use Rattle.h41_program.specs.ProgramLines.{line_of, next_of, AnswersFrom};
-ghost use Rattle.h41_program.specs.Reading.{HasFirst, HasNoLine, FollowsAt};
+ghost use Rattle.h41_program.specs.ProgramLines.{line_of, next_of, AnswersFirst, AnswersFrom, AnswersNext, HasFirst, HasNoLine};
+ghost use Rattle.h41_program.specs.Reading.{FollowsAt, FoundBehind};
 
 use crate::kinds::is_final_end;
 use crate::listed_line::ListedLine;
@@ -27,12 +27,13 @@ const LINE_MOST: u16 = 18;
 /// The bytes of program memory of which a line is read.
 type Window = ArrayVec<u8, 18>;
 
-/// A line that was found, and the byte behind it.
-#[derive(Clone, Copy, Debug)]
+/// A line that was found, and the byte behind it. A walk along the list of lines goes on from there, so that each line is
+/// decoded once.
+#[derive(Clone, Copy, Debug, PartialEq, Eq)]
 pub struct Found {
-    /// The line.
+    /// The line, with its own position.
     pub listed: ListedLine,
-    /// The byte behind it.
+    /// The position of the byte behind the line's last: at most the number of bytes of program memory.
     pub behind: u16,
 }
 
@@ -41,7 +42,7 @@ pub fn final_position<const REGS: usize>(ram: &Ram<REGS>) -> u16
     requires { IsTrue (is_sound ram.now) }
     ensures value { result ≡ spec.final_position ram.now }
     ensures count { result + 3 ≡ byte_count ram.now }
-    ensures bound { result < 2240 }
+    ensures bound { result ≤ 2237 }
 {
     (ram.curtain() - ram.end_register()) * REGISTER_BYTES - END_BYTES
 }
@@ -100,11 +101,14 @@ fn line_limit(position: u16, last: u16) -> u16
     }
 }
 
-/// The first line from a position on.
+/// The first line from a position on, nulls passed over, and the byte behind it; `None` where no line follows. The list goes on
+/// from that byte, except behind `.END.`, its last line.
 pub fn first_from<const REGS: usize>(ram: &Ram<REGS>, at: u16) -> Option<Found>
     requires { IsTrue (is_sound ram.now) }
     ensures first { IfSome result (λ found. HasFirst ram.now at found) }
     ensures none { IfNone result (HasNoLine ram.now at) }
+    ensures inside { IfSome result (λ found. found.listed.position ≤ 2237) }
+    ensures behind { IfSome result (λ found. found.behind ≤ 2240) }
 {
     byte_round_trip();
     let last = final_position(ram);
@@ -125,7 +129,8 @@ pub fn first_from<const REGS: usize>(ram: &Ram<REGS>, at: u16) -> Option<Found>
 /// The line that a position stands for: the first from there on, nulls passed over. 14 where there is none.
 pub fn line_at<const REGS: usize>(ram: &Ram<REGS>, at: u16) -> Result<ListedLine, Refusal>
     requires { IsTrue (is_sound ram.now) }
-    ensures { AnswersFrom line_of ram.now at result }
+    ensures lines { AnswersFrom line_of ram.now at result }
+    ensures first { AnswersFirst ram.now at result }
 {
     match first_from(ram, at) {
         Some(found) => Ok(found.listed),
@@ -137,7 +142,8 @@ pub fn line_at<const REGS: usize>(ram: &Ram<REGS>, at: u16) -> Result<ListedLine
 /// of `.END.` its own. 14 where there is no line.
 pub fn next<const REGS: usize>(ram: &Ram<REGS>, at: u16) -> Result<u16, Refusal>
     requires { IsTrue (is_sound ram.now) }
-    ensures { AnswersFrom next_of ram.now at result }
+    ensures lines { AnswersFrom next_of ram.now at result }
+    ensures first { AnswersNext ram.now at result }
 {
     match first_from(ram, at) {
         Some(first) => Ok(position_behind(ram, first)),
@@ -148,7 +154,8 @@ pub fn next<const REGS: usize>(ram: &Ram<REGS>, at: u16) -> Result<u16, Refusal>
 /// The position of the line behind one, or the byte behind it where no line follows; of `.END.` its own.
 fn position_behind<const REGS: usize>(ram: &Ram<REGS>, first: Found) -> u16
     requires { IsTrue (is_sound ram.now) }
-    ensures { FollowsAt ram.now first result }
+    ensures follows { FollowsAt ram.now first result }
+    ensures found { FoundBehind ram.now first result }
 {
     let Found { listed, behind } = first;
     if is_final_end(listed.line) {

@@ -2,20 +2,21 @@
 ghost use Rattle.std.specs.Prelude.{◌≡◌, ◌&&◌, nat_lt, IsTrue};
 ghost use Rattle.h41_ram.specs.RegisterMap.{is_sound};
 ghost use Rattle.h41_program.specs.Lines as spec;
-ghost use Rattle.h41_program.specs.ProgramLines.{AnswersFrom};
+ghost use Rattle.h41_program.specs.ProgramLines.{AnswersFrom, AnswersOf};
 ghost use Rattle.h41_program.specs.Searches.{AnswersLocal, label_in, named_in, position_of, start_in};
 
 use crate::kinds::{is_end, is_final_end, is_label, is_named};
 use crate::listed_line::ListedLine;
 use crate::reading::{Found, first_from};
 use h41_codes::Parameter;
+use h41_codes::laws::byte_round_trip;
 use h41_ram::Ram;
 
 /// Where the program of a position begins: behind the last END whose first byte is before the position, or at 0. `.END.` is
 /// no END here.
 pub fn start_of<const REGS: usize>(ram: &Ram<REGS>, at: u16) -> u16
     requires { IsTrue (is_sound ram.now) }
-    ensures { AnswersFrom (start_in at) ram.now 0 result }
+    ensures { AnswersOf (start_in at) ram.now 0 result }
 {
     let mut start = 0;
     let mut position = 0;
@@ -44,6 +45,7 @@ pub fn local<const REGS: usize>(ram: &Ram<REGS>, at: u16, label: Parameter) -> O
     requires { IsTrue (is_sound ram.now) }
     ensures { AnswersLocal ram.now at label result }
 {
+    byte_round_trip();
     match label_from(ram, at, label) {
         Some(position) => Some(position),
         None => label_from(ram, start_of(ram, at), label),
@@ -75,7 +77,7 @@ fn label_from<const REGS: usize>(ram: &Ram<REGS>, at: u16, label: Parameter) -> 
 /// Where the last `LBL` of a name stands in memory.
 pub fn global<const REGS: usize>(ram: &Ram<REGS>, name: &[u8]) -> Option<u16>
     requires { IsTrue (is_sound ram.now) }
-    ensures { AnswersFrom (λ lines. position_of (named_in name.now lines)) ram.now 0 result }
+    ensures { AnswersOf (λ lines. position_of (named_in name.now lines)) ram.now 0 result }
 {
     let mut last = None;
     let mut position = 0;

@@ -24,6 +24,25 @@ fn two_recalls(rt: HostRuntime) {
 }
 
 #[test]
+fn one_recall(rt: HostRuntime) {
+    let mut ram = Ram::<320>::new();
+    assert!(rt; ram.is_sound());
+    assert_eq!(rt; load(&mut ram, &[0x25]), Ok(0));
+    assert!(rt; ram.is_sound());
+    let short = Line::Register(RegisterFunction::RecallRegister, ShortRegister::new(5));
+    assert_eq!(rt;
+        first_from(&ram, 0),
+        Some(Found {
+            listed: ListedLine {
+                position: 0,
+                line: short
+            },
+            behind: 1
+        })
+    );
+}
+
+#[test]
 fn broken_bytes(rt: HostRuntime) {
     let mut ram = Ram::<320>::new();
     assert!(rt; ram.is_sound());

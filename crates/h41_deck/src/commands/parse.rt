@@ -1,17 +1,20 @@
 //! The command that a line's words spell.
 
 ghost use Rattle.std.specs.Prelude.{◌≡◌};
-ghost use Rattle.h41_deck.specs.Commands.{call_command, machine_view, reset_command, setting_command, unplug_command, is_opening, opening_command, parsed, plain_command, plug_at, plug_command, show_command, step_command, view_named, view_of, list_command};
+ghost use Rattle.h41_deck.specs.Commands.{call_command, load_command, machine_view, reset_command, size_command, setting_command, unplug_command, is_opening, opening_command, parsed, plain_command, plug_at, plug_command, show_command, step_command, view_named, view_of, list_command};
 ghost use Rattle.h41_deck.specs.Lines.{words_of};
 ghost use Rattle.h41_deck.specs.Numbers as spec;
 
 use crate::commands::number::{count_up_to, hexadecimal, number_up_to};
-use crate::commands::{BlockKind, Command, View};
+use crate::commands::{BlockKind, Command, PageKind, ProgramKind, View};
 use crate::lines::words::LineWords;
 use crate::refusal::Refusal;
 
 /// The most single steps of one command.
 const MOST_STEPS: u32 = 9_999_999;
+
+/// The greatest number of data registers that a line can write.
+const MOST_REGISTERS: u32 = 9_999;
 
 /// The most words of one listing.
 const MOST_WORDS: u32 = 4_096;
@@ -46,7 +49,8 @@ fn opening(kind: BlockKind, operands: LineWords<'_>) -> Result<Command, Refusal>
     ensures { result ≡ opening_command kind (words_of operands.entry.rest.now) }
 {
     match kind {
-        BlockKind::Words | BlockKind::Image | BlockKind::Asm => plug(kind, operands),
+        BlockKind::Page(kind) => plug(kind, operands),
+        BlockKind::Program(kind) => load(kind, operands),
     }
 }
 
@@ -63,7 +67,8 @@ fn plain(name: &[u8], operands: LineWords<'_>) -> Result<Command, Refusal>
     }
 }
 
-/// The command of a line that changes what is plugged, or begins anew, by its first word and those behind it.
+/// The command of a line that changes what is plugged or how memory is parted, or begins anew, by its first word and those
+/// behind it.
 #[tactic(auto, unfolding(crate::specs::Commands::setting_command))]
 fn setting(name: &[u8], operands: LineWords<'_>) -> Result<Command, Refusal>
     ensures { result ≡ setting_command name.now (words_of operands.entry.rest.now) }
@@ -72,13 +77,15 @@ fn setting(name: &[u8], operands: LineWords<'_>) -> Result<Command, Refusal>
         unplug(operands)
     } else if name == b"reset".as_slice() {
         reset(operands)
+    } else if name == b"size".as_slice() {
+        size(operands)
     } else {
         Err(Refusal::BadCommand)
     }
 }
 
 /// `words P [rw]`, `image P [rw]` and `asm P [rw]`: a block that fills a page.
-fn plug(kind: BlockKind, mut operands: LineWords<'_>) -> Result<Command, Refusal>
+fn plug(kind: PageKind, mut operands: LineWords<'_>) -> Result<Command, Refusal>
     ensures { result ≡ plug_command kind (words_of operands.entry.rest.now) }
 {
     match (operands.next(), operands.next(), operands.next()) {
@@ -89,7 +96,7 @@ fn plug(kind: BlockKind, mut operands: LineWords<'_>) -> Result<Command, Refusal
 }
 
 /// The same, by the word that names the page.
-fn plug_at(kind: BlockKind, page: &[u8], writable: bool) -> Result<Command, Refusal>
+fn plug_at(kind: PageKind, page: &[u8], writable: bool) -> Result<Command, Refusal>
     ensures { result ≡ plug_at kind page.now writable }
 {
     let page = page_number(page)?;
@@ -98,6 +105,16 @@ fn plug_at(kind: BlockKind, page: &[u8], writable: bool) -> Result<Command, Refu
         page,
         writable,
     })
+}
+
+/// `load` and `program`: a block that is a program.
+fn load(kind: ProgramKind, mut operands: LineWords<'_>) -> Result<Command, Refusal>
+    ensures { result ≡ load_command kind (words_of operands.entry.rest.now) }
+{
+    match operands.next() {
+        None => Ok(Command::Load(kind)),
+        Some(_) => Err(Refusal::BadCommand),
+    }
 }
 
 /// `unplug P`.
@@ -115,6 +132,19 @@ fn page_number(page: &[u8]) -> Result<u8, Refusal>
     ensures { result ≡ spec.hexadecimal 1 page.now }
 {
     Ok(hexadecimal(1, 1, page)? as u8)
+}
+
+/// `size n`.
+fn size(mut operands: LineWords<'_>) -> Result<Command, Refusal>
+    ensures { result ≡ size_command (words_of operands.entry.rest.now) }
+{
+    match (operands.next(), operands.next()) {
+        (Some(count), None) => {
+            let count = number_up_to(MOST_REGISTERS, 10, count)? as u16;
+            Ok(Command::Size(count))
+        }
+        _ => Err(Refusal::BadCommand),
+    }
 }
 
 /// `reset`.
@@ -205,6 +235,7 @@ fn machine_view(what: &[u8]) -> Result<View, Refusal>
         b"flags" => Ok(View::Flags),
         b"alpha" => Ok(View::Alpha),
         b"pos" => Ok(View::Position),
+        b"lines" => Ok(View::Lines),
         _ => Err(Refusal::BadCommand),
     }
 }

@@ -5,6 +5,7 @@ ghost use Rattle.std.specs.Fmt.{WritesOnOk};
 ghost use Rattle.h41_deck.specs.Views.{position_text};
 
 use crate::calculator::{Calculator, Mode};
+use crate::replies::program::position_digits;
 use h41_digits::Digits;
 use std::fmt;
 
@@ -23,12 +24,16 @@ impl fmt::Display for PositionLine<'_> {
     }
 }
 
-/// `Micro` and the address of the next word while a function runs, else `Idle` and the position, which is 0000 for now.
+/// `Micro` and the address of the next word while a function runs, else `Idle` and the position in program memory.
 fn write_position<W: fmt::Write>(f: &mut fmt::Formatter<W>, calculator: &Calculator) -> fmt::Result
     ensures { WritesOnOk W.write_str_gives f.old result (position_text calculator.now) f.new }
 {
     match calculator.mode() {
-        Mode::Idle => f.write_str("Idle 0000\n"),
+        Mode::Idle => {
+            let position = position_digits(calculator.position());
+            let position = position.as_str();
+            writeln!(f, "Idle {position}")
+        }
         Mode::Micro => {
             let address = Digits::<4>::holding(u64::from(calculator.cpu().pc()));
             writeln!(f, "Micro {address}")

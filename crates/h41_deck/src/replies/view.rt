@@ -13,6 +13,7 @@ use crate::replies::image::image_shown;
 use crate::replies::memory::{FlagsLine, RegisterLine, StackLines};
 use crate::replies::position::PositionLine;
 use crate::replies::processor::Processor;
+use crate::replies::program::program_lines;
 use std::alloc::{AllocError, Global};
 use std::fmt;
 
@@ -39,6 +40,7 @@ pub fn shown(
         View::Alpha => alpha_line(alloc, calculator)?,
         View::Display => display_line(alloc, calculator)?,
         View::Position => text_of(alloc, PositionLine(calculator))?,
+        View::Lines => program_lines(alloc, ram)?,
         View::Image(page) => return image_shown(alloc, calculator.pages(), page),
         View::Functions => functions_text(alloc, calculator.pages())?,
     };

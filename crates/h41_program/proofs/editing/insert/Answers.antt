@@ -1,12 +1,15 @@
-use Rattle.std.proofs.Common.{sym, ◌∙◌}
-use Rattle.h41_program.specs.Edits.{with_inserted}
-use Rattle.h41_program.proofs.EditSteps.{edited_from, refused_from}
+use Rattle.std.proofs.Common.{Err, ap, inl, inr, refl, subst}
+use Rattle.h41_program.specs.ProgramLines.{AnswersFirst}
+use Rattle.h41_program.specs.declared.refusal.Refusal.TheVariants.{BrokenProgram}
 use Rattle.h41_program.proofs.editing.insert.Goals as goal
 
 pub returns-in-Ok : goal.returns-in-Ok
-returns-in-Ok g c lines onward from here =
-    edited_from (with_inserted c.args.line) c.args.ram.now c.insert_at.new.ram c.insert_at.result lines onward c.in-Ok.listed (sym c.in-Ok.is ∙ c.line_at.ensures onward here) (c.insert_at.ensures lines from)
+returns-in-Ok g c =
+    let first = subst (λ r. AnswersFirst c.args.ram.now c.args.before r) c.in-Ok.is c.line_at.ensures.first in
+    let edits = c.insert_at.ensures in
+    (edits.0, inl (c.in-Ok.listed, first, edits.1), edits.2)
 
 pub returns-in-Err : goal.returns-in-Err
-returns-in-Err g c lines onward from here =
-    refused_from (with_inserted c.args.line) c.args.ram.now lines onward c.in-Err.refusal (sym c.in-Err.is ∙ c.line_at.ensures onward here)
+returns-in-Err g c =
+    let none = subst (λ r. AnswersFirst c.args.ram.now c.args.before r) c.in-Err.is c.line_at.ensures.first in
+    (Err BrokenProgram, inr (none.1, refl), (ap (λ r. Err r) none.0, refl))

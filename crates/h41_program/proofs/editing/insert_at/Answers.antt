@@ -1,14 +1,23 @@
+use Rattle.std.proofs.Common.{refl}
 use Rattle.std.specs.Prelude.{◌&&◌, is_some}
-use Rattle.h41_program.specs.Edits.{before_end, has_line_at, with_inserted}
+use Rattle.h41_program.specs.Edits.{before_end, edit_outcome, has_line_at, with_inserted}
 use Rattle.h41_program.proofs.EditSteps.{changed_written, changed_refused}
 use Rattle.h41_program.proofs.editing.insert_at.Goals as goal
 
 pub returns-in-Ok : goal.returns-in-Ok
-returns-in-Ok g c lines from =
-    changed_written c.args.ram.now c.write.new.ram (with_inserted c.args.line.now c.args.place) c.args.place lines c.packed_with.result c.in-Ok.packer c.write.result
-    (is_some (before_end lines) && has_line_at c.args.place lines) (c.packed_with.ensures lines from) c.in-Ok.is c.write.ensures.lines
+returns-in-Ok g c =
+    let packs = c.packed_with.ensures in (
+      edit_outcome c.args.ram.now (with_inserted c.args.line.now c.args.place) c.args.place packs.0,
+      (packs.0, packs.1, refl),
+      changed_written c.args.ram.now c.write.new.ram (with_inserted c.args.line.now c.args.place) c.args.place packs.0 c.packed_with.result c.in-Ok.packer c.write.result
+          (is_some (before_end packs.0) && has_line_at c.args.place packs.0) packs.2 c.in-Ok.is c.write.ensures.lines,
+    )
 
 pub returns-in-Err : goal.returns-in-Err
-returns-in-Err g c lines from =
-    changed_refused c.args.ram.now (with_inserted c.args.line.now c.args.place) lines c.packed_with.result c.in-Err.refusal
-    (is_some (before_end lines) && has_line_at c.args.place lines) (c.packed_with.ensures lines from) c.in-Err.is
+returns-in-Err g c =
+    let packs = c.packed_with.ensures in (
+      edit_outcome c.args.ram.now (with_inserted c.args.line.now c.args.place) c.args.place packs.0,
+      (packs.0, packs.1, refl),
+      changed_refused c.args.ram.now (with_inserted c.args.line.now c.args.place) packs.0 c.packed_with.result c.in-Err.refusal
+          (is_some (before_end packs.0) && has_line_at c.args.place packs.0) packs.2 c.in-Err.is,
+    )

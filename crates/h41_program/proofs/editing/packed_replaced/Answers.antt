@@ -4,7 +4,7 @@ use Rattle.std.specs.List.{flat_map}
 use Rattle.h41_program.specs.Edits.{with_replaced, has_line_at}
 use Rattle.h41_program.specs.ProgramBytes.{program_bytes, final_position}
 use Rattle.h41_program.proofs.EditSteps.{replaced_packs, replaced_last, has_line_at-more, changed_final, changed_none}
-use Rattle.h41_program.proofs.Walks.{up_to_none, up_to_more}
+use Rattle.h41_program.proofs.Walks.{up_to_none, up_to_more, all_none, all_final, from_reads}
 use Rattle.h41_program.proofs.editing.packed_replaced.Goals as goal
 
 pub loop-found-init : goal.loop-found-init
@@ -27,19 +27,28 @@ loop-found-preserved g c =
     )
 
 pub returns-then-is_final_end : goal.returns-then-is_final_end
-returns-then-is_final_end g c lines from =
+returns-then-is_final_end g c =
     let memory = c.args.ram.now in
     let found = c.in-Some.found in
     let before = c.loop-found.invariant in
+    let lines = before.0 ++ found.listed ∷ [] in
     let final = sym c.is_final_end.ensures ∙ c.if-is_final_end.true in
     let met = c.either-met.ensures ∙ ap (λ b. b || c.stands_at-there.result) before.1.found ∙ ap (λ b. has_line_at c.args.place before.0 || b) c.stands_at-there.ensures in
-    changed_final (program_bytes memory) (final_position memory) c.loop-found.at found.behind c.put_if.new.packer c.either-met.result (with_replaced c.args.line.now c.args.place) c.args.place before.0 lines found.listed
-    before.1.read c.in-Some.ensures.first final
-    (replaced_last c.put_if.new.packer c.args.line.now c.args.place before.0 found.listed c.stands_at-there.result c.stands_at-there.ensures final (c.put_if.ensures (flat_map (with_replaced c.args.line.now c.args.place) before.0) before.1.packs))
-    (met ∙ sym (has_line_at-more c.args.place before.0 found.listed)) (from.sound c.requires.sound) c.where_met.result c.where_met.ensures
+    let reads = all_final (program_bytes memory) (final_position memory) 0 c.loop-found.at found.behind before.0 found.listed before.1.read c.in-Some.ensures.first final in (
+      lines,
+      from_reads memory 0 lines c.requires.sound reads,
+      changed_final (program_bytes memory) (final_position memory) c.loop-found.at found.behind c.put_if.new.packer c.either-met.result (with_replaced c.args.line.now c.args.place) c.args.place before.0 lines found.listed
+          before.1.read c.in-Some.ensures.first final
+          (replaced_last c.put_if.new.packer c.args.line.now c.args.place before.0 found.listed c.stands_at-there.result c.stands_at-there.ensures final (c.put_if.ensures (flat_map (with_replaced c.args.line.now c.args.place) before.0) before.1.packs))
+          (met ∙ sym (has_line_at-more c.args.place before.0 found.listed)) reads c.where_met.result c.where_met.ensures,
+    )
 
 pub returns : goal.returns
-returns g c lines from =
+returns g c =
     let memory = c.args.ram.now in
     let before = c.loop-found.invariant in
-    changed_none (program_bytes memory) (final_position memory) c.loop-found.at (with_replaced c.args.line.now c.args.place) c.args.place before.0 lines before.1.read c.in_default.ensures.none (from.sound c.requires.sound)
+    let reads = all_none (program_bytes memory) (final_position memory) 0 c.loop-found.at before.0 before.1.read c.in_default.ensures.none in (
+      before.0,
+      from_reads memory 0 before.0 c.requires.sound reads,
+      changed_none (program_bytes memory) (final_position memory) c.loop-found.at (with_replaced c.args.line.now c.args.place) c.args.place before.0 before.0 before.1.read c.in_default.ensures.none reads,
+    )

@@ -5,7 +5,7 @@ use Rattle.h41_program.specs.Edits.{without_deleted, has_line_at}
 use Rattle.h41_program.specs.Packers.{Packs}
 use Rattle.h41_program.specs.ProgramBytes.{program_bytes, final_position}
 use Rattle.h41_program.proofs.EditSteps.{nil_packs, has_line_at-more, changed-more, changed_final, changed_none, without_deleted-other, without_deleted-final}
-use Rattle.h41_program.proofs.Walks.{up_to_none, up_to_more}
+use Rattle.h41_program.proofs.Walks.{up_to_none, up_to_more, all_none, all_final, from_reads}
 use Rattle.h41_program.proofs.editing.packed_without.Goals as goal
 
 pub loop-found-init : goal.loop-found-init
@@ -27,19 +27,28 @@ loop-found-preserved g c =
     )
 
 pub returns-then-is_final_end : goal.returns-then-is_final_end
-returns-then-is_final_end g c lines from =
+returns-then-is_final_end g c =
     let memory = c.args.ram.now in
     let found = c.in-Some.found in
     let before = c.loop-found.invariant in
+    let lines = before.0 ++ found.listed ∷ [] in
     let final = sym c.is_final_end.ensures ∙ c.if-is_final_end.true in
     let met = c.either-met.ensures ∙ ap (λ b. b || c.stands_at-here.result) before.1.found ∙ ap (λ b. has_line_at c.args.place before.0 || b) c.stands_at-here.ensures in
-    changed_final (program_bytes memory) (final_position memory) c.loop-found.at found.behind c.loop-found.packer c.either-met.result (without_deleted c.args.place) c.args.place before.0 lines found.listed
-    before.1.read c.in-Some.ensures.first final
-    (subst (λ all. Packs c.loop-found.packer all) (sym (changed-more (without_deleted c.args.place) before.0 found.listed ∙ ap (λ l. flat_map (without_deleted c.args.place) before.0 ++ l) (without_deleted-final c.args.place found.listed final))) (nil_packs c.loop-found.packer _ before.1.packs))
-    (met ∙ sym (has_line_at-more c.args.place before.0 found.listed)) (from.sound c.requires) c.where_met.result c.where_met.ensures
+    let reads = all_final (program_bytes memory) (final_position memory) 0 c.loop-found.at found.behind before.0 found.listed before.1.read c.in-Some.ensures.first final in (
+      lines,
+      from_reads memory 0 lines c.requires reads,
+      changed_final (program_bytes memory) (final_position memory) c.loop-found.at found.behind c.loop-found.packer c.either-met.result (without_deleted c.args.place) c.args.place before.0 lines found.listed
+          before.1.read c.in-Some.ensures.first final
+          (subst (λ all. Packs c.loop-found.packer all) (sym (changed-more (without_deleted c.args.place) before.0 found.listed ∙ ap (λ l. flat_map (without_deleted c.args.place) before.0 ++ l) (without_deleted-final c.args.place found.listed final))) (nil_packs c.loop-found.packer _ before.1.packs))
+          (met ∙ sym (has_line_at-more c.args.place before.0 found.listed)) reads c.where_met.result c.where_met.ensures,
+    )
 
 pub returns : goal.returns
-returns g c lines from =
+returns g c =
     let memory = c.args.ram.now in
     let before = c.loop-found.invariant in
-    changed_none (program_bytes memory) (final_position memory) c.loop-found.at (without_deleted c.args.place) c.args.place before.0 lines before.1.read c.in_default.ensures.none (from.sound c.requires)
+    let reads = all_none (program_bytes memory) (final_position memory) 0 c.loop-found.at before.0 before.1.read c.in_default.ensures.none in (
+      before.0,
+      from_reads memory 0 before.0 c.requires reads,
+      changed_none (program_bytes memory) (final_position memory) c.loop-found.at (without_deleted c.args.place) c.args.place before.0 before.0 before.1.read c.in_default.ensures.none reads,
+    )

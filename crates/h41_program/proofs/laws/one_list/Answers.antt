@@ -1,7 +1,6 @@
-use Rattle.std.proofs.Common.{◌++◌, ◌∷◌, [], sym, ◌∙◌, append-nil}
-use Rattle.std.proofs.lemmas.Bool.{true≢false}
+use Rattle.std.proofs.Common.{◌++◌, ◌∷◌, [], sym, ◌∙◌}
 use Rattle.h41_program.specs.ProgramBytes.{program_bytes, final_position}
-use Rattle.h41_program.proofs.Walks.{up_to_more, ends_none, ends_final, reads_last}
+use Rattle.h41_program.proofs.Walks.{up_to_more, ends_none, ends_final, all_none, all_final, from_reads}
 use Rattle.h41_program.proofs.laws.one_list.Goals as goal
 
 pub returns-then-is_final_end : goal.returns-then-is_final_end
@@ -11,12 +10,11 @@ returns-then-is_final_end g c =
     let before = c.loop-found.invariant in
     let sound = sym c.is_sound.ensures ∙ c.if-not-is_sound.false in
     let final = sym c.is_final_end.ensures ∙ c.if-is_final_end.true in
+    let lines = before.0 ++ found.listed ∷ [] in
     record {
-      lines = before.0 ++ found.listed ∷ [];
-      from = record {
-        sound = λ _. before.1.joins (found.listed ∷ []) (reads_last (program_bytes memory) (final_position memory) c.loop-found.position found.behind found.listed c.in-Some.ensures.first final);
-        lost = λ lost. absurd (true≢false (sym sound ∙ lost));
-      };
+      lines = lines;
+      from = from_reads memory c.args.at lines sound
+          (all_final (program_bytes memory) (final_position memory) c.args.at c.loop-found.position found.behind before.0 found.listed before.1 c.in-Some.ensures.first final);
       one = λ others from. ends_final (program_bytes memory) (final_position memory) c.args.at c.loop-found.position found.behind before.0 others found.listed before.1 c.in-Some.ensures.first final (from.sound sound);
     }
 
@@ -36,10 +34,8 @@ returns g c =
     let before = c.loop-found.invariant in
     let sound = sym c.is_sound.ensures ∙ c.if-not-is_sound.false in
     record {
-      lines = before.0 ++ [];
-      from = record {
-        sound = λ _. before.1.joins [] c.in_default.ensures.none;
-        lost = λ lost. absurd (true≢false (sym sound ∙ lost));
-      };
-      one = λ others from. ends_none (program_bytes memory) (final_position memory) c.args.at c.loop-found.position before.0 others before.1 c.in_default.ensures.none (from.sound sound) ∙ sym (append-nil before.0);
+      lines = before.0;
+      from = from_reads memory c.args.at before.0 sound
+          (all_none (program_bytes memory) (final_position memory) c.args.at c.loop-found.position before.0 before.1 c.in_default.ensures.none);
+      one = λ others from. ends_none (program_bytes memory) (final_position memory) c.args.at c.loop-found.position before.0 others before.1 c.in_default.ensures.none (from.sound sound);
     }

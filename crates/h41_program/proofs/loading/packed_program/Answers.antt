@@ -2,17 +2,22 @@ use Rattle.std.proofs.Common.{sym, ◌∙◌, subst, refl, ◌++◌, ◌∷◌, 
 use Rattle.h41_program.specs.Edits.{lines_of}
 use Rattle.h41_program.specs.Packers.{Packs}
 use Rattle.h41_program.specs.ProgramBytes.{program_bytes, final_position}
-use Rattle.h41_program.proofs.Loads.{packed_lines, no_program, lines_of-more}
-use Rattle.h41_program.proofs.Walks.{up_to_more}
+use Rattle.h41_program.proofs.Loads.{packed_lines, lines_of-more}
+use Rattle.h41_program.proofs.Walks.{up_to_more, all_none, all_final, from_reads, before_end-none}
 use Rattle.h41_program.proofs.loading.packed_program.Goals as goal
 
 pub returns-then-is_final_end : goal.returns-then-is_final_end
-returns-then-is_final_end g c lines from =
+returns-then-is_final_end g c =
     let memory = c.args.ram.now in
     let found = c.in-Some.found in
     let before = c.loop-found.invariant in
-    packed_lines (program_bytes memory) (final_position memory) c.loop-found.at found.behind before.0 lines found.listed c.loop-found.packer before.1
-    c.in-Some.ensures.first (sym c.is_final_end.ensures ∙ c.if-is_final_end.true) (from.sound c.requires) before.2
+    let last = sym c.is_final_end.ensures ∙ c.if-is_final_end.true in
+    let lines = before.0 ++ found.listed ∷ [] in (
+      lines,
+      from_reads memory 0 lines c.requires
+          (all_final (program_bytes memory) (final_position memory) 0 c.loop-found.at found.behind before.0 found.listed before.1 c.in-Some.ensures.first last),
+      packed_lines (program_bytes memory) (final_position memory) c.loop-found.at before.0 found.listed c.loop-found.packer before.1 last before.2,
+    )
 
 pub loop-found-preserved : goal.loop-found-preserved
 loop-found-preserved g c =
@@ -26,8 +31,11 @@ loop-found-preserved g c =
     )
 
 pub returns : goal.returns
-returns g c lines from =
+returns g c =
     let memory = c.args.ram.now in
     let before = c.loop-found.invariant in
-    let none = no_program (program_bytes memory) (final_position memory) c.loop-found.at before.0 lines before.1 c.in_default.ensures.none (from.sound c.requires) in
-    rw none refl
+    let none = before_end-none (program_bytes memory) (final_position memory) 0 c.loop-found.at before.0 before.1 in (
+      before.0,
+      from_reads memory 0 before.0 c.requires (all_none (program_bytes memory) (final_position memory) 0 c.loop-found.at before.0 before.1 c.in_default.ensures.none),
+      rw none refl,
+    )

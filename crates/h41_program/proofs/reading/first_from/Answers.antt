@@ -1,4 +1,6 @@
 use Rattle.std.proofs.Common.{◌+◌, refl, ◌∙◌, arith}
+use Rattle.std.proofs.lemmas.List.FromFn.{length-map-range_with_len}
+use Rattle.h41_program.specs.ProgramBytes.{byte_count, program_byte}
 use Rattle.h41_program.proofs.FirstLines.{first_inside}
 use Rattle.h41_program.proofs.Memory.{Looked, looked_first, looked_none}
 use Rattle.h41_program.proofs.Windows.{begins_most}
@@ -35,6 +37,13 @@ returns-in-Ok-clause-first g c =
     } in
     looked_first c.byte_round_trip.ensures.one c.args.ram.now c.requires c.args.at c.past_nulls-position.result c.final_position-last.result c.line_limit.result
     c.as_slice.result.now looked c.decode.result c.decode.ensures.line c.in-Ok.line c.in-Ok.count (c.past_nulls-position.result + c.in-Ok.count) c.in-Ok.is refl
+
+pub returns-in-Ok-clause-behind : goal.returns-in-Ok-clause-behind
+returns-in-Ok-clause-behind g c =
+    let memory = c.args.ram.now in
+    let inside = (returns-in-Ok-clause-first g c).inside in
+    let last = c.final_position-last.ensures in
+    omega (arith, inside, length-map-range_with_len (program_byte memory) 0 (byte_count memory), last.count, last.bound)
 
 pub returns-in-Err-clause-none : goal.returns-in-Err-clause-none
 returns-in-Err-clause-none g c =

@@ -1,18 +1,21 @@
-use Rattle.std.proofs.Common.{◌++◌, ◌∷◌, [], refl, sym, ◌∙◌, ap}
+use Rattle.std.proofs.Common.{◌++◌, ◌∷◌, [], refl, sym, ◌∙◌}
 use Rattle.h41_program.specs.ProgramBytes.{program_bytes, final_position}
-use Rattle.h41_program.specs.Searches.{named_in, position_of}
 use Rattle.h41_program.proofs.SearchSteps.{named_in-more, named_in-final}
-use Rattle.h41_program.proofs.Walks.{up_to_more, ends_none, ends_final}
+use Rattle.h41_program.proofs.Walks.{up_to_more, all_none, all_final, from_reads}
 use Rattle.h41_program.proofs.searches.global.Goals as goal
 
 pub returns-then-is_final_end : goal.returns-then-is_final_end
-returns-then-is_final_end g c lines from =
+returns-then-is_final_end g c =
     let memory = c.args.ram.now in
     let found = c.in-Some.found in
     let before = c.loop-found.invariant in
     let final = sym c.is_final_end.ensures ∙ c.if-is_final_end.true in
-    let all = ends_final (program_bytes memory) (final_position memory) 0 c.loop-found.position found.behind before.0 lines found.listed before.1 c.in-Some.ensures.first final (from.sound c.requires) in
-    before.2 ∙ sym (named_in-final c.args.name.now before.0 found.listed final) ∙ ap ((λ lines. position_of (named_in c.args.name.now lines))) (sym all)
+    let lines = before.0 ++ found.listed ∷ [] in (
+      lines,
+      from_reads memory 0 lines c.requires
+          (all_final (program_bytes memory) (final_position memory) 0 c.loop-found.position found.behind before.0 found.listed before.1 c.in-Some.ensures.first final),
+      before.2 ∙ sym (named_in-final c.args.name.now before.0 found.listed final),
+    )
 
 pub loop-found-preserved-then-is_named : goal.loop-found-preserved-then-is_named
 loop-found-preserved-then-is_named g c =
@@ -39,8 +42,10 @@ loop-found-preserved g c =
     )
 
 pub returns : goal.returns
-returns g c lines from =
+returns g c =
     let memory = c.args.ram.now in
-    let before = c.loop-found.invariant in
-    let all = ends_none (program_bytes memory) (final_position memory) 0 c.loop-found.position before.0 lines before.1 c.in_default.ensures.none (from.sound c.requires) in
-    before.2 ∙ ap ((λ lines. position_of (named_in c.args.name.now lines))) (sym all)
+    let before = c.loop-found.invariant in (
+      before.0,
+      from_reads memory 0 before.0 c.requires (all_none (program_bytes memory) (final_position memory) 0 c.loop-found.position before.0 before.1 c.in_default.ensures.none),
+      before.2,
+    )

@@ -1,0 +1,12 @@
+use Rattle.std.proofs.Common.{length, ◌-◌}
+use Rattle.h41_program.specs.ProgramBytes.{program_bytes}
+use Rattle.h41_deck.proofs.ProgramWalks.{Listed}
+use Rattle.h41_deck.proofs.replies.program.program_lines.Given as goal
+
+-- the lines so far
+abbrev pub invariant-loop-found : goal.invariant-loop-found
+invariant-loop-found l = Listed l.ram l.listing.items l.at
+
+-- the bytes that are left
+abbrev pub decreases-loop-found : goal.decreases-loop-found
+decreases-loop-found l = length (program_bytes l.ram) - l.at

@@ -1,6 +1,6 @@
 -- What the functions that read program memory promise one another.
-use Rattle.std.specs.Prelude.{◌≡◌, ℕ, IsTrue, IsFalse, MatchBool, List, length}
-use Rattle.h41_ram.specs.RegisterMap.{RegisterMap}
+use Rattle.std.specs.Prelude.{◌≡◌, ℕ, ◌-◌, ◌/◌, IsTrue, IsFalse, MatchBool, List, length}
+use Rattle.h41_ram.specs.RegisterMap.{RegisterMap, curtain_of, register_at}
 use Rattle.h41_program.specs.declared.listed_line.ListedLine.{ListedLine}
 use Rattle.h41_program.specs.declared.given.Taken.{Taken}
 use Rattle.h41_program.specs.declared.reading.Found.{Found}
@@ -26,3 +26,7 @@ BytesHaveFirst bytes at taken = IsFirst bytes (length bytes) at (record { positi
 -- bytes have no line from a position on
 abbrev pub BytesHaveNone : List ℕ → ℕ → Type 0
 BytesHaveNone bytes at = NoneFrom bytes (length bytes) at
+
+-- the register that has the byte at a position; at the end the one below it
+abbrev pub program_register : RegisterMap → ℕ → List ℕ
+program_register memory position = register_at memory (curtain_of memory - 1 - position / 7)

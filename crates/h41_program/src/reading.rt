@@ -5,7 +5,7 @@ ghost use Rattle.h41_ram.specs.RegisterMap.{is_sound};
 ghost use Rattle.h41_program.specs.ProgramBytes.{byte_count, program_byte, program_bytes};
 ghost use Rattle.h41_program.specs.ProgramBytes as spec;
 ghost use Rattle.h41_program.specs.ProgramLines.{line_of, next_of, AnswersFirst, AnswersFrom, AnswersNext, HasFirst, HasNoLine};
-ghost use Rattle.h41_program.specs.Reading.{FollowsAt, FoundBehind};
+ghost use Rattle.h41_program.specs.Reading.{program_register, FollowsAt, FoundBehind};
 
 use crate::kinds::is_final_end;
 use crate::listed_line::ListedLine;
@@ -13,6 +13,7 @@ use crate::refusal::Refusal;
 use arrayvec::ArrayVec;
 use h41_codes::decode;
 use h41_codes::laws::byte_round_trip;
+use h41_digits::Reg;
 use h41_ram::Ram;
 
 /// How many bytes a register has.
@@ -47,6 +48,15 @@ pub fn final_position<const REGS: usize>(ram: &Ram<REGS>) -> u16
     (ram.curtain() - ram.end_register()) * REGISTER_BYTES - END_BYTES
 }
 
+/// The register that has the byte at a position of program memory; at its end the one below it.
+fn register_of<const REGS: usize>(ram: &Ram<REGS>, position: u16) -> Reg
+    requires count { position ≤ byte_count ram.now }
+    requires sound { IsTrue (is_sound ram.now) }
+    ensures { result ≡ program_register ram.now position }
+{
+    ram.read(ram.curtain() - 1 - position / REGISTER_BYTES)
+}
+
 /// The byte at a position of program memory.
 fn byte_at<const REGS: usize>(ram: &Ram<REGS>, position: u16) -> u8
     requires { position < byte_count ram.now }
@@ -78,11 +88,16 @@ fn window<const REGS: usize>(ram: &Ram<REGS>, at: u16, limit: u16) -> Window
     requires from { at ≤ limit }
     requires limit { limit ≤ byte_count ram.now }
     requires bound { limit < 65000 }
+    requires sound { IsTrue (is_sound ram.now) }
     ensures { result.items ≡ map (program_byte ram.now) (range_with_len at (min 18 (limit - at))) }
 {
     let mut window = Window::new();
+    let mut register = register_of(ram, at);
     for position in at..limit.min(at + LINE_MOST) {
-        window.push(byte_at(ram, position));
+        if position % REGISTER_BYTES == 0 {
+            register = register_of(ram, position);
+        }
+        window.push(register.byte(usize::from(6 - position % REGISTER_BYTES)));
     }
     window
 }

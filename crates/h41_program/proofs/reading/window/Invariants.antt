@@ -1,6 +1,7 @@
-use Rattle.std.proofs.Common.{◌≡◌, ◌-◌, map, length}
+use Rattle.std.proofs.Common.{◌≡◌, ◌-◌, ◌%◌, map, length}
 use Rattle.std.specs.List.{range_with_len}
 use Rattle.h41_program.specs.ProgramBytes.{program_byte}
+use Rattle.h41_program.specs.Reading.{program_register}
 use Rattle.h41_program.proofs.reading.window.Given as goal
 
 -- the bytes so far
@@ -8,4 +9,6 @@ abbrev pub invariant-loop-position : goal.invariant-loop-position
 invariant-loop-position g l = record {
   items : l.window.items ≡ map (program_byte l.ram) (range_with_len l.at (l.position - l.at));
   count : length l.window.items ≡ l.position - l.at;
+  -- the register of the next byte, where that is not its first
+  held : (l.position % 7 ≡ 0 → ⊥) → l.register ≡ program_register l.ram l.position;
 }

@@ -35,10 +35,11 @@ line_digits line = filter (λ byte. not (is_blank byte)) line
 abbrev pub line_bytes : List ℕ → Result (List ℕ) FromHexError
 line_bytes line = decode_of (line_digits line)
 
--- the bytes of a block's lines: 51 where one isn't a row of bytes
+-- the lines that are not skipped
 abbrev pub said_lines : List (List ℕ) → List (List ℕ)
 said_lines lines = filter (λ line. not (is_skipped line)) lines
 
+-- the bytes of a block's lines: 51 where one isn't a row of bytes
 abbrev pub bytes_values : List (List ℕ) → Result (List ℕ) Refusal
 bytes_values lines =
     if list_all (λ line. is_ok (line_bytes line)) lines then Ok (flat_map (λ line. result_unwrap_or (line_bytes line) []) lines)

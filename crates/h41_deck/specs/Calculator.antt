@@ -134,17 +134,17 @@ without_page page s = with_pages (pages.unplugged s.nut.pages page) s
 abbrev pub restarted : State → State
 restarted s = with_pages (pages.with_first_banks s.nut.pages) start
 
--- the program at a position is empty: the line there is .END.
+-- the line at a position is .END., as in an empty program
 abbrev pub IsEmptyFrom : ram.RegisterMap → ℕ → Type 0
 IsEmptyFrom memory at = (final : ListedLine) × LinesFrom memory at (final ∷ []) × IsTrue (is_final_end final.line)
 
--- why a line is not carried out: 13 until lines are carried out; an empty program has none
+-- why a line is not carried out: 13 until lines are carried out; .END. has nothing to do
 abbrev pub RefusesLine : State → Option Refusal → Type 0
 RefusesLine s None = IsEmptyFrom s.nut.ram s.position
 RefusesLine s (Some why) = (why ≡ NotInProfile) × (IsEmptyFrom s.nut.ram s.position → ⊥)
 
 -- why a step is refused, or that it is not: a word's refusal while a function runs; else 15 where memory is not sound, and
--- then a line's
+-- then 13 unless the line at the position is .END.
 abbrev pub RefusesStepIn : Mode → State → Option Refusal → Type 0
 RefusesStepIn modes.Idle s why = MatchBool (ram.is_sound s.nut.ram) (RefusesLine s why) (why ≡ Some MemoryLost)
 RefusesStepIn modes.Micro s why = why ≡ option_map of_nut (refused s.nut)
@@ -156,7 +156,7 @@ RefusesStep s why = RefusesStepIn s.mode s why
 abbrev pub mode_at : ℕ → Mode
 mode_at address = if address == end_of_function then modes.Idle else modes.Micro
 
--- one step: while a function runs the word's change, and its end where it arrives at 00F0; else nothing, for the program is empty
+-- one step: while a function runs the word's change, and its end where it arrives at 00F0; else nothing, for the line is .END.
 abbrev pub StepIn : Mode → State → State → Type 0
 StepIn modes.Idle s t = t ≡ s
 StepIn modes.Micro s t = Micro s.nut t.nut × (t ≡ record s { nut = t.nut; mode = mode_at t.nut.processor.pc })

@@ -94,11 +94,12 @@ LoadMakes s bytes made =
     ((outcome : Result (RegisterMap × ℕ) program.Refusal) × LoadGives s.nut.ram bytes outcome × (made ≡ loaded s outcome))
     (λ why. made ≡ Err why)
 
--- memory is given so many data registers, or it is refused: 24, 15, and then 17 or 16
+-- what is made, unless there is a refusal
 abbrev pub unless_refused : Option Refusal → Result State Refusal → Result State Refusal
 unless_refused None made = made
 unless_refused (Some why) made = Err why
 
+-- memory is given so many data registers, or it is refused: 24, 15, and then 17 or 16
 abbrev pub size_makes : State → ℕ → Result State Refusal
 size_makes s count = unless_refused (change_refusal s) (resized s (size_outcome s.nut.ram count))
 

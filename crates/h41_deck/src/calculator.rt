@@ -157,8 +157,8 @@ impl Calculator {
         }
     }
 
-    /// One line. Refused as 15 where memory is not sound, and as 13 until lines are carried out; over an empty program
-    /// there is nothing to do.
+    /// One line. Refused as 15 where memory is not sound, and as 13 until lines are carried out; over `.END.` there is
+    /// nothing to do.
     fn step_line(&self) -> Result<(), Refusal>
         ensures { RefusesStepIn Idle self.now (result_err result) }
     {
@@ -171,7 +171,7 @@ impl Calculator {
         Ok(())
     }
 
-    /// Whether the program at the position is empty: the line there is `.END.`.
+    /// Whether the line at the position is `.END.`, as in an empty program.
     fn is_program_empty(&self) -> bool
         requires { IsTrue (is_sound self.now.nut.ram) }
         ensures { IsTrue result ↔ IsEmptyFrom self.now.nut.ram self.now.position }
@@ -203,7 +203,7 @@ impl Calculator {
 
     /// Loads the lines of bytes behind the programs of memory, goes to line 00 of the first of them, and forgets the positions
     /// to return to. Refused as 24 while a function runs, as 15 where memory is not sound, as 14 where bytes of memory or of
-    /// these are no line, as 16 where there is no room. Nothing is changed then.
+    /// these are no line or an `.END.` stands before the end of these, as 16 where there is no room. Nothing is changed then.
     pub fn load(&mut self, bytes: &[u8]) -> Result<(), Refusal>
         ensures { Loads bytes.now self.old self.new (result_err result) }
     {
@@ -216,7 +216,7 @@ impl Calculator {
     }
 
     /// Gives memory so many data registers. Refused as 24 while a function runs, as 15 where memory is not sound, as 17
-    /// where there are not more registers, as 16 where there is no room. Nothing is changed then.
+    /// where that leaves no register for `.END.`, as 16 where there is no room. Nothing is changed then.
     pub fn set_size(&mut self, count: u16) -> Result<(), Refusal>
         ensures { Becomes (size_makes self.old count) self.old self.new (result_err result) }
     {

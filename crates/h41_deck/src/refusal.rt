@@ -45,13 +45,13 @@ pub enum Refusal {
     ReadOnly(u16),
     /// 13: this line of a program is not carried out.
     NotInProfile,
-    /// 14: bytes of a program are no line.
+    /// 14: bytes of a program are no line, or an `.END.` stands before their end.
     BrokenProgram,
     /// 15: memory is not sound.
     MemoryLost,
     /// 16: program memory would pass below main memory.
     NoRoom,
-    /// 17: there are not more registers than that.
+    /// 17: that leaves no register for `.END.`.
     SizeTooLarge,
     /// 21: no memory is left.
     OutOfMemory,

@@ -13,7 +13,7 @@ use crate::refusal::Refusal;
 /// The most single steps of one command.
 const MOST_STEPS: u32 = 9_999_999;
 
-/// The greatest number of data registers that a line can write.
+/// The greatest number that `size` takes.
 const MOST_REGISTERS: u32 = 9_999;
 
 /// The most words of one listing.

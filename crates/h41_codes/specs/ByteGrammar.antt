@@ -65,7 +65,7 @@ spelling (GlobalLabel link key name) = link_high link ∷ link_low link ∷ (0xF
 -- C0 to CD, the link, and a byte below F0: END, or .END. where bit 5 is set
 spelling (End link marks) = link_high link ∷ link_low link ∷ mark_bits marks ∷ []
 spelling (FinalEnd link marks) = link_high link ∷ link_low link ∷ (0x20 + mark_bits marks) ∷ []
--- D0 to DF and E0 to EF, the distance, and the label: GTO and XEQ
+-- any byte of row D or row E of the byte table, the distance, and the label: GTO and XEQ
 spelling (BranchTo branch distance backwards label) = (branch_code branch + distance / 256) ∷ (distance % 256) ∷ label_byte backwards label ∷ []
 -- F0 to FF and the characters: a text
 spelling (Text characters) = text_bytes characters

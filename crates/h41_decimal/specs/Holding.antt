@@ -1,5 +1,5 @@
 -- What a register of 14 digits holds: a number, ALPHA data, or neither.
-use Rattle.std.specs.Prelude.{ℕ, zero, suc, ◌+◌, ◌-◌, ◌*◌, ◌^◌, ◌&&◌, List, [], ◌∷◌, map, slice_index, Option, Some, None, nat_le, nat_lt, ◌==◌, if◌then◌else◌, ℤ, pos}
+use Rattle.std.specs.Prelude.{◌≡◌, ◌<◌, ◌≤◌, ℕ, zero, suc, ◌+◌, ◌-◌, ◌*◌, ◌^◌, ◌&&◌, List, [], ◌∷◌, map, slice_index, Option, Some, None, nat_le, nat_lt, ◌==◌, if◌then◌else◌, ℤ, pos}
 use Rattle.std.specs.Option.{option_map}
 use Rattle.h41_digits.specs.Register.{byte_at}
 use Rattle.h41_decimal.specs.Signs.{signed}
@@ -23,6 +23,14 @@ decimal_in register place (suc count) =
     if nat_le (slice_index register place) 9
     then option_map (λ rest. slice_index register place + 10 * rest) (decimal_in register (place + 1) count)
     else None
+
+-- two registers have the same digits below a place
+abbrev pub SameBelow : ℕ → List ℕ → List ℕ → Type 0
+SameBelow place x y = (k : ℕ) → k < place → slice_index x k ≡ slice_index y k
+
+-- and from a place on
+abbrev pub SameFrom : ℕ → List ℕ → List ℕ → Type 0
+SameFrom place x y = (k : ℕ) → place ≤ k → slice_index x k ≡ slice_index y k
 
 -- the sign, in place 13: 0, or 9 for a negative number
 abbrev pub sign_in : ℕ → Option Sign

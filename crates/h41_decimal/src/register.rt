@@ -4,7 +4,7 @@ ghost use Rattle.std.specs.Prelude.{◌≡◌, ℕ, ◌+◌, ◌*◌, ◌^◌, �
 ghost use Rattle.h41_decimal.specs.Signs.{signed};
 ghost use Rattle.std.specs.Option.{option_map};
 ghost use Rattle.h41_decimal.specs.Units.{size, units};
-ghost use Rattle.h41_decimal.specs.Holding.{decimal_in, sign_in, steps_in, parts_worth, holding_of, worth, Number};
+ghost use Rattle.h41_decimal.specs.Holding.{SameBelow, SameFrom, decimal_in, sign_in, steps_in, parts_worth, holding_of, worth, Number};
 
 use crate::parts::{Exponent, Mantissa, Size};
 use crate::sign::Sign;
@@ -116,8 +116,8 @@ fn with_digits(register: Reg, place: usize, count: usize, number: u64) -> Reg
     requires places { place + count ≤ 14 }
     requires fits { number < 10 ^ count }
     ensures written { decimal_in result place count ≡ Some number }
-    ensures below { (k : ℕ) → k < place → slice_index result k ≡ slice_index register k }
-    ensures above { (k : ℕ) → place + count ≤ k → slice_index result k ≡ slice_index register k }
+    ensures below { SameBelow place result register }
+    ensures above { SameFrom (place + count) result register }
 {
     if count == 0 {
         return register;

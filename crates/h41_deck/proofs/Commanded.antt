@@ -1,5 +1,7 @@
 -- How a command that was carried out is answered.
-use Rattle.std.proofs.Common.{◌≡◌, ℕ, Bool, List, Option, Some, None, Result, Ok, Err, OnOk, OnErr, IfOk, refl, sym, ap, subst, append-nil, ◌∙◌}
+use Rattle.std.proofs.Common.{◌≡◌, ℕ, Bool, List, Option, Some, None, Result, Ok, Err, OnOk, OnErr, refl, sym, ap, subst, append-nil, ◌∙◌}
+use Rattle.std.specs.Global.{Global}
+use Rattle.std.specs.Prelude.{Vec}
 use Rattle.std.specs.Result.{result_err}
 use Rattle.std.specs.Io.KnownBytes.{Appends}
 use Rattle.h41_deck.specs.declared.commands.BlockKind.TheVariants.{Page, Program}
@@ -9,8 +11,6 @@ use Rattle.h41_deck.specs.declared.commands.Command.{Command}
 use Rattle.h41_deck.specs.declared.commands.Command.TheVariants.{Plug, Load, Unplug, Size, Reset, Call, Step, Show}
 use Rattle.h41_deck.specs.declared.commands.Command.TheVariants as commands
 use Rattle.h41_deck.specs.declared.commands.View.{View}
-use Rattle.h41_deck.specs.declared.fault.CommandFault.{CommandFault}
-use Rattle.h41_deck.specs.declared.fault.CommandFault.TheVariants.{OutOfMemory, WriteFault}
 use Rattle.h41_deck.specs.declared.refusal.Refusal.{Refusal}
 use Rattle.h41_deck.specs.declared.replies.Outcome.{Outcome}
 use Rattle.h41_deck.specs.Calculator.{State, Steps, call_refusal, called, restarted, unplug_refusal, without_page}
@@ -20,8 +20,8 @@ use Rattle.h41_deck.specs.Ends.{AppendsPart}
 use Rattle.h41_deck.specs.Items.{Spelled, with_values}
 use Rattle.h41_deck.specs.Listings.{listed}
 use Rattle.h41_deck.specs.Programs.{Becomes, size_makes}
-use Rattle.h41_deck.specs.Views.{Shows}
-use Rattle.h41_deck.specs.Replies.{Answer, ChangesUnless, EndsAs, ItemReply, Leaves, LoadsBlock, LoadsTaken, Plugs, PlugsBlock, Replies, RepliesInPart, Reply, Tells, TellsView, ending_line, ends_by, outcome_in, printed, says_or_ends, shown_text}
+use Rattle.h41_deck.specs.Views.{Shows, text_in}
+use Rattle.h41_deck.specs.Replies.{Answer, ChangesUnless, ItemReply, LoadsBlock, LoadsTaken, Plugs, PlugsBlock, Replies, RepliesInPart, Reply, ends_by, outcome_in, printed, says_or_ends, shown_text}
 
 -- a block that is refused is answered by its refusal
 pub refused_reply : (values : Result (List ℕ) Refusal) (command : Command) (refusal : Refusal) (s : State) → Some refusal ≡ result_err values
@@ -40,21 +40,6 @@ pub changes_unless : {A : Type 0} (result : Result A Refusal) (refusal : Option 
     → OnOk result (t ≡ done) → OnErr result (t ≡ s) → ChangesUnless refusal done s t (ends_by (result_err result))
 changes_unless (Ok value) refusal done s t e changed same = rw (sym e) (changed, refl)
 changes_unless (Err why) refusal done s t e changed same = rw (sym e) (same, refl)
-
--- what is written where nothing but a refusal may be
-pub replies_by : (item : Spelled) (s t : State) (old new : Option (List ℕ)) (outcome : Outcome) (refusal : Option Refusal)
-    → ItemReply item s t (ends_by refusal) → outcome ≡ outcome_in refusal → Appends old new (ending_line refusal)
-    → Replies item s t old new outcome
-replies_by item s t old new outcome refusal reply outcome_is written = record {
-  answer = ends_by refusal;
-  reply = reply;
-  written = written;
-  outcome_is = outcome_is;
-}
-
-pub part_by : (item : Spelled) (s t : State) (old new : Option (List ℕ)) (refusal : Option Refusal)
-    → ItemReply item s t (ends_by refusal) → AppendsPart old new (ending_line refusal) → RepliesInPart item s t old new
-part_by item s t old new refusal reply written = record { answer = ends_by refusal; reply = reply; written = written }
 
 -- each command's reply
 pub plug_reply : (block : TakenBlock) (command : Command) (kind : PageKind) (page : ℕ) (writable : Bool) (ended : Result (Unit {0}) Refusal)
@@ -115,38 +100,30 @@ pub list_reply : (values : Result (List ℕ) Refusal) (command : Command) (addre
 list_reply values command address count s spelt good =
     given_reply values command s s (says_or_ends (listed s.nut.pages address count)) good (λ given said. rw spelt (refl, refl))
 
--- what is printed of a text that was made
+-- what is printed of a text that was made, and whether that is a refusal
 made_printed : (made : Result (List ℕ) Refusal) → printed (says_or_ends made) ≡ shown_text made
 made_printed (Ok text) = append-nil text
 made_printed (Err refusal) = refl
 
-made_outcome : (made : Result (List ℕ) Refusal) → (says_or_ends made).refusal ≡ result_err made
+made_outcome : (made : Result (Vec ℕ Global) Refusal) → (says_or_ends (text_in made)).refusal ≡ result_err made
 made_outcome (Ok text) = refl
 made_outcome (Err refusal) = refl
 
--- a command that prints one
-pub tells_made : {W : Type 0} (item : Spelled) (made : Result (List ℕ) Refusal) (s : State) (contents : W → Option (List ℕ)) (old new : W)
-    (result : Result Outcome CommandFault) → ItemReply item s s (says_or_ends made) → IfOk result (EndsAs (result_err made))
-    → Tells result contents old new (shown_text made) → Leaves result item s s contents old new
-tells_made item made s contents old new (Err OutOfMemory) reply outcome written = written
-tells_made item made s contents old new (Err WriteFault) reply outcome written = record {
-  answer = says_or_ends made;
+-- an answer that is written, and one of which a front is
+pub replies_by : (item : Spelled) (s t : State) (old new : Option (List ℕ)) (outcome : Outcome) (made : Result (Vec ℕ Global) Refusal)
+    → ItemReply item s t (says_or_ends (text_in made)) → outcome ≡ outcome_in (result_err made) → Appends old new (shown_text (text_in made))
+    → Replies item s t old new outcome
+replies_by item s t old new outcome made reply outcome_is written = record {
+  answer = says_or_ends (text_in made);
   reply = reply;
-  written = subst (AppendsPart (contents old) (contents new)) (sym (made_printed made)) written;
-}
-tells_made item made s contents old new (Ok done) reply outcome written = record {
-  answer = says_or_ends made;
-  reply = reply;
-  written = subst (Appends (contents old) (contents new)) (sym (made_printed made)) written;
-  outcome_is = outcome ∙ ap outcome_in (sym (made_outcome made));
+  written = subst (Appends old new) (sym (made_printed (text_in made))) written;
+  outcome_is = outcome_is ∙ ap outcome_in (sym (made_outcome made));
 }
 
--- a command that prints a view
-pub tells_view : {W : Type 0} (item : Spelled) (view : View) (s : State) (contents : W → Option (List ℕ)) (old new : W) (result : Result Outcome CommandFault)
-    → ((made : Result (List ℕ) Refusal) → Shows view s made → ItemReply item s s (says_or_ends made)) → TellsView view s result contents old new
-    → Leaves result item s s contents old new
-tells_view item view s contents old new (Err OutOfMemory) reply tells = tells
-tells_view item view s contents old new (Err WriteFault) reply tells =
-    tells_made item tells.0 s contents old new (Err WriteFault) (reply tells.0 tells.1) tt tells.2
-tells_view item view s contents old new (Ok done) reply tells =
-    tells_made item tells.0 s contents old new (Ok done) (reply tells.0 tells.1) tells.2 tells.3
+pub part_by : (item : Spelled) (s t : State) (old new : Option (List ℕ)) (made : Result (Vec ℕ Global) Refusal)
+    → ItemReply item s t (says_or_ends (text_in made)) → AppendsPart old new (shown_text (text_in made)) → RepliesInPart item s t old new
+part_by item s t old new made reply written = record {
+  answer = says_or_ends (text_in made);
+  reply = reply;
+  written = subst (AppendsPart old new) (sym (made_printed (text_in made))) written;
+}

@@ -1,5 +1,6 @@
 -- What each command does to the calculator, and what it prints. The language is this project's own.
-use Rattle.std.specs.Prelude.{◌≡◌, ℕ, Bool, true, false, List, [], ◌++◌, Option, Some, None, Result, Ok, Err}
+use Rattle.std.specs.Global.{Global}
+use Rattle.std.specs.Prelude.{◌≡◌, ℕ, Vec, Bool, true, false, List, [], ◌++◌, Option, Some, None, Result, Ok, Err}
 use Rattle.std.specs.Io.KnownBytes.{Appends, Keeps}
 use Rattle.std.specs.Result.{result_err}
 use Rattle.h41_deck.specs.declared.commands.BlockKind.TheVariants.{Page, Program}
@@ -21,8 +22,7 @@ use Rattle.h41_deck.specs.Items.{Spelled, with_values}
 use Rattle.h41_deck.specs.Refusals.{refusal_line}
 use Rattle.h41_deck.specs.Listings.{listed}
 use Rattle.h41_deck.specs.Programs.{Becomes, Loads, Means, size_makes}
-use Rattle.h41_deck.specs.Views.{Shows}
-use Rattle.h41_deck.specs.declared.commands.View.{View}
+use Rattle.h41_deck.specs.Views.{Shows, text_in}
 
 -- What a command answers: a text, and then its refusal, where it is refused.
 pub record Answer : Type 0 where
@@ -139,17 +139,14 @@ ending_line (Some refusal) = refusal_line refusal
 abbrev pub printed : Answer → List ℕ
 printed answer = answer.text ++ ending_line answer.refusal
 
--- what is printed of a refusal, where there is one
-abbrev pub ending_text : {A : Type 0} → Result A Refusal → List ℕ
-ending_text ended = ending_line (result_err ended)
+-- what a command and its block leave, and what was made of its answer: a text or its refusal
+abbrev pub IsAnswer : Command → TakenBlock → State → State → Result (Vec ℕ Global) Refusal → Type 0
+IsAnswer command block s t made = ItemReply (with_values (judgement block) command) s t (says_or_ends (text_in made))
 
 -- what is printed of a text, or of its refusal
 abbrev pub shown_text : Result (List ℕ) Refusal → List ℕ
 shown_text (Ok text) = text
 shown_text (Err refusal) = refusal_line refusal
-
-abbrev pub lists : ℕ → ℕ → State → List ℕ
-lists address count s = shown_text (listed s.nut.pages address count)
 
 -- whether it is a refusal
 abbrev pub outcome_in : Option Refusal → Outcome
@@ -171,20 +168,6 @@ pub record RepliesInPart (item : Spelled) (s t : State) (old new : Option (List 
   pub answer : Answer
   pub reply : ItemReply item s t answer
   pub written : AppendsPart old new (printed answer)
-
--- what a command leaves that prints a text, by its answer: nothing where memory was refused
-abbrev pub Tells : {A W : Type 0} → Result A CommandFault → (W → Option (List ℕ)) → W → W → List ℕ → Type 0
-Tells (Ok done) contents old new text = Appends (contents old) (contents new) text
-Tells (Err WriteFault) contents old new text = AppendsPart (contents old) (contents new) text
-Tells (Err OutOfMemory) contents old new text = Keeps (contents old) (contents new)
-
--- what a view leaves, by its answer: its text or its refusal, a front of that, or where memory was refused nothing
-abbrev pub TellsView : {W : Type 0} → View → State → Result Outcome CommandFault → (W → Option (List ℕ)) → W → W → Type 0
-TellsView view s (Ok outcome) contents old new =
-    (made : Result (List ℕ) Refusal) × Shows view s made × EndsAs (result_err made) outcome × Appends (contents old) (contents new) (shown_text made)
-TellsView view s (Err WriteFault) contents old new =
-    (made : Result (List ℕ) Refusal) × Shows view s made × AppendsPart (contents old) (contents new) (shown_text made)
-TellsView view s (Err OutOfMemory) contents old new = Keeps (contents old) (contents new)
 
 -- what a command and its block leave, by its answer: their reply, a front of it, or where memory was refused nothing
 abbrev pub Leaves : {W : Type 0} → Result Outcome CommandFault → Spelled → State → State → (W → Option (List ℕ)) → W → W → Type 0

@@ -13,7 +13,7 @@ use crate::ends::sink::Sink;
 use crate::ends::source::Source;
 use crate::fault::{CommandFault, Fault};
 use crate::lines::{Lines, ended_lines};
-use crate::replies::{Outcome, apply, print_ending};
+use crate::replies::{Outcome, apply, print_answer};
 use std::alloc::Global;
 
 mod item;
@@ -98,6 +98,6 @@ fn answer<W: Sink>(
 {
     match item {
         Item::Given(Entry { command, block }) => apply(alloc, bench, command, block, writer),
-        Item::Refused(refusal) => Ok(print_ending(Err(refusal), writer)?),
+        Item::Refused(refusal) => Ok(print_answer(Err(refusal), writer)?),
     }
 }

@@ -8,14 +8,13 @@ ghost use Rattle.h41_deck.specs.Calculator.{unplug_refusal, without_page};
 ghost use Rattle.h41_deck.specs.Commands.{kind_of};
 ghost use Rattle.h41_deck.specs.Ends.{Writes};
 ghost use Rattle.h41_deck.specs.Fillings.{IsForPage, IsForProgram};
-ghost use Rattle.h41_deck.specs.Replies.{Does, EndsAs, LoadsTaken, PlugsBlock, RefusedAs, TellsView, Tells, block_refusal, ending_text, lists, shown_text, takes_memory, with_block};
-ghost use Rattle.h41_deck.specs.Listings.{listed};
+ghost use Rattle.h41_deck.specs.Replies.{Does, EndsAs, IsAnswer, LoadsTaken, PlugsBlock, RefusedAs, block_refusal, ends_by, says_or_ends, shown_text, takes_memory, with_block};
 ghost use Rattle.h41_deck.specs.Views.{text_in};
 
 use crate::bench::Bench;
 use crate::blocks::Block;
 use crate::blocks::page_words::PAGE_WORDS;
-use crate::commands::{Command, View};
+use crate::commands::Command;
 use crate::ends::output::write_whole;
 use crate::ends::sink::Sink;
 use crate::fault::{CommandFault, WriteFault};
@@ -90,11 +89,28 @@ pub fn apply<W: Sink>(
     ensures mark { result ≡ Err CommandFault.WriteFault → W.failed writer.new ≡ true }
     ensures clear { result ≢ Err CommandFault.WriteFault → W.failed writer.new ≡ false }
 {
+    let answer = carry_out(alloc, bench, command, block)?;
+    Ok(print_answer(answer, writer)?)
+}
+
+/// Carries a command out, with its block: what it prints, or why it is refused. 21 where memory is refused, to commands that
+/// take some: nothing is changed then.
+fn carry_out(
+    alloc: Global,
+    bench: &mut Bench,
+    command: Command,
+    block: Block,
+) -> Result<Result<Vec<u8>, Refusal>, AllocError>
+    requires { block.kind ≡ kind_of command }
+    ensures answer { IfOk result (IsAnswer command block bench.old bench.new) }
+    ensures memory { OnErr result (takes_memory command ≡ true) }
+    ensures err { OnErr result (bench.new ≡ bench.old) }
+{
     if let Some(refusal) = block.refusal() {
-        return Ok(print_ending(Err(refusal), writer)?);
+        return Ok(Err(refusal));
     }
     let ended = match command {
-        Command::Plug { page, writable, .. } => { plug(alloc, bench, block, page, writable)? }
+        Command::Plug { page, writable, .. } => plug(alloc, bench, block, page, writable)?,
         Command::Load(_kind) => load(alloc, bench, block)?,
         Command::Unplug(page) => unplug(bench, page),
         Command::Size(count) => bench.calculator.set_size(count),
@@ -104,10 +120,22 @@ pub fn apply<W: Sink>(
         }
         Command::Call(address) => bench.calculator.call(address),
         Command::Step(count) => bench.steps(count),
-        Command::List { address, count } => return list(alloc, bench, address, count, writer),
-        Command::Show(view) => return show(alloc, bench, view, writer),
+        Command::List { address, count } => {
+            return listed(alloc, bench.calculator().pages(), address, count);
+        }
+        Command::Show(view) => return shown(alloc, bench.calculator(), view),
     };
-    Ok(print_ending(ended, writer)?)
+    Ok(in_silence(alloc, ended))
+}
+
+/// What a command prints that prints nothing, or why it is refused.
+fn in_silence(alloc: Global, ended: Result<(), Refusal>) -> Result<Vec<u8>, Refusal>
+    ensures { says_or_ends (text_in result) ≡ ends_by (result_err ended) }
+{
+    match ended {
+        Ok(()) => Ok(Vec::new(alloc)),
+        Err(refusal) => Err(refusal),
+    }
 }
 
 /// Plugs what a block says at a page. 21 where memory is refused: nothing is changed then.
@@ -175,73 +203,22 @@ fn unplug(bench: &mut Bench, page: u8) -> Result<(), Refusal>
     Ok(bench.calculator.unplug(page)?)
 }
 
-/// Prints a view. 21 where memory is refused.
-fn show<W: Sink>(
-    alloc: Global,
-    bench: &Bench,
-    view: View,
-    writer: &mut W,
-) -> Result<Outcome, CommandFault>
-    requires { W.failed writer.old ≡ false }
-    ensures view { TellsView view bench.now result W.contents writer.old writer.new }
-    ensures mark { result ≡ Err CommandFault.WriteFault → W.failed writer.new ≡ true }
-    ensures clear { result ≢ Err CommandFault.WriteFault → W.failed writer.new ≡ false }
-{
-    let made = shown(alloc, bench.calculator(), view)?;
-    Ok(print_made(made, writer)?)
-}
-
-/// Prints the listing of so many words from an address on. 21 where memory is refused.
-fn list<W: Sink>(
-    alloc: Global,
-    bench: &Bench,
-    address: u16,
-    count: u16,
-    writer: &mut W,
-) -> Result<Outcome, CommandFault>
-    requires { W.failed writer.old ≡ false }
-    ensures outcome { IfOk result (EndsAs (result_err (listed bench.now.nut.pages address count))) }
-    ensures text { Tells result W.contents writer.old writer.new (lists address count bench.now) }
-    ensures mark { result ≡ Err CommandFault.WriteFault → W.failed writer.new ≡ true }
-    ensures clear { result ≢ Err CommandFault.WriteFault → W.failed writer.new ≡ false }
-{
-    let made = listed(alloc, bench.calculator().pages(), address, count)?;
-    Ok(print_made(made, writer)?)
-}
-
-/// Prints a text that was made, or why it was not.
-fn print_made<W: Sink>(
-    made: Result<Vec<u8>, Refusal>,
+/// Prints what a command answers, its text or its refusal, and tells which of the two it is.
+pub(crate) fn print_answer<W: Sink>(
+    answer: Result<Vec<u8>, Refusal>,
     writer: &mut W,
 ) -> Result<Outcome, WriteFault>
     requires { W.failed writer.old ≡ false }
-    ensures outcome { IfOk result (EndsAs (result_err made)) }
-    ensures written { Writes result W.contents writer.old writer.new (shown_text (text_in made)) }
+    ensures outcome { IfOk result (EndsAs (result_err answer)) }
+    ensures written { Writes result W.contents writer.old writer.new (shown_text (text_in answer)) }
     ensures clear { OnOk result (W.failed writer.new ≡ false) }
     ensures mark { OnErr result (W.failed writer.new ≡ true) }
 {
-    match made {
+    match answer {
         Ok(text) => {
             write_whole(writer, &text)?;
             Ok(Outcome::Accepted)
         }
-        Err(refusal) => print_ending(Err(refusal), writer),
-    }
-}
-
-/// Prints the refusal that a command ended with, if any, and tells whether it did.
-pub(crate) fn print_ending<W: Sink>(
-    ended: Result<(), Refusal>,
-    writer: &mut W,
-) -> Result<Outcome, WriteFault>
-    requires { W.failed writer.old ≡ false }
-    ensures outcome { IfOk result (EndsAs (result_err ended)) }
-    ensures written { Writes result W.contents writer.old writer.new (ending_text ended) }
-    ensures clear { OnOk result (W.failed writer.new ≡ false) }
-    ensures mark { OnErr result (W.failed writer.new ≡ true) }
-{
-    match ended {
-        Ok(()) => Ok(Outcome::Accepted),
         Err(refusal) => {
             write_whole(writer, refusal.line().as_str().as_bytes())?;
             Ok(Outcome::Refused)

@@ -3,7 +3,7 @@
 ghost use Rattle.std.specs.Prelude.{◌≡◌, ◌≢◌, [], true, false, codes, map, IfOk, IfSome, IfNone, IsErr, option_map};
 ghost use Rattle.clap.specs.Words.{FailsBy, HasMatchesOf, app_of, fault_of, kind_of, rule_of, subcommand_rows_of};
 ghost use Rattle.clap.specs.declared.error.kind.ErrorKind.TheVariants as kind;
-ghost use Rattle.h41_bench.specs.BenchCommand.{bench_app, file_rule, has_globals, job_in, origin_app, origin_asked, origin_in, task_asked};
+ghost use Rattle.h41_bench.specs.BenchCommand.{bench_app, file_rule, has_globals, job_in, origin_app, origin_asked, origin_in, origin_rule, run_app, task_asked};
 ghost use Rattle.h41_bench.specs.CommandLine.{asks_help, asm_file, dis_file, file_to_run, is_mistake};
 ghost use Rattle.h41_bench.specs.Ending.{AsksForNoRun, AsksTo, AsksToRun, EndsAtOnce, EndsWith, GivesJob, GivesJobOf, IsNoHelp, parts_of, status_of, text_of};
 
@@ -142,23 +142,53 @@ program with status 2, and nothing is listed.";
 fn bench<'a>(alloc: Global) -> Result<Command<'a>, AllocError>
     ensures { IfOk result (λ command. app_of command ≡ bench_app) }
 {
-    let run = Command::new(alloc, "run")
-        .about("Runs a deck of commands")
-        .after_help(DECKS)
-        .arg(file_argument(alloc))?;
-    let assemble = origin_command(alloc, "asm")?
-        .about("Assembles a source")
-        .after_help(SOURCES);
-    let list = origin_command(alloc, "dis")?
-        .about("Lists words as instructions")
-        .after_help(WORDS);
     Command::new(alloc, "bench")
         .about("Runs decks of commands of the bench, assembles sources, lists words")
         .after_help(DECKS)
         .subcommand_required(true)
-        .subcommand(run)?
-        .subcommand(assemble)?
-        .subcommand(list)
+        .subcommand(run_command(alloc)?)?
+        .subcommand(origin_command(alloc, "asm", "Assembles a source", SOURCES)?)?
+        .subcommand(origin_command(alloc, "dis", "Lists words as instructions", WORDS)?)
+}
+
+/// The command that takes FILE alone.
+fn run_command<'a>(alloc: Global) -> Result<Command<'a>, AllocError>
+    ensures app { IfOk result (λ command. app_of command ≡ run_app) }
+    ensures local { IfOk result (λ command. has_globals command ≡ false) }
+{
+    Command::new(alloc, "run")
+        .about("Runs a deck of commands")
+        .after_help(DECKS)
+        .arg(file_argument(alloc))
+}
+
+/// A command that takes an origin beside FILE. Help says what it is about, and the text behind the usage.
+fn origin_command<'a>(
+    alloc: Global,
+    name: &'a str,
+    about: &'a str,
+    text: &'a str,
+) -> Result<Command<'a>, AllocError>
+    ensures app { IfOk result (λ command. app_of command ≡ origin_app name.now) }
+    ensures local { IfOk result (λ command. has_globals command ≡ false) }
+{
+    Command::new(alloc, name)
+        .about(about)
+        .after_help(text)
+        .arg(origin_argument(alloc))?
+        .arg(file_argument(alloc))
+}
+
+/// The argument `--origin`.
+fn origin_argument<'a>(alloc: Global) -> Arg<'a>
+    ensures rule { rule_of result ≡ origin_rule }
+    ensures local { result.global ≡ false }
+{
+    Arg::new(alloc, "origin")
+        .long("origin")
+        .value_name("HHHH")
+        .help("The address of the first word, in four hexadecimal digits: 8000 if not given")
+        .action(ArgAction::Set)
 }
 
 /// The argument FILE.
@@ -170,21 +200,6 @@ fn file_argument<'a>(alloc: Global) -> Arg<'a>
         .help("The file to read, or - for standard input")
         .required(true)
         .action(ArgAction::Set)
-}
-
-/// A command that takes an origin beside FILE.
-fn origin_command<'a>(alloc: Global, name: &'a str) -> Result<Command<'a>, AllocError>
-    ensures app { IfOk result (λ command. app_of command ≡ origin_app name.now) }
-    ensures local { IfOk result (λ command. has_globals command ≡ false) }
-{
-    let origin = Arg::new(alloc, "origin")
-        .long("origin")
-        .value_name("HHHH")
-        .help("The address of the first word, in four hexadecimal digits: 8000 if not given")
-        .action(ArgAction::Set);
-    Command::new(alloc, name)
-        .arg(origin)?
-        .arg(file_argument(alloc))
 }
 
 /// The words of the command line, matched.

@@ -11,6 +11,3 @@ mod sums;
 pub use comparisons::{differs, less, nonzero};
 pub use moves::{copy, exchange, shift_left, shift_right};
 pub use sums::{add, dec, inc, neg, neg1, sub};
-
-#[cfg(test)]
-mod tests;

@@ -16,6 +16,3 @@ mod words;
 
 pub use assembler::assemble;
 pub use fault::{AssembleError, Fault};
-
-#[cfg(test)]
-mod tests;

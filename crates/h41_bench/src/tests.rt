@@ -3,4 +3,5 @@
 mod arguments;
 mod decks;
 mod ends;
+mod libraries;
 mod tasks;

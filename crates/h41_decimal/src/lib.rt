@@ -17,6 +17,3 @@ pub use parts::{Exponent, Mantissa, Size};
 pub use places::Places;
 pub use sign::Sign;
 pub use ten::Ten;
-
-#[cfg(test)]
-mod tests;

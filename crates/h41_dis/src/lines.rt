@@ -66,6 +66,3 @@ fn columns(address: u16, piece: Piece) -> ArrayString<COLUMNS>
     columns.push_str("  ");
     columns
 }
-
-#[cfg(test)]
-mod tests;

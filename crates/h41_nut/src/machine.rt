@@ -98,6 +98,3 @@ fn carry_out<const REGS: usize>(
         Row::SelectPeripheral => select_peripheral(cpu),
     }
 }
-
-#[cfg(test)]
-mod tests;

@@ -17,6 +17,3 @@ pub use image_bytes::{image_read, is_image_bytes};
 pub use name::Name;
 pub use pages::Pages;
 pub use refusal::{FetchRefusal, ImageRefusal, PlugRefusal, ReadOnly, ReadRefusal, UnplugRefusal};
-
-#[cfg(test)]
-mod tests;

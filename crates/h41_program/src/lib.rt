@@ -24,6 +24,3 @@ pub use reading::{Found, first_from, line_at, next};
 pub use refusal::Refusal;
 pub use searches::{global, local, start_of};
 pub use size::set_size;
-
-#[cfg(test)]
-mod tests;

@@ -13,6 +13,3 @@ pub use digits::TEXT_CAPACITY;
 pub use format::{Format, Notation, RadixMark};
 pub use number::number_text;
 pub use register::{alpha_text, register_text};
-
-#[cfg(test)]
-mod tests;

@@ -11,6 +11,3 @@ mod writer;
 pub use faults::BadText;
 pub use reader::read_line;
 pub use writer::write_line;
-
-#[cfg(test)]
-mod tests;

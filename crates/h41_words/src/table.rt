@@ -490,6 +490,3 @@ pub fn length(word: Word) -> u16
         _ => 1,
     }
 }
-
-#[cfg(test)]
-mod tests;

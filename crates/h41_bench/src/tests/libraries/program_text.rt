@@ -1,7 +1,8 @@
-//! The byte table, row by row: the text of each first byte, with the same bytes behind it. And texts, as they are read.
-use super::*;
-use crate::writer::LineText;
+//! h41_text: the byte table, row by row, each the text of a first byte with the same bytes behind it. And texts, as they are read.
+
+use arrayvec::ArrayString;
 use h41_codes::{canon, decode, encode};
+use h41_text::{read_line, write_line};
 use std::test::Fail;
 
 /// The bytes behind each first byte: an operand or a text of one character, a third byte, and letters.
@@ -12,7 +13,7 @@ const BEHIND: [u8; 18] = [
 
 /// The line of each first byte, and `?` where no line begins with it.
 const TEXTS: [&str; 256] = [
-    // 00 to 0F
+    // 0x00 to 0x0F
     "",
     "LBL 00",
     "LBL 01",
@@ -29,7 +30,7 @@ const TEXTS: [&str; 256] = [
     "LBL 12",
     "LBL 13",
     "LBL 14",
-    // 10 to 1F
+    // 0x10 to 0x1F
     "0",
     "1",
     "2",
@@ -46,7 +47,7 @@ const TEXTS: [&str; 256] = [
     "GTO \"-\"",
     "XEQ \"-\"",
     "W \"-\"",
-    // 20 to 2F
+    // 0x20 to 0x2F
     "RCL 00",
     "RCL 01",
     "RCL 02",
@@ -63,7 +64,7 @@ const TEXTS: [&str; 256] = [
     "RCL 13",
     "RCL 14",
     "RCL 15",
-    // 30 to 3F
+    // 0x30 to 0x3F
     "STO 00",
     "STO 01",
     "STO 02",
@@ -80,7 +81,7 @@ const TEXTS: [&str; 256] = [
     "STO 13",
     "STO 14",
     "STO 15",
-    // 40 to 4F
+    // 0x40 to 0x4F
     "+",
     "-",
     "*",
@@ -97,7 +98,7 @@ const TEXTS: [&str; 256] = [
     "%CH",
     "P-R",
     "R-P",
-    // 50 to 5F
+    // 0x50 to 0x5F
     "LN",
     "X^2",
     "SQRT",
@@ -114,7 +115,7 @@ const TEXTS: [&str; 256] = [
     "ACOS",
     "ATAN",
     "DEC",
-    // 60 to 6F
+    // 0x60 to 0x6F
     "1/X",
     "ABS",
     "FACT",
@@ -131,7 +132,7 @@ const TEXTS: [&str; 256] = [
     "HR",
     "RND",
     "OCT",
-    // 70 to 7F
+    // 0x70 to 0x7F
     "CLS",
     "X<>Y",
     "PI",
@@ -148,7 +149,7 @@ const TEXTS: [&str; 256] = [
     "SDEV",
     "AVIEW",
     "CLD",
-    // 80 to 8F
+    // 0x80 to 0x8F
     "DEG",
     "RAD",
     "GRAD",
@@ -165,7 +166,7 @@ const TEXTS: [&str; 256] = [
     "OFF",
     "PROMPT",
     "ADV",
-    // 90 to 9F
+    // 0x90 to 0x9F
     "RCL IND Z",
     "STO IND Z",
     "ST+ IND Z",
@@ -182,7 +183,7 @@ const TEXTS: [&str; 256] = [
     "SCI IND Z",
     "ENG IND Z",
     "TONE IND Z",
-    // A0 to AF
+    // 0xA0 to 0xAF
     "XROM 03,49",
     "XROM 07,49",
     "XROM 11,49",
@@ -199,7 +200,7 @@ const TEXTS: [&str; 256] = [
     "FC? IND Z",
     "XEQ IND Z",
     "?",
-    // B0 to BF
+    // 0xB0 to 0xBF
     "?",
     "GTO 00",
     "GTO 01",
@@ -216,7 +217,7 @@ const TEXTS: [&str; 256] = [
     "GTO 12",
     "GTO 13",
     "GTO 14",
-    // C0 to CF
+    // 0xC0 to 0xCF
     ".END.",
     ".END.",
     ".END.",
@@ -233,7 +234,7 @@ const TEXTS: [&str; 256] = [
     ".END.",
     "X<> IND Z",
     "LBL IND Z",
-    // D0 to DF
+    // 0xD0 to 0xDF
     "GTO 45",
     "GTO 45",
     "GTO 45",
@@ -250,7 +251,7 @@ const TEXTS: [&str; 256] = [
     "GTO 45",
     "GTO 45",
     "GTO 45",
-    // E0 to EF
+    // 0xE0 to 0xEF
     "XEQ 45",
     "XEQ 45",
     "XEQ 45",
@@ -267,7 +268,7 @@ const TEXTS: [&str; 256] = [
     "XEQ 45",
     "XEQ 45",
     "XEQ 45",
-    // F0 to FF
+    // 0xF0 to 0xFF
     "\"\"",
     "\"\\F1\"",
     "\"\\F1-\"",
@@ -341,7 +342,7 @@ const REFUSED: [&str; 22] = [
 ];
 
 /// The text of the line that bytes begin with, `?` where there is none.
-fn text_of(bytes: &[u8]) -> LineText {
+fn text_of(bytes: &[u8]) -> ArrayString<64> {
     match decode(bytes) {
         Ok((line, _)) => write_line(line),
         Err(_) => question(),
@@ -349,8 +350,8 @@ fn text_of(bytes: &[u8]) -> LineText {
 }
 
 /// The text `?`.
-fn question() -> LineText {
-    let mut text = LineText::new();
+fn question() -> ArrayString<64> {
+    let mut text = ArrayString::new();
     text.push_str("?");
     text
 }

@@ -1,4 +1,6 @@
-use super::*;
+//! h41_asm: sources with their words, and each fault.
+
+use h41_asm::{AssembleError, Fault, assemble};
 use std::test::Fail;
 
 /// A module with the functions KIT and KILL, whose entries stand before the labels that they name.

@@ -1,11 +1,7 @@
-//! Microcode that is stepped: what the registers are after it, and what is refused.
+//! h41_nut: microcode that is stepped, what the registers are after it, and what is refused.
 
-use crate::base::Base;
-use crate::cpu::Cpu;
-use crate::keys::Keys;
-use crate::machine::step;
-use crate::refusal::Refusal;
 use h41_fields::Pointer;
+use h41_nut::{Base, Cpu, Keys, Refusal, step};
 use h41_pages::Pages;
 use h41_ram::Ram;
 use std::alloc::Global;

@@ -1,8 +1,8 @@
-//! Rows whose expected values were computed by exact fractions, as registers: the sign's digit, ten of the mantissa, three of
-//! the exponent. Halves, cancellations, sums of sizes far apart, products and quotients at both ends of the range, remainders of
-//! each pair of signs, and operands at random.
+//! h41_decimal: rows whose expected values were computed by exact fractions, as registers: the sign's digit, ten of the
+//! mantissa, three of the exponent. Halves, cancellations, sums of sizes far apart, products and quotients at both ends of the
+//! range, remainders of each pair of signs, and operands at random.
 
-use crate::{Fault, Places, Ten};
+use h41_decimal::{Fault, Places, Ten};
 use h41_digits::Reg;
 use std::cmp::Ordering;
 use std::test::Fail;

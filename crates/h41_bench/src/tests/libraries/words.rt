@@ -1,6 +1,10 @@
-//! Rows, words and lengths by the instruction set of HP's Nut processor.
-use super::*;
-use crate::second_word::{LongJumpKind, SecondWord};
+//! h41_words: rows, words and lengths by the instruction set of HP's Nut processor.
+
+use h41_fields::Field;
+use h41_words::{
+    BlockRegister, Condition, Digit, Displacement, LongJumpKind, Operation, Place, ReadRegister,
+    Row, SecondWord, StatusBit, Word, length, row, word,
+};
 use std::test::Fail;
 
 #[test]

@@ -1,6 +1,11 @@
-use super::*;
+//! h41_program: programs loaded, edited and sized, lines and labels found.
+
 use h41_codes::{Line, RegisterFunction, ShortRegister, decode};
 use h41_digits::Reg;
+use h41_program::{
+    Found, ListedLine, Refusal, delete, first_from, global, insert, line_at, load, next, replace,
+    set_size, start_of,
+};
 use h41_ram::Ram;
 
 /// The line that bytes begin with; a null where they begin with none.

@@ -1,4 +1,6 @@
-use super::*;
+//! h41_pages: the functions of a module, and images that come and go.
+
+use h41_pages::{Entry, FetchRefusal, Pages, PlugRefusal, UnplugRefusal, image_read};
 use h41_words::Word;
 use std::test::Fail;
 

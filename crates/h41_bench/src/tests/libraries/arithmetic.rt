@@ -1,6 +1,8 @@
-//! Each kernel once, and digits A to F in base 10.
+//! h41_arith: each kernel once, and digits A to F in base 10.
 
-use super::*;
+use h41_arith::{
+    add, copy, dec, differs, exchange, inc, less, neg, neg1, nonzero, shift_left, shift_right, sub,
+};
 use h41_digits::Reg;
 use h41_fields::Span;
 use std::test::Fail;

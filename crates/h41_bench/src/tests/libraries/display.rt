@@ -1,9 +1,9 @@
-//! Texts of the Owner's Handbook's forms, and of each rule's limits.
+//! h41_show: texts of the Owner's Handbook's forms, and of each rule's limits.
 
-use crate::{Format, Notation, RadixMark, alpha_text, number_text, register_text};
 use h41_decimal::Ten;
 use h41_digits::Reg;
 use h41_ram::Ram;
+use h41_show::{Format, Notation, RadixMark, alpha_text, number_text, register_text};
 use std::test::Fail;
 
 /// A register as a number, a display digit, and the text.

@@ -1,6 +1,8 @@
-//! Lines as HP's VASM listings print them.
-use super::*;
+//! h41_dis: lines as HP's VASM listings print them.
+
+use h41_dis::{disassemble, listing};
 use h41_words::Word;
+use std::alloc::Global;
 use std::test::Fail;
 
 /// The words with these numbers.

@@ -1,4 +1,4 @@
-//! Rows of each library below: known values, by which its definitions can be judged.
+//! Known values of the libraries below, by which their definitions can be judged: what decks do not print.
 
 mod arithmetic;
 mod assembler;
@@ -8,8 +8,5 @@ mod fields;
 mod lister;
 mod memory;
 mod pages;
-mod processor;
 mod program_memory;
-mod program_text;
-mod registers;
 mod words;

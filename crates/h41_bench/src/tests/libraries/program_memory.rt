@@ -1,4 +1,4 @@
-//! h41_program: programs loaded, edited and sized, lines and labels found.
+//! h41_program: programs edited, and lines and labels found.
 
 use h41_codes::{Line, RegisterFunction, ShortRegister, decode};
 use h41_digits::Reg;
@@ -54,22 +54,6 @@ fn one_recall(rt: HostRuntime) {
             behind: 1
         })
     );
-}
-
-#[test]
-fn broken_bytes(rt: HostRuntime) {
-    let mut ram = Ram::<320>::new();
-    assert!(rt; ram.is_sound());
-    assert_eq!(rt; load(&mut ram, &[0xAF]), Err(Refusal::BrokenProgram));
-    assert_eq!(rt; ram.read(0x19B).to_u64(), 0xC0_0020);
-}
-
-#[test]
-fn two_numbers(rt: HostRuntime) {
-    let mut ram = Ram::<320>::new();
-    assert!(rt; ram.is_sound());
-    assert_eq!(rt; load(&mut ram, &[0x11, 0x00, 0x12]), Ok(0));
-    assert_eq!(rt; ram.read(0x19B).to_u64(), 0x11_0012_00C0_0020);
 }
 
 #[test]

@@ -1,0 +1,24 @@
+-- The bench: its state, and single steps in turn.
+use Rattle.std.specs.Prelude.{◌≡◌, ℕ, zero, suc, Option, Some, None, MatchOption}
+use Rattle.h41_xrom.specs.Calculator.{CalculatorState, RefusesStep, Step}
+use Rattle.h41_xrom.specs.Calculator as calculator
+use Rattle.h41_xrom.specs.declared.refusal.CalculatorRefusal.{CalculatorRefusal}
+
+-- The state of the bench.
+pub record BenchState : Type 0 where
+  pub calculator : CalculatorState
+
+-- the calculator's start
+abbrev pub start : BenchState
+start = record { calculator = calculator.start }
+
+-- the bench with another calculator
+abbrev pub with_calculator : CalculatorState → BenchState → BenchState
+with_calculator c s = record s { calculator = c }
+
+-- so many single steps, up to the first that is refused, and its refusal
+abbrev pub Steps : ℕ → BenchState → BenchState → Option CalculatorRefusal → Type 0
+Steps zero s t refusal = (t ≡ s) × (refusal ≡ None)
+Steps (suc count) s t refusal =
+    (why : Option CalculatorRefusal) × RefusesStep s.calculator why
+    × MatchOption why ((next : CalculatorState) × Step s.calculator next × Steps count (with_calculator next s) t refusal) (λ why. (t ≡ s) × (refusal ≡ Some why))

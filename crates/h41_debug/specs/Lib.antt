@@ -1,0 +1,4 @@
+pub mod Bench
+pub mod BenchLaws
+pub mod Lending
+pub mod Positions

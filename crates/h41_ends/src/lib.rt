@@ -1,0 +1,14 @@
+//! The two ends of a task: where its bytes are read from, and where its text is written to.
+#![tactic(auto)]
+
+mod fault;
+mod input;
+mod output;
+mod sink;
+mod source;
+
+pub use fault::{InputFault, WriteFault};
+pub use input::{Input, MOST_BYTES, read_whole};
+pub use output::{flush, write_whole};
+pub use sink::{Sink, ToWrite};
+pub use source::{FromRead, Source};

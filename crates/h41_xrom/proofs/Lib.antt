@@ -1,0 +1,3 @@
+pub mod EmptyPrograms
+pub mod Loading
+pub mod StepLaws

@@ -1,0 +1,18 @@
+use Rattle.std.proofs.lemmas.Result.{err_from_is_err_and}
+use Rattle.h41_xrom.proofs.Loading.{load_done, load_failed, load_refused}
+use Rattle.h41_xrom.proofs.calculator.Calculator.load.Goals as goal
+
+pub returns-in_err-check_change : goal.returns-in_err-check_change
+returns-in_err-check_change c =
+    let p = err_from_is_err_and c.from_residual.result c.from_residual.ensures.1 in
+    rw (p.1, p.2) (load_refused c.args.bytes.now c.args.self.now _ (c.in_err-check_change.ensures))
+
+pub returns-in_err-position : goal.returns-in_err-position
+returns-in_err-position c =
+    let p = err_from_is_err_and c.from_residual-in_err-position.result c.from_residual-in_err-position.ensures.1 in
+    rw (p.1, p.2) (load_failed c.args.bytes.now _ c.args.self.now c.load.new.ram _ c.self.view_is (c.in_ok-check_change.ensures) (c.in_err-position.ensures).lines)
+
+pub returns : goal.returns
+returns c =
+    load_done c.args.bytes.now _ c.args.self.now c.load.new.ram c.in_ok-position.position c.clear.new.self.items c.self.view_is c.clear.ensures
+    (c.in_ok-check_change.ensures) (c.in_ok-position.ensures).lines

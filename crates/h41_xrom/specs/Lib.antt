@@ -1,0 +1,4 @@
+pub mod Calculator
+pub mod CalculatorLaws
+pub mod Display
+pub mod Programs

@@ -1,0 +1,57 @@
+-- Programs in memory: loaded, and the number of data registers above them. What memory becomes is said by the list of its lines.
+use Rattle.std.specs.Prelude.{◌≡◌, ℕ, not, List, Option, Some, None, MatchOption, Result, Ok, Err}
+use Rattle.std.specs.Bool.{then_some}
+use Rattle.std.specs.Option.{option_or}
+use Rattle.std.specs.Result.{result_err, result_unwrap_or}
+use Rattle.h41_program.specs.declared.refusal.Refusal as program
+use Rattle.h41_program.specs.Edits.{LoadGives}
+use Rattle.h41_program.specs.Size.{size_outcome}
+use Rattle.h41_ram.specs.RegisterMap.{RegisterMap, is_sound}
+use Rattle.h41_xrom.specs.declared.refusal.CalculatorRefusal.{CalculatorRefusal}
+use Rattle.h41_xrom.specs.declared.refusal.CalculatorRefusal.TheVariants.{Program, MemoryLost, Busy}
+use Rattle.h41_xrom.specs.Calculator.{CalculatorState, at_program, is_idle}
+
+-- programs are changed while nothing runs, else 24, and where memory is sound, else 15
+abbrev pub change_refusal : CalculatorState → Option CalculatorRefusal
+change_refusal s = option_or (then_some (not (is_idle s.mode)) Busy) (then_some (not (is_sound s.nut.ram)) MemoryLost)
+
+-- the calculator with another memory
+abbrev pub with_memory : RegisterMap → CalculatorState → CalculatorState
+with_memory memory s = record s { nut = record s.nut { ram = memory } }
+
+-- and at line 00 of the program that begins at a position, with nowhere to return to
+abbrev pub with_program : RegisterMap → ℕ → CalculatorState → CalculatorState
+with_program memory position s = record s { nut = record s.nut { ram = memory }; focal = at_program position }
+
+-- what a change of program memory makes of the calculator, or why it is refused
+abbrev pub loaded : CalculatorState → Result (RegisterMap × ℕ) program.Refusal → Result CalculatorState CalculatorRefusal
+loaded s (Ok outcome) = Ok (with_program outcome.0 outcome.1 s)
+loaded s (Err why) = Err (Program why)
+
+abbrev pub resized : CalculatorState → Result (RegisterMap × Unit {0}) program.Refusal → Result CalculatorState CalculatorRefusal
+resized s (Ok outcome) = Ok (with_memory outcome.0 s)
+resized s (Err why) = Err (Program why)
+
+-- bytes are loaded behind the programs of memory, or refused: 24, 15, and then as their lines are, 14 or 16
+abbrev pub LoadMakes : CalculatorState → List ℕ → Result CalculatorState CalculatorRefusal → Type 0
+LoadMakes s bytes made =
+    MatchOption (change_refusal s)
+    ((outcome : Result (RegisterMap × ℕ) program.Refusal) × LoadGives s.nut.ram bytes outcome × (made ≡ loaded s outcome))
+    (λ why. made ≡ Err why)
+
+-- what is made, unless there is a refusal
+abbrev pub unless_refused : Option CalculatorRefusal → Result CalculatorState CalculatorRefusal → Result CalculatorState CalculatorRefusal
+unless_refused None made = made
+unless_refused (Some why) made = Err why
+
+-- memory is given so many data registers, or it is refused: 24, 15, and then 17 or 16
+abbrev pub size_makes : CalculatorState → ℕ → Result CalculatorState CalculatorRefusal
+size_makes s count = unless_refused (change_refusal s) (resized s (size_outcome s.nut.ram count))
+
+-- the calculator becomes what was made of it, or stays and there is a refusal
+abbrev pub Becomes : Result CalculatorState CalculatorRefusal → CalculatorState → CalculatorState → Option CalculatorRefusal → Type 0
+Becomes made s t refusal = (t ≡ result_unwrap_or made s) × (refusal ≡ result_err made)
+
+-- bytes are loaded, or refused and nothing changes
+abbrev pub Loads : List ℕ → CalculatorState → CalculatorState → Option CalculatorRefusal → Type 0
+Loads bytes s t refusal = (made : Result CalculatorState CalculatorRefusal) × LoadMakes s bytes made × Becomes made s t refusal

@@ -1,0 +1,21 @@
+//! Laws of the calculator: each is the contract of a function with nothing to do but to call the laws it rests on.
+
+ghost use Rattle.h41_xrom.specs.CalculatorLaws.{LoadIsDetermined, StepIsDetermined, StepRefusalIsDetermined};
+
+use h41_nut::laws::micro_is_determined;
+use h41_program::laws::loads_are_determined;
+
+/// One single step is determined: whether it is refused, its refusal, and the state that it leaves.
+pub fn step_is_determined()
+    ensures refusal { StepRefusalIsDetermined }
+    ensures state { StepIsDetermined }
+{
+    micro_is_determined();
+}
+
+/// A load is determined: whether it is refused, its refusal, and the state that it leaves.
+pub fn load_is_determined()
+    ensures { LoadIsDetermined }
+{
+    loads_are_determined();
+}

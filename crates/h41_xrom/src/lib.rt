@@ -1,0 +1,10 @@
+//! The whole calculator: processor, memory, pages, keys and keystroke programs, and what it does.
+#![tactic(auto)]
+
+mod calculator;
+mod display;
+pub mod laws;
+mod refusal;
+
+pub use calculator::{Calculator, Mode, REGISTERS};
+pub use refusal::CalculatorRefusal;

@@ -1,0 +1,49 @@
+//! Why calls of the calculator are refused. The numbers are those by which decks print refusals.
+
+ghost use Rattle.std.specs.Prelude.{◌≡◌};
+
+use h41_nut::Refusal as WordRefusal;
+use h41_program::Refusal as ProgramRefusal;
+use thiserror::Error;
+
+/// Why a call was refused. It changes nothing then.
+#[derive(Clone, Copy, Debug, PartialEq, Eq, Error)]
+pub enum CalculatorRefusal {
+    /// 6 to 12: a word, or a call of an address below 4000.
+    #[error("{0}")]
+    Word(WordRefusal),
+    /// 13: this line of a program is not carried out.
+    #[error("this line is not carried out")]
+    NotInProfile,
+    /// 14, 16 and 17: a change of program memory.
+    #[error("{0}")]
+    Program(ProgramRefusal),
+    /// 15: memory is not sound.
+    #[error("memory is lost")]
+    MemoryLost,
+    /// 24: a function is running.
+    #[error("a function is running")]
+    Busy,
+}
+
+impl From<WordRefusal> for CalculatorRefusal {
+    ghost use Rattle.std.specs.Prelude.{◌≡◌};
+    ghost use Rattle.h41_xrom.specs.declared.refusal.CalculatorRefusal.TheVariants.{Word};
+
+    ghost from_gives = { λ refusal own. own ≡ Word refusal };
+
+    fn from(refusal: WordRefusal) -> Self {
+        CalculatorRefusal::Word(refusal)
+    }
+}
+
+impl From<ProgramRefusal> for CalculatorRefusal {
+    ghost use Rattle.std.specs.Prelude.{◌≡◌};
+    ghost use Rattle.h41_xrom.specs.declared.refusal.CalculatorRefusal.TheVariants.{Program};
+
+    ghost from_gives = { λ refusal own. own ≡ Program refusal };
+
+    fn from(refusal: ProgramRefusal) -> Self {
+        CalculatorRefusal::Program(refusal)
+    }
+}

@@ -7,14 +7,16 @@ use Rattle.std.proofs.lemmas.List.{append-nil}
 use Rattle.std.proofs.lemmas.Grind.{flat_map-append}
 use Rattle.h41_deck.specs.declared.replies.Outcome.{Outcome}
 use Rattle.h41_deck.specs.declared.replies.Outcome.TheVariants.{Accepted, Refused}
-use Rattle.h41_deck.specs.Calculator.{State, start}
-use Rattle.h41_deck.specs.Deck.{Answers, AnswersItems, answered_items, outcome_and, outcome_of}
-use Rattle.h41_deck.specs.Items.{Spelled, is_open, closed}
-use Rattle.h41_deck.specs.Replies.{Answer, Replies, outcome_in, printed}
+use Rattle.h41_commands.specs.Items.{Spelled, is_open, closed}
+use Rattle.h41_debug.specs.Bench.{BenchState, start}
+use Rattle.h41_deck.specs.AnsweredItems.{AnswersItems, answered_items, outcome_and}
+use Rattle.h41_deck.specs.Answers.{Answer, printed}
+use Rattle.h41_deck.specs.Deck.{Answers, outcome_of}
+use Rattle.h41_deck.specs.Writing.{Replies, outcome_in}
 
 -- What a deck has told so far: its answers, which are written and of which the outcome tells, and which go on, from the
 -- state now, with the answers to the items that are left.
-pub record Told (old new : Option (List ℕ)) (all left : List Spelled) (s : State) (outcome : Outcome) : Type 0 where
+pub record Told (old new : Option (List ℕ)) (all left : List Spelled) (s : BenchState) (outcome : Outcome) : Type 0 where
   pub answers : List Answer
   pub written : Appends old new (flat_map printed answers)
   pub outcome_is : outcome ≡ outcome_of answers
@@ -31,7 +33,7 @@ outcome_of-push (first ∷ answers) answer =
     elim (is_some first.refusal) as (λ refused. (if refused || list_any (λ each. is_some each.refusal) (answers ++ answer ∷ []) then Refused else Accepted)
     ≡ outcome_and (if refused || list_any (λ each. is_some each.refusal) answers then Refused else Accepted) (outcome_in answer.refusal)) [ true ↦ refl | false ↦ outcome_of-push answers answer ]
 
-pub told_more : (old mid new : Option (List ℕ)) (all left rest : List Spelled) (s t : State) (outcome next : Outcome) (item : Spelled)
+pub told_more : (old mid new : Option (List ℕ)) (all left rest : List Spelled) (s t : BenchState) (outcome next : Outcome) (item : Spelled)
     → Told old mid all left s outcome → left ≡ item ∷ rest → Replies item s t mid new next → Told old new all rest t (outcome_and outcome next)
 told_more old mid new all left rest s t outcome next item told first replied = record {
   answers = told.answers ++ replied.answer ∷ [];
@@ -41,7 +43,7 @@ told_more old mid new all left rest s t outcome next item told first replied = r
   goes_on = λ more later. subst (Answers all start) (sym (append_assoc told.answers (replied.answer ∷ []) more)) (told.goes_on (replied.answer ∷ more) (rw first (t, replied.reply, later)));
 }
 
-pub told_all : (old new : Option (List ℕ)) (all : List Spelled) (s : State) (outcome : Outcome) (left : List Spelled) → Told old new all left s outcome → left ≡ []
+pub told_all : (old new : Option (List ℕ)) (all : List Spelled) (s : BenchState) (outcome : Outcome) (left : List Spelled) → Told old new all left s outcome → left ≡ []
     → AnswersItems all old new outcome
 told_all old new all s outcome left told none = (
   flat_map printed told.answers,
@@ -70,7 +72,7 @@ answered-none true all none = none
 answered-none false all none = ap closed none
 
 -- an item that is answered goes on what was told
-pub told_next : (old mid new : Option (List ℕ)) (whole : Bool) (all left rest : List Spelled) (s t : State) (outcome next : Outcome) (item : Spelled)
+pub told_next : (old mid new : Option (List ℕ)) (whole : Bool) (all left rest : List Spelled) (s t : BenchState) (outcome next : Outcome) (item : Spelled)
     → Told old mid (answered_items whole all) (answered_items whole left) s outcome → left ≡ item ∷ rest → (whole ≡ false → is_open item ≡ false)
     → Replies item s t mid new next → Told old new (answered_items whole all) (answered_items whole rest) t (outcome_and outcome next)
 told_next old mid new whole all left rest s t outcome next item told first shut replied =

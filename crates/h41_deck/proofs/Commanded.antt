@@ -1,129 +1,169 @@
 -- How a command that was carried out is answered.
-use Rattle.std.proofs.Common.{◌≡◌, ℕ, Bool, List, Option, Some, None, Result, Ok, Err, OnOk, OnErr, refl, sym, ap, subst, append-nil, ◌∙◌}
+use Rattle.std.proofs.Common.{◌≡◌, ◌<◌, ℕ, ◌+◌, Bool, List, [], ◌++◌, length, length-append, take, Option, Some, None, Result, Ok, Err, refl, sym, ap, subst, append-nil, ◌∙◌, arith}
+use Rattle.std.proofs.KnownBytes.{Appends-nil, Appends-trans}
+use Rattle.std.proofs.Math.Seq.{take-append-add}
+use Rattle.std.proofs.lemmas.List.{take-append-le}
 use Rattle.std.specs.Global.{Global}
 use Rattle.std.specs.Prelude.{Vec}
 use Rattle.std.specs.Result.{result_err}
 use Rattle.std.specs.Io.KnownBytes.{Appends}
-use Rattle.h41_deck.specs.declared.commands.BlockKind.TheVariants.{Page, Program}
-use Rattle.h41_deck.specs.declared.commands.PageKind.{PageKind}
-use Rattle.h41_deck.specs.declared.commands.ProgramKind.{ProgramKind}
-use Rattle.h41_deck.specs.declared.commands.Command.{Command}
-use Rattle.h41_deck.specs.declared.commands.Command.TheVariants.{Plug, Load, Unplug, Size, Reset, Call, Step, Show}
-use Rattle.h41_deck.specs.declared.commands.Command.TheVariants as commands
-use Rattle.h41_deck.specs.declared.commands.View.{View}
+use Rattle.h41_commands.specs.declared.commands.BlockKind.TheVariants.{Page, Program}
+use Rattle.h41_commands.specs.declared.commands.PageKind.{PageKind}
+use Rattle.h41_commands.specs.declared.commands.ProgramKind.{ProgramKind}
+use Rattle.h41_commands.specs.declared.commands.Command.{Command}
+use Rattle.h41_commands.specs.declared.commands.Command.TheVariants.{Plug, Load}
+use Rattle.h41_commands.specs.declared.commands.Command.TheVariants as commands
+use Rattle.h41_commands.specs.declared.commands.View.{View}
+use Rattle.h41_commands.specs.Blocks.{TakenBlock}
+use Rattle.h41_commands.specs.Commands.{kind_of}
+use Rattle.h41_commands.specs.Contents.{MeansBy, values_in}
+use Rattle.h41_commands.specs.ProgramBlocks.{Means}
+use Rattle.h41_commands.specs.declared.refusal.LineRefusal.{LineRefusal}
+use Rattle.h41_commands.specs.Items.{Spelled, with_values}
+use Rattle.h41_debug.specs.Bench.{BenchState}
+use Rattle.h41_ends.specs.Ends.{AppendsPart}
 use Rattle.h41_deck.specs.declared.refusal.Refusal.{Refusal}
+use Rattle.h41_deck.specs.declared.refusal.Refusal.TheVariants.{Line}
 use Rattle.h41_deck.specs.declared.replies.Outcome.{Outcome}
-use Rattle.h41_deck.specs.Calculator.{State, Steps, call_refusal, called, restarted, unplug_refusal, without_page}
-use Rattle.h41_deck.specs.Blocks.{TakenBlock, judgement}
-use Rattle.h41_deck.specs.Commands.{kind_of}
-use Rattle.h41_deck.specs.Ends.{AppendsPart}
-use Rattle.h41_deck.specs.Items.{Spelled, with_values}
+use Rattle.h41_deck.specs.Answers.{Answer, ending_line, ends_by, printed, says_or_ends}
+use Rattle.h41_pages.specs.PageMap.{PageMap}
+use Rattle.h41_deck.specs.declared.fault.CommandFault.{CommandFault}
 use Rattle.h41_deck.specs.Listings.{listed}
-use Rattle.h41_deck.specs.Programs.{Becomes, size_makes}
-use Rattle.h41_deck.specs.Views.{Shows, text_in}
-use Rattle.h41_deck.specs.Replies.{Answer, ChangesUnless, ItemReply, LoadsBlock, LoadsTaken, Plugs, PlugsBlock, Replies, RepliesInPart, Reply, ends_by, outcome_in, printed, says_or_ends, shown_text}
+use Rattle.h41_deck.specs.Blocks.{LoadsTaken, PlugsTaken}
+use Rattle.h41_deck.specs.Replies.{LoadsBlock, LoadsBytes, Plugs, Reply}
+use Rattle.h41_deck.specs.Writing.{DoesAlone, IsListed, IsRefusalOf, IsShown, LeavesText, Replies, RepliesInPart, SaysText, item_of, made_text, outcome_in, text_in}
 
--- a block that is refused is answered by its refusal
-pub refused_reply : (values : Result (List ℕ) Refusal) (command : Command) (refusal : Refusal) (s : State) → Some refusal ≡ result_err values
-    → ItemReply (with_values values command) s s (ends_by (Some refusal))
-refused_reply (Ok values) command refusal s e = cc
-refused_reply (Err why) command refusal s e = let same : why ≡ refusal = cc in rw same (refl, refl)
+-- a block that is refused
+pub refused_text : (values : Result (List ℕ) LineRefusal) (command : Command) (refusal : LineRefusal) (s : BenchState) (old : Option (List ℕ))
+    → Some refusal ≡ result_err values → SaysText (with_values values command) s s old old (Some (Line refusal))
+refused_text (Ok given) command refusal s old e = cc
+refused_text (Err why) command refusal s old e =
+    let same : why ≡ refusal = cc in
+    record { text = []; reply = rw same (refl, refl); written = Appends-nil old }
 
--- and one that is not by its command
-pub given_reply : (values : Result (List ℕ) Refusal) (command : Command) (s t : State) (answer : Answer) → None ≡ result_err values
-    → ((given : List ℕ) → values ≡ Ok given → Reply command given s t answer) → ItemReply (with_values values command) s t answer
-given_reply (Ok given) command s t answer e reply = reply given refl
-given_reply (Err why) command s t answer e reply = cc
+-- lines that are no command
+pub refused_item : (refusal : LineRefusal) (s : BenchState) (old : Option (List ℕ)) (own : Refusal) → own ≡ Line refusal
+    → SaysText (Err refusal) s s old old (Some own)
+refused_item refusal s old own is = record { text = []; reply = (refl, ap (λ (of : Refusal). ends_by (Some of)) is); written = Appends-nil old }
 
--- a call that makes a change or is refused
-pub changes_unless : {A : Type 0} (result : Result A Refusal) (refusal : Option Refusal) (done s t : State) → result_err result ≡ refusal
-    → OnOk result (t ≡ done) → OnErr result (t ≡ s) → ChangesUnless refusal done s t (ends_by (result_err result))
-changes_unless (Ok value) refusal done s t e changed same = rw (sym e) (changed, refl)
-changes_unless (Err why) refusal done s t e changed same = rw (sym e) (same, refl)
-
--- each command's reply
-pub plug_reply : (block : TakenBlock) (command : Command) (kind : PageKind) (page : ℕ) (writable : Bool) (ended : Result (Unit {0}) Refusal)
-    (s t : State) → command ≡ Plug kind page writable → block.kind ≡ kind_of command → PlugsBlock block page writable s t ended
-    → ItemReply (with_values (judgement block) command) s t (ends_by (result_err ended))
-plug_reply block command kind page writable ended s t spelt own plugs =
+-- as a block for a page, or one that is a program
+pub plug_text : (block : TakenBlock) (command : Command) (kind : PageKind) (page : ℕ) (writable : Bool) (s t : BenchState) (old : Option (List ℕ))
+    (refusal : Option Refusal) → command ≡ Plug kind page writable → block.kind ≡ kind_of command → PlugsTaken block page writable s t refusal
+    → SaysText (item_of command block) s t old old refusal
+plug_text block command kind page writable s t old refusal spelt own taken =
     let kind_is : block.kind ≡ Some (Page kind) = own ∙ ap kind_of spelt in
-    let both : Some (Page plugs.0) ≡ Some (Page kind) = sym plugs.1 ∙ kind_is in
-    let same : plugs.0 ≡ kind = cc in
-    rw (spelt, plugs.3) (subst (λ of. Plugs of page writable plugs.2 s t (ends_by (result_err ended))) same plugs.4)
+    let both : Some (Page taken.kind) ≡ Some (Page kind) = sym taken.kind_is ∙ kind_is in
+    let same : taken.kind ≡ kind = cc in
+    record {
+      text = [];
+      reply = rw (spelt, taken.said) (subst (λ of. Plugs of page writable taken.values s t (ends_by refusal)) same taken.plugs);
+      written = Appends-nil old;
+    }
 
-pub load_reply : (block : TakenBlock) (command : Command) (kind : ProgramKind) (ended : Result (Unit {0}) Refusal)
-    (s t : State) → command ≡ Load kind → block.kind ≡ kind_of command → LoadsTaken block s t ended
-    → ItemReply (with_values (judgement block) command) s t (ends_by (result_err ended))
-load_reply block command kind ended s t spelt own loads =
+pub load_text : (block : TakenBlock) (command : Command) (kind : ProgramKind) (s t : BenchState) (old : Option (List ℕ))
+    (refusal : Option Refusal) → command ≡ Load kind → block.kind ≡ kind_of command → LoadsTaken block s t refusal
+    → SaysText (item_of command block) s t old old refusal
+load_text block command kind s t old refusal spelt own taken =
     let kind_is : block.kind ≡ Some (Program kind) = own ∙ ap kind_of spelt in
-    let both : Some (Program loads.0) ≡ Some (Program kind) = sym loads.1 ∙ kind_is in
-    let same : loads.0 ≡ kind = cc in
-    rw (spelt, loads.3) (subst (λ of. LoadsBlock of loads.2 s t (result_err ended)) same loads.4, refl)
+    let both : Some (Program taken.kind) ≡ Some (Program kind) = sym taken.kind_is ∙ kind_is in
+    let same : taken.kind ≡ kind = cc in
+    record {
+      text = [];
+      reply = rw (spelt, taken.said) (subst (λ of. LoadsBlock of taken.values s t (ends_by refusal)) same taken.loads);
+      written = Appends-nil old;
+    }
 
-pub size_reply : (values : Result (List ℕ) Refusal) (command : Command) (count : ℕ) (ended : Result (Unit {0}) Refusal) (s t : State)
-    → command ≡ Size count → None ≡ result_err values → Becomes (size_makes s count) s t (result_err ended)
-    → ItemReply (with_values values command) s t (ends_by (result_err ended))
-size_reply values command count ended s t spelt good becomes =
-    given_reply values command s t (ends_by (result_err ended)) good (λ given said. rw spelt (becomes, refl))
-
-pub call_reply : (values : Result (List ℕ) Refusal) (command : Command) (address : ℕ) (ended : Result (Unit {0}) Refusal) (s t : State)
-    → command ≡ Call address → None ≡ result_err values → result_err ended ≡ call_refusal s address → OnOk ended (t ≡ called address s)
-    → OnErr ended (t ≡ s) → ItemReply (with_values values command) s t (ends_by (result_err ended))
-call_reply values command address ended s t spelt good refusal change err =
-    given_reply values command s t (ends_by (result_err ended)) good (λ given said. rw spelt (changes_unless ended (call_refusal s address) (called address s) s t refusal change err))
-
-pub step_reply : (values : Result (List ℕ) Refusal) (command : Command) (count : ℕ) (ended : Result (Unit {0}) Refusal) (s t : State)
-    → command ≡ Step count → None ≡ result_err values → Steps count s t (result_err ended)
-    → ItemReply (with_values values command) s t (ends_by (result_err ended))
-step_reply values command count ended s t spelt good steps =
-    given_reply values command s t (ends_by (result_err ended)) good (λ given said. rw spelt (steps, refl))
-
-pub unplug_reply : (values : Result (List ℕ) Refusal) (command : Command) (page : ℕ) (ended : Result (Unit {0}) Refusal) (s t : State)
-    → command ≡ Unplug page → None ≡ result_err values → result_err ended ≡ unplug_refusal s page → OnOk ended (t ≡ without_page page s)
-    → OnErr ended (t ≡ s) → ItemReply (with_values values command) s t (ends_by (result_err ended))
-unplug_reply values command page ended s t spelt good refusal change err =
-    given_reply values command s t (ends_by (result_err ended)) good (λ given said. rw spelt (changes_unless ended (unplug_refusal s page) (without_page page s) s t refusal change err))
-
-pub reset_reply : (values : Result (List ℕ) Refusal) (command : Command) (s t : State)
-    → command ≡ Reset → None ≡ result_err values → t ≡ restarted s → ItemReply (with_values values command) s t (ends_by None)
-reset_reply values command s t spelt good change =
-    given_reply values command s t (ends_by None) good (λ given said. rw spelt (change, refl))
-
-pub show_reply : (values : Result (List ℕ) Refusal) (command : Command) (view : View) (s : State) (made : Result (List ℕ) Refusal)
-    → command ≡ Show view → None ≡ result_err values → Shows view s made → ItemReply (with_values values command) s s (says_or_ends made)
-show_reply values command view s made spelt good shows =
-    given_reply values command s s (says_or_ends made) good (λ given said. rw spelt (refl, made, shows, refl))
-
-pub list_reply : (values : Result (List ℕ) Refusal) (command : Command) (address count : ℕ) (s : State)
-    → command ≡ commands.List address count → None ≡ result_err values
-    → ItemReply (with_values values command) s s (says_or_ends (listed s.nut.pages address count))
-list_reply values command address count s spelt good =
-    given_reply values command s s (says_or_ends (listed s.nut.pages address count)) good (λ given said. rw spelt (refl, refl))
-
--- what is printed of a text that was made, and whether that is a refusal
-made_printed : (made : Result (List ℕ) Refusal) → printed (says_or_ends made) ≡ shown_text made
-made_printed (Ok text) = append-nil text
-made_printed (Err refusal) = refl
-
-made_outcome : (made : Result (Vec ℕ Global) Refusal) → (says_or_ends (text_in made)).refusal ≡ result_err made
-made_outcome (Ok text) = refl
-made_outcome (Err refusal) = refl
-
--- an answer that is written, and one of which a front is
-pub replies_by : (item : Spelled) (s t : State) (old new : Option (List ℕ)) (outcome : Outcome) (made : Result (Vec ℕ Global) Refusal)
-    → ItemReply item s t (says_or_ends (text_in made)) → outcome ≡ outcome_in (result_err made) → Appends old new (shown_text (text_in made))
-    → Replies item s t old new outcome
-replies_by item s t old new outcome made reply outcome_is written = record {
-  answer = says_or_ends (text_in made);
-  reply = reply;
-  written = subst (Appends old new) (sym (made_printed (text_in made))) written;
-  outcome_is = outcome_is ∙ ap outcome_in (sym (made_outcome made));
+-- the bytes that a block says are loaded, and those that it does not say
+pub loads_taken : (block : TakenBlock) (s t : BenchState) (bytes : List ℕ) (made : Result (Vec ℕ Global) LineRefusal) (refusal : Option Refusal)
+    → MeansBy block made → values_in made ≡ Ok bytes → LoadsBytes (Ok bytes) s t (ends_by refusal) → LoadsTaken block s t refusal
+loads_taken block s t bytes made refusal means same loads = record {
+  kind = means.kind;
+  kind_is = means.kind_is;
+  values = means.values;
+  said = means.said;
+  loads = (Ok bytes, subst (Means means.kind means.values) same means.means, loads);
 }
 
-pub part_by : (item : Spelled) (s t : State) (old new : Option (List ℕ)) (made : Result (Vec ℕ Global) Refusal)
-    → ItemReply item s t (says_or_ends (text_in made)) → AppendsPart old new (shown_text (text_in made)) → RepliesInPart item s t old new
-part_by item s t old new made reply written = record {
-  answer = says_or_ends (text_in made);
-  reply = reply;
-  written = subst (AppendsPart old new) (sym (made_printed (text_in made))) written;
+-- a command without a block
+pub alone_text : {W : Type 0} (result : Result (Option Refusal) CommandFault) (values : Result (List ℕ) LineRefusal) (command : Command)
+    (s t : BenchState) (contents : W → Option (List ℕ)) (old new : W) → None ≡ result_err values
+    → DoesAlone result command s t contents old new → LeavesText result (with_values values command) s t contents old new
+alone_text result (Ok given) command s t contents old new e does = does given
+alone_text result (Err why) command s t contents old new e does = cc
+
+-- it says nothing
+pub silent_alone : (command : Command) (values : List ℕ) (s t : BenchState) (old : Option (List ℕ)) (refusal : Option Refusal)
+    → Reply command values s t (ends_by refusal) → SaysText (Ok (command, values)) s t old old refusal
+silent_alone command values s t old refusal reply = record { text = []; reply = reply; written = Appends-nil old }
+
+-- or what was made
+reply_of_made : (made : Result (Vec ℕ Global) Refusal) (refusal : Option Refusal) → IsRefusalOf made refusal
+    → says_or_ends (text_in made) ≡ record { text = made_text made; refusal = refusal }
+reply_of_made (Ok text) refusal is = λ i. record { text = text.items; refusal = sym is i }
+reply_of_made (Err why) refusal is = λ i. record { text = []; refusal = sym is i }
+
+pub made_alone : (command : Command) (values : List ℕ) (s : BenchState) (old new : Option (List ℕ)) (made : Result (Vec ℕ Global) Refusal)
+    (refusal : Option Refusal) → IsRefusalOf made refusal → Reply command values s s (says_or_ends (text_in made)) → Appends old new (made_text made)
+    → SaysText (Ok (command, values)) s s old new refusal
+made_alone command values s old new made refusal is reply written = record {
+  text = made_text made;
+  reply = subst (λ answer. Reply command values s s answer) (reply_of_made made refusal is) reply;
+  written = written;
+}
+
+-- a listing, and a view
+pub list_said : (command : Command) (values : List ℕ) (address count : ℕ) (s : BenchState) (pages : PageMap) (made : Result (Vec ℕ Global) Refusal)
+    → command ≡ commands.List address count → pages ≡ s.calculator.nut.pages → IsListed pages address count made
+    → Reply command values s s (says_or_ends (text_in made))
+list_said command values address count s pages made spelt same is =
+    rw spelt (refl, ap says_or_ends (is ∙ ap (λ (of : PageMap). listed of address count) same))
+
+pub show_said : (command : Command) (values : List ℕ) (view : View) (s : BenchState) (made : Result (Vec ℕ Global) Refusal)
+    → command ≡ commands.Show view → IsShown view s made → Reply command values s s (says_or_ends (text_in made))
+show_said command values view s made spelt shows = rw spelt (refl, text_in made, shows, refl)
+
+-- a front of what is to be written, and then no more
+part_longer : (old new : Option (List ℕ)) (text more : List ℕ) → AppendsPart old new text → AppendsPart old new (text ++ more)
+part_longer old new text more part = (
+  part.0,
+  omega (arith, length-append text more),
+  subst (λ (written : List ℕ). Appends old new written) (sym (take-append-le part.0 text more (omega arith))) part.2,
+)
+
+made_printed : (made : Result (Vec ℕ Global) Refusal) → (ending : List ℕ) × (printed (says_or_ends (text_in made)) ≡ made_text made ++ ending)
+made_printed (Ok text) = ([], refl)
+made_printed (Err refusal) = (ending_line (Some refusal), refl)
+
+pub part_alone : (command : Command) (values : List ℕ) (s : BenchState) (old new : Option (List ℕ)) (made : Result (Vec ℕ Global) Refusal)
+    → Reply command values s s (says_or_ends (text_in made)) → AppendsPart old new (made_text made) → RepliesInPart (Ok (command, values)) s s old new
+part_alone command values s old new made reply part =
+    let ending = made_printed made in record {
+      text = printed (says_or_ends (text_in made));
+      printed_until = (says_or_ends (text_in made), reply, refl);
+      written = subst (AppendsPart old new) (sym ending.1) (part_longer old new (made_text made) ending.0 part);
+    }
+
+-- the text and then the refusal's line, and a front of that
+pub ends_reply : (item : Spelled) (s t : BenchState) (old mid new : Option (List ℕ)) (refusal : Option Refusal) (outcome : Outcome)
+    → SaysText item s t old mid refusal → outcome ≡ outcome_in refusal → Appends mid new (ending_line refusal) → Replies item s t old new outcome
+ends_reply item s t old mid new refusal outcome said is ending = record {
+  answer = record { text = said.text; refusal = refusal };
+  reply = said.reply;
+  written = Appends-trans old mid new said.text (ending_line refusal) said.written ending;
+  outcome_is = is;
+}
+
+later_part : (old mid new : Option (List ℕ)) (text ending : List ℕ) → Appends old mid text → AppendsPart mid new ending → AppendsPart old new (text ++ ending)
+later_part old mid new text ending first part = (
+  length text + part.0,
+  omega (arith, part.1, length-append text ending),
+  subst (Appends old new) (sym (take-append-add text ending part.0)) (Appends-trans old mid new text (take part.0 ending) first part.2),
+)
+
+pub ends_part : (item : Spelled) (s t : BenchState) (old mid new : Option (List ℕ)) (refusal : Option Refusal)
+    → SaysText item s t old mid refusal → AppendsPart mid new (ending_line refusal) → RepliesInPart item s t old new
+ends_part item s t old mid new refusal said part = record {
+  text = printed (record { text = said.text; refusal = refusal });
+  printed_until = (record { text = said.text; refusal = refusal }, said.reply, refl);
+  written = later_part old mid new said.text (ending_line refusal) said.written part;
 }

@@ -3,15 +3,9 @@ use Rattle.std.proofs.Common.{◌≡◌, ℕ, zero, suc, ◌+◌, Bool, true, fa
 use Rattle.std.specs.List.{join_with_byte, range_with_len}
 use Rattle.std.proofs.lemmas.List.Elements.{filter-append}
 use Rattle.h41_ram.specs.RegisterMap.{RegisterMap, flag_of}
+use Rattle.h41_deck.proofs.Ranges.{range_more}
 use Rattle.h41_deck.specs.PageViews.{two_digits}
 use Rattle.h41_deck.specs.Views.{flags_below}
-
--- one number more
-range_more : (first count : ℕ) → range_with_len first (suc count) ≡ range_with_len first count ++ (first + count) ∷ []
-range_more first zero = let at : first ≡ first + 0 = omega arith in ap (λ n. n ∷ []) at
-range_more first (suc count) =
-    let at : first + 1 + count ≡ first + suc count = omega arith in
-    ap (λ rest. first ∷ rest) (range_more (first + 1) count ∙ ap (λ n. range_with_len (first + 1) count ++ n ∷ []) at)
 
 -- a text, and a blank behind it where it is not empty
 abbrev parted : List ℕ → List ℕ

@@ -2,13 +2,8 @@
 use Rattle.std.proofs.Common.{◌≡◌, ℕ, zero, suc, ◌+◌, ◌*◌, ◌-◌, List, [], ◌∷◌, ◌++◌, take, drop, arith, refl, ap, ◌∙◌, append-nil}
 use Rattle.std.specs.List.{flat_map, range_with_len}
 use Rattle.std.proofs.lemmas.Grind.{flat_map-append}
+use Rattle.h41_deck.proofs.Ranges.{range_more}
 use Rattle.h41_deck.specs.PageViews.{image_line, image_lines}
-
-range_more : (first count : ℕ) → range_with_len first (suc count) ≡ range_with_len first count ++ (first + count) ∷ []
-range_more first zero = let e : first ≡ first + 0 = omega arith in ap (λ last. last ∷ []) e
-range_more first (suc count) =
-    let e : first + 1 + count ≡ first + suc count = omega arith in
-    ap (λ rest. first ∷ rest) (range_more (first + 1) count ∙ ap (λ last. range_with_len (first + 1) count ++ last ∷ []) e)
 
 pub no_lines : (bytes : List ℕ) → image_lines bytes 0 ≡ []
 unfolding image_lines

@@ -1,17 +1,52 @@
 -- What plugging a page answers, in the words of a deck.
-use Rattle.std.proofs.Common.{◌≡◌, ℕ, List, Some, None, inl, inr, sym, ap, ◌∙◌}
+use Rattle.std.proofs.Common.{◌≡◌, ◌≤◌, ℕ, ◌-◌, Bool, List, ◌++◌, length, take, replicate, Some, None, Ok, inl, inr, refl, sym, ap, subst, ◌∙◌, arith}
+use Rattle.std.proofs.lemmas.List.{take_all}
 use Rattle.std.specs.Prelude.{option_map}
-use Rattle.h41_pages.specs.PageMap.{plug_refusal}
+use Rattle.h41_pages.specs.Addresses.{page_size}
+use Rattle.h41_pages.specs.PageMap.{PageMap, RefusesPlug, plug_refusal}
 use Rattle.h41_pages.specs.declared.refusal.PlugRefusal.{PlugRefusal}
 use Rattle.h41_pages.specs.declared.refusal.PlugRefusal.TheVariants as plugs
-use Rattle.h41_deck.specs.Calculator.{RefusesPage, State, of_plug, page_refusal}
+use Rattle.h41_commands.specs.Blocks.{filled}
+use Rattle.h41_debug.specs.Bench.{BenchState, with_calculator}
+use Rattle.h41_xrom.specs.Calculator.{CalculatorState, RefusesPage, TakesPage, with_page}
+use Rattle.h41_deck.specs.Answers.{ends_by}
+use Rattle.h41_deck.specs.Pages.{of_plug, page_refusal}
+use Rattle.h41_deck.specs.Replies.{PlugsWords, block_refusal, unless, with_words}
+
+-- what `resize` makes of a page's words
+pub resized : (values items : List ℕ) (count : ℕ) → count ≡ length values → count ≤ page_size
+    → items ≡ take page_size values ++ replicate (page_size - count) 0 → items ≡ filled values
+resized values items count same room e =
+    let short : length values ≤ page_size = omega arith in
+    e ∙ (λ i. take_all page_size values short i ++ replicate (page_size - same i) 0)
 
 -- a page that is refused for another reason than memory
-pub refused_page : (s : State) (page : ℕ) (words filled : List ℕ) (why : PlugRefusal) → words ≡ filled → RefusesPage s page 1 words why
-    → (why ≡ plugs.OutOfMemory → ⊥) → Some (of_plug why) ≡ page_refusal s page filled
-refused_page s page words filled why same (inl e) other = sym (ap (option_map of_plug) (ap (plug_refusal s.nut.pages page 1) (sym same) ∙ e))
-refused_page s page words filled why same (inr e) other = absurd (other e.1)
+pub refused_page : (all : PageMap) (page : ℕ) (words filled : List ℕ) (why : PlugRefusal) → words ≡ filled → RefusesPlug all page 1 words why
+    → (why ≡ plugs.OutOfMemory → ⊥) → Some (of_plug why) ≡ page_refusal all page filled
+refused_page all page words filled why same (inl e) other = sym (ap (option_map of_plug) (ap (plug_refusal all page 1) (sym same) ∙ e))
+refused_page all page words filled why same (inr e) other = absurd (other e.1)
 
-pub accepted_page : (s : State) (page : ℕ) (words filled : List ℕ) → words ≡ filled → plug_refusal s.nut.pages page 1 words ≡ None
-    → None ≡ page_refusal s page filled
-accepted_page s page words filled same e = sym (ap (option_map of_plug) (ap (plug_refusal s.nut.pages page 1) (sym same) ∙ e))
+pub accepted_page : (all : PageMap) (page : ℕ) (words filled : List ℕ) → words ≡ filled → plug_refusal all page 1 words ≡ None
+    → None ≡ page_refusal all page filled
+accepted_page all page words filled same e = sym (ap (option_map of_plug) (ap (plug_refusal all page 1) (sym same) ∙ e))
+
+-- what plugging words leaves of the bench
+module _ (s : BenchState) (page : ℕ) (writable : Bool) (words items : List ℕ) (from c : CalculatorState)
+    (is : from ≡ s.calculator) (same : items ≡ filled words) where
+  pub plugs_done : TakesPage from page 1 items → c ≡ with_page page 1 writable items from → PlugsWords page writable (Ok words) s (with_calculator c s) (ends_by None)
+  plugs_done taken changed =
+      let accepted : None ≡ block_refusal s page words = accepted_page s.calculator.nut.pages page items (filled words) same
+      (subst (λ (of : CalculatorState). TakesPage of page 1 items) is taken) in (
+        ap (λ d. with_calculator d s) (changed ∙ (λ i. with_page page 1 writable (same i) (is i)))
+            ∙ ap (λ why. unless why (with_words page writable words s) s) accepted,
+        ap ends_by accepted,
+      )
+
+  pub plugs_refused : (why : PlugRefusal) → RefusesPage from page 1 items why → (why ≡ plugs.OutOfMemory → ⊥) → c ≡ from
+      → PlugsWords page writable (Ok words) s (with_calculator c s) (ends_by (Some (of_plug why)))
+  plugs_refused why refuses other stays =
+      let refused : Some (of_plug why) ≡ block_refusal s page words = refused_page s.calculator.nut.pages page items (filled words) why same
+      (subst (λ (of : CalculatorState). RefusesPage of page 1 items why) is refuses) other in (
+        ap (λ d. with_calculator d s) (stays ∙ is) ∙ ap (λ why. unless why (with_words page writable words s) s) refused,
+        ap ends_by refused,
+      )

@@ -7,8 +7,7 @@ use Rattle.h41_program.specs.Lines.{is_final_end}
 use Rattle.h41_program.specs.ProgramBytes.{final_position, program_bytes}
 use Rattle.h41_program.specs.ProgramLines.{IsFirst, LinesFrom, NoneFrom, Reads, behind}
 use Rattle.h41_ram.specs.RegisterMap.{RegisterMap, is_sound}
-use Rattle.h41_deck.specs.Calculator.{IsEmptyFrom}
-use Rattle.h41_deck.specs.Programs.{ListsProgram, listed_line}
+use Rattle.h41_deck.specs.ProgramListing.{ListsProgram, listed_line}
 
 -- the list from a line on that is .END., and from one that is not
 reads_last : (bytes : List ℕ) (final at next : ℕ) (listed : ListedLine) → IsFirst bytes final at listed next → is_final_end listed.line ≡ true
@@ -74,18 +73,3 @@ lists_none memory listing at sound before none = (
 
 pub lists_lost : (memory : RegisterMap) → is_sound memory ≡ false → ListsProgram memory []
 lists_lost memory lost = ([], record { sound = λ sound. absurd (true≢false (sym sound ∙ lost)); lost = λ _. refl }, refl)
-
--- a program is empty just where its first line is .END.
-pub empty_by : (memory : RegisterMap) (at behind : ℕ) (listed : ListedLine) → is_sound memory ≡ true
-    → IsFirst (program_bytes memory) (final_position memory) at listed behind → is_final_end listed.line ≡ true → IsEmptyFrom memory at
-empty_by memory at behind listed sound is last =
-    (listed, from_sound memory at (listed ∷ []) sound (reads_last (program_bytes memory) (final_position memory) at behind listed is last), last)
-
-pub empty_final : (memory : RegisterMap) (at behind : ℕ) (listed : ListedLine) → is_sound memory ≡ true
-    → IsFirst (program_bytes memory) (final_position memory) at listed behind → IsEmptyFrom memory at → is_final_end listed.line ≡ true
-empty_final memory at behind listed sound is empty =
-    let same : empty.0 ≡ listed = is.one empty.0 (empty.1.sound sound).0 in
-    subst (λ (line : ListedLine). is_final_end line.line ≡ true) same empty.2
-
-pub empty_not : (memory : RegisterMap) (at : ℕ) → is_sound memory ≡ true → NoneFrom (program_bytes memory) (final_position memory) at → IsEmptyFrom memory at → ⊥
-empty_not memory at sound none empty = none empty.0 (empty.1.sound sound).0

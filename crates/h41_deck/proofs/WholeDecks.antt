@@ -2,9 +2,11 @@
 use Rattle.std.proofs.Common.{◌≡◌, ℕ, ◌≤◌, Bool, true, nat_le, List, length, take, Option, Some, None, IfSome, sym, subst, ◌∙◌}
 use Rattle.std.proofs.lemmas.Bool.{leb-true}
 use Rattle.std.proofs.lemmas.List.{take_all}
-use Rattle.h41_deck.specs.Deck.{AnswersItems, Deck, DeckEnds, Gives, most_bytes}
-use Rattle.h41_deck.specs.Items.{commands}
-use Rattle.h41_deck.specs.Lines.{lines}
+use Rattle.h41_commands.specs.Items.{commands}
+use Rattle.h41_commands.specs.Lines.{lines}
+use Rattle.h41_ends.specs.Ends.{most_bytes}
+use Rattle.h41_deck.specs.AnsweredItems.{AnswersItems}
+use Rattle.h41_deck.specs.Deck.{Deck, DeckEnds, WritesText}
 use Rattle.h41_deck.specs.declared.replies.Outcome.{Outcome}
 
 -- the bytes are the whole deck
@@ -16,9 +18,9 @@ whole_is deck bytes whole front fits all =
 
 module _ (known old new : Option (List ℕ)) (bytes : List ℕ) (whole : Bool) (outcome : Outcome) where
   pub deck_prints : IfSome known (λ deck. bytes ≡ take most_bytes deck) → IfSome known (λ deck. whole ≡ nat_le (length deck) most_bytes)
-      → whole ≡ true → AnswersItems (commands (lines bytes)) old new outcome → IfSome known (Gives Deck old new)
+      → whole ≡ true → AnswersItems (commands (lines bytes)) old new outcome → IfSome known (WritesText Deck old new)
   deck_prints front fits all answers = elim known as (λ known. IfSome known (λ deck. bytes ≡ take most_bytes deck)
-      → IfSome known (λ deck. whole ≡ nat_le (length deck) most_bytes) → IfSome known (Gives Deck old new)) [
+      → IfSome known (λ deck. whole ≡ nat_le (length deck) most_bytes) → IfSome known (WritesText Deck old new)) [
         | None ↦ λ front fits. tt
         | Some deck ↦ λ front fits.
             let is = whole_is deck bytes whole front fits all in

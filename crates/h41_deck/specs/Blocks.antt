@@ -1,122 +1,31 @@
--- What the lines of a block say, by the block's kind, or why they are refused. The language is this project's own.
-use Rattle.std.specs.Prelude.{◌≡◌, ℕ, ◌-◌, Bool, not, ◌||◌, List, [], ◌∷◌, ◌++◌, map, length, replicate, filter, flat_map, nat_lt, if◌then◌else◌, Option, Some, None, Result, Ok, Err, is_ok, codes}
-use Rattle.std.specs.Result.{result_unwrap_or}
-use Rattle.std.specs.List.{list_any, list_all}
-use Rattle.std.specs.Str.Parse.{digits_value}
-use Rattle.hex.specs.Hex.{decode_of}
-use Rattle.hex.specs.declared.error.FromHexError.{FromHexError}
-use Rattle.h41_pages.specs.Addresses.{last_word, page_size}
-use Rattle.h41_pages.specs.Images.{is_image_bytes, words_in}
-use Rattle.h41_deck.specs.declared.commands.BlockKind.{BlockKind}
-use Rattle.h41_deck.specs.declared.commands.BlockKind.TheVariants.{Page, Program}
-use Rattle.h41_deck.specs.declared.commands.PageKind.TheVariants.{Words, Image, Asm}
-use Rattle.h41_deck.specs.declared.commands.ProgramKind.TheVariants.{Bytes, Text}
+-- What is left of blocks that were carried out. It only connects the code with the other definitions.
+use Rattle.std.specs.Global.{Global}
+use Rattle.std.specs.Prelude.{◌≡◌, ℕ, Bool, Vec, List, Option, Some, Ok}
+use Rattle.h41_commands.specs.declared.commands.BlockKind.TheVariants.{Page, Program}
+use Rattle.h41_commands.specs.declared.commands.PageKind.{PageKind}
+use Rattle.h41_commands.specs.declared.commands.ProgramKind.{ProgramKind}
+use Rattle.h41_commands.specs.Blocks.{TakenBlock, judgement}
+use Rattle.h41_debug.specs.Bench.{BenchState}
 use Rattle.h41_deck.specs.declared.refusal.Refusal.{Refusal}
-use Rattle.h41_deck.specs.declared.refusal.Refusal.TheVariants.{BadImage, BadNumber, LineTooLong}
-use Rattle.h41_deck.specs.Lines.{is_blank, is_long, is_skipped, words_of}
-use Rattle.h41_deck.specs.Numbers.{is_hexadecimal}
+use Rattle.h41_deck.specs.Answers.{ends_by}
+use Rattle.h41_deck.specs.Replies.{LoadsBlock, Plugs, PlugsWords}
 
--- the words of a block's lines
-abbrev pub block_words : List (List ℕ) → List (List ℕ)
-block_words lines = flat_map words_of (filter (λ line. not (is_skipped line)) lines)
+-- words are plugged, or refused
+abbrev pub PlugsWordsOf : Vec ℕ Global → ℕ → Bool → BenchState → BenchState → Option Refusal → Type 0
+PlugsWordsOf words page writable s t refusal = PlugsWords page writable (Ok words.items) s t (ends_by refusal)
 
--- the values of a page's words: 51 where one isn't of 1 to 3 hexadecimal digits, and else 4 where there are more words than
--- a page has, or one is too great
-abbrev pub word_values : List (List ℕ) → Result (List ℕ) Refusal
-word_values words =
-    if not (list_all (is_hexadecimal 1 3) words) then Err BadNumber
-    else (if nat_lt page_size (length words) || list_any (λ word. nat_lt last_word (digits_value 16 word)) words then Err BadImage
-    else Ok (map (digits_value 16) words))
+-- a block for a page, by what it says
+pub record PlugsTaken (block : TakenBlock) (page : ℕ) (writable : Bool) (s t : BenchState) (refusal : Option Refusal) : Type 0 where
+  pub kind : PageKind
+  pub kind_is : block.kind ≡ Some (Page kind)
+  pub values : List ℕ
+  pub said : judgement block ≡ Ok values
+  pub plugs : Plugs kind page writable values s t (ends_by refusal)
 
--- the bytes of a line: two hexadecimal digits each, of either case, with blanks and tabs anywhere
-abbrev pub line_digits : List ℕ → List ℕ
-line_digits line = filter (λ byte. not (is_blank byte)) line
-
-abbrev pub line_bytes : List ℕ → Result (List ℕ) FromHexError
-line_bytes line = decode_of (line_digits line)
-
--- the lines that are not skipped
-abbrev pub said_lines : List (List ℕ) → List (List ℕ)
-said_lines lines = filter (λ line. not (is_skipped line)) lines
-
--- the bytes of a block's lines: 51 where one isn't a row of bytes
-abbrev pub bytes_values : List (List ℕ) → Result (List ℕ) Refusal
-bytes_values lines =
-    if list_all (λ line. is_ok (line_bytes line)) lines then Ok (flat_map (λ line. result_unwrap_or (line_bytes line) []) lines)
-    else Err BadNumber
-
-abbrev pub block_bytes : List (List ℕ) → Result (List ℕ) Refusal
-block_bytes lines = bytes_values (said_lines lines)
-
--- the words of an image's bytes: 4 where these are no image
-abbrev pub image_content : Result (List ℕ) Refusal → Result (List ℕ) Refusal
-image_content (Ok bytes) = if is_image_bytes bytes then Ok (words_in bytes) else Err BadImage
-image_content (Err refusal) = Err refusal
-
--- the source or the text that a block's lines are: each with its end, where those that say nothing are left empty
-abbrev pub source_line : List ℕ → List ℕ
-source_line line = (if is_skipped line then [] else line) ++ codes "\n"
-
-abbrev pub block_source : List (List ℕ) → List ℕ
-block_source lines = flat_map source_line lines
-
--- what the lines of a block say, before it is judged: values of words, bytes, a source or a text; a command without a block
--- has none
-abbrev pub said_by : Option BlockKind → List (List ℕ) → Result (List ℕ) Refusal
-said_by None lines = Ok []
-said_by (Some (Page Words)) lines = word_values (block_words lines)
-said_by (Some (Page Image)) lines = block_bytes lines
-said_by (Some (Page Asm)) lines = Ok (block_source lines)
-said_by (Some (Program Bytes)) lines = block_bytes lines
-said_by (Some (Program Text)) lines = Ok (block_source lines)
-
--- an image is judged as a whole: it is the words of its bytes
-abbrev pub whole_said : Option BlockKind → Result (List ℕ) Refusal → Result (List ℕ) Refusal
-whole_said None said = said
-whole_said (Some (Page Words)) said = said
-whole_said (Some (Page Image)) said = image_content said
-whole_said (Some (Page Asm)) said = said
-whole_said (Some (Program kind)) said = said
-
-abbrev pub content_of : Option BlockKind → List (List ℕ) → Result (List ℕ) Refusal
-content_of kind lines = whole_said kind (said_by kind lines)
-
--- a line that is too long comes before what else is wrong
-abbrev pub judged : Bool → Result (List ℕ) Refusal → Result (List ℕ) Refusal
-judged has_long content = if has_long then Err LineTooLong else content
-
--- the lines that are not too long
-abbrev pub short_lines : List (List ℕ) → List (List ℕ)
-short_lines lines = filter (λ line. not (is_long line)) lines
-
-abbrev pub block_values : Option BlockKind → List (List ℕ) → Result (List ℕ) Refusal
-block_values kind lines = judged (list_any is_long lines) (content_of kind (short_lines lines))
-
--- words of a page, filled with 000 to its end
-abbrev pub filled : List ℕ → List ℕ
-filled words = words ++ replicate (page_size - length words) 0
-
--- what a block tells of the lines that it has taken
-pub record TakenBlock : Type 0 where
-  pub kind : Option BlockKind
-  pub has_long : Bool
-  pub content : Result (List ℕ) Refusal
-
--- these are the lines that it has taken
-pub record HasTaken (block : TakenBlock) (lines : List (List ℕ)) : Type 0 where
-  pub long : block.has_long ≡ list_any is_long lines
-  pub content : block.content ≡ said_by block.kind (short_lines lines)
-
--- a block of this kind that has taken no lines
-pub record IsNew (kind : Option BlockKind) (block : TakenBlock) : Type 0 where
-  pub kind_is : block.kind ≡ kind
-  pub none : HasTaken block []
-
--- whatever lines it had taken, it has taken one more, and its kind stays
-pub record Takes (old : TakenBlock) (line : List ℕ) (new : TakenBlock) : Type 0 where
-  pub kind_is : new.kind ≡ old.kind
-  pub more : (lines : List (List ℕ)) → HasTaken old lines → HasTaken new (lines ++ line ∷ [])
-
--- its judgement
-abbrev pub judgement : TakenBlock → Result (List ℕ) Refusal
-judgement block = judged block.has_long (whole_said block.kind block.content)
+-- a block that is a program
+pub record LoadsTaken (block : TakenBlock) (s t : BenchState) (refusal : Option Refusal) : Type 0 where
+  pub kind : ProgramKind
+  pub kind_is : block.kind ≡ Some (Program kind)
+  pub values : List ℕ
+  pub said : judgement block ≡ Ok values
+  pub loads : LoadsBlock kind values s t (ends_by refusal)

@@ -1,6 +1,6 @@
 -- The faults of a part, as those of the deck.
-use Rattle.h41_deck.specs.declared.fault.InputFault.{InputFault}
-use Rattle.h41_deck.specs.declared.fault.InputFault.TheVariants as input
+use Rattle.h41_ends.specs.declared.fault.InputFault.{InputFault}
+use Rattle.h41_ends.specs.declared.fault.InputFault.TheVariants as input
 use Rattle.h41_deck.specs.declared.fault.CommandFault.{CommandFault}
 use Rattle.h41_deck.specs.declared.fault.CommandFault.TheVariants as command
 use Rattle.h41_deck.specs.declared.fault.Fault.{Fault}

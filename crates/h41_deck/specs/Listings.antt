@@ -1,26 +1,20 @@
 -- What `list` prints: the lines of words of one page. The form is this project's choice.
-use Rattle.std.specs.Global.{Global}
-use Rattle.std.specs.Prelude.{◌≡◌, ℕ, Vec, List, length, take, nat_lt, Option, Result, option_map}
+use Rattle.std.specs.Prelude.{ℕ, List, length, take, nat_lt, Option, Result, option_map}
 use Rattle.std.specs.Bool.{then_some}
 use Rattle.std.specs.Option.{option_or}
 use Rattle.h41_dis.specs.Spelling.{listing_text}
 use Rattle.h41_pages.specs.PageMap.{PageMap, fetch_refusal, words_from}
-use Rattle.h41_pages.specs.declared.refusal.FetchRefusal as fetch
-use Rattle.h41_pages.specs.declared.refusal.FetchRefusal.TheVariants as fetches
 use Rattle.h41_deck.specs.declared.refusal.Refusal.{Refusal}
-use Rattle.h41_deck.specs.declared.refusal.Refusal.TheVariants.{SystemRom, EmptyPage, BadImage}
-use Rattle.h41_deck.specs.Views.{text_in, text_unless}
-
--- a fetch's refusal, as the calculator's
-abbrev pub of_fetch : fetch.FetchRefusal → Refusal
-of_fetch (fetches.SystemRom address) = SystemRom address
-of_fetch (fetches.EmptyPage address) = EmptyPage address
+use Rattle.h41_commands.specs.declared.refusal.LineRefusal.TheVariants.{BadImage}
+use Rattle.h41_deck.specs.declared.refusal.Refusal.TheVariants.{Line}
+use Rattle.h41_deck.specs.Pages.{of_fetch}
+use Rattle.h41_deck.specs.Answers.{text_unless}
 
 -- why words are not listed: 8 or 9 as the first of them is not fetched, 4 where they leave its page
 abbrev pub list_refusal : PageMap → ℕ → ℕ → Option Refusal
 list_refusal pages address count =
     option_or (option_map of_fetch (fetch_refusal pages address))
-    (then_some (nat_lt (length (words_from pages address)) count) BadImage)
+    (then_some (nat_lt (length (words_from pages address)) count) (Line BadImage))
 
 -- so many words from an address on
 abbrev pub words_at : PageMap → ℕ → ℕ → List ℕ
@@ -30,7 +24,3 @@ words_at pages address count = take count (words_from pages address)
 abbrev pub listed : PageMap → ℕ → ℕ → Result (List ℕ) Refusal
 listed pages address count =
     text_unless (list_refusal pages address count) (listing_text (words_at pages address count) address)
-
--- what was made is that
-abbrev pub IsListed : PageMap → ℕ → ℕ → Result (Vec ℕ Global) Refusal → Type 0
-IsListed pages address count made = text_in made ≡ listed pages address count

@@ -7,7 +7,7 @@ use Rattle.h41_digits.specs.Register.{hexadecimal_text}
 use Rattle.h41_pages.specs.Images.{image_bytes}
 use Rattle.h41_pages.specs.PageMap.{PageMap, bank_numbered, image_at}
 use Rattle.h41_pages.specs.declared.functions.Function.{Function}
-use Rattle.h41_deck.specs.Calculator.{block_bank}
+use Rattle.h41_deck.specs.Pages.{block_bank}
 
 -- a number below 100 by its two decimal digits
 abbrev pub two_digits : ℕ → List ℕ
@@ -40,12 +40,12 @@ functions_text functions = flat_map function_line functions
 abbrev pub bytes_text : List ℕ → List ℕ
 bytes_text bytes = flat_map (hexadecimal_text 2) bytes
 
-abbrev pub line_text : List ℕ → List ℕ
-line_text bytes = bytes_text bytes ++ codes "\n"
+abbrev pub bytes_line : List ℕ → List ℕ
+bytes_line bytes = bytes_text bytes ++ codes "\n"
 
 -- the line of an image, of 32 bytes
 abbrev pub image_line : List ℕ → ℕ → List ℕ
-image_line bytes line = line_text (take 32 (drop (32 * line) bytes))
+image_line bytes line = bytes_line (take 32 (drop (32 * line) bytes))
 
 -- so many lines of 32 bytes each; an image has 256
 unfoldable pub image_lines : List ℕ → ℕ → List ℕ

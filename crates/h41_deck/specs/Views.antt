@@ -1,6 +1,5 @@
 -- What `show` prints, view by view. The form is this project's choice.
-use Rattle.std.specs.Global.{Global}
-use Rattle.std.specs.Prelude.{◌≡◌, ℕ, Vec, Bool, List, ◌++◌, map, filter, slice_index, if◌then◌else◌, Option, Some, None, Result, Ok, Err, codes}
+use Rattle.std.specs.Prelude.{◌≡◌, ℕ, Bool, List, ◌++◌, map, filter, slice_index, if◌then◌else◌, Result, Ok, codes}
 use Rattle.std.specs.List.{join_with_byte, range_with_len}
 use Rattle.h41_digits.specs.Register.{text, hexadecimal_text}
 use Rattle.h41_fields.specs.declared.field.Pointer.{Pointer}
@@ -11,16 +10,18 @@ use Rattle.h41_nut.specs.declared.keys.Keys.{Keys}
 use Rattle.h41_pages.specs.FunctionTables.{functions}
 use Rattle.h41_ram.specs.RegisterMap.{RegisterMap, flag_of, register_at}
 use Rattle.h41_nut.specs.Processor.{Processor}
-use Rattle.h41_deck.specs.declared.commands.View.{View}
-use Rattle.h41_deck.specs.declared.commands.View.TheVariants.{Cpu, Register, Stack, Flags, Alpha, Display, Position, Lines, Image, Functions}
-use Rattle.h41_deck.specs.declared.calculator.Mode.{Mode}
-use Rattle.h41_deck.specs.declared.calculator.Mode.TheVariants as modes
+use Rattle.h41_commands.specs.declared.commands.View.{View}
+use Rattle.h41_commands.specs.declared.commands.View.TheVariants.{Cpu, Register, Stack, Flags, Alpha, Display, Position, Lines, Image, Functions}
 use Rattle.h41_pages.specs.PageMap.{PageMap}
-use Rattle.h41_deck.specs.Calculator.{State, image_refusal}
-use Rattle.h41_deck.specs.Display.{alpha_line, display_line}
 use Rattle.h41_deck.specs.declared.refusal.Refusal.{Refusal}
+use Rattle.h41_debug.specs.Bench.{BenchState}
+use Rattle.h41_debug.specs.Positions.{position_text}
+use Rattle.h41_show.specs.RegisterText.{alpha_text}
+use Rattle.h41_xrom.specs.Display.{display_text}
+use Rattle.h41_deck.specs.Answers.{text_unless}
+use Rattle.h41_deck.specs.Pages.{image_refusal}
 use Rattle.h41_deck.specs.PageViews.{two_digits, functions_text, image_at_text}
-use Rattle.h41_deck.specs.Programs.{ListsProgram, position_digits}
+use Rattle.h41_deck.specs.ProgramListing.{ListsProgram}
 
 abbrev pub bit_text : Bool → List ℕ
 bit_text bit = if bit then codes "1" else codes "0"
@@ -77,44 +78,23 @@ flags_below count ram = join_with_byte 32 (map two_digits (filter (flag_of ram) 
 unfoldable pub flags_line : RegisterMap → List ℕ
 flags_line ram = flags_below 56 ram ++ codes "\n"
 
--- the mode, and the address of the next word; while nothing runs the position in program memory
-abbrev pub position_line : State → Mode → List ℕ
-position_line s modes.Idle = codes "Idle " ++ position_digits s.position ++ codes "\n"
-position_line s modes.Micro = codes "Micro " ++ hexadecimal_text 4 s.nut.processor.pc ++ codes "\n"
-
--- the line of where the calculator is
-abbrev pub position_text : State → List ℕ
-position_text s = position_line s s.mode
-
--- a text, unless there is a refusal
-abbrev pub text_unless : Option Refusal → List ℕ → Result (List ℕ) Refusal
-text_unless None text = Ok text
-text_unless (Some refusal) text = Err refusal
-
 -- the image of a page, or why it is not shown
 abbrev pub image_view : PageMap → ℕ → Result (List ℕ) Refusal
 image_view pages page = text_unless (image_refusal pages page) (image_at_text pages page)
 
+-- a text that is a line of its own
+abbrev pub line_of : List ℕ → List ℕ
+line_of text = text ++ codes "\n"
+
 -- the text of each view, or why it is refused
-abbrev pub Shows : View → State → Result (List ℕ) Refusal → Type 0
-Shows Cpu s made = made ≡ Ok (processor_text s.nut.processor s.nut.keys)
-Shows (Register address) s made = made ≡ Ok (register_line s.nut.ram address)
-Shows Stack s made = made ≡ Ok (stack_text s.nut.ram)
-Shows Flags s made = made ≡ Ok (flags_line s.nut.ram)
-Shows Alpha s made = made ≡ Ok (alpha_line s)
-Shows Display s made = made ≡ Ok (display_line s)
-Shows Position s made = made ≡ Ok (position_text s)
-Shows Lines s made = (listing : List ℕ) × ListsProgram s.nut.ram listing × (made ≡ Ok listing)
-Shows (Image page) s made = made ≡ image_view s.nut.pages page
-Shows Functions s made = made ≡ Ok (functions_text (functions s.nut.pages))
-
--- what was made is the text of a view, or why it is refused
-abbrev pub text_in : Result (Vec ℕ Global) Refusal → Result (List ℕ) Refusal
-text_in (Ok text) = Ok text.items
-text_in (Err refusal) = Err refusal
-
-abbrev pub IsShown : View → State → Result (Vec ℕ Global) Refusal → Type 0
-IsShown view s made = Shows view s (text_in made)
-
-abbrev pub IsImageShown : PageMap → ℕ → Result (Vec ℕ Global) Refusal → Type 0
-IsImageShown pages page made = text_in made ≡ image_view pages page
+abbrev pub Shows : View → BenchState → Result (List ℕ) Refusal → Type 0
+Shows Cpu s made = made ≡ Ok (processor_text s.calculator.nut.processor s.calculator.nut.keys)
+Shows (Register address) s made = made ≡ Ok (register_line s.calculator.nut.ram address)
+Shows Stack s made = made ≡ Ok (stack_text s.calculator.nut.ram)
+Shows Flags s made = made ≡ Ok (flags_line s.calculator.nut.ram)
+Shows Alpha s made = made ≡ Ok (line_of (alpha_text s.calculator.nut.ram))
+Shows Display s made = made ≡ Ok (line_of (display_text s.calculator))
+Shows Position s made = made ≡ Ok (line_of (position_text s))
+Shows Lines s made = (listing : List ℕ) × ListsProgram s.calculator.nut.ram listing × (made ≡ Ok listing)
+Shows (Image page) s made = made ≡ image_view s.calculator.nut.pages page
+Shows Functions s made = made ≡ Ok (functions_text (functions s.calculator.nut.pages))

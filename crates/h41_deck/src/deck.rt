@@ -1,23 +1,16 @@
 //! A deck: its commands, answered in turn.
 
 ghost use Rattle.std.specs.Prelude.{◌≡◌, ◌≢◌, Err, IfOk, OnOk, true, false};
-ghost use Rattle.h41_deck.specs.Deck.{AnswersBytes, EndsKnown, Prints, Unread};
-ghost use Rattle.h41_deck.specs.Entries.{AnswersItem};
+ghost use Rattle.h41_deck.specs.AnsweredItems.{AnswersBytes, AnswersItem};
+ghost use Rattle.h41_deck.specs.Deck.{EndsKnown, EndsUnread, WritesDeck};
 
-use crate::bench::Bench;
-use crate::deck::item::{Entry, Item};
-use crate::deck::items::next_item;
-use crate::ends::input::read_whole;
-use crate::ends::output::flush;
-use crate::ends::sink::Sink;
-use crate::ends::source::Source;
 use crate::fault::{CommandFault, Fault};
-use crate::lines::{Lines, ended_lines};
-use crate::replies::{Outcome, apply, print_answer};
+use crate::refusal::Refusal;
+use crate::replies::{Outcome, apply, end};
+use h41_commands::{Entry, Item, Lines, ended_lines, next_item};
+use h41_debug::Bench;
+use h41_ends::{Sink, Source, flush, read_whole};
 use std::alloc::Global;
-
-mod item;
-mod items;
 
 /// Reads a deck whole, carries its commands out, and writes what they print and nothing else. Both ends' marks are clear
 /// before.
@@ -36,12 +29,12 @@ pub fn run_deck<R: Source, W: Sink>(
     requires writer_clear { W.failed writer.old ≡ false }
 
     // What is written is the text of the deck that was read, where both ends tell their bytes.
-    ensures deck { OnOk result (Prints (R.remaining reader.old) W.contents writer.old writer.new) }
+    ensures deck { OnOk result (WritesDeck (R.remaining reader.old) W.contents writer.old writer.new) }
     ensures outcome { IfOk result (EndsKnown (R.remaining reader.old)) }
     ensures flushed { OnOk result (W.flushed writer.new ≡ true) }
 
-    // A read failed, or the deck is too long, and the text of its commands within the bound is written.
-    ensures read_fault { Unread result R.Source W.Sink reader.old reader.new writer.old writer.new }
+    // A read failed, and nothing is written; or the deck is too long, and the text of its commands within the bound is.
+    ensures read_fault { EndsUnread result R.Source W.Sink reader.old reader.new writer.old writer.new }
 
     // The marks tell which end failed.
     ensures write_fault { result ≡ Err Fault.WriteFault → W.failed writer.new ≡ true }
@@ -98,6 +91,6 @@ fn answer<W: Sink>(
 {
     match item {
         Item::Given(Entry { command, block }) => apply(alloc, bench, command, block, writer),
-        Item::Refused(refusal) => Ok(print_answer(Err(refusal), writer)?),
+        Item::Refused(refusal) => Ok(end(Some(Refusal::from(refusal)), writer)?),
     }
 }

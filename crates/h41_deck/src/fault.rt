@@ -1,28 +1,15 @@
-//! What ends a deck before its last command: the faults of memory, reading and writing, each type as narrow as what can fail.
+//! What ends a deck before its last command: the faults of memory, reading and writing.
 
 ghost use Rattle.std.specs.Prelude.{◌≡◌, ◌≤◌, length};
 ghost use Rattle.h41_deck.specs.Refusals.{of_fault, heading};
-ghost use Rattle.h41_deck.specs.declared.fault.InputFault.TheVariants as input;
 ghost use Rattle.h41_deck.specs.declared.fault.CommandFault.TheVariants as command;
 ghost use Rattle.h41_deck.specs.declared.fault.Fault.TheVariants as deck;
 
 use crate::refusal::Refusal;
-use std::alloc::{AllocError, AllocFailed};
+use h41_ends::{InputFault, WriteFault};
+use std::alloc::AllocError;
 use std::error::Error;
 use std::fmt;
-
-/// 23: the output cannot be written.
-#[derive(Clone, Copy, Debug, PartialEq, Eq)]
-pub struct WriteFault;
-
-/// Why an input was not read to its end.
-#[derive(Clone, Copy, Debug, PartialEq, Eq)]
-pub enum InputFault {
-    /// 21: no memory is left.
-    OutOfMemory,
-    /// 22: the input cannot be read.
-    ReadFault,
-}
 
 /// Why a command was not answered to its end.
 #[derive(Clone, Copy, Debug, PartialEq, Eq)]
@@ -69,22 +56,6 @@ impl fmt::Display for Fault {
 }
 
 impl Error for Fault {}
-
-impl From<AllocError> for InputFault {
-    ghost from_gives = { λ _ fault. fault ≡ input.OutOfMemory };
-
-    fn from(_error: AllocError) -> Self {
-        InputFault::OutOfMemory
-    }
-}
-
-impl<T: Drop> From<AllocFailed<T>> for InputFault {
-    ghost from_gives = { λ _ fault. fault ≡ input.OutOfMemory };
-
-    fn from(_error: AllocFailed<T>) -> Self {
-        InputFault::OutOfMemory
-    }
-}
 
 impl From<AllocError> for CommandFault {
     ghost from_gives = { λ _ fault. fault ≡ command.OutOfMemory };

@@ -1,28 +1,21 @@
-//! The deck language of the HP-41 bench: lines that spell commands, and the replies to them in turn.
+//! The deck language of the HP-41 bench: the replies to a deck's commands in turn.
 #![tactic(auto)]
 
-mod bench;
-mod blocks;
-mod calculator;
-mod commands;
 mod deck;
-mod ends;
 mod fault;
 pub mod laws;
-mod lines;
 mod refusal;
 mod replies;
 
-pub use bench::Bench;
-pub use blocks::Block;
-pub use calculator::{Calculator, Mode};
-pub use commands::parse::parse;
-pub use commands::{BlockKind, Command, PageKind, ProgramKind, View};
 pub use deck::run_deck;
-pub use ends::input::{Input, read_whole};
-pub use ends::output::{flush, write_whole};
-pub use ends::sink::{Sink, ToWrite};
-pub use ends::source::{FromRead, Source};
-pub use fault::{CommandFault, Fault, InputFault, WriteFault};
+pub use fault::{CommandFault, Fault};
+pub use h41_commands::{
+    Block, BlockKind, Command, LineRefusal, PageKind, ProgramKind, View, parse,
+};
+pub use h41_debug::Bench;
+pub use h41_ends::{
+    FromRead, Input, InputFault, Sink, Source, ToWrite, WriteFault, flush, read_whole, write_whole,
+};
+pub use h41_xrom::{Calculator, CalculatorRefusal, Mode};
 pub use refusal::{Detail, Refusal};
 pub use replies::{Outcome, apply};

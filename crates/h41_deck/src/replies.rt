@@ -1,36 +1,33 @@
-//! The replies to commands: what each does to the calculator, and what it prints.
+//! The replies to commands: what each does to the bench, and what it prints.
 
-ghost use Rattle.std.specs.Prelude.{◌≡◌, ◌≢◌, true, false, Err, IfOk, IsSome, None, OnOk, OnErr, vec_len, ◌≤◌};
+ghost use Rattle.std.specs.Prelude.{◌≡◌, ◌≢◌, true, false, Err, IfOk, None, Ok, OnOk, OnErr, vec_len, ◌≤◌, []};
 ghost use Rattle.std.specs.Result.{result_err};
+ghost use Rattle.h41_commands.specs.Blocks.{judgement};
+ghost use Rattle.h41_commands.specs.Commands.{kind_of};
+ghost use Rattle.h41_commands.specs.Contents.{IsForPage, IsForProgram};
+ghost use Rattle.h41_commands.specs.declared.commands.Command.TheVariants as commands;
+ghost use Rattle.h41_ends.specs.Ends.{Writes};
 ghost use Rattle.h41_pages.specs.Addresses.{page_size};
-ghost use Rattle.h41_deck.specs.Blocks.{judgement};
-ghost use Rattle.h41_deck.specs.Calculator.{unplug_refusal, without_page};
-ghost use Rattle.h41_deck.specs.Commands.{kind_of};
-ghost use Rattle.h41_deck.specs.Ends.{Writes};
-ghost use Rattle.h41_deck.specs.Fillings.{IsForPage, IsForProgram};
-ghost use Rattle.h41_deck.specs.Replies.{Does, EndsAs, IsAnswer, LoadsTaken, PlugsBlock, RefusedAs, block_refusal, ends_by, says_or_ends, shown_text, takes_memory, with_block};
-ghost use Rattle.h41_deck.specs.Views.{text_in};
+ghost use Rattle.h41_deck.specs.Answers.{ending_line, ends_by};
+ghost use Rattle.h41_deck.specs.Blocks.{LoadsTaken, PlugsTaken, PlugsWordsOf};
+ghost use Rattle.h41_deck.specs.Replies.{LoadsBytes, Reply, takes_memory};
+ghost use Rattle.h41_deck.specs.Writing.{Does, DoesAlone, DoesSaying, EndsAs, IsRefusalOf, made_text};
 
-use crate::bench::Bench;
-use crate::blocks::Block;
-use crate::blocks::page_words::PAGE_WORDS;
-use crate::commands::Command;
-use crate::ends::output::write_whole;
-use crate::ends::sink::Sink;
-use crate::fault::{CommandFault, WriteFault};
+use crate::fault::CommandFault;
 use crate::refusal::Refusal;
 use crate::replies::listing::listed;
 use crate::replies::view::shown;
+use h41_commands::{Block, Command, PAGE_WORDS};
+use h41_debug::Bench;
+use h41_ends::{Sink, WriteFault, write_whole};
 use h41_pages::PlugRefusal;
 use std::alloc::{AllocError, Global};
 
 mod digits;
-mod display;
 mod functions;
 mod image;
 mod listing;
 mod memory;
-mod position;
 mod processor;
 mod program;
 mod view;
@@ -48,7 +45,7 @@ pub enum Outcome {
 }
 
 impl Outcome {
-    ghost use Rattle.h41_deck.specs.Deck.{outcome_and};
+    ghost use Rattle.h41_deck.specs.AnsweredItems.{outcome_and};
 
     /// How a deck ends that goes on so.
     pub(crate) fn and(self, next: Self) -> Self
@@ -89,137 +86,216 @@ pub fn apply<W: Sink>(
     ensures mark { result ≡ Err CommandFault.WriteFault → W.failed writer.new ≡ true }
     ensures clear { result ≢ Err CommandFault.WriteFault → W.failed writer.new ≡ false }
 {
-    let answer = carry_out(alloc, bench, command, block)?;
-    Ok(print_answer(answer, writer)?)
+    let refusal = say(alloc, bench, command, block, writer)?;
+    Ok(end(refusal, writer)?)
 }
 
-/// Carries a command out, with its block: what it prints, or why it is refused. 21 where memory is refused, to commands that
-/// take some: nothing is changed then.
-fn carry_out(
+/// Carries a command out, with its block, and writes its text. Tells why it is refused, where it is; that is not written.
+fn say<W: Sink>(
     alloc: Global,
     bench: &mut Bench,
     command: Command,
     block: Block,
-) -> Result<Result<Vec<u8>, Refusal>, AllocError>
-    requires { block.kind ≡ kind_of command }
-    ensures answer { IfOk result (IsAnswer command block bench.old bench.new) }
-    ensures memory { OnErr result (takes_memory command ≡ true) }
-    ensures err { OnErr result (bench.new ≡ bench.old) }
+    writer: &mut W,
+) -> Result<Option<Refusal>, CommandFault>
+    requires clear { W.failed writer.old ≡ false }
+    requires block { block.kind ≡ kind_of command }
+    ensures text { DoesSaying result command block bench.old bench.new W.contents writer.old writer.new }
+    ensures memory { result ≡ Err CommandFault.OutOfMemory → takes_memory command ≡ true }
+    ensures unchanged { result ≡ Err CommandFault.OutOfMemory → bench.new ≡ bench.old }
+    ensures mark { result ≡ Err CommandFault.WriteFault → W.failed writer.new ≡ true }
+    ensures clear { result ≢ Err CommandFault.WriteFault → W.failed writer.new ≡ false }
 {
     if let Some(refusal) = block.refusal() {
-        return Ok(Err(refusal));
+        return Ok(Some(Refusal::from(refusal)));
     }
-    let ended = match command {
-        Command::Plug { page, writable, .. } => plug(alloc, bench, block, page, writable)?,
-        Command::Load(_kind) => load(alloc, bench, block)?,
-        Command::Unplug(page) => unplug(bench, page),
-        Command::Size(count) => bench.calculator.set_size(count),
-        Command::Reset => {
-            bench.calculator.reset();
-            Ok(())
-        }
-        Command::Call(address) => bench.calculator.call(address),
-        Command::Step(count) => bench.steps(count),
-        Command::List { address, count } => {
-            return listed(alloc, bench.calculator().pages(), address, count);
-        }
-        Command::Show(view) => return shown(alloc, bench.calculator(), view),
-    };
-    Ok(in_silence(alloc, ended))
+    match command {
+        Command::Plug { page, writable, .. } => Ok(plug(alloc, bench, block, page, writable)?),
+        Command::Load(_kind) => Ok(load(alloc, bench, block)?),
+        _ => say_alone(alloc, bench, command, writer),
+    }
 }
 
-/// What a command prints that prints nothing, or why it is refused.
-fn in_silence(alloc: Global, ended: Result<(), Refusal>) -> Result<Vec<u8>, Refusal>
-    ensures { says_or_ends (text_in result) ≡ ends_by (result_err ended) }
+/// Carries a command out that has no block, and writes its text. Tells why it is refused, where it is; that is not written.
+fn say_alone<W: Sink>(
+    alloc: Global,
+    bench: &mut Bench,
+    command: Command,
+    writer: &mut W,
+) -> Result<Option<Refusal>, CommandFault>
+    requires clear { W.failed writer.old ≡ false }
+    requires alone { kind_of command ≡ None }
+    ensures text { DoesAlone result command bench.old bench.new W.contents writer.old writer.new }
+    ensures memory { result ≡ Err CommandFault.OutOfMemory → takes_memory command ≡ true }
+    ensures unchanged { result ≡ Err CommandFault.OutOfMemory → bench.new ≡ bench.old }
+    ensures mark { result ≡ Err CommandFault.WriteFault → W.failed writer.new ≡ true }
+    ensures clear { result ≢ Err CommandFault.WriteFault → W.failed writer.new ≡ false }
 {
-    match ended {
-        Ok(()) => Ok(Vec::new(alloc)),
-        Err(refusal) => Err(refusal),
+    match command {
+        Command::Unplug(page) => Ok(unplug(bench, page)),
+        Command::Size(count) => Ok(size(bench, count)),
+        Command::Reset => Ok(reset(bench)),
+        Command::Call(address) => Ok(call(bench, address)),
+        Command::Step(count) => Ok(step(bench, count)),
+        Command::List { address, count } => {
+            let listing = listed(alloc, bench.calculator().pages(), address, count)?;
+            Ok(say_made(listing, writer)?)
+        }
+        Command::Show(view) => {
+            let shown = shown(alloc, bench, view)?;
+            Ok(say_made(shown, writer)?)
+        }
+        Command::Plug { .. } | Command::Load(_) => unreachable!(),
     }
 }
 
-/// Plugs what a block says at a page. 21 where memory is refused: nothing is changed then.
+/// Plugs what a block says at a page, or tells why not. 21 where memory is refused: nothing is changed then.
 fn plug(
     alloc: Global,
     bench: &mut Bench,
     block: Block,
     page: u8,
     writable: bool,
-) -> Result<Result<(), Refusal>, AllocError>
+) -> Result<Option<Refusal>, AllocError>
     requires kind { IsForPage block }
     requires accepted { result_err (judgement block) ≡ None }
-    ensures plugs { IfOk result (PlugsBlock block page writable bench.old bench.new) }
+    ensures plugs { IfOk result (PlugsTaken block page writable bench.old bench.new) }
     ensures err { OnErr result (bench.new ≡ bench.old) }
 {
     match block.into_words(alloc, page)? {
         Ok(words) => plug_words(alloc, bench, page, writable, words),
-        Err(refusal) => Ok(Err(refusal)),
+        Err(refusal) => Ok(Some(Refusal::from(refusal))),
     }
 }
 
-/// Plugs words, filled with 000 to a page. 21 where memory is refused: nothing is changed then.
+/// Plugs words, filled with 000 to a page, or tells why not. 21 where memory is refused: nothing is changed then.
 fn plug_words(
     alloc: Global,
     bench: &mut Bench,
     page: u8,
     writable: bool,
     words: Vec<u16>,
-) -> Result<Result<(), Refusal>, AllocError>
+) -> Result<Option<Refusal>, AllocError>
     requires { vec_len words ≤ page_size }
-    ensures refusal { IfOk result (RefusedAs (block_refusal bench.old page words.items)) }
-    ensures change { OnOk result (bench.new ≡ with_block page writable words.items bench.old) }
+    ensures plugs { IfOk result (PlugsWordsOf words page writable bench.old bench.new) }
     ensures err { OnErr result (bench.new ≡ bench.old) }
 {
     let mut words = words;
     words.resize(PAGE_WORDS, 0)?;
-    match bench.calculator.plug(alloc, page, BANK, writable, &words) {
-        Ok(()) => Ok(Ok(())),
+    match bench
+        .calculator_mut()
+        .plug(alloc, page, BANK, writable, &words)
+    {
+        Ok(()) => Ok(None),
         Err(refusal) => match refusal {
             PlugRefusal::OutOfMemory => Err(AllocError),
-            other => Ok(Err(Refusal::from(other))),
+            other => Ok(Some(Refusal::from(other))),
         },
     }
 }
 
-/// Loads the program that a block says. 21 where memory is refused: nothing is changed then.
-fn load(alloc: Global, bench: &mut Bench, block: Block) -> Result<Result<(), Refusal>, AllocError>
+/// Loads the program that a block says, or tells why not. 21 where memory is refused: nothing is changed then.
+fn load(alloc: Global, bench: &mut Bench, block: Block) -> Result<Option<Refusal>, AllocError>
     requires kind { IsForProgram block }
     requires accepted { result_err (judgement block) ≡ None }
     ensures loads { IfOk result (LoadsTaken block bench.old bench.new) }
     ensures err { OnErr result (bench.new ≡ bench.old) }
 {
     match block.into_bytes(alloc)? {
-        Ok(bytes) => Ok(bench.calculator.load(&bytes)),
-        Err(refusal) => Ok(Err(refusal)),
+        Ok(bytes) => Ok(load_bytes(bench, &bytes)),
+        Err(refusal) => Ok(Some(Refusal::from(refusal))),
     }
 }
 
-/// Takes out all banks of a page.
-fn unplug(bench: &mut Bench, page: u8) -> Result<(), Refusal>
-    ensures refusal { result_err result ≡ unplug_refusal bench.old page }
-    ensures change { OnOk result (bench.new ≡ without_page page bench.old) }
-    ensures err { OnErr result (bench.new ≡ bench.old) }
+/// Loads the lines of bytes, or tells why not.
+fn load_bytes(bench: &mut Bench, bytes: &[u8]) -> Option<Refusal>
+    ensures { LoadsBytes (Ok bytes.now) bench.old bench.new (ends_by result) }
 {
-    Ok(bench.calculator.unplug(page)?)
+    match bench.calculator_mut().load(bytes) {
+        Ok(()) => None,
+        Err(refusal) => Some(Refusal::Calculator(refusal)),
+    }
 }
 
-/// Prints what a command answers, its text or its refusal, and tells which of the two it is.
-pub(crate) fn print_answer<W: Sink>(
-    answer: Result<Vec<u8>, Refusal>,
+/// Takes out all banks of a page, or tells why not.
+fn unplug(bench: &mut Bench, page: u8) -> Option<Refusal>
+    ensures { Reply (commands.Unplug page) [] bench.old bench.new (ends_by result) }
+{
+    match bench.calculator_mut().unplug(page) {
+        Ok(()) => None,
+        Err(refusal) => Some(Refusal::from(refusal)),
+    }
+}
+
+/// Gives memory so many data registers, or tells why not.
+fn size(bench: &mut Bench, count: u16) -> Option<Refusal>
+    ensures { Reply (commands.Size count) [] bench.old bench.new (ends_by result) }
+{
+    match bench.calculator_mut().set_size(count) {
+        Ok(()) => None,
+        Err(refusal) => Some(Refusal::Calculator(refusal)),
+    }
+}
+
+/// Begins anew. It is never refused.
+fn reset(bench: &mut Bench) -> Option<Refusal>
+    ensures { Reply commands.Reset [] bench.old bench.new (ends_by result) }
+{
+    bench.calculator_mut().reset();
+    None
+}
+
+/// Begins the function at an address, or tells why not.
+fn call(bench: &mut Bench, address: u16) -> Option<Refusal>
+    ensures { Reply (commands.Call address) [] bench.old bench.new (ends_by result) }
+{
+    match bench.calculator_mut().call(address) {
+        Ok(()) => None,
+        Err(refusal) => Some(Refusal::Calculator(refusal)),
+    }
+}
+
+/// Single steps, up to the first that is refused, and why that is.
+fn step(bench: &mut Bench, count: u32) -> Option<Refusal>
+    ensures { Reply (commands.Step count) [] bench.old bench.new (ends_by result) }
+{
+    match bench.steps(count) {
+        Ok(()) => None,
+        Err(refusal) => Some(Refusal::Calculator(refusal)),
+    }
+}
+
+/// Writes a text that was made, or tells why it was not.
+fn say_made<W: Sink>(
+    made: Result<Vec<u8>, Refusal>,
     writer: &mut W,
-) -> Result<Outcome, WriteFault>
+) -> Result<Option<Refusal>, WriteFault>
     requires { W.failed writer.old ≡ false }
-    ensures outcome { IfOk result (EndsAs (result_err answer)) }
-    ensures written { Writes result W.contents writer.old writer.new (shown_text (text_in answer)) }
+    ensures refusal { IfOk result (IsRefusalOf made) }
+    ensures written { Writes result W.contents writer.old writer.new (made_text made) }
     ensures clear { OnOk result (W.failed writer.new ≡ false) }
     ensures mark { OnErr result (W.failed writer.new ≡ true) }
 {
-    match answer {
+    match made {
         Ok(text) => {
             write_whole(writer, &text)?;
-            Ok(Outcome::Accepted)
+            Ok(None)
         }
-        Err(refusal) => {
+        Err(refusal) => Ok(Some(refusal)),
+    }
+}
+
+/// Writes the line of a refusal, where there is one, and tells whether there is.
+pub(crate) fn end<W: Sink>(refusal: Option<Refusal>, writer: &mut W) -> Result<Outcome, WriteFault>
+    requires { W.failed writer.old ≡ false }
+    ensures outcome { IfOk result (EndsAs refusal) }
+    ensures written { Writes result W.contents writer.old writer.new (ending_line refusal) }
+    ensures clear { OnOk result (W.failed writer.new ≡ false) }
+    ensures mark { OnErr result (W.failed writer.new ≡ true) }
+{
+    match refusal {
+        None => Ok(Outcome::Accepted),
+        Some(refusal) => {
             write_whole(writer, refusal.line().as_str().as_bytes())?;
             Ok(Outcome::Refused)
         }

@@ -3,7 +3,7 @@
 ghost use Rattle.std.specs.Prelude.{◌≡◌, ◌<◌, ◌≤◌, ◌+◌, ◌*◌, ◌++◌, IfOk, OnOk, length, take, drop};
 ghost use Rattle.h41_pages.specs.Images.{image_size};
 ghost use Rattle.h41_deck.specs.PageViews as spec;
-ghost use Rattle.h41_deck.specs.Views.{IsImageShown};
+ghost use Rattle.h41_deck.specs.Writing.{IsImageShown};
 
 use crate::refusal::Refusal;
 use crate::replies::BANK;
@@ -49,7 +49,7 @@ fn image_text(alloc: Global, bytes: &[u8]) -> Result<Vec<u8>, AllocError>
 
 /// Appends bytes as one line.
 fn push_line(text: &mut Vec<u8>, bytes: &[u8]) -> Result<(), AllocError>
-    ensures { OnOk result (text.new.items ≡ text.old.items ++ spec.line_text bytes.now) }
+    ensures { OnOk result (text.new.items ≡ text.old.items ++ spec.bytes_line bytes.now) }
 {
     for byte in bytes {
         push_hexadecimal(text, *byte)?;

@@ -3,8 +3,10 @@
 ghost use Rattle.std.specs.Prelude.{◌≡◌, IfOk};
 ghost use Rattle.std.specs.Result.{result_err};
 ghost use Rattle.h41_deck.specs.Listings as spec;
+ghost use Rattle.h41_deck.specs.Writing.{IsListed};
 
 use crate::refusal::Refusal;
+use h41_commands::LineRefusal;
 use h41_dis::listing;
 use h41_pages::Pages;
 use h41_words::Word;
@@ -17,7 +19,7 @@ pub fn listed(
     address: u16,
     count: u16,
 ) -> Result<Result<Vec<u8>, Refusal>, AllocError>
-    ensures { IfOk result (spec.IsListed pages.now address count) }
+    ensures { IfOk result (IsListed pages.now address count) }
 {
     match words_at(pages, address, usize::from(count)) {
         Ok(words) => Ok(Ok(listing(alloc, words, address)?.into_bytes())),
@@ -32,7 +34,7 @@ fn words_at(pages: &Pages, address: u16, count: usize) -> Result<&[Word], Refusa
 {
     let words = pages.words_from(address)?;
     if words.len() < count {
-        return Err(Refusal::BadImage);
+        return Err(Refusal::Line(LineRefusal::BadImage));
     }
     Ok(&words[..count])
 }

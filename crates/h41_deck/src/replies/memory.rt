@@ -6,11 +6,11 @@ ghost use Rattle.arrayvec.specs.ArrayString.{array_string_len};
 ghost use Rattle.h41_deck.specs.Views.{flags_below, flags_line, level_line, register_line, stack_text};
 ghost use Rattle.h41_deck.specs.PageViews.{two_digits};
 
-use crate::calculator::REGISTERS;
 use crate::refusal::glyph;
 use arrayvec::ArrayString;
 use h41_digits::{Digits, Reg};
 use h41_ram::Ram;
+use h41_xrom::REGISTERS;
 use std::fmt;
 
 /// How many flags there are.

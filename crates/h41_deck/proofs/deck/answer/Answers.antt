@@ -1,8 +1,8 @@
-use Rattle.std.proofs.Common.{Err, refl}
-use Rattle.h41_deck.proofs.Commanded.{replies_by}
+use Rattle.std.proofs.Common.{Some}
+use Rattle.h41_deck.proofs.Commanded.{ends_reply, refused_item}
 use Rattle.h41_deck.proofs.deck.answer.Goals as goal
 
-pub returns-in_ok-print_answer-in-Refused-clause-reply : goal.returns-in_ok-print_answer-in-Refused-clause-reply
-returns-in_ok-print_answer-in-Refused-clause-reply g c =
-    let told = c.in_ok-print_answer-in-Refused.ensures in
-    replies_by _ c.args.bench.now _ _ _ _ (Err c.in-Refused.refusal) (rw c.in-Refused.is (refl, refl)) told.outcome told.written
+pub returns-in_ok-end-in-Refused-clause-reply : goal.returns-in_ok-end-in-Refused-clause-reply
+returns-in_ok-end-in-Refused-clause-reply g c =
+    let told = c.in_ok-end-in-Refused.ensures in
+    rw c.in-Refused.is (ends_reply _ c.args.bench.now _ _ _ _ (Some c.from.result) _ (refused_item c.in-Refused.refusal c.args.bench.now _ _ c.from.ensures) told.outcome told.written)

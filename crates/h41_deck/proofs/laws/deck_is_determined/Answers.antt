@@ -3,15 +3,15 @@ use Rattle.h41_deck.proofs.laws.deck_is_determined.Goals as goal
 
 pub returns-clause-text : goal.returns-clause-text
 returns-clause-text c =
-    same_text c.micro_is_determined.ensures c.words_or_fault.ensures.never_both c.words_are_determined.ensures
-    c.line_text_round_trip.ensures.one c.lists_are_determined.ensures.lines c.loads_are_determined.ensures
+    same_text c.steps_are_determined.ensures c.load_is_determined.ensures c.blocks_are_determined.ensures.filling c.blocks_are_determined.ensures.meaning
+    c.lists_are_determined.ensures.lines
 
 pub returns-clause-long : goal.returns-clause-long
 returns-clause-long c =
-    same_long c.micro_is_determined.ensures c.words_or_fault.ensures.never_both c.words_are_determined.ensures
-    c.line_text_round_trip.ensures.one c.lists_are_determined.ensures.lines c.loads_are_determined.ensures
+    same_long c.steps_are_determined.ensures c.load_is_determined.ensures c.blocks_are_determined.ensures.filling c.blocks_are_determined.ensures.meaning
+    c.lists_are_determined.ensures.lines
 
 pub returns-clause-outcome : goal.returns-clause-outcome
 returns-clause-outcome c =
-    same_outcome c.micro_is_determined.ensures c.words_or_fault.ensures.never_both c.words_are_determined.ensures
-    c.line_text_round_trip.ensures.one c.lists_are_determined.ensures.lines c.loads_are_determined.ensures
+    same_outcome c.steps_are_determined.ensures c.load_is_determined.ensures c.blocks_are_determined.ensures.filling c.blocks_are_determined.ensures.meaning
+    c.lists_are_determined.ensures.lines

@@ -1,13 +1,12 @@
 use Rattle.std.proofs.lemmas.Result.{err_from_is_err_and}
-use Rattle.h41_deck.proofs.Commanded.{part_by, replies_by}
+use Rattle.h41_deck.proofs.Commanded.{ends_part, ends_reply}
 use Rattle.h41_deck.proofs.replies.apply.Goals as goal
 
 pub returns-clause-reply : goal.returns-clause-reply
 returns-clause-reply g c =
-    let printed = c.in_ok-print_answer.ensures in
-    replies_by _ _ _ _ _ _ c.in_ok-answer.answer c.in_ok-answer.ensures.answer printed.outcome printed.written
+    ends_reply _ _ _ _ _ _ c.in_ok-refusal.refusal _ c.in_ok-refusal.ensures.text c.in_ok-end.ensures.outcome c.in_ok-end.ensures.written
 
-pub returns-in_err-print_answer-clause-reply : goal.returns-in_err-print_answer-clause-reply
-returns-in_err-print_answer-clause-reply g c =
-    let failed = err_from_is_err_and c.from_residual-in_err-print_answer.result c.from_residual-in_err-print_answer.ensures.1 in
-    rw (failed.1, failed.2) (part_by _ _ _ _ _ c.in_ok-answer.answer c.in_ok-answer.ensures.answer c.in_err-print_answer.ensures.written)
+pub returns-in_err-end-clause-reply : goal.returns-in_err-end-clause-reply
+returns-in_err-end-clause-reply g c =
+    let failed = err_from_is_err_and c.from_residual-in_err-end.result c.from_residual-in_err-end.ensures.1 in
+    rw (failed.1, failed.2) (ends_part _ _ _ _ _ _ c.in_ok-refusal.refusal c.in_ok-refusal.ensures.text c.in_err-end.ensures.written)

@@ -1,0 +1,19 @@
+-- What holds of every block, whatever the code does.
+use Rattle.std.specs.Prelude.{◌≡◌, ℕ, List, Result}
+use Rattle.h41_commands.specs.declared.commands.PageKind.{PageKind}
+use Rattle.h41_commands.specs.declared.commands.ProgramKind.{ProgramKind}
+use Rattle.h41_commands.specs.declared.refusal.LineRefusal.{LineRefusal}
+use Rattle.h41_commands.specs.PageBlocks.{Fills}
+use Rattle.h41_commands.specs.ProgramBlocks.{Means}
+
+-- a block's values fill a page with the same words, or for the same reason with none
+abbrev pub FillingIsDetermined : Type 0
+FillingIsDetermined =
+    (kind : PageKind) (page : ℕ) (values : List ℕ) (words others : Result (List ℕ) LineRefusal)
+    → Fills kind page values words → Fills kind page values others → words ≡ others
+
+-- they mean the bytes of the same program, or for the same reason none
+abbrev pub MeaningIsDetermined : Type 0
+MeaningIsDetermined =
+    (kind : ProgramKind) (values : List ℕ) (bytes others : Result (List ℕ) LineRefusal)
+    → Means kind values bytes → Means kind values others → bytes ≡ others

@@ -1,0 +1,173 @@
+-- The commands that the words of a line spell: 50 BadCommand where they spell none, and else 51 BadNumber where a number is
+-- wrong. The language is this project's own.
+use Rattle.std.specs.Prelude.{ℕ, Bool, true, false, List, [], ◌∷◌, if◌then◌else◌, Option, Some, None, is_some, Result, Ok, Err, codes, bytes_eq}
+use Rattle.std.specs.Option.{option_map_or}
+use Rattle.h41_commands.specs.declared.commands.Command.{Command}
+use Rattle.h41_commands.specs.declared.commands.Command.TheVariants.{Plug, Load, Unplug, Size, Reset, Call, Step, Show}
+use Rattle.h41_commands.specs.declared.commands.Command.TheVariants as commands
+use Rattle.h41_commands.specs.declared.commands.BlockKind.{BlockKind}
+use Rattle.h41_commands.specs.declared.commands.BlockKind.TheVariants.{Page, Program}
+use Rattle.h41_commands.specs.declared.commands.PageKind.{PageKind}
+use Rattle.h41_commands.specs.declared.commands.PageKind.TheVariants.{Words, Image, Asm}
+use Rattle.h41_commands.specs.declared.commands.ProgramKind.{ProgramKind}
+use Rattle.h41_commands.specs.declared.commands.ProgramKind.TheVariants.{Bytes, Text}
+use Rattle.h41_commands.specs.declared.commands.View.{View}
+use Rattle.h41_commands.specs.declared.commands.View.TheVariants.{Cpu, Register, Stack, Flags, Alpha, Display, Position, Lines, Functions}
+use Rattle.h41_commands.specs.declared.commands.View.TheVariants as views
+use Rattle.h41_commands.specs.declared.refusal.LineRefusal.{LineRefusal}
+use Rattle.h41_commands.specs.declared.refusal.LineRefusal.TheVariants.{BadCommand}
+use Rattle.h41_commands.specs.Numbers.{count_up_to, hexadecimal, number_up_to}
+
+-- what goes on with a value, and keeps a refusal
+abbrev pub and_then : {A B : Type 0} → Result A LineRefusal → (A → Result B LineRefusal) → Result B LineRefusal
+and_then (Ok value) next = next value
+and_then (Err refusal) next = Err refusal
+
+-- the most steps of one command
+abbrev pub most_steps : ℕ
+most_steps = 9999999
+
+-- the greatest number that size takes; one above 319 is refused as 17 when it is carried out
+abbrev pub most_registers : ℕ
+most_registers = 9999
+
+-- the most words of one listing
+abbrev pub most_words : ℕ
+most_words = 4096
+
+-- a block that fills the page of this number
+abbrev pub plug_at : PageKind → List ℕ → Bool → Result Command LineRefusal
+plug_at kind page writable = and_then (hexadecimal 1 page) (λ page. Ok (Plug kind page writable))
+
+-- words P [rw], image P [rw] and asm P [rw]: a block that fills a page, which microcode may write with rw
+abbrev pub plug_command : PageKind → List (List ℕ) → Result Command LineRefusal
+plug_command kind (page ∷ []) = plug_at kind page false
+plug_command kind (page ∷ option ∷ []) =
+    if bytes_eq option (codes "rw") then plug_at kind page true else Err BadCommand
+plug_command kind operands = Err BadCommand
+
+-- load and program: a block that is a program
+abbrev pub load_command : ProgramKind → List (List ℕ) → Result Command LineRefusal
+load_command kind [] = Ok (Load kind)
+load_command kind operands = Err BadCommand
+
+-- unplug P
+abbrev pub unplug_command : List (List ℕ) → Result Command LineRefusal
+unplug_command (page ∷ []) = and_then (hexadecimal 1 page) (λ page. Ok (Unplug page))
+unplug_command operands = Err BadCommand
+
+-- size n
+abbrev pub size_command : List (List ℕ) → Result Command LineRefusal
+size_command (count ∷ []) = and_then (number_up_to most_registers 10 count) (λ count. Ok (Size count))
+size_command operands = Err BadCommand
+
+-- reset
+abbrev pub reset_command : List (List ℕ) → Result Command LineRefusal
+reset_command [] = Ok Reset
+reset_command operands = Err BadCommand
+
+-- call hhhh
+abbrev pub call_command : List (List ℕ) → Result Command LineRefusal
+call_command (address ∷ []) = and_then (hexadecimal 4 address) (λ address. Ok (Call address))
+call_command operands = Err BadCommand
+
+-- step [n]
+abbrev pub step_command : List (List ℕ) → Result Command LineRefusal
+step_command [] = Ok (Step 1)
+step_command (count ∷ []) = and_then (number_up_to most_steps 10 count) (λ count. Ok (Step count))
+step_command operands = Err BadCommand
+
+-- list hhhh n
+abbrev pub listing_of : ℕ → List ℕ → Result Command LineRefusal
+listing_of address count = and_then (count_up_to most_words count) (λ count. Ok (commands.List address count))
+
+abbrev pub list_command : List (List ℕ) → Result Command LineRefusal
+list_command (address ∷ count ∷ []) = and_then (hexadecimal 4 address) (λ address. listing_of address count)
+list_command operands = Err BadCommand
+
+-- the value that stands beside a word in a table
+abbrev pub named_in : {A : Type 0} → List (List ℕ × A) → List ℕ → Option A
+named_in [] word = None
+named_in (row ∷ rows) word = if bytes_eq word row.0 then Some row.1 else named_in rows word
+
+-- the views that one word names
+abbrev pub views_by_name : List (List ℕ × View)
+views_by_name =
+    (codes "cpu", Cpu)
+    ∷ (codes "stack", Stack)
+    ∷ (codes "flags", Flags)
+    ∷ (codes "alpha", Alpha)
+    ∷ (codes "display", Display)
+    ∷ (codes "pos", Position)
+    ∷ (codes "lines", Lines)
+    ∷ (codes "functions", Functions)
+    ∷ []
+
+unfoldable pub view_named : List ℕ → Result View LineRefusal
+view_named what = option_map_or (λ view. Ok view) (named_in views_by_name what) (Err BadCommand)
+
+-- show WHAT
+abbrev pub view_of : List (List ℕ) → Result View LineRefusal
+view_of (what ∷ []) = view_named what
+view_of (what ∷ address ∷ []) =
+    if bytes_eq what (codes "ram") then and_then (hexadecimal 3 address) (λ address. Ok (Register address))
+    else (if bytes_eq what (codes "image") then and_then (hexadecimal 1 address) (λ page. Ok (views.Image page))
+    else Err BadCommand)
+view_of operands = Err BadCommand
+
+abbrev pub show_command : List (List ℕ) → Result Command LineRefusal
+show_command operands = and_then (view_of operands) (λ view. Ok (Show view))
+
+-- the kind of the block that a line opens by its first word
+abbrev pub kinds_by_name : List (List ℕ × BlockKind)
+kinds_by_name =
+    (codes "words", Page Words)
+    ∷ (codes "image", Page Image)
+    ∷ (codes "asm", Page Asm)
+    ∷ (codes "load", Program Bytes)
+    ∷ (codes "program", Program Text)
+    ∷ []
+
+unfoldable pub kind_of_word : List ℕ → Option BlockKind
+kind_of_word name = named_in kinds_by_name name
+
+-- the command of a line that opens a block
+abbrev pub opening_command : BlockKind → List (List ℕ) → Result Command LineRefusal
+opening_command (Page kind) operands = plug_command kind operands
+opening_command (Program kind) operands = load_command kind operands
+
+-- how the words behind the name of a command that opens no block are read
+abbrev pub commands_by_name : List (List ℕ × (List (List ℕ) → Result Command LineRefusal))
+commands_by_name =
+    (codes "unplug", unplug_command)
+    ∷ (codes "size", size_command)
+    ∷ (codes "reset", reset_command)
+    ∷ (codes "call", call_command)
+    ∷ (codes "step", step_command)
+    ∷ (codes "list", list_command)
+    ∷ (codes "show", show_command)
+    ∷ []
+
+-- the command of a line that opens no block, by its first word
+unfoldable pub plain_command : List ℕ → List (List ℕ) → Result Command LineRefusal
+plain_command name operands = option_map_or (λ read. read operands) (named_in commands_by_name name) (Err BadCommand)
+
+-- the command of a line, by the kind of the block that its first word opens
+abbrev pub command_by : Option BlockKind → List ℕ → List (List ℕ) → Result Command LineRefusal
+command_by (Some kind) name operands = opening_command kind operands
+command_by None name operands = plain_command name operands
+
+abbrev pub parsed : List (List ℕ) → Result Command LineRefusal
+parsed [] = Err BadCommand
+parsed (name ∷ operands) = command_by (kind_of_word name) name operands
+
+-- a line opens a block by its first word, whatever follows
+abbrev pub is_opening : List (List ℕ) → Bool
+is_opening [] = false
+is_opening (name ∷ operands) = is_some (kind_of_word name)
+
+-- the kind of a command's block, where it has one
+abbrev pub kind_of : Command → Option BlockKind
+kind_of (Plug kind page writable) = Some (Page kind)
+kind_of (Load kind) = Some (Program kind)
+kind_of command = None

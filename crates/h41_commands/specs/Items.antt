@@ -1,0 +1,51 @@
+-- Which commands the lines of a deck spell. No state comes in. The language is this project's own.
+use Rattle.std.specs.Prelude.{ℕ, zero, suc, Bool, true, false, not, List, [], ◌∷◌, length, filter, if◌then◌else◌, Result, Ok, Err}
+use Rattle.std.specs.List.{list_any, before_first, after_first}
+use Rattle.h41_commands.specs.declared.commands.Command.{Command}
+use Rattle.h41_commands.specs.declared.refusal.LineRefusal.{LineRefusal}
+use Rattle.h41_commands.specs.declared.refusal.LineRefusal.TheVariants.{NoEnd, LineTooLong}
+use Rattle.h41_commands.specs.Blocks.{block_values}
+use Rattle.h41_commands.specs.Commands.{and_then, is_opening, kind_of, parsed}
+use Rattle.h41_commands.specs.Lines.{is_end, is_long, is_skipped, words_of}
+
+-- What lines spell: a command and its block's values (none where it has no block), or why the lines are refused.
+abbrev pub Spelled : Type 0
+Spelled = Result (Command × List ℕ) LineRefusal
+
+-- a command whose block is judged so
+abbrev pub with_values : Result (List ℕ) LineRefusal → Command → Spelled
+with_values values command = and_then values (λ values. Ok (command, values))
+
+-- what a first line and the lines of its block spell; a fault of the first line comes before all else
+abbrev pub spelled_by : List ℕ → List (List ℕ) → Spelled
+spelled_by first inside =
+    and_then (parsed (words_of first)) (λ command. with_values (block_values (kind_of command) inside) command)
+
+-- a line that opens a block, and the lines after it
+abbrev pub opened_block : List ℕ → List (List ℕ) → Spelled
+opened_block first rest =
+    if list_any is_end rest then spelled_by first (before_first is_end rest) else Err NoEnd
+
+-- what so many lines at the most spell
+abbrev pub spelled_within : ℕ → List (List ℕ) → List Spelled
+spelled_within zero lines = []
+spelled_within (suc most) [] = []
+spelled_within (suc most) (line ∷ rest) =
+    if is_long line then Err LineTooLong ∷ spelled_within most rest
+    else (if is_skipped line then spelled_within most rest
+    else (if is_opening (words_of line) then opened_block line rest ∷ spelled_within most (after_first is_end rest)
+    else spelled_by line [] ∷ spelled_within most rest))
+
+-- the commands that lines spell, each with its block's values, or refused as 50 to 53 or 4
+abbrev pub commands : List (List ℕ) → List Spelled
+commands lines = spelled_within (length lines) lines
+
+-- a block whose end was not read
+abbrev pub is_open : Spelled → Bool
+is_open (Err NoEnd) = true
+is_open (Err refusal) = false
+is_open (Ok given) = false
+
+-- what is spelled but for such a block
+abbrev pub closed : List Spelled → List Spelled
+closed items = filter (λ item. not (is_open item)) items

@@ -1,0 +1,11 @@
+pub mod BlockLaws
+pub mod Blocks
+pub mod Commands
+pub mod Contents
+pub mod Entries
+pub mod Items
+pub mod Lines
+pub mod Numbers
+pub mod PageBlocks
+pub mod ProgramBlocks
+pub mod ProgramTexts

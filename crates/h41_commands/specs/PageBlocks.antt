@@ -1,0 +1,34 @@
+-- The words that a block's values fill a page with. The language is this project's own.
+use Rattle.std.specs.Prelude.{◌≡◌, ℕ, ◌*◌, ◌%◌, List, length, nat_lt, if◌then◌else◌, Option, Some, Result, Ok, Err, option_map}
+use Rattle.h41_asm.specs.Assembly.{Assembles}
+use Rattle.h41_asm.specs.Faults.{assembly_fault}
+use Rattle.h41_pages.specs.Addresses.{page_count, page_size}
+use Rattle.h41_commands.specs.declared.commands.PageKind.{PageKind}
+use Rattle.h41_commands.specs.declared.commands.PageKind.TheVariants.{Words, Image, Asm}
+use Rattle.h41_commands.specs.declared.refusal.LineRefusal.{LineRefusal}
+use Rattle.h41_commands.specs.declared.refusal.LineRefusal.TheVariants.{BadImage, Source}
+use Rattle.h41_commands.specs.Commands.{and_then}
+
+-- the first address of a page, which is named by one digit
+abbrev pub page_address : ℕ → ℕ
+page_address page = page % page_count * page_size
+
+-- why a source spells no words: its first fault, told with its line
+abbrev pub source_refusal : List ℕ → ℕ → Option LineRefusal
+source_refusal source origin = option_map (λ found. Source found.0 found.1) (assembly_fault source origin)
+
+-- what a source gives at an origin: the words that it spells, or its refusal
+abbrev pub SourceMakes : List ℕ → ℕ → Result (List ℕ) LineRefusal → Type 0
+SourceMakes source origin (Ok words) = Assembles source origin words
+SourceMakes source origin (Err refusal) = source_refusal source origin ≡ Some refusal
+
+-- words for one page: 4 where there are more than it has
+abbrev pub fitting : List ℕ → Result (List ℕ) LineRefusal
+fitting words = if nat_lt page_size (length words) then Err BadImage else Ok words
+
+-- the words that a block's values say for a page, or why they say none: they are words already, or the source of these
+abbrev pub Fills : PageKind → ℕ → List ℕ → Result (List ℕ) LineRefusal → Type 0
+Fills Words page values words = words ≡ Ok values
+Fills Image page values words = words ≡ Ok values
+Fills Asm page source words =
+    (given : Result (List ℕ) LineRefusal) × SourceMakes source (page_address page) given × (words ≡ and_then given fitting)

@@ -1,0 +1,119 @@
+//! Bytes, as the lines of an `image` or a `load` block give them.
+
+ghost use Rattle.std.specs.Prelude.{◌≡◌, IfOk};
+ghost use Rattle.h41_commands.specs.Blocks.{line_digits};
+ghost use Rattle.h41_commands.specs.Contents.{AreBytesOf};
+
+use crate::lines::line::is_skipped;
+use crate::lines::words::is_blank;
+use crate::refusal::LineRefusal;
+use h41_pages::{ReadRefusal, image_read, is_image_bytes};
+use hex::FromHexError;
+use std::alloc::{AllocError, Global};
+
+/// The bytes so far.
+#[derive(Debug, Drop)]
+pub struct HexBytes {
+    bytes: Vec<u8>,
+    /// Whether a line was no row of bytes: two hexadecimal digits each, of either case, with blanks and tabs anywhere.
+    is_wrong: bool,
+}
+
+impl HexBytes {
+    ghost use Rattle.std.specs.Prelude.{◌≡◌, ◌≤◌, [], IfOk, None, Ok, vec_len};
+    ghost use Rattle.std.specs.Result.{result_err};
+    ghost use Rattle.h41_pages.specs.Addresses.{page_size};
+    ghost use Rattle.h41_commands.specs.Blocks.{block_bytes, image_content};
+    ghost use Rattle.h41_commands.specs.Contents.{TakesBytes, bytes_in};
+
+    /// No bytes.
+    pub fn new(alloc: Global) -> Self
+        ensures { bytes_in result ≡ block_bytes [] }
+    {
+        HexBytes {
+            bytes: Vec::new(alloc),
+            is_wrong: false,
+        }
+    }
+
+    /// Takes the bytes of one more line of the block. 21 where memory is refused.
+    pub fn add_line(&mut self, line: &[u8]) -> Result<(), AllocError>
+        ensures { IfOk result (λ _. TakesBytes self.old line.now self.new) }
+    {
+        if is_skipped(line) {
+            return Ok(());
+        }
+        match line_bytes(*self.bytes.allocator(), line)? {
+            Some(bytes) => {
+                if !self.is_wrong {
+                    self.bytes.extend_from_slice(&bytes)?;
+                }
+            }
+            None => self.is_wrong = true,
+        }
+        Ok(())
+    }
+
+    /// Why they are refused, if they are: 51.
+    pub fn refusal(&self) -> Option<LineRefusal>
+        ensures { result ≡ result_err (bytes_in self.now) }
+    {
+        self.is_wrong.then_some(LineRefusal::BadNumber)
+    }
+
+    /// Why they are refused as an image, if they are: 51 before 4.
+    pub fn image_refusal(&self) -> Option<LineRefusal>
+        ensures { result ≡ result_err (image_content (bytes_in self.now)) }
+    {
+        if self.is_wrong {
+            Some(LineRefusal::BadNumber)
+        } else if !is_image_bytes(&self.bytes) {
+            Some(LineRefusal::BadImage)
+        } else {
+            None
+        }
+    }
+
+    /// The bytes, where they are not refused.
+    pub fn into_bytes(self) -> Vec<u8>
+        requires { result_err (bytes_in self) ≡ None }
+        ensures { bytes_in self ≡ Ok result.items }
+    {
+        self.bytes
+    }
+
+    /// The words of the image, where the bytes are not refused as one. 21 where memory is refused.
+    pub fn into_words(self, alloc: Global) -> Result<Vec<u16>, AllocError>
+        requires { result_err (image_content (bytes_in self)) ≡ None }
+        ensures words { IfOk result (λ words. image_content (bytes_in self) ≡ Ok words.items) }
+        ensures bound { IfOk result (λ words. vec_len words ≤ page_size) }
+    {
+        match image_read(alloc, &self.bytes) {
+            Ok(words) => Ok(words),
+            Err(ReadRefusal::OutOfMemory) => Err(AllocError),
+            Err(ReadRefusal::BadImage) => unreachable!(),
+        }
+    }
+}
+
+/// The bytes of a line, where it has an even count of hexadecimal digits and nothing else but blanks and tabs. 21 where
+/// memory is refused.
+fn line_bytes(alloc: Global, line: &[u8]) -> Result<Option<Vec<u8>>, AllocError>
+    ensures { IfOk result (AreBytesOf line.now) }
+{
+    match hex::decode(alloc, digits_of(alloc, line)?) {
+        Ok(bytes) => Ok(Some(bytes)),
+        Err(FromHexError::OutOfMemory) => Err(AllocError),
+        Err(_) => Ok(None),
+    }
+}
+
+/// A line without its blanks and tabs. 21 where memory is refused.
+fn digits_of(alloc: Global, line: &[u8]) -> Result<Vec<u8>, AllocError>
+    ensures { IfOk result (λ digits. digits.items ≡ line_digits line.now) }
+{
+    line.iter()
+        .copied()
+        .filter(|byte| !is_blank(*byte))
+        .collect(alloc)
+}

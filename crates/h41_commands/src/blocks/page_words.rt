@@ -1,0 +1,88 @@
+//! The words of a page, as the lines of a `words` block give them.
+
+ghost use Rattle.std.specs.Prelude.{◌≤◌, vec_len};
+ghost use Rattle.h41_pages.specs.Addresses.{page_size};
+
+use crate::commands::number::hexadecimal;
+use crate::lines::line::is_skipped;
+use crate::lines::words::LineWords;
+use crate::refusal::LineRefusal;
+use std::alloc::{AllocError, Global};
+
+/// How many words a page has.
+pub const PAGE_WORDS: usize = 4096;
+
+/// The greatest value of a word.
+const GREATEST: u16 = 0x3FF;
+
+/// The words of a page so far.
+#[derive(Debug, Drop)]
+pub struct PageWords {
+    words: Vec<u16>,
+    /// The gravest fault so far: a word that is no number, or else a page that takes no such words.
+    fault: Option<LineRefusal>,
+    ghost bounded: { vec_len words ≤ page_size },
+}
+
+impl PageWords {
+    ghost use Rattle.std.specs.Prelude.{◌≡◌, ◌≤◌, [], IfOk, None, Ok, vec_len};
+    ghost use Rattle.std.specs.Result.{result_err};
+    ghost use Rattle.h41_commands.specs.Blocks.{word_values};
+    ghost use Rattle.h41_commands.specs.Contents.{TakesLine, TakesWord, words_in};
+
+    /// A page of no words.
+    pub fn new(alloc: Global) -> Self
+        ensures { words_in result ≡ word_values [] }
+    {
+        PageWords {
+            words: Vec::new(alloc),
+            fault: None,
+        }
+    }
+
+    /// Takes the words of one more line of the block. 21 where memory is refused.
+    pub fn add_line(&mut self, line: &[u8]) -> Result<(), AllocError>
+        ensures { IfOk result (λ _. TakesLine self.old line.now self.new) }
+    {
+        if !is_skipped(line) {
+            for word in LineWords::new(line) {
+                self.add(word)?;
+            }
+        }
+        Ok(())
+    }
+
+    /// Takes one more word.
+    fn add(&mut self, word: &[u8]) -> Result<(), AllocError>
+        ensures { IfOk result (λ _. TakesWord self.old word.now self.new) }
+    {
+        match hexadecimal(1, 3, word) {
+            Err(fault) => self.fault = Some(fault),
+            Ok(value) if value > GREATEST || self.words.len() == PAGE_WORDS => {
+                self.fault = self.fault.or(Some(LineRefusal::BadImage));
+            }
+            Ok(value) => {
+                if self.fault.is_none() {
+                    self.words.push(value)?;
+                }
+            }
+        }
+        Ok(())
+    }
+
+    /// Why the words are refused, if they are: 51 before 4.
+    pub fn refusal(&self) -> Option<LineRefusal>
+        ensures { result ≡ result_err (words_in self.now) }
+    {
+        self.fault
+    }
+
+    /// The words, where they are not refused.
+    pub fn into_words(self) -> Vec<u16>
+        requires { result_err (words_in self) ≡ None }
+        ensures words { words_in self ≡ Ok result.items }
+        ensures bound { vec_len result ≤ page_size }
+    {
+        self.words
+    }
+}

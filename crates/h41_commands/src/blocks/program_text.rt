@@ -1,0 +1,144 @@
+//! The bytes of a program, by the text of its lines.
+
+ghost use Rattle.std.specs.Iterator.{YieldsFirstRef, item_count};
+ghost use Rattle.std.specs.Prelude.{◌≡◌, ◌++◌, [], IfOk, OnOk};
+ghost use Rattle.h41_codes.specs.ByteGrammar.{IsLine, spelling};
+ghost use Rattle.h41_commands.specs.Contents.{values_in};
+ghost use Rattle.h41_program.specs.Lines as lines;
+ghost use Rattle.h41_commands.specs.ProgramTexts.{IsPacked, PushesLine, parting, texts_left};
+ghost use Rattle.h41_commands.specs.ProgramBlocks.{TextSpells, texts_of};
+
+use crate::lines::line_end;
+use crate::refusal::LineRefusal;
+use h41_codes::laws::line_has_bytes;
+use h41_codes::{LINE_CAPACITY, Line, encode};
+use h41_text::{BadText, read_line};
+use std::alloc::{AllocError, Global};
+
+/// The texts that are left of a program's text, each without its line end (LF).
+#[derive(Debug, Drop)]
+struct Texts<'a> {
+    /// The bytes that are left.
+    rest: &'a [u8],
+    /// Whether the last of them was taken.
+    is_done: bool,
+}
+
+impl<'a> Texts<'a> {
+    /// All texts of a program's text.
+    fn new(text: &'a [u8]) -> Self
+        ensures { texts_left result ≡ texts_of text.now }
+    {
+        Texts {
+            rest: text,
+            is_done: false,
+        }
+    }
+}
+
+impl<'a> Iterator for Texts<'a> {
+    type Item = &'a [u8];
+
+    ghost next_gives = { YieldsFirstRef texts_left };
+
+    ghost remaining = { item_count texts_left };
+
+    fn next(&mut self) -> Option<&'a [u8]> {
+        if self.is_done {
+            return None;
+        }
+        let text = self.rest;
+        match line_end(text) {
+            Some(end) => {
+                self.rest = &text[end + 1..];
+                Some(&text[..end])
+            }
+            None => {
+                self.is_done = true;
+                Some(text)
+            }
+        }
+    }
+}
+
+/// Lines one behind the other, as they are loaded.
+#[derive(Debug, Drop)]
+struct Packed {
+    /// Their bytes, with a null between two numbers.
+    bytes: Vec<u8>,
+    /// Whether the last of them is a number.
+    ends_with_number: bool,
+}
+
+impl Packed {
+    /// No lines.
+    fn new(alloc: Global) -> Self
+        ensures { IsPacked [] result }
+    {
+        Packed {
+            bytes: Vec::new(alloc),
+            ends_with_number: false,
+        }
+    }
+
+    /// Puts a line behind the others. 21 where memory is refused.
+    fn push(&mut self, line: &Line) -> Result<(), AllocError>
+        requires { IsLine line.now }
+        ensures { OnOk result (PushesLine self.old line.now self.new) }
+    {
+        let is_number = is_number(line);
+        self.bytes
+            .extend_from_slice(gap(self.ends_with_number, is_number))?;
+        self.push_spelling(line)?;
+        self.ends_with_number = is_number;
+        Ok(())
+    }
+
+    /// Puts the bytes of a line behind the others. 21 where memory is refused.
+    fn push_spelling(&mut self, line: &Line) -> Result<(), AllocError>
+        requires { IsLine line.now }
+        ensures { OnOk result (self.new.bytes.items ≡ self.old.bytes.items ++ spelling line.now) }
+    {
+        line_has_bytes();
+        let mut out = [0; LINE_CAPACITY];
+        let count = encode(*line, &mut out).unwrap_or(0);
+        self.bytes.extend_from_slice(&out[..count])
+    }
+}
+
+/// Whether a line is a number.
+fn is_number(line: &Line) -> bool
+    ensures { result ≡ lines.is_number line.now }
+{
+    matches!(line, Line::Number(_))
+}
+
+/// What parts a line from those before it: a null between two numbers.
+fn gap(ends_with_number: bool, is_number: bool) -> &'static [u8]
+    ensures { result.now ≡ parting ends_with_number is_number }
+{
+    if ends_with_number && is_number {
+        &[0]
+    } else {
+        &[]
+    }
+}
+
+/// The bytes of a program: those of its lines, with a null between two numbers; or 41 with the number of the first line that
+/// is the text of none, counted from 1. One that is left empty says nothing. 21 where memory is refused.
+pub fn program_bytes(alloc: Global, text: &[u8]) -> Result<Result<Vec<u8>, LineRefusal>, AllocError>
+    ensures { IfOk result (λ made. TextSpells text.now (values_in made)) }
+{
+    let mut packed = Packed::new(alloc);
+    let mut number = 1;
+    for line in Texts::new(text) {
+        if !line.is_empty() {
+            match read_line(line) {
+                Ok(line) => packed.push(&line)?,
+                Err(BadText) => return Ok(Err(LineRefusal::BadText(number))),
+            }
+        }
+        number += 1;
+    }
+    Ok(Ok(packed.bytes))
+}

@@ -1,0 +1,125 @@
+//! The commands of a deck, as their first lines give them.
+
+ghost use Rattle.std.specs.Prelude.{◌≡◌};
+
+pub mod number;
+pub mod parse;
+
+/// What a command's block is for.
+#[derive(Clone, Copy, Debug, PartialEq, Eq)]
+pub enum BlockKind {
+    /// A page.
+    Page(PageKind),
+    /// A program.
+    Program(ProgramKind),
+}
+
+/// What the lines of a page's block are.
+#[derive(Clone, Copy, Debug, PartialEq, Eq)]
+pub enum PageKind {
+    /// Words of a page, of 1 to 3 hexadecimal digits each.
+    Words,
+    /// The bytes of a page's image, of 2 hexadecimal digits each.
+    Image,
+    /// The source of a page's words, for the assembler.
+    Asm,
+}
+
+/// What the lines of a program's block are.
+#[derive(Clone, Copy, Debug, PartialEq, Eq)]
+pub enum ProgramKind {
+    /// `load`: the bytes of a program, of 2 hexadecimal digits each.
+    Bytes,
+    /// `program`: the text of a program, a line of it on each.
+    Text,
+}
+
+impl BlockKind {
+    ghost use Rattle.h41_commands.specs.Commands.{kind_of_word};
+
+    /// The kind of the block that a line opens whose first word this is; nothing where it opens none.
+    #[tactic(auto, unfolding(crate::specs::Commands::kind_of_word))]
+    pub(crate) fn of_word(word: &[u8]) -> Option<Self>
+        ensures { result ≡ kind_of_word word.now }
+    {
+        match word {
+            b"words" => Some(BlockKind::Page(PageKind::Words)),
+            b"image" => Some(BlockKind::Page(PageKind::Image)),
+            b"asm" => Some(BlockKind::Page(PageKind::Asm)),
+            b"load" => Some(BlockKind::Program(ProgramKind::Bytes)),
+            b"program" => Some(BlockKind::Program(ProgramKind::Text)),
+            _ => None,
+        }
+    }
+}
+
+/// What `show` prints.
+#[derive(Clone, Copy, Debug, PartialEq, Eq)]
+pub enum View {
+    /// `cpu`: the processor.
+    Cpu,
+    /// `ram hhh`: the register at an address, 000 to FFF.
+    Register(u16),
+    /// `stack`: the stack and L.
+    Stack,
+    /// `flags`: the flags that are set.
+    Flags,
+    /// `alpha`: the text of ALPHA.
+    Alpha,
+    /// `display`: what the display shows.
+    Display,
+    /// `pos`: the mode, and the position in it.
+    Position,
+    /// `lines`: the lines of program memory.
+    Lines,
+    /// `image P`: the image at page P, 0 to 15. Pages 0 to 3 are refused when it is carried out.
+    Image(u8),
+    /// `functions`: the functions of the modules that are plugged.
+    Functions,
+}
+
+/// One command of a deck.
+#[derive(Clone, Copy, Debug, PartialEq, Eq)]
+pub enum Command {
+    /// `words P [rw]`, `image P [rw]` or `asm P [rw]`, with a block up to `end`: plugs what the block says at page P, 0 to 15,
+    /// writable with `rw`. Pages 0 to 3 are refused when it is carried out.
+    Plug {
+        kind: PageKind,
+        page: u8,
+        writable: bool,
+    },
+    /// `load` or `program`, with a block up to `end`: loads the program that the block says behind those in memory.
+    Load(ProgramKind),
+    /// `unplug P`: takes out all banks of page P, 0 to 15. Pages 0 to 3 are refused when it is carried out.
+    Unplug(u8),
+    /// `size n`: gives memory n data registers, 0 to 9,999. 320 and above are refused when it is carried out.
+    Size(u16),
+    /// `reset`: all as at the start, but for the pages, which stay plugged.
+    Reset,
+    /// `call hhhh`: begins the function at an address.
+    Call(u16),
+    /// `step [n]`: n single steps, 0 to 9,999,999, one where no number is given.
+    Step(u32),
+    /// `list hhhh n`: prints the listing of n words, 1 to 4,096, of one page from an address on.
+    List {
+        address: u16,
+        count: u16,
+    },
+    /// `show WHAT`: prints a view.
+    Show(View),
+}
+
+impl Command {
+    ghost use Rattle.h41_commands.specs.Commands.{kind_of};
+
+    /// The kind of its block, where it has one.
+    pub fn block_kind(self) -> Option<BlockKind>
+        ensures { result ≡ kind_of self }
+    {
+        match self {
+            Command::Plug { kind, .. } => Some(BlockKind::Page(kind)),
+            Command::Load(kind) => Some(BlockKind::Program(kind)),
+            _ => None,
+        }
+    }
+}

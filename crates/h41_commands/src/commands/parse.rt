@@ -1,0 +1,217 @@
+//! The command that a line's words spell.
+
+ghost use Rattle.std.specs.Prelude.{◌≡◌};
+ghost use Rattle.h41_commands.specs.Commands.{call_command, load_command, reset_command, size_command, unplug_command, is_opening, opening_command, parsed, plain_command, plug_at, plug_command, show_command, step_command, view_named, view_of, list_command};
+ghost use Rattle.h41_commands.specs.Lines.{words_of};
+ghost use Rattle.h41_commands.specs.Numbers as spec;
+
+use crate::commands::number::{count_up_to, hexadecimal, number_up_to};
+use crate::commands::{BlockKind, Command, PageKind, ProgramKind, View};
+use crate::lines::words::LineWords;
+use crate::refusal::LineRefusal;
+
+/// The most single steps of one command.
+const MOST_STEPS: u32 = 9_999_999;
+
+/// The greatest number that `size` takes.
+const MOST_REGISTERS: u32 = 9_999;
+
+/// The most words of one listing.
+const MOST_WORDS: u32 = 4_096;
+
+/// The command of a line: 50 BadCommand where its words are no command's, and else 51 BadNumber where a number is
+/// wrong.
+pub fn parse(line: &[u8]) -> Result<Command, LineRefusal>
+    ensures { result ≡ parsed (words_of line.now) }
+{
+    let mut words = LineWords::new(line);
+    let Some(name) = words.next() else {
+        return Err(LineRefusal::BadCommand);
+    };
+    match BlockKind::of_word(name) {
+        Some(kind) => with_block(kind, words),
+        None => without_block(name, words),
+    }
+}
+
+/// Whether a line opens a block: its first word is the name of one.
+pub fn is_opening(line: &[u8]) -> bool
+    ensures { result ≡ is_opening (words_of line.now) }
+{
+    match LineWords::new(line).next() {
+        Some(name) => BlockKind::of_word(name).is_some(),
+        None => false,
+    }
+}
+
+/// The command of a line that opens a block of this kind, by the words behind its name.
+fn with_block(kind: BlockKind, operands: LineWords<'_>) -> Result<Command, LineRefusal>
+    ensures { result ≡ opening_command kind (words_of operands.entry.rest.now) }
+{
+    match kind {
+        BlockKind::Page(kind) => plug(kind, operands),
+        BlockKind::Program(kind) => load(kind, operands),
+    }
+}
+
+/// The command of a line that opens none, by its first word and those behind it.
+#[tactic(auto, unfolding(crate::specs::Commands::plain_command))]
+fn without_block(name: &[u8], operands: LineWords<'_>) -> Result<Command, LineRefusal>
+    ensures { result ≡ plain_command name.now (words_of operands.entry.rest.now) }
+{
+    match name {
+        b"unplug" => unplug(operands),
+        b"size" => size(operands),
+        b"reset" => reset(operands),
+        b"call" => call(operands),
+        b"step" => step(operands),
+        b"list" => list(operands),
+        b"show" => show(operands),
+        _ => Err(LineRefusal::BadCommand),
+    }
+}
+
+/// `words P [rw]`, `image P [rw]` and `asm P [rw]`: a block that fills a page.
+fn plug(kind: PageKind, mut operands: LineWords<'_>) -> Result<Command, LineRefusal>
+    ensures { result ≡ plug_command kind (words_of operands.entry.rest.now) }
+{
+    match (operands.next(), operands.next(), operands.next()) {
+        (Some(page), None, _) => plug_at(kind, page, false),
+        (Some(page), Some(b"rw"), None) => plug_at(kind, page, true),
+        _ => Err(LineRefusal::BadCommand),
+    }
+}
+
+/// The same, by the word that names the page.
+fn plug_at(kind: PageKind, page: &[u8], writable: bool) -> Result<Command, LineRefusal>
+    ensures { result ≡ plug_at kind page.now writable }
+{
+    let page = page_number(page)?;
+    Ok(Command::Plug {
+        kind,
+        page,
+        writable,
+    })
+}
+
+/// `load` and `program`: a block that is a program.
+fn load(kind: ProgramKind, mut operands: LineWords<'_>) -> Result<Command, LineRefusal>
+    ensures { result ≡ load_command kind (words_of operands.entry.rest.now) }
+{
+    match operands.next() {
+        None => Ok(Command::Load(kind)),
+        Some(_) => Err(LineRefusal::BadCommand),
+    }
+}
+
+/// `unplug P`.
+fn unplug(mut operands: LineWords<'_>) -> Result<Command, LineRefusal>
+    ensures { result ≡ unplug_command (words_of operands.entry.rest.now) }
+{
+    match (operands.next(), operands.next()) {
+        (Some(page), None) => Ok(Command::Unplug(page_number(page)?)),
+        _ => Err(LineRefusal::BadCommand),
+    }
+}
+
+/// The page that one hexadecimal digit names.
+fn page_number(page: &[u8]) -> Result<u8, LineRefusal>
+    ensures { result ≡ spec.hexadecimal 1 page.now }
+{
+    Ok(hexadecimal(1, 1, page)? as u8)
+}
+
+/// `size n`.
+fn size(mut operands: LineWords<'_>) -> Result<Command, LineRefusal>
+    ensures { result ≡ size_command (words_of operands.entry.rest.now) }
+{
+    match (operands.next(), operands.next()) {
+        (Some(count), None) => {
+            let count = number_up_to(MOST_REGISTERS, 10, count)? as u16;
+            Ok(Command::Size(count))
+        }
+        _ => Err(LineRefusal::BadCommand),
+    }
+}
+
+/// `reset`.
+fn reset(mut operands: LineWords<'_>) -> Result<Command, LineRefusal>
+    ensures { result ≡ reset_command (words_of operands.entry.rest.now) }
+{
+    match operands.next() {
+        None => Ok(Command::Reset),
+        Some(_) => Err(LineRefusal::BadCommand),
+    }
+}
+
+/// `call hhhh`.
+fn call(mut operands: LineWords<'_>) -> Result<Command, LineRefusal>
+    ensures { result ≡ call_command (words_of operands.entry.rest.now) }
+{
+    match (operands.next(), operands.next()) {
+        (Some(address), None) => Ok(Command::Call(hexadecimal(4, 4, address)?)),
+        _ => Err(LineRefusal::BadCommand),
+    }
+}
+
+/// `step [n]`.
+fn step(mut operands: LineWords<'_>) -> Result<Command, LineRefusal>
+    ensures { result ≡ step_command (words_of operands.entry.rest.now) }
+{
+    match (operands.next(), operands.next()) {
+        (None, _) => Ok(Command::Step(1)),
+        (Some(count), None) => Ok(Command::Step(number_up_to(MOST_STEPS, 10, count)?)),
+        _ => Err(LineRefusal::BadCommand),
+    }
+}
+
+/// `list hhhh n`.
+fn list(mut operands: LineWords<'_>) -> Result<Command, LineRefusal>
+    ensures { result ≡ list_command (words_of operands.entry.rest.now) }
+{
+    match (operands.next(), operands.next(), operands.next()) {
+        (Some(address), Some(count), None) => {
+            let address = hexadecimal(4, 4, address)?;
+            let count = count_up_to(MOST_WORDS, count)? as u16;
+            Ok(Command::List { address, count })
+        }
+        _ => Err(LineRefusal::BadCommand),
+    }
+}
+
+/// `show WHAT`.
+fn show(operands: LineWords<'_>) -> Result<Command, LineRefusal>
+    ensures { result ≡ show_command (words_of operands.entry.rest.now) }
+{
+    Ok(Command::Show(view(operands)?))
+}
+
+/// The view that the words behind `show` name.
+fn view(mut operands: LineWords<'_>) -> Result<View, LineRefusal>
+    ensures { result ≡ view_of (words_of operands.entry.rest.now) }
+{
+    match (operands.next(), operands.next(), operands.next()) {
+        (Some(what), None, _) => view_named(what),
+        (Some(b"ram"), Some(address), None) => Ok(View::Register(hexadecimal(3, 3, address)?)),
+        (Some(b"image"), Some(page), None) => Ok(View::Image(page_number(page)?)),
+        _ => Err(LineRefusal::BadCommand),
+    }
+}
+
+/// The view that one word names.
+#[tactic(auto, unfolding(crate::specs::Commands::view_named))]
+fn view_named(what: &[u8]) -> Result<View, LineRefusal>
+    ensures { result ≡ view_named what.now }
+{
+    match what {
+        b"cpu" => Ok(View::Cpu),
+        b"stack" => Ok(View::Stack),
+        b"flags" => Ok(View::Flags),
+        b"alpha" => Ok(View::Alpha),
+        b"display" => Ok(View::Display),
+        b"pos" => Ok(View::Position),
+        b"lines" => Ok(View::Lines),
+        b"functions" => Ok(View::Functions),
+        _ => Err(LineRefusal::BadCommand),
+    }
+}

@@ -1,0 +1,19 @@
+//! The commands of a deck: what its lines spell, and what the lines of blocks say. No state comes in.
+#![tactic(auto)]
+
+mod blocks;
+mod commands;
+mod item;
+mod items;
+pub mod laws;
+mod lines;
+mod refusal;
+
+pub use blocks::Block;
+pub use blocks::page_words::PAGE_WORDS;
+pub use commands::parse::parse;
+pub use commands::{BlockKind, Command, PageKind, ProgramKind, View};
+pub use item::{Entry, Item};
+pub use items::next_item;
+pub use lines::{Lines, ended_lines};
+pub use refusal::LineRefusal;

@@ -1,0 +1,34 @@
+//! What a line is before its words are read: too long, one that says nothing, or the end of a block.
+
+ghost use Rattle.std.specs.Prelude.{◌≡◌};
+ghost use Rattle.h41_commands.specs.Lines.{is_end, is_long, is_skipped};
+
+use crate::lines::words::LineWords;
+
+/// The most bytes that a line may have.
+const MOST_BYTES: usize = 200;
+
+/// A line that has too many bytes.
+pub fn is_long(line: &[u8]) -> bool
+    ensures { result ≡ is_long line.now }
+{
+    line.len() > MOST_BYTES
+}
+
+/// A line that says nothing: a blank one, or a comment.
+pub fn is_skipped(line: &[u8]) -> bool
+    ensures { result ≡ is_skipped line.now }
+{
+    match line {
+        [b'#', ..] => true,
+        _ => LineWords::new(line).next().is_none(),
+    }
+}
+
+/// A line that ends a block.
+pub fn is_end(line: &[u8]) -> bool
+    ensures { result ≡ is_end line.now }
+{
+    let mut words = LineWords::new(line);
+    !is_long(line) && matches!((words.next(), words.next()), (Some(b"end"), None))
+}

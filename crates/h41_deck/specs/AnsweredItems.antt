@@ -1,0 +1,43 @@
+-- What the code that goes through a deck has answered. It only connects the code with the other definitions.
+use Rattle.std.specs.Prelude.{◌≡◌, Bool, true, false, ℕ, List, Option, flat_map, Result, IfOk}
+use Rattle.std.specs.Io.KnownBytes.{Appends}
+use Rattle.h41_commands.specs.declared.item.Item.{Item}
+use Rattle.h41_commands.specs.Entries.{given}
+use Rattle.h41_commands.specs.Items.{Spelled, closed, commands}
+use Rattle.h41_commands.specs.Lines.{lines}
+use Rattle.h41_debug.specs.Bench.{BenchState, start}
+use Rattle.h41_deck.specs.declared.replies.Outcome.{Outcome}
+use Rattle.h41_deck.specs.declared.replies.Outcome.TheVariants.{Accepted, Refused}
+use Rattle.h41_deck.specs.Answers.{Answer, printed}
+use Rattle.h41_deck.specs.Deck.{Answers, outcome_of}
+use Rattle.h41_deck.specs.Writing.{Replies}
+
+-- what these commands print, and how they end
+pub record Answered (items : List Spelled) (text : List ℕ) (outcome : Outcome) : Type 0 where
+  pub answers : List Answer
+  pub answered : Answers items start answers
+  pub text_is : text ≡ flat_map printed answers
+  pub outcome_is : outcome ≡ outcome_of answers
+
+-- the commands of a deck that are answered: of one that is cut, all but a block that is open
+abbrev pub answered_items : Bool → List Spelled → List Spelled
+answered_items true items = items
+answered_items false items = closed items
+
+-- their text is written
+abbrev pub AnswersItems : List Spelled → Option (List ℕ) → Option (List ℕ) → Outcome → Type 0
+AnswersItems items old new outcome = (text : List ℕ) × Answered items text outcome × Appends old new text
+
+-- where there is an outcome, the commands of these bytes are answered so
+abbrev pub AnswersBytes : {E W : Type 0} → Result Outcome E → Bool → List ℕ → (W → Option (List ℕ)) → W → W → Type 0
+AnswersBytes result is_whole bytes contents old new =
+    IfOk result (AnswersItems (answered_items is_whole (commands (lines bytes))) (contents old) (contents new))
+
+-- how a deck ends that goes on with one more command
+abbrev pub outcome_and : Outcome → Outcome → Outcome
+outcome_and Refused next = Refused
+outcome_and Accepted next = next
+
+-- where an item was answered, its reply is written
+abbrev pub AnswersItem : {E W : Type 0} → Result Outcome E → Item → BenchState → BenchState → (W → Option (List ℕ)) → W → W → Type 0
+AnswersItem result item s t contents old new = IfOk result (Replies (given item) s t (contents old) (contents new))

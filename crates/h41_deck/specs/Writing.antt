@@ -1,0 +1,100 @@
+-- What is written of an answer, and what the code's results say of it. It connects the code with the other definitions; of it the
+-- contract of `apply` cites `Does`, by what it writes: `Replies`, or a front of it, `RepliesInPart`.
+use Rattle.std.specs.Global.{Global}
+use Rattle.std.specs.Prelude.{◌≡◌, ℕ, Vec, List, [], Option, Some, None, Result, Ok, Err}
+use Rattle.std.specs.Io.KnownBytes.{Appends, Keeps}
+use Rattle.std.specs.Result.{result_err}
+use Rattle.h41_commands.specs.declared.commands.Command.{Command}
+use Rattle.h41_commands.specs.Blocks.{TakenBlock, judgement}
+use Rattle.h41_commands.specs.Items.{Spelled, with_values}
+use Rattle.h41_debug.specs.Bench.{BenchState}
+use Rattle.h41_ends.specs.Ends.{AppendsPart}
+use Rattle.h41_pages.specs.PageMap.{PageMap}
+use Rattle.h41_commands.specs.declared.commands.View.{View}
+use Rattle.h41_deck.specs.declared.fault.CommandFault.{CommandFault}
+use Rattle.h41_deck.specs.declared.fault.CommandFault.TheVariants.{OutOfMemory, WriteFault}
+use Rattle.h41_deck.specs.declared.replies.Outcome.{Outcome}
+use Rattle.h41_deck.specs.declared.replies.Outcome.TheVariants.{Accepted, Refused}
+use Rattle.h41_deck.specs.declared.refusal.Refusal.{Refusal}
+use Rattle.h41_deck.specs.Answers.{Answer, ending_line, printed}
+use Rattle.h41_deck.specs.Listings.{listed}
+use Rattle.h41_deck.specs.Replies.{ItemReply}
+use Rattle.h41_deck.specs.Views.{Shows, image_view}
+
+-- whether an answer is a refusal
+abbrev pub outcome_in : Option Refusal → Outcome
+outcome_in None = Accepted
+outcome_in (Some refusal) = Refused
+
+abbrev pub EndsAs : Option Refusal → Outcome → Type 0
+EndsAs refusal outcome = outcome ≡ outcome_in refusal
+
+-- the lines of a command are answered: their reply is written, and the outcome tells whether it is a refusal
+pub record Replies (item : Spelled) (s t : BenchState) (old new : Option (List ℕ)) (outcome : Outcome) : Type 0 where
+  pub answer : Answer
+  pub reply : ItemReply item s t answer
+  pub written : Appends old new (printed answer)
+  pub outcome_is : outcome ≡ outcome_in answer.refusal
+
+-- what is printed until the bench is in this state: every command does all it does before it prints
+abbrev pub PrintsUntil : Spelled → BenchState → BenchState → List ℕ → Type 0
+PrintsUntil item s t text = (answer : Answer) × ItemReply item s t answer × (text ≡ printed answer)
+
+-- a front of that is written, and not all of it
+pub record RepliesInPart (item : Spelled) (s t : BenchState) (old new : Option (List ℕ)) : Type 0 where
+  pub text : List ℕ
+  pub printed_until : PrintsUntil item s t text
+  pub written : AppendsPart old new text
+
+-- what a command and its block leave, by its answer: their reply, a front of it, or where memory was refused nothing
+abbrev pub Leaves : {W : Type 0} → Result Outcome CommandFault → Spelled → BenchState → BenchState → (W → Option (List ℕ)) → W → W → Type 0
+Leaves (Ok outcome) item s t contents old new = Replies item s t (contents old) (contents new) outcome
+Leaves (Err WriteFault) item s t contents old new = RepliesInPart item s t (contents old) (contents new)
+Leaves (Err OutOfMemory) item s t contents old new = Keeps (contents old) (contents new)
+
+-- the command that a block makes whole
+abbrev pub item_of : Command → TakenBlock → Spelled
+item_of command block = with_values (judgement block) command
+
+abbrev pub Does : {W : Type 0} → Result Outcome CommandFault → Command → TakenBlock → BenchState → BenchState → (W → Option (List ℕ)) → W → W → Type 0
+Does result command block s t contents old new = Leaves result (item_of command block) s t contents old new
+
+-- the text of an answer is written, and its refusal is still to be told
+pub record SaysText (item : Spelled) (s t : BenchState) (old new : Option (List ℕ)) (refusal : Option Refusal) : Type 0 where
+  pub text : List ℕ
+  pub reply : ItemReply item s t (record { text = text; refusal = refusal })
+  pub written : Appends old new text
+
+abbrev pub LeavesText : {W : Type 0} → Result (Option Refusal) CommandFault → Spelled → BenchState → BenchState → (W → Option (List ℕ)) → W → W → Type 0
+LeavesText (Ok refusal) item s t contents old new = SaysText item s t (contents old) (contents new) refusal
+LeavesText (Err WriteFault) item s t contents old new = RepliesInPart item s t (contents old) (contents new)
+LeavesText (Err OutOfMemory) item s t contents old new = Keeps (contents old) (contents new)
+
+abbrev pub DoesSaying : {W : Type 0} → Result (Option Refusal) CommandFault → Command → TakenBlock → BenchState → BenchState → (W → Option (List ℕ)) → W → W → Type 0
+DoesSaying result command block s t contents old new = LeavesText result (item_of command block) s t contents old new
+
+-- a command without a block does so whatever values a block would have
+abbrev pub DoesAlone : {W : Type 0} → Result (Option Refusal) CommandFault → Command → BenchState → BenchState → (W → Option (List ℕ)) → W → W → Type 0
+DoesAlone result command s t contents old new = (values : List ℕ) → LeavesText result (Ok (command, values)) s t contents old new
+
+-- what was made: a text or its refusal, and the text alone
+abbrev pub text_in : Result (Vec ℕ Global) Refusal → Result (List ℕ) Refusal
+text_in (Ok text) = Ok text.items
+text_in (Err refusal) = Err refusal
+
+abbrev pub made_text : Result (Vec ℕ Global) Refusal → List ℕ
+made_text (Ok text) = text.items
+made_text (Err refusal) = []
+
+abbrev pub IsRefusalOf : {A : Type 0} → Result A Refusal → Option Refusal → Type 0
+IsRefusalOf made refusal = refusal ≡ result_err made
+
+-- it is a view's, an image's, or a listing's
+abbrev pub IsShown : View → BenchState → Result (Vec ℕ Global) Refusal → Type 0
+IsShown view s made = Shows view s (text_in made)
+
+abbrev pub IsImageShown : PageMap → ℕ → Result (Vec ℕ Global) Refusal → Type 0
+IsImageShown pages page made = text_in made ≡ image_view pages page
+
+abbrev pub IsListed : PageMap → ℕ → ℕ → Result (Vec ℕ Global) Refusal → Type 0
+IsListed pages address count made = text_in made ≡ listed pages address count

@@ -1,0 +1,106 @@
+//! The number and the name of each refusal.
+
+ghost use Rattle.std.specs.Prelude.{◌≡◌, ◌≤◌, length};
+ghost use Rattle.h41_deck.specs.Refusals as spec;
+
+use crate::refusal::Refusal;
+use h41_asm::Fault as SourceFault;
+use h41_commands::LineRefusal;
+use h41_nut::Refusal as WordRefusal;
+use h41_program::Refusal as ProgramRefusal;
+use h41_xrom::CalculatorRefusal;
+
+impl Refusal {
+    ghost use Rattle.std.specs.Prelude.{◌≡◌, ◌≤◌, length};
+    ghost use Rattle.h41_deck.specs.Refusals.{heading};
+
+    /// `! NN Name`.
+    pub fn heading(self) -> &'static str
+        ensures text { result.now ≡ heading self }
+        ensures short { length result.now ≤ 22 }
+    {
+        match self {
+            Refusal::NoSuchPage => "! 01 NoSuchPage",
+            Refusal::Occupied => "! 02 Occupied",
+            Refusal::NotPlugged => "! 03 NotPlugged",
+            Refusal::Calculator(refusal) => calculator_heading(refusal),
+            Refusal::Line(refusal) => line_heading(refusal),
+            Refusal::OutOfMemory => "! 21 OutOfMemory",
+            Refusal::ReadFault => "! 22 ReadFault",
+            Refusal::WriteFault => "! 23 WriteFault",
+        }
+    }
+}
+
+/// Of a refusal of the calculator.
+fn calculator_heading(refusal: CalculatorRefusal) -> &'static str
+    ensures text { result.now ≡ spec.headed (spec.calculator_name refusal) }
+    ensures short { length result.now ≤ 22 }
+{
+    match refusal {
+        CalculatorRefusal::Word(refusal) => word_heading(refusal),
+        CalculatorRefusal::NotInProfile => "! 13 NotInProfile",
+        CalculatorRefusal::Program(refusal) => program_heading(refusal),
+        CalculatorRefusal::MemoryLost => "! 15 MemoryLost",
+        CalculatorRefusal::Busy => "! 24 Busy",
+    }
+}
+
+/// Of a refusal of a word.
+fn word_heading(refusal: WordRefusal) -> &'static str
+    ensures text { result.now ≡ spec.headed (spec.word_name refusal) }
+    ensures short { length result.now ≤ 22 }
+{
+    match refusal {
+        WordRefusal::UndefinedWord(_) => "! 06 UndefinedWord",
+        WordRefusal::WordNotInProfile(_) => "! 07 WordNotInProfile",
+        WordRefusal::SystemRom(_) => "! 08 SystemRom",
+        WordRefusal::EmptyPage(_) => "! 09 EmptyPage",
+        WordRefusal::PeripheralNotHeld(_) => "! 10 PeripheralNotHeld",
+        WordRefusal::Asleep(_) => "! 11 Asleep",
+        WordRefusal::ReadOnly(_) => "! 12 ReadOnly",
+    }
+}
+
+/// Of a refusal of program memory.
+fn program_heading(refusal: ProgramRefusal) -> &'static str
+    ensures text { result.now ≡ spec.headed (spec.program_name refusal) }
+    ensures short { length result.now ≤ 22 }
+{
+    match refusal {
+        ProgramRefusal::BrokenProgram => "! 14 BrokenProgram",
+        ProgramRefusal::NoRoom => "! 16 NoRoom",
+        ProgramRefusal::SizeTooLarge => "! 17 SizeTooLarge",
+    }
+}
+
+/// Of a refusal of lines.
+fn line_heading(refusal: LineRefusal) -> &'static str
+    ensures text { result.now ≡ spec.headed (spec.line_name refusal) }
+    ensures short { length result.now ≤ 22 }
+{
+    match refusal {
+        LineRefusal::BadImage => "! 04 BadImage",
+        LineRefusal::Source(fault, _) => source_heading(fault),
+        LineRefusal::BadText(_) => "! 41 BadText",
+        LineRefusal::BadCommand => "! 50 BadCommand",
+        LineRefusal::BadNumber => "! 51 BadNumber",
+        LineRefusal::NoEnd => "! 52 NoEnd",
+        LineRefusal::LineTooLong => "! 53 LineTooLong",
+    }
+}
+
+/// Of a fault of a source.
+fn source_heading(fault: SourceFault) -> &'static str
+    ensures text { result.now ≡ spec.headed (spec.source_name fault) }
+    ensures short { length result.now ≤ 22 }
+{
+    match fault {
+        SourceFault::BadLine => "! 30 BadLine",
+        SourceFault::BadOperand => "! 31 BadOperand",
+        SourceFault::LabelTwice => "! 32 LabelTwice",
+        SourceFault::NoLabel => "! 33 NoLabel",
+        SourceFault::TooFar => "! 34 TooFar",
+        SourceFault::TooLong => "! 35 TooLong",
+    }
+}

@@ -1,0 +1,132 @@
+//! The line that prints a refusal, and what it tells beside the name.
+
+ghost use Rattle.std.specs.Prelude.{◌≡◌, ◌+◌, ◌≤◌, ◌<◌, ◌++◌, true};
+ghost use Rattle.std.specs.Fmt.{digit_glyph};
+ghost use Rattle.arrayvec.specs.ArrayString.{array_string_len};
+ghost use Rattle.h41_digits.specs.Register.{hexadecimal_text};
+ghost use Rattle.h41_deck.specs.Refusals.{calculator_detail, detail_text, line_detail, word_detail};
+
+use crate::refusal::Refusal;
+use arrayvec::ArrayString;
+use h41_commands::LineRefusal;
+use h41_nut::Refusal as WordRefusal;
+use h41_xrom::CalculatorRefusal;
+use itoa::Buffer;
+
+/// The most bytes of a refusal's line: 22 without its detail, a blank, the 20 digits of a line's number, and LF.
+const LINE: usize = 44;
+
+/// What a refusal tells beside its name.
+#[derive(Clone, Copy, Debug, PartialEq, Eq)]
+pub enum Detail {
+    /// An address.
+    Address(u16),
+    /// The number of a line, counted from 1.
+    Line(usize),
+}
+
+impl Refusal {
+    ghost use Rattle.std.specs.Prelude.{◌≡◌};
+    ghost use Rattle.h41_deck.specs.Refusals.{detail, refusal_line};
+
+    /// The line that prints it, with its end: `! NN Name`, and a blank and the address in four hexadecimal digits or the line's
+    /// number, where it tells one. It takes no memory, so that a refusal can be told whatever else fails.
+    pub fn line(self) -> ArrayString<LINE>
+        ensures { result.bytes ≡ refusal_line self }
+    {
+        let mut line = ArrayString::new();
+        line.push_str(self.heading());
+        push_detail(&mut line, self.detail());
+        line.push('\n');
+        line
+    }
+
+    /// The address or the line that it tells, where it tells one.
+    pub fn detail(self) -> Option<Detail>
+        ensures { result ≡ detail self }
+    {
+        match self {
+            Refusal::Calculator(refusal) => calculator_told(refusal),
+            Refusal::Line(refusal) => line_told(refusal),
+            _ => None,
+        }
+    }
+}
+
+/// Of a refusal of the calculator.
+fn calculator_told(refusal: CalculatorRefusal) -> Option<Detail>
+    ensures { result ≡ calculator_detail refusal }
+{
+    match refusal {
+        CalculatorRefusal::Word(refusal) => Some(Detail::Address(word_address(refusal))),
+        _ => None,
+    }
+}
+
+/// The address that a refusal of a word tells.
+fn word_address(refusal: WordRefusal) -> u16
+    ensures { result ≡ word_detail refusal }
+{
+    match refusal {
+        WordRefusal::UndefinedWord(address)
+        | WordRefusal::WordNotInProfile(address)
+        | WordRefusal::SystemRom(address)
+        | WordRefusal::EmptyPage(address)
+        | WordRefusal::PeripheralNotHeld(address)
+        | WordRefusal::Asleep(address)
+        | WordRefusal::ReadOnly(address) => address,
+    }
+}
+
+/// Of a refusal of lines.
+fn line_told(refusal: LineRefusal) -> Option<Detail>
+    ensures { result ≡ line_detail refusal }
+{
+    match refusal {
+        LineRefusal::Source(_, line) | LineRefusal::BadText(line) => Some(Detail::Line(line)),
+        _ => None,
+    }
+}
+
+/// Appends what a refusal tells.
+fn push_detail(line: &mut ArrayString<LINE>, detail: Option<Detail>)
+    requires { array_string_len line.old ≤ 22 }
+    ensures written { line.new.bytes ≡ line.old.bytes ++ detail_text detail }
+    ensures room { array_string_len line.new < LINE }
+{
+    match detail {
+        None => {}
+        Some(Detail::Address(address)) => {
+            line.push(' ');
+            push_address(line, address);
+        }
+        Some(Detail::Line(number)) => {
+            line.push(' ');
+            line.push_str(Buffer::new().format(number));
+        }
+    }
+}
+
+/// Appends the four digits of an address.
+fn push_address(line: &mut ArrayString<LINE>, address: u16)
+    requires { array_string_len line.old + 4 ≤ LINE }
+    ensures { line.new.bytes ≡ line.old.bytes ++ hexadecimal_text 4 address }
+{
+    let third = address / 16;
+    let second = third / 16;
+    let first = second / 16;
+    line.push(glyph(first % 16));
+    line.push(glyph(second % 16));
+    line.push(glyph(third % 16));
+    line.push(glyph(address % 16));
+}
+
+/// A hexadecimal digit, in upper case.
+pub(crate) fn glyph(digit: u16) -> char
+    requires { digit < 16 }
+    ensures { result ≡ digit_glyph true digit }
+{
+    char::from_digit(u32::from(digit), 16)
+        .unwrap()
+        .to_ascii_uppercase()
+}

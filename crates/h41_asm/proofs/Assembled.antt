@@ -16,7 +16,7 @@ use Rattle.h41_asm.specs.declared.fault.Fault.TheVariants.{NoLabel, TooFar}
 use Rattle.h41_asm.specs.Assembly.{Assembles, address_count}
 use Rattle.h41_asm.specs.AssemblyLaws.{HasWordsOrFault, NeverBoth}
 use Rattle.h41_asm.specs.Faults.{assembly_fault, at_line, label_address, line_length, missing_fault, own_faults, reach_fault, read_fault, reference_fault, reference_faults}
-use Rattle.h41_asm.specs.Placing.{IsDisplacement, Labels, LinesSpell, Spells, SpellsRead, entry_words}
+use Rattle.h41_asm.specs.Placing.{IsDisplacement, Labels, LinesSpell, StatementSpells, SpellsRead, entry_words}
 use Rattle.h41_asm.specs.LabelTable.{IsReady}
 use Rattle.h41_asm.specs.SourceLines.{SourceLine, labels_of, source_lines}
 use Rattle.h41_asm.specs.Statements.{Statement, Words, OutOfReach, LongJumpTo, ShortJumpTo, EntryAt, is_in_reach, long_jump_words, reading}
@@ -71,7 +71,7 @@ no_reach_fault : (address target : ℕ) (displacement : ℤ) → IsDisplacement 
 no_reach_fault address target displacement by =
     let same : displacement ≡ pos target -ℤ pos address = let difference = by.difference in omega (arith, ints) in subst (λ d. is_in_reach d ≡ true) same by.in_reach
 
-no_reference_fault : (labels : Labels) (address : ℕ) (said : Statement) (own : List ℕ) → Spells labels address said own → reference_fault labels address said ≡ None
+no_reference_fault : (labels : Labels) (address : ℕ) (said : Statement) (own : List ℕ) → StatementSpells labels address said own → reference_fault labels address said ≡ None
 no_reference_fault labels address (Words words) own spelled = refl
 no_reference_fault labels address OutOfReach own spelled = absurd spelled
 no_reference_fault labels address (LongJumpTo condition kind name) own spelled = rw spelled.1 refl
@@ -146,7 +146,7 @@ spelled_short address (Some target) none = (target, refl, not_false _ (not_then_
 difference : (from to : ℕ) → pos to ≡ pos from +ℤ (pos to -ℤ pos from)
 difference from to = omega (arith, ints)
 
-spelled_statement : (labels : Labels) (address : ℕ) (said : Statement) → reference_fault labels address said ≡ None → (own : List ℕ) × Spells labels address said own
+spelled_statement : (labels : Labels) (address : ℕ) (said : Statement) → reference_fault labels address said ≡ None → (own : List ℕ) × StatementSpells labels address said own
 spelled_statement labels address (Words words) none = (words, refl)
 spelled_statement labels address OutOfReach none = absurd (none-some TooFar (sym none))
 spelled_statement labels address (LongJumpTo condition kind name) none =

@@ -12,7 +12,7 @@ use Rattle.h41_words.specs.WordTable.{number_of}
 use Rattle.h41_asm.specs.declared.fault.Fault.{Fault}
 use Rattle.h41_asm.specs.Assembly.{AssemblesBy}
 use Rattle.h41_asm.specs.Faults.{has_label, label_address, line_length, read_length}
-use Rattle.h41_asm.specs.Placing.{Labels, LinesSpell, Spells, SpellsRead, entry_words}
+use Rattle.h41_asm.specs.Placing.{Labels, LinesSpell, StatementSpells, SpellsRead, entry_words}
 use Rattle.h41_asm.specs.SourceLines.{SourceLine, labels_of, source_lines}
 use Rattle.h41_asm.specs.Statements.{Statement, Words, OutOfReach, LongJumpTo, ShortJumpTo, EntryAt, long_jump_words, reading}
 use Rattle.h41_asm.proofs.Addresses.{named}
@@ -29,7 +29,7 @@ one_displacement : (from to : ℕ) (one other : ℤ) → pos to ≡ pos from +�
 one_displacement from to one other first second = omega (arith, ints)
 
 -- a statement spells one list of words
-spells_once : (labels : Labels) (address : ℕ) (said : Statement) (one other : List ℕ) → Spells labels address said one → Spells labels address said other → one ≡ other
+spells_once : (labels : Labels) (address : ℕ) (said : Statement) (one other : List ℕ) → StatementSpells labels address said one → StatementSpells labels address said other → one ≡ other
 spells_once labels address (Words words) one other first second = first ∙ sym second
 spells_once labels address OutOfReach one other first second = absurd first
 spells_once labels address (LongJumpTo condition kind name) one other first second =

@@ -1,10 +1,11 @@
 -- The first word of a line, and the words after it.
-use Rattle.std.proofs.Common.{inl, inr, not, suc, length-take, ◌≡◌, ℕ, ◌+◌, ◌<◌, ◌≤◌, ◌||◌, ◌&&◌, Bool, true, false, nat_lt, List, [], ◌∷◌, length, take, drop, get_or, Some, None, refl, sym, ◌∙◌, ap, arith, filter, if◌then◌else◌, ◌==◌}
+use Rattle.std.proofs.Common.{inl, inr, not, suc, length-take, ◌≡◌, ℕ, ◌<◌, ◌≤◌, ◌||◌, ◌&&◌, Bool, true, false, nat_lt, List, [], ◌∷◌, length, take, drop, get_or, Some, None, refl, sym, ◌∙◌, ap, arith, filter, if◌then◌else◌, ◌==◌}
 use Rattle.std.specs.List.{position, position_or_len, onto_first}
 use Rattle.std.proofs.lemmas.Bool.{cases_Bool, lt-ltb, cond-true, or_cases, eqb-true}
 use Rattle.std.proofs.lemmas.List.{drop_more, drop_all}
 use Rattle.std.proofs.lemmas.List.Sums.{passes_at_first}
-use Rattle.h41_asm.proofs.FirstLine.{position_some, position_none}
+use Rattle.h41_lines.proofs.FirstWord.{on_start-blank, on_start-other}
+use Rattle.h41_lines.proofs.Positions.{position_some, position_none}
 use Rattle.h41_asm.specs.SourceLines.{is_blank, part_length, parts_from, quoted_after, words_of}
 
 abbrev is_word : List ℕ → Bool
@@ -23,13 +24,6 @@ words_of-blank byte line blank = elim (or_cases (byte == 32) (byte == 9) blank) 
 -- a comment at the front is all
 words_of-comment : (byte : ℕ) (line : List ℕ) → (byte == 59) ≡ true → words_of (byte ∷ line) ≡ []
 words_of-comment byte line comment = rw (eqb-true byte 59 comment) refl
-
-on_start-blank : (byte : ℕ) (line : List ℕ) → is_blank byte ≡ true → drop (position_or_len (λ b. not (is_blank b)) line) line ≡ drop (position_or_len (λ b. not (is_blank b)) (byte ∷ line)) (byte ∷ line)
-on_start-blank byte line blank =
-    let e : 1 + position_or_len (λ b. not (is_blank b)) line ≡ suc (position_or_len (λ b. not (is_blank b)) line) = omega arith in rw (blank, e) refl
-
-on_start-other : (byte : ℕ) (line : List ℕ) → is_blank byte ≡ false → byte ∷ line ≡ drop (position_or_len (λ b. not (is_blank b)) (byte ∷ line)) (byte ∷ line)
-on_start-other byte line other = rw other refl
 
 -- the words begin at the first byte that is no blank
 words_of-from_start : (line : List ℕ) → words_of line ≡ words_of (drop (position_or_len (λ byte. not (is_blank byte)) line) line)

@@ -2,11 +2,8 @@ pub mod Addresses
 pub mod Assembled
 pub mod Decimals
 pub mod Determined
-pub mod Digits
 pub mod Faultless
-pub mod FirstLine
 pub mod FirstWord
 pub mod Found
-pub mod LineCount
 pub mod Placed
 pub mod Spelling

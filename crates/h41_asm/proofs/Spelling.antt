@@ -4,13 +4,13 @@ use Rattle.h41_asm.specs.declared.fault.Fault.{Fault}
 use Rattle.h41_asm.specs.declared.statement.Statement as code
 use Rattle.h41_asm.specs.CodeStatements.{read_in_code}
 use Rattle.h41_asm.specs.Faults.{line_length, read_length, reference_fault, reference_faults}
-use Rattle.h41_asm.specs.Placing.{Labels, LinesSpell, Spells, SpellsRead}
+use Rattle.h41_asm.specs.Placing.{Labels, LinesSpell, StatementSpells, SpellsRead}
 use Rattle.h41_asm.specs.LabelTable.{IsReady, SpellsNext}
 use Rattle.h41_asm.specs.SourceLines.{SourceLine}
 use Rattle.h41_asm.specs.Statements.{Statement, Words, OutOfReach, LongJumpTo, ShortJumpTo, EntryAt, reading, statement_length}
 
 -- a statement spells as many words as it takes
-pub length-spelled : (labels : Labels) (address : ℕ) (said : Statement) (own : List ℕ) → Spells labels address said own → length own ≡ statement_length said
+pub length-spelled : (labels : Labels) (address : ℕ) (said : Statement) (own : List ℕ) → StatementSpells labels address said own → length own ≡ statement_length said
 length-spelled labels address (Words words) own spelled = ap length spelled
 length-spelled labels address OutOfReach own spelled = absurd spelled
 length-spelled labels address (LongJumpTo condition kind name) own spelled = ap length spelled.2

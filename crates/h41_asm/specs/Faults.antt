@@ -21,10 +21,10 @@ abbrev pub line_length : SourceLine → ℕ
 line_length line = read_length (reading line.code)
 
 -- a fault of the line with this number
-abbrev pub Found : Type 0
-Found = Option (Fault × ℕ)
+abbrev pub LineFault : Type 0
+LineFault = Option (Fault × ℕ)
 
-abbrev pub at_line : ℕ → Option Fault → Found
+abbrev pub at_line : ℕ → Option Fault → LineFault
 at_line number None = None
 at_line number (Some fault) = Some (fault, number)
 
@@ -53,7 +53,7 @@ own_fault earlier address line =
     option_or (result_err (reading line.code)) (option_or (twice_fault earlier line.label) (long_fault address line))
 
 -- the first of these, where the line has this number and these are before it
-abbrev pub own_faults : ℕ → ℕ → List SourceLine → List SourceLine → Found
+abbrev pub own_faults : ℕ → ℕ → List SourceLine → List SourceLine → LineFault
 own_faults number address earlier [] = None
 own_faults number address earlier (line ∷ rest) =
     option_or (at_line number (own_fault earlier address line))
@@ -86,14 +86,14 @@ read_fault labels address (Ok statement) = reference_fault labels address statem
 read_fault labels address (Err fault) = None
 
 -- the first of these
-abbrev pub reference_faults : Labels → ℕ → ℕ → List SourceLine → Found
+abbrev pub reference_faults : Labels → ℕ → ℕ → List SourceLine → LineFault
 reference_faults labels number address [] = None
 reference_faults labels number address (line ∷ rest) =
     option_or (at_line number (read_fault labels address (reading line.code)))
     (reference_faults labels (suc number) (address + line_length line) rest)
 
 -- the first fault of a source, and its line's number, counted from 1
-abbrev pub assembly_fault : List ℕ → ℕ → Found
+abbrev pub assembly_fault : List ℕ → ℕ → LineFault
 assembly_fault source origin =
     let all = source_lines source in
     option_or (own_faults 1 origin [] all) (reference_faults (label_address origin all) 1 origin all)

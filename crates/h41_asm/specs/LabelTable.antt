@@ -16,8 +16,8 @@ use Rattle.h41_asm.specs.declared.source.SourceLine as code_lines
 use Rattle.h41_asm.specs.declared.statement.Statement as code
 use Rattle.h41_asm.specs.Assembly.{address_count}
 use Rattle.h41_asm.specs.CodeStatements.{in_code, in_line}
-use Rattle.h41_asm.specs.Faults.{Found, label_address, line_length, own_faults, reference_fault, reference_faults}
-use Rattle.h41_asm.specs.Placing.{Labels, LinesSpell, Spells}
+use Rattle.h41_asm.specs.Faults.{LineFault, label_address, line_length, own_faults, reference_fault, reference_faults}
+use Rattle.h41_asm.specs.Placing.{Labels, LinesSpell, StatementSpells}
 use Rattle.h41_asm.specs.SourceLines.{SourceLine, source_lines}
 use Rattle.h41_asm.specs.Statements.{Statement, is_in_reach, reading}
 
@@ -32,7 +32,7 @@ labels_in table name = get_by (λ key. bytes_eq name key.now) table
 pub record SpellsNext (labels : Labels) (address : ℕ) (statement : Statement) (before after : List ℕ) : Type 0 where
   pub own : List ℕ
   pub added : after ≡ before ++ own
-  pub spelled : Spells labels address statement own
+  pub spelled : StatementSpells labels address statement own
 
 abbrev pub AddsOwn : {S : Type 0} → Table S → ℕ → code.Statement → Vec ℕ Global → Vec ℕ Global → Type 0
 AddsOwn table address statement before after =
@@ -42,7 +42,7 @@ AddsOwn table address statement before after =
 abbrev pub fault_by : {S : Type 0} → Table S → ℕ → code.Statement → Option Fault
 fault_by table address statement = reference_fault (labels_in table) address (in_code statement)
 
-abbrev pub first_fault_by : {S : Type 0} → Table S → ℕ → List ℕ → Found
+abbrev pub first_fault_by : {S : Type 0} → Table S → ℕ → List ℕ → LineFault
 first_fault_by table origin source = reference_faults (labels_in table) 1 origin (source_lines source)
 
 -- the words of a source under a table
@@ -64,7 +64,7 @@ abbrev pub IsReadyBy : {S : Type 0} → Table S → ℕ → List ℕ → Type 0
 IsReadyBy table origin source = IsReady (labels_in table) origin (source_lines source)
 
 -- the first fault of a source's own lines
-abbrev pub first_own_fault : ℕ → List ℕ → Found
+abbrev pub first_own_fault : ℕ → List ℕ → LineFault
 first_own_fault origin source = own_faults 1 origin [] (source_lines source)
 
 -- the fault of a label at an address, where the labels are those of the lines before

@@ -1,3 +1,6 @@
+pub use Rattle.h41_lines.specs.Lines
+pub use Rattle.h41_lines.specs.Numbers
+pub use Rattle.h41_lines.specs.Words
 pub mod Assembly
 pub mod AssemblyLaws
 pub mod CodeStatements

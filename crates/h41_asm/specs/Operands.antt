@@ -1,22 +1,17 @@
 -- The operands of a source: which words are one, and what it is. Hexadecimal digits may be of either case, decimal numbers
 -- have no leading zeros. The language is this project's own.
 use Rattle.std.specs.Prelude.{ℕ, ◌-◌, ℤ, pos, negsuc, Bool, ◌&&◌, List, [], ◌∷◌, length, take, drop, nat_lt, nat_le, ◌==◌, not, if◌then◌else◌, Option, Some, None, bytes_eq, slice_index}
-use Rattle.std.specs.Char.{is_digit}
 use Rattle.std.specs.Fmt.{decimal}
 use Rattle.std.specs.List.{find, list_all, range_with_len}
-use Rattle.std.specs.Str.Parse.{digits_value}
 use Rattle.h41_fields.specs.declared.field.Field.{Field}
+use Rattle.h41_lines.specs.Numbers.{hexadecimal}
 use Rattle.h41_words.specs.Counts.{word_count}
 use Rattle.h41_words.specs.Mnemonics.{field_text}
 use Rattle.h41_words.specs.Listing.{fields}
 
--- the number that hexadecimal digits write
-abbrev pub digits_in : List ℕ → Option ℕ
-digits_in word = if list_all (λ digit. is_digit digit 16) word then Some (digits_value 16 word) else None
-
--- a number of just so many of them
+-- a number of just so many hexadecimal digits
 abbrev pub hexadecimal_in : ℕ → List ℕ → Option ℕ
-hexadecimal_in count word = if length word == count then digits_in word else None
+hexadecimal_in count word = hexadecimal count count word
 
 -- an address: four digits
 abbrev pub address_in : List ℕ → Option ℕ

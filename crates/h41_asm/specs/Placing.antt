@@ -21,20 +21,20 @@ pub record IsDisplacement (from to : ℕ) (displacement : ℤ) : Type 0 where
   pub in_reach : is_in_reach displacement ≡ true
 
 -- a statement at an address spells these words
-abbrev pub Spells : Labels → ℕ → Statement → List ℕ → Type 0
-Spells labels address (Words words) own = own ≡ words
-Spells labels address OutOfReach own = ⊥
-Spells labels address (LongJumpTo condition kind name) own =
+abbrev pub StatementSpells : Labels → ℕ → Statement → List ℕ → Type 0
+StatementSpells labels address (Words words) own = own ≡ words
+StatementSpells labels address OutOfReach own = ⊥
+StatementSpells labels address (LongJumpTo condition kind name) own =
     (target : ℕ) × (labels name ≡ Some target) × (own ≡ long_jump_words condition kind target)
-Spells labels address (ShortJumpTo condition name) own =
+StatementSpells labels address (ShortJumpTo condition name) own =
     (target : ℕ) × (displacement : ℤ) × (labels name ≡ Some target) × IsDisplacement address target displacement
     × (own ≡ number_of (ShortJump condition displacement) ∷ [])
-Spells labels address (EntryAt bits name) own =
+StatementSpells labels address (EntryAt bits name) own =
     (target : ℕ) × (labels name ≡ Some target) × (own ≡ entry_words bits target)
 
 -- and so does a line that was read; one that cannot be read spells none
 abbrev pub SpellsRead : Labels → ℕ → Result Statement Fault → List ℕ → Type 0
-SpellsRead labels address (Ok statement) own = Spells labels address statement own
+SpellsRead labels address (Ok statement) own = StatementSpells labels address statement own
 SpellsRead labels address (Err fault) own = ⊥
 
 -- a line at an address

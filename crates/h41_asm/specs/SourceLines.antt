@@ -1,15 +1,8 @@
 -- The lines of a source, the words of a line, and the label that a line can begin with. The language is this project's own.
 use Rattle.std.specs.Prelude.{ℕ, suc, ◌-◌, Bool, false, not, ◌&&◌, ◌||◌, List, [], ◌∷◌, length, take, filter, map, filter_map, nat_lt, nat_le, ◌==◌, if◌then◌else◌, Option, Some, None, slice_index}
 use Rattle.std.specs.List.{list_all, onto_first}
-use Rattle.std.specs.Str.Lines as text
-
--- the lines of a source: each ends by LF, a CR before that is dropped, and the last LF may be missing
-abbrev pub lines : List ℕ → List (List ℕ)
-lines source = text.lines source
-
--- what parts the words of a line: a blank or a tab
-abbrev pub is_blank : ℕ → Bool
-is_blank byte = byte == 32 || byte == 9
+pub use Rattle.h41_lines.specs.Lines.{lines}
+pub use Rattle.h41_lines.specs.Words.{is_blank}
 
 -- whether what follows a byte stands in quotes: each '"' begins them or ends them
 abbrev pub quoted_after : Bool → ℕ → Bool

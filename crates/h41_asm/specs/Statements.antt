@@ -186,12 +186,12 @@ taken_among [] words = None
 taken_among (taker ∷ others) words = taken_or (behind taker.0 words) taker.1 (taken_among others words)
 
 -- the fault of words that begin with none of these: a single mnemonic with something behind it, or nothing that is known
-abbrev pub unread : List (List ℕ) → Fault
-unread words = if is_begun singles words then BadOperand else BadLine
+abbrev pub unread_fault : List (List ℕ) → Fault
+unread_fault words = if is_begun singles words then BadOperand else BadLine
 
 abbrev pub taken_or_unread : Option (Result Statement Fault) → List (List ℕ) → Result Statement Fault
 taken_or_unread (Some read) words = read
-taken_or_unread None words = Err (unread words)
+taken_or_unread None words = Err (unread_fault words)
 
 -- words that are not a single mnemonic
 abbrev pub not_single : List (List ℕ) → Result Statement Fault

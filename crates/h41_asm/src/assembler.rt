@@ -10,10 +10,10 @@ ghost use Rattle.h41_asm.specs.Refusals.{IsFault, IsRefusal};
 
 use crate::emit::{entry_words, push_name};
 use crate::fault::{AssembleError, Fault, SpellError};
-use crate::lines::Lines;
 use crate::source::{SourceLine, read_line};
 use crate::statement::{Statement, long_jump_words, read};
 use crate::table::EntryKind;
+use h41_lines::lines::Lines;
 use h41_words::{Condition, Displacement, LongJumpKind, Row, Word, word};
 use indexmap::IndexMap;
 use std::alloc::{AllocError, Global};

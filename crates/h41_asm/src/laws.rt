@@ -4,7 +4,7 @@ ghost use Rattle.h41_asm.specs.AssemblyLaws.{HasWordsOrFault, NeverBoth, WordsAr
 
 /// One of two: at each address a source spells words, or it has a first fault, and never both.
 pub fn words_or_fault()
-    ensures either { HasWordsOrFault }
+    ensures one_holds { HasWordsOrFault }
     ensures never_both { NeverBoth }
 {}
 

@@ -6,7 +6,6 @@ mod assembler;
 mod emit;
 mod fault;
 pub mod laws;
-mod lines;
 mod names;
 mod operands;
 mod source;

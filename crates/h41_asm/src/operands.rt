@@ -1,49 +1,23 @@
 //! The operands of a line.
 
-ghost use Rattle.std.specs.Prelude.{◌≡◌, ◌<◌, ◌≤◌, ◌+◌, ◌^◌, IfSome, bytes_eq, length};
+ghost use Rattle.std.specs.Prelude.{◌≡◌, ◌<◌, ◌≤◌, ◌+◌, bytes_eq};
 ghost use Rattle.std.specs.Fmt.{decimal};
 ghost use Rattle.std.specs.List.{list_all};
 ghost use Rattle.std.specs.Option.{option_map};
 ghost use Rattle.h41_asm.specs.Operands as spec;
 
 use h41_fields::Field;
+use h41_lines::numbers::hexadecimal;
 use h41_words::Word;
 
 /// The most characters of a text.
 const MOST_CHARACTERS: usize = 11;
 
-/// The number that up to four hexadecimal digits write, of either case.
-fn digits_in(word: &[u8]) -> Option<u16>
-    requires { length word.now ≤ 4 }
-    ensures value { result ≡ spec.digits_in word.now }
-    ensures small { IfSome result (λ number. number < 16 ^ length word.now) }
-{
-    let mut value = 0;
-    for byte in word {
-        let digit = char::from(*byte).to_digit(16)?;
-        value = value * 16 + digit;
-    }
-    Some(value as u16)
-}
-
-/// The number of a word of just so many hexadecimal digits, of either case.
-fn hexadecimal_in(count: usize, word: &[u8]) -> Option<u16>
-    requires { count ≤ 4 }
-    ensures value { result ≡ spec.hexadecimal_in count word.now }
-    ensures small { IfSome result (λ number. number < 16 ^ count) }
-{
-    if word.len() == count {
-        digits_in(word)
-    } else {
-        None
-    }
-}
-
 /// A word of a ROM: three digits, up to 3FF.
 pub(crate) fn word_in(word: &[u8]) -> Option<Word>
     ensures { result ≡ spec.word_in word.now }
 {
-    let number = hexadecimal_in(3, word)?;
+    let number = hexadecimal(3, 3, word)?;
     Word::new(number)
 }
 
@@ -51,7 +25,7 @@ pub(crate) fn word_in(word: &[u8]) -> Option<Word>
 pub(crate) fn address_in(word: &[u8]) -> Option<u16>
     ensures { result ≡ spec.address_in word.now }
 {
-    hexadecimal_in(4, word)
+    hexadecimal(4, 4, word)
 }
 
 /// A displacement: its sign and two digits. Zero is `+00` alone.
@@ -69,7 +43,7 @@ pub(crate) fn displacement_in(word: &[u8]) -> Option<i16>
 fn forward(digits: &[u8]) -> Option<i16>
     ensures { result ≡ spec.forward (spec.hexadecimal_in 2 digits.now) }
 {
-    let size = hexadecimal_in(2, digits)?;
+    let size = hexadecimal(2, 2, digits)?;
     Some(size as i16)
 }
 
@@ -77,7 +51,7 @@ fn forward(digits: &[u8]) -> Option<i16>
 fn backward(digits: &[u8]) -> Option<i16>
     ensures { result ≡ spec.backward (spec.hexadecimal_in 2 digits.now) }
 {
-    let size = hexadecimal_in(2, digits)?;
+    let size = hexadecimal(2, 2, digits)?;
     if size == 0 {
         None
     } else {

@@ -69,7 +69,7 @@ fn read_taker(words: LineWords<'_>) -> Result<Statement<'_>, Fault>
 {
     match with_operand(words) {
         Some(read) => read,
-        None => Err(unread(words)),
+        None => Err(unread_fault(words)),
     }
 }
 
@@ -90,8 +90,8 @@ fn single(words: LineWords<'_>) -> Option<Row>
 }
 
 /// The fault of words that are no single mnemonic, and do not begin with one that takes an operand.
-fn unread(words: LineWords<'_>) -> Fault
-    ensures { result ≡ spec.unread (words_of words.entry.rest.now) }
+fn unread_fault(words: LineWords<'_>) -> Fault
+    ensures { result ≡ spec.unread_fault (words_of words.entry.rest.now) }
 {
     if begins_single(words) {
         Fault::BadOperand

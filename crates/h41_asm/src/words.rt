@@ -1,9 +1,10 @@
 //! The words of a line.
 
 ghost use Rattle.std.specs.Iterator.{YieldsFirstRef, item_count};
-ghost use Rattle.std.specs.List.{position};
-ghost use Rattle.std.specs.Prelude.{◌≡◌, ◌≤◌, false, not, length};
-ghost use Rattle.h41_asm.specs.SourceLines.{is_blank, part_length, words_of};
+ghost use Rattle.std.specs.Prelude.{◌≡◌, ◌≤◌, false, length};
+ghost use Rattle.h41_asm.specs.SourceLines.{part_length, words_of};
+
+use h41_lines::words::{is_blank, word_start};
 
 /// The words that are left of a line. Blanks and tabs outside quotes part them, and a `;` outside quotes begins a comment.
 #[derive(Clone, Copy, Debug)]
@@ -38,20 +39,6 @@ impl<'a> Iterator for LineWords<'a> {
         self.rest = rest;
         Some(word)
     }
-}
-
-/// A byte that parts words: a blank or a tab.
-fn is_blank(byte: u8) -> bool
-    ensures { result ≡ is_blank byte }
-{
-    matches!(byte, b' ' | b'\t')
-}
-
-/// Where the first byte of a line that is no blank stands.
-fn word_start(line: &[u8]) -> Option<usize>
-    ensures { result ≡ position (λ byte. not (is_blank byte)) line.now }
-{
-    line.iter().position(|byte| !is_blank(*byte))
 }
 
 /// How many bytes of a line stand before its first blank, or before its comment, outside quotes.

@@ -5,7 +5,8 @@ use Rattle.std.proofs.lemmas.Bool.Decides.{nat_tests}
 use Rattle.h41_digits.specs.Register.{text}
 use Rattle.h41_decimal.specs.Holding.{Holding, Number, Text, Other, holding, holding_of, number_in, text_in, worth}
 use Rattle.h41_show.specs.NumberText.{number_text}
-use Rattle.h41_show.specs.RegisterText.{bytes_text, holding_text, register_text}
+use Rattle.h41_lines.specs.Characters.{characters_text}
+use Rattle.h41_show.specs.RegisterText.{holding_text, register_text}
 use Rattle.h41_show.specs.declared.format.Format.{Format}
 
 -- what is worth a number is that number
@@ -26,7 +27,7 @@ not_number (Some value) register e = cc
 not_number None register e = refl
 
 pub register_text-bytes : (format : Format) (register : List ℕ) → worth (holding_of register) ≡ None → slice_index register 13 ≡ 1
-    → register_text format register ≡ bytes_text (text_in register)
+    → register_text format register ≡ characters_text (text_in register)
 unfolding register_text
 register_text-bytes format register e is =
     let t : (slice_index register 13 == 1) ≡ true = grind (arith, nat_tests) in

@@ -1,10 +1,10 @@
 //! The texts of registers and of ALPHA.
 
-ghost use Rattle.std.specs.Prelude.{◌≡◌, ◌+◌, ◌*◌, ◌<◌, ◌≤◌, ◌++◌, [], ◌∷◌, length, map, true};
-ghost use Rattle.std.specs.Fmt.{digit_glyph};
+ghost use Rattle.std.specs.Prelude.{◌≡◌, ◌≤◌, ◌++◌, [], ◌∷◌, length, map};
 ghost use Rattle.arrayvec.specs.ArrayString.{array_string_len};
 ghost use Rattle.h41_digits.specs.Register as digits;
 ghost use Rattle.h41_decimal.specs.Holding as holding;
+ghost use Rattle.h41_lines.specs.Characters.{characters_text};
 ghost use Rattle.h41_show.specs.RegisterText as spec;
 
 use crate::digits::{TEXT_CAPACITY, Text, push_byte};
@@ -13,6 +13,7 @@ use crate::number::number_text;
 use arrayvec::ArrayString;
 use h41_decimal::Ten;
 use h41_digits::{PLACES, Reg};
+use h41_lines::characters::{character_text, glyph};
 use h41_ram::Ram;
 
 /// The digit in place 13 of a register that holds ALPHA data.
@@ -29,7 +30,7 @@ pub fn register_text(register: Reg, format: Format) -> ArrayString<TEXT_CAPACITY
     }
     let mut text = Text::new();
     if register.get(13) == ALPHA_DATA {
-        push_bytes(&mut text, after_nulls(&alpha_data(register)));
+        push_characters(&mut text, after_nulls(&alpha_data(register)));
     } else {
         push_register(&mut text, register);
     }
@@ -41,7 +42,7 @@ pub fn alpha_text<const REGS: usize>(ram: &Ram<REGS>) -> ArrayString<TEXT_CAPACI
     ensures { result.bytes ≡ spec.alpha_text ram.now }
 {
     let mut text = Text::new();
-    push_bytes(&mut text, after_nulls(&ram.alpha()));
+    push_characters(&mut text, after_nulls(&ram.alpha()));
     text
 }
 
@@ -71,37 +72,15 @@ fn after_nulls(bytes: &[u8]) -> &[u8]
     shown
 }
 
-/// Appends bytes, 24 at most.
-fn push_bytes(text: &mut Text, bytes: &[u8])
+/// Appends characters, 24 at most.
+fn push_characters(text: &mut Text, characters: &[u8])
     requires room { array_string_len text.old ≡ 0 }
-    requires few { length bytes.now ≤ 24 }
-    ensures { text.new.bytes ≡ text.old.bytes ++ spec.bytes_text bytes.now }
+    requires few { length characters.now ≤ 24 }
+    ensures { text.new.bytes ≡ text.old.bytes ++ characters_text characters.now }
 {
-    for byte in bytes {
-        push_shown(text, *byte);
+    for character in characters {
+        text.push_str(character_text(*character).as_str());
     }
-}
-
-/// Appends a byte as it is shown.
-fn push_shown(text: &mut Text, byte: u8)
-    requires { array_string_len text.old + 3 ≤ 80 }
-    ensures bytes { text.new.bytes ≡ text.old.bytes ++ spec.byte_text byte }
-    ensures most { array_string_len text.new ≤ array_string_len text.old + 3 }
-{
-    if is_plain(byte) {
-        push_byte(text, byte);
-    } else {
-        push_byte(text, b'\\');
-        push_byte(text, glyph(byte / 16));
-        push_byte(text, glyph(byte % 16));
-    }
-}
-
-/// Whether a byte shows as its ASCII character.
-fn is_plain(byte: u8) -> bool
-    ensures { result ≡ spec.is_plain byte }
-{
-    byte >= 0x20 && byte <= 0x7E && byte != b'\\'
 }
 
 /// Appends the digits of a register in hexadecimal, place 13 first.
@@ -111,18 +90,5 @@ fn push_register(text: &mut Text, register: Reg)
 {
     for place in (0..PLACES).rev() {
         push_byte(text, glyph(register.get(place)));
-    }
-}
-
-/// A hexadecimal digit, 0 to 15, in upper case.
-fn glyph(digit: u8) -> u8
-    requires { digit < 16 }
-    ensures value { result ≡ digit_glyph true digit }
-    ensures ascii { result < 128 }
-{
-    if digit < 10 {
-        b'0' + digit
-    } else {
-        b'A' + digit - 10
     }
 }

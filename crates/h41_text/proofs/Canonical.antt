@@ -9,7 +9,8 @@ use Rattle.h41_codes.specs.declared.line.Operand.{Operand}
 use Rattle.h41_codes.specs.declared.line.Operand.TheVariants.{Direct}
 use Rattle.h41_codes.specs.declared.line.Line.TheVariants.{Null, WithOperand, BranchTo}
 use Rattle.h41_codes.specs.Canon.{shortest_function, shortest_branch}
-use Rattle.h41_text.specs.LineText.{line_text, two_digits, parameter_text, ◌&◌}
+use Rattle.h41_lines.specs.Characters.{two_digits}
+use Rattle.h41_text.specs.LineText.{line_text, parameter_text, ◌&◌}
 use Rattle.h41_text.specs.TextLaws.{SameText}
 
 -- a number below 100 is two digits

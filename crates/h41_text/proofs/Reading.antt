@@ -3,7 +3,6 @@ use Rattle.std.proofs.Common.{◌≡◌, ℕ, zero, suc, ◌+◌, ◌/◌, ◌%�
 use Rattle.std.specs.Prelude.{is_none, nat_lt, nat_le}
 use Rattle.std.specs.List.{flat_map}
 use Rattle.std.specs.Option.{option_map, option_and_then}
-use Rattle.std.specs.Fmt.{digit_glyph}
 use Rattle.std.proofs.lemmas.Bool.{agree_below_at, cond_both, cond-true, cond-false, and_parts, and_from, not-true, eqb-true, ne_eqb, le-leb, lt-ltb, false≢true}
 use Rattle.std.proofs.lemmas.List.{length-map}
 use Rattle.h41_codes.specs.declared.characters.Character.{Character}
@@ -22,35 +21,36 @@ use Rattle.h41_codes.specs.declared.line.Line.{Line}
 use Rattle.h41_codes.specs.declared.line.Line.TheVariants.{Null, LocalLabel, Number, Named, Register, Plain, WithOperand, Module, BranchIndirect, ShortGoTo, GlobalLabel, End, FinalEnd, BranchTo, Text}
 use Rattle.h41_codes.specs.ByteGrammar.{IsLine, IsOperand}
 use Rattle.h41_codes.specs.Canon.{canonical}
+use Rattle.h41_lines.specs.Characters.{two_digits, is_plain, escaped, character_text}
+use Rattle.h41_lines.proofs.HexadecimalDigits.{read_hexadecimal}
 use Rattle.h41_text.specs.declared.words.Word.{Word}
 use Rattle.h41_text.specs.declared.words.Word.TheVariants as word
-use Rattle.h41_text.specs.Names.{function_name, parameter_function_name, character_text}
-use Rattle.h41_text.specs.LineText.{line_text, two_digits, parameter_text, operand_text, number_text, is_plain, character_quoted, quoted, text_line, ◌&◌}
+use Rattle.h41_text.specs.Names.{function_name, parameter_function_name, character_byte}
+use Rattle.h41_text.specs.LineText.{line_text, parameter_text, operand_text, number_line, character_quoted, quoted, text_line, ◌&◌}
 use Rattle.h41_text.specs.LineReading.{IsBytes, HasText}
-use Rattle.h41_text.specs.TextParts.{word_text, word_line, operand_of, operand_from, behind_ind, two_digits_of, module_line, byte_of, first_character, unquoted, at_most, begins_with, branch_line, character_of, characters_of, number_of, cut, cut_line, or_else, minus_line, unquoted_line, candidate_line}
+use Rattle.h41_text.specs.TextParts.{word_text, word_line, operand_of, operand_from, behind_ind, two_digits_of, module_line, first_character, unquoted, at_most, begins_with, branch_line, character_of, characters_of, number_of, cut, cut_line, or_else, minus_line, unquoted_line, candidate_line}
 use Rattle.h41_text.proofs.Canonical as canonical_text
 use Rattle.h41_text.proofs.Finding.{is_found, parameter_found, number_none}
 use Rattle.h41_text.proofs.Unquoting.{unquoted_more, unquoted_end}
 
 -- a character within quotes
-finds_byte : ℕ → Bool
-finds_byte byte = elim (byte_of (digit_glyph true (byte / 16)) (digit_glyph true (byte % 16))) [ None ↦ false | Some other ↦ other == byte ]
+escaped_again : (byte : ℕ) (rest : List ℕ) → byte < 256 → first_character (escaped byte ++ rest) ≡ Some (byte, rest)
+escaped_again byte rest inside = ap (option_map (λ character. (character, rest))) (read_hexadecimal 2 byte (omega arith) inside)
 
-byte_again : (byte : ℕ) → byte < 256 → byte_of (digit_glyph true (byte / 16)) (digit_glyph true (byte % 16)) ≡ Some byte
-unfolding finds_byte
-byte_again byte inside = is_found byte _ (agree_below_at finds_byte (λ n. true) 256 byte refl inside)
-
-plain_again : (byte : ℕ) (rest : List ℕ) → is_plain byte ≡ true → first_character (byte ∷ rest) ≡ Some (byte, rest)
-plain_again byte rest plain =
+plain_again : (byte : ℕ) (rest : List ℕ) → (byte == 0x22) ≡ false → is_plain byte ≡ true → first_character (byte ∷ rest) ≡ Some (byte, rest)
+plain_again byte rest quote plain =
     let parts = and_parts _ (not (byte == 0x5C)) plain in
-    let quote = and_parts _ (not (byte == 0x22)) parts.0 in
-    cond-false (byte == 0x22) _ _ (not-true _ quote.1) ∙ cond-false (byte == 0x5C) _ _ (not-true _ parts.1)
+    cond-false (byte == 0x22) _ _ quote ∙ cond-false (byte == 0x5C) _ _ (not-true _ parts.1)
+
+shown_again : (byte : ℕ) (rest : List ℕ) → byte < 256 → (byte == 0x22) ≡ false → first_character (character_text byte ++ rest) ≡ Some (byte, rest)
+shown_again byte rest inside quote =
+    cond_both (is_plain byte) (byte ∷ []) (escaped byte) (λ text. first_character (text ++ rest) ≡ Some (byte, rest)) (plain_again byte rest quote)
+    (λ other. escaped_again byte rest inside)
 
 first_again : (byte : ℕ) (rest : List ℕ) → byte < 256 → first_character (character_quoted byte ++ rest) ≡ Some (byte, rest)
 first_again byte rest inside =
-    cond_both (is_plain byte) (byte ∷ []) (0x5C ∷ digit_glyph true (byte / 16) ∷ digit_glyph true (byte % 16) ∷ [])
-    (λ text. first_character (text ++ rest) ≡ Some (byte, rest)) (plain_again byte rest)
-    (λ other. ap (option_map (λ character. (character, rest))) (byte_again byte inside))
+    cond_both (byte == 0x22) (escaped byte) (character_text byte) (λ text. first_character (text ++ rest) ≡ Some (byte, rest))
+    (λ quote. escaped_again byte rest inside) (shown_again byte rest inside)
 
 -- all characters within quotes
 unquoted_again : (most : ℕ) (characters : List ℕ) → length characters ≤ most → IsBytes characters
@@ -154,21 +154,21 @@ module_again number entry inside small =
     ∙ cond-true (nat_lt number 32 && nat_lt entry 64) _ _ (and_from _ _ (lt-ltb number 32 inside) (lt-ltb entry 64 small))
 
 -- a number
-character_again : (character : Character) → character_of (character_text character) ≡ Some character
+character_again : (character : Character) → character_of (character_byte character) ≡ Some character
 character_again Zero = refl
 character_again character = refl
 
-characters_again : (characters : List Character) → characters_of (map character_text characters) ≡ Some characters
+characters_again : (characters : List Character) → characters_of (map character_byte characters) ≡ Some characters
 characters_again [] = refl
 characters_again (character ∷ more) =
-    ap (option_and_then (λ first. option_map (λ rest. first ∷ rest) (characters_of (map character_text more)))) (character_again character)
+    ap (option_and_then (λ first. option_map (λ rest. first ∷ rest) (characters_of (map character_byte more)))) (character_again character)
     ∙ ap (option_map (λ rest. character ∷ rest)) (characters_again more)
 
-number_again : (characters : List Character) → 1 ≤ length characters → length characters ≤ 16 → number_of (map character_text characters) ≡ Some (Number characters)
+number_again : (characters : List Character) → 1 ≤ length characters → length characters ≤ 16 → number_of (map character_byte characters) ≡ Some (Number characters)
 number_again characters some most =
-    let size = length-map characters character_text in
-    cond-true (nat_lt 0 (length (map character_text characters)) && nat_le (length (map character_text characters)) 16) _ _
-    (and_from _ _ (lt-ltb 0 (length (map character_text characters)) (omega (arith, size))) (le-leb (length (map character_text characters)) 16 (omega (arith, size))))
+    let size = length-map characters character_byte in
+    cond-true (nat_lt 0 (length (map character_byte characters)) && nat_le (length (map character_byte characters)) 16) _ _
+    (and_from _ _ (lt-ltb 0 (length (map character_byte characters)) (omega (arith, size))) (le-leb (length (map character_byte characters)) 16 (omega (arith, size))))
     ∙ ap (option_map Number) (characters_again characters)
 
 -- a text that is no lone minus, and is a number
@@ -177,13 +177,13 @@ number_first text line minus number =
     ap (λ first. or_else first (or_else (number_of text) (cut_line text (cut text)))) minus ∙ ap (λ first. or_else first (cut_line text (cut text))) number
 
 several_again : (first second : Character) (more : List Character) → length more ≤ 14
-    → candidate_line (number_text (first ∷ second ∷ more)) ≡ Some (Number (first ∷ second ∷ more))
+    → candidate_line (number_line (first ∷ second ∷ more)) ≡ Some (Number (first ∷ second ∷ more))
 several_again Zero second more most =
-    number_first (map character_text (Zero ∷ second ∷ more)) (Number (Zero ∷ second ∷ more)) refl (number_again (Zero ∷ second ∷ more) (omega arith) (omega arith))
+    number_first (map character_byte (Zero ∷ second ∷ more)) (Number (Zero ∷ second ∷ more)) refl (number_again (Zero ∷ second ∷ more) (omega arith) (omega arith))
 several_again first second more most =
-    number_first (map character_text (first ∷ second ∷ more)) (Number (first ∷ second ∷ more)) refl (number_again (first ∷ second ∷ more) (omega arith) (omega arith))
+    number_first (map character_byte (first ∷ second ∷ more)) (Number (first ∷ second ∷ more)) refl (number_again (first ∷ second ∷ more) (omega arith) (omega arith))
 
-number_line_again : (characters : List Character) → 1 ≤ length characters → length characters ≤ 16 → candidate_line (number_text characters) ≡ Some (Number characters)
+number_line_again : (characters : List Character) → 1 ≤ length characters → length characters ≤ 16 → candidate_line (number_line characters) ≡ Some (Number characters)
 number_line_again [] some most = absurd (omega arith)
 number_line_again (Zero ∷ []) some most = refl
 number_line_again (character ∷ []) some most = refl

@@ -1,3 +1,4 @@
+pub use Rattle.h41_lines.specs.Characters
 pub mod LineReading
 pub mod LineText
 pub mod Names

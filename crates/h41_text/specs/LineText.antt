@@ -1,18 +1,14 @@
 -- The text of a line.
-use Rattle.std.specs.Prelude.{ℕ, ◌+◌, ◌-◌, ◌/◌, ◌%◌, Bool, true, ◌&&◌, ◌==◌, not, nat_lt, nat_le, List, [], ◌∷◌, ◌++◌, map, slice_index_or, if◌then◌else◌, codes}
+use Rattle.std.specs.Prelude.{ℕ, ◌-◌, ◌==◌, nat_lt, List, [], ◌∷◌, ◌++◌, map, slice_index_or, if◌then◌else◌, codes}
 use Rattle.std.specs.List.{flat_map}
-use Rattle.std.specs.Fmt.{digit_glyph}
 use Rattle.h41_codes.specs.declared.line.Operand.{Operand}
 use Rattle.h41_codes.specs.declared.line.Operand.TheVariants.{Direct, Indirect}
 use Rattle.h41_codes.specs.declared.line.Line.{Line}
 use Rattle.h41_codes.specs.declared.line.Line.TheVariants.{Null, LocalLabel, Number, Named, Register, Plain, WithOperand, Module, BranchIndirect, ShortGoTo, GlobalLabel, End, FinalEnd, BranchTo, Text}
 use Rattle.h41_codes.specs.declared.characters.Character.{Character}
 use Rattle.h41_codes.specs.declared.characters.Character.TheVariants.{Minus}
-use Rattle.h41_text.specs.Names.{function_name, parameter_function_name, register_function_name, name_function_name, branch_name, character_text}
-
--- two decimal digits
-abbrev pub two_digits : ℕ → List ℕ
-two_digits number = (48 + number / 10) ∷ (48 + number % 10) ∷ []
+use Rattle.h41_lines.specs.Characters.{two_digits, escaped, character_text}
+use Rattle.h41_text.specs.Names.{function_name, parameter_function_name, register_function_name, name_function_name, branch_name, character_byte}
 
 -- the names of the parameters from 100 on: two numbers, the labels A to J, the stack and the registers behind it, the labels a to e
 abbrev pub high_parameters : List (List ℕ)
@@ -28,13 +24,9 @@ high_parameters =
 abbrev pub parameter_text : ℕ → List ℕ
 parameter_text number = if nat_lt number 100 then two_digits number else slice_index_or high_parameters (number - 100) []
 
--- a character of a text: itself from 20 to 7E, but for " and \, else \ and two hexadecimal digits in upper case
-abbrev pub is_plain : ℕ → Bool
-is_plain character = nat_le 0x20 character && nat_le character 0x7E && not (character == 0x22) && not (character == 0x5C)
-
+-- a character within quotes: as the display shows it, but " too is \ and two hexadecimal digits
 abbrev pub character_quoted : ℕ → List ℕ
-character_quoted character =
-    if is_plain character then character ∷ [] else 0x5C ∷ digit_glyph true (character / 16) ∷ digit_glyph true (character % 16) ∷ []
+character_quoted character = if character == 0x22 then escaped character else character_text character
 
 -- a text in its quotes
 abbrev pub quoted : List ℕ → List ℕ
@@ -46,9 +38,9 @@ text_line [] = quoted []
 text_line (first ∷ rest) = if first == 0x7F then 0x3E ∷ quoted rest else quoted (first ∷ rest)
 
 -- a number's characters, and NEG for a lone minus
-abbrev pub number_text : List Character → List ℕ
-number_text (Minus ∷ []) = codes "NEG"
-number_text characters = map character_text characters
+abbrev pub number_line : List Character → List ℕ
+number_line (Minus ∷ []) = codes "NEG"
+number_line characters = map character_byte characters
 
 -- an operand: the parameter, with IND in front where it is indirect
 abbrev pub operand_text : Operand → List ℕ
@@ -64,7 +56,7 @@ name & operand = name ++ 0x20 ∷ operand
 abbrev pub line_text : Line → List ℕ
 line_text Null = []
 line_text (LocalLabel label) = codes "LBL" & two_digits label
-line_text (Number characters) = number_text characters
+line_text (Number characters) = number_line characters
 line_text (Named function name) = name_function_name function & quoted name
 line_text (Register function register) = register_function_name function & two_digits register
 line_text (Plain function) = function_name function

@@ -139,18 +139,18 @@ abbrev pub branch_name : Branch → List ℕ
 branch_name GoTo = codes "GTO"
 branch_name Execute = codes "XEQ"
 
--- the characters of numbers
-abbrev pub character_text : Character → ℕ
-character_text Zero = 48
-character_text One = 49
-character_text Two = 50
-character_text Three = 51
-character_text Four = 52
-character_text Five = 53
-character_text Six = 54
-character_text Seven = 55
-character_text Eight = 56
-character_text Nine = 57
-character_text Point = 46
-character_text Exponent = 69
-character_text Minus = 45
+-- the characters of numbers, in ASCII
+abbrev pub character_byte : Character → ℕ
+character_byte Zero = 48
+character_byte One = 49
+character_byte Two = 50
+character_byte Three = 51
+character_byte Four = 52
+character_byte Five = 53
+character_byte Six = 54
+character_byte Seven = 55
+character_byte Eight = 56
+character_byte Nine = 57
+character_byte Point = 46
+character_byte Exponent = 69
+character_byte Minus = 45

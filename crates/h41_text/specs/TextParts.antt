@@ -17,9 +17,10 @@ use Rattle.h41_codes.specs.declared.line.Operand.TheVariants.{Direct, Indirect}
 use Rattle.h41_codes.specs.declared.line.Line.{Line}
 use Rattle.h41_codes.specs.declared.line.Line.TheVariants.{Number, Named, Plain, WithOperand, Module, BranchIndirect, GlobalLabel, End, FinalEnd, BranchTo, Text}
 use Rattle.h41_codes.specs.Counts.{parameter_count, module_count, entry_count, text_most, name_most, number_most}
+use Rattle.h41_lines.specs.Numbers.{hexadecimal}
 use Rattle.h41_text.specs.declared.words.Word.{Word}
 use Rattle.h41_text.specs.declared.words.Word.TheVariants as word
-use Rattle.h41_text.specs.Names.{function_name, parameter_function_name, branch_name, character_text}
+use Rattle.h41_text.specs.Names.{function_name, parameter_function_name, branch_name, character_byte}
 use Rattle.h41_text.specs.LineText.{parameter_text}
 
 -- the item of a list that has this text
@@ -103,21 +104,14 @@ module_of (a ∷ b ∷ comma ∷ c ∷ d ∷ []) =
     if comma == 0x2C then option_and_then (λ number. option_and_then (λ entry. module_line number entry) (two_digits_of c d)) (two_digits_of a b) else None
 module_of text = None
 
--- the value of a hexadecimal digit in upper case, and the byte of two
-abbrev pub digit_of : ℕ → Option ℕ
-digit_of glyph = if is_digit glyph then Some (glyph - 48) else if nat_le 65 glyph && nat_le glyph 70 then Some (glyph - 55) else None
-
-abbrev pub byte_of : ℕ → ℕ → Option ℕ
-byte_of high low = option_and_then (λ h. option_map (λ l. h * 16 + l) (digit_of low)) (digit_of high)
-
 -- the first character within quotes, and what stands behind it; none where the quotes end. Behind \ it is two hexadecimal digits
-abbrev pub escaped : List ℕ → Option (ℕ × List ℕ)
-escaped (high ∷ low ∷ rest) = option_map (λ character. (character, rest)) (byte_of high low)
-escaped text = None
+abbrev pub behind_backslash : List ℕ → Option (ℕ × List ℕ)
+behind_backslash (high ∷ low ∷ rest) = option_map (λ character. (character, rest)) (hexadecimal 2 2 (high ∷ low ∷ []))
+behind_backslash text = None
 
 abbrev pub first_character : List ℕ → Option (ℕ × List ℕ)
 first_character [] = None
-first_character (byte ∷ rest) = if byte == 0x22 then None else if byte == 0x5C then escaped rest else Some (byte, rest)
+first_character (byte ∷ rest) = if byte == 0x22 then None else if byte == 0x5C then behind_backslash rest else Some (byte, rest)
 
 -- the characters within quotes, at most so many
 abbrev pub unquoted : ℕ → List ℕ → List ℕ
@@ -161,7 +155,7 @@ characters =
     Zero ∷ One ∷ Two ∷ Three ∷ Four ∷ Five ∷ Six ∷ Seven ∷ Eight ∷ Nine ∷ Point ∷ Exponent ∷ Minus ∷ []
 
 abbrev pub character_of : ℕ → Option Character
-character_of byte = with_text (λ character. character_text character ∷ []) characters (byte ∷ [])
+character_of byte = with_text (λ character. character_byte character ∷ []) characters (byte ∷ [])
 
 -- the number of a text, 1 to 16 characters
 abbrev pub characters_of : List ℕ → Option (List Character)

@@ -1,6 +1,11 @@
-//! Laws of the text of lines: each is the contract of a function with nothing to do.
+//! Laws of the text of lines: each is the contract of a function with next to nothing to do.
 
+ghost use Rattle.std.specs.Prelude.{◌≡◌, ◌≤◌, length};
+ghost use Rattle.h41_text.specs.LineText.{line_text};
 ghost use Rattle.h41_text.specs.TextLaws.{SameText, LineTextRoundTrip, OneLineOfText};
+
+use crate::write_line;
+use h41_codes::Line;
 
 /// A line and its canonical line have one text.
 pub fn same_text()
@@ -12,3 +17,11 @@ pub fn line_text_round_trip()
     ensures again { LineTextRoundTrip }
     ensures one { OneLineOfText }
 {}
+
+/// How many characters the text of a line has: at most 51.
+pub fn line_text_fits(line: Line) -> usize
+    ensures size { result ≡ length (line_text line) }
+    ensures fits { result ≤ 51 }
+{
+    write_line(line).len()
+}

@@ -10,4 +10,4 @@ mod writer;
 
 pub use faults::BadText;
 pub use reader::read_line;
-pub use writer::write_line;
+pub use writer::{TEXT_CAPACITY, write_line};

@@ -196,7 +196,7 @@ pub(crate) fn register_function_name(function: RegisterFunction) -> &'static str
 /// The name of a function on a name.
 pub(crate) fn name_function_name(function: NameFunction) -> &'static str
     ensures text { result.now ≡ spec.name_function_name function }
-    ensures bound { length result.now ≤ 6 }
+    ensures bound { length result.now ≤ 3 }
 {
     match function {
         NameFunction::GoToName => "GTO",
@@ -217,8 +217,8 @@ pub(crate) fn branch_name(branch: Branch) -> &'static str
 }
 
 /// A character of a number.
-pub(crate) fn character_text(character: Character) -> u8
-    ensures text { result ≡ spec.character_text character }
+pub(crate) fn character_byte(character: Character) -> u8
+    ensures text { result ≡ spec.character_byte character }
     ensures bound { result < 128 }
 {
     match character {

@@ -17,6 +17,7 @@ use h41_codes::{
     Branch, Character, Distance, EndMarks, EntryNumber, FinalMarks, Function, Line, Link,
     ModuleNumber, NameFunction, Number, Operand, Parameter, ParameterFunction, Text, canon,
 };
+use h41_lines::numbers::hexadecimal;
 
 /// The most characters of a text.
 const TEXT_MOST: usize = 15;
@@ -111,21 +112,9 @@ fn first_character(quoted: &[u8]) -> Option<(u8, &[u8])>
 {
     match quoted {
         [] | [b'"', ..] => None,
-        [b'\\', high, low, rest @ ..] => Some((digit(*high)? * 16 + digit(*low)?, rest)),
+        [b'\\', high, low, rest @ ..] => Some((hexadecimal(2, 2, &[*high, *low])? as u8, rest)),
         [b'\\', ..] => None,
         [character, rest @ ..] => Some((*character, rest)),
-    }
-}
-
-/// The value of a hexadecimal digit in upper case.
-fn digit(glyph: u8) -> Option<u8>
-    ensures value { result ≡ part.digit_of glyph }
-    ensures bound { IfSome result (λ value. value < 16) }
-{
-    match glyph {
-        b'0'..=b'9' => Some(glyph - b'0'),
-        b'A'..=b'F' => Some(glyph - b'A' + 10),
-        _ => None,
     }
 }
 

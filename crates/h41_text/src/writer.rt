@@ -1,33 +1,37 @@
 //! From a line to its text.
-ghost use Rattle.std.specs.Prelude.{◌≡◌, ◌+◌, ◌*◌, ◌<◌, ◌≤◌, [], ◌∷◌, ◌++◌, length, true};
+ghost use Rattle.std.specs.Prelude.{◌≡◌, ◌+◌, ◌<◌, ◌≤◌, [], ◌∷◌, ◌++◌, length};
 ghost use Rattle.arrayvec.specs.ArrayString.{array_string_len};
-ghost use Rattle.std.specs.Fmt.{digit_glyph};
 ghost use Rattle.h41_codes.specs.declared.line.Line.TheVariants as line;
 ghost use Rattle.h41_codes.specs.Counts.{parameter_count};
-ghost use Rattle.h41_text.specs.LineText.{line_text, two_digits, ◌&◌, quoted, character_quoted, text_line};
+ghost use Rattle.h41_lines.specs.Characters.{two_digits as digits_of};
+ghost use Rattle.h41_text.specs.LineText.{line_text, ◌&◌, quoted, text_line};
 ghost use Rattle.h41_text.specs.LineText as spec;
 
 use crate::names::{
-    branch_name, character_text, function_name, high_parameter, name_function_name,
+    branch_name, character_byte, function_name, high_parameter, name_function_name,
     parameter_function_name, register_function_name,
 };
 use arrayvec::ArrayString;
 use h41_codes::{Character, EntryNumber, Line, ModuleNumber, Operand};
+use h41_lines::characters::{character_text, escaped, two_digits};
 
-/// The text of a line: at most 51 characters, as `GTO "\00\00..."`.
-pub type LineText = ArrayString<64>;
+/// How many characters a text has room for: `GTO ""`, and within the quotes 15 characters of three each.
+pub const TEXT_CAPACITY: usize = 51;
+
+/// The text of a line.
+type LineText = ArrayString<TEXT_CAPACITY>;
 
 /// The append sign: a text for ALPHA that begins with it is added to what ALPHA holds.
 const APPEND: u8 = 0x7F;
 
 /// The text of a line. Two spellings of a line have one text; the null's is empty.
-pub fn write_line(line: Line) -> ArrayString<64>
+pub fn write_line(line: Line) -> ArrayString<TEXT_CAPACITY>
     ensures { result.bytes ≡ line_text line }
 {
     match line {
         Line::Null => LineText::new(),
         Line::LocalLabel(label) => numbered("LBL", label.number()),
-        Line::Number(number) => number_text(number.characters()),
+        Line::Number(number) => number_line(number.characters()),
         Line::Named(function, name) => named(name_function_name(function), name.characters()),
         Line::Register(function, register) => {
             numbered(register_function_name(function), register.number())
@@ -77,7 +81,7 @@ fn begun(name: &str) -> LineText
 fn numbered(name: &str, number: u8) -> LineText
     requires name { length name.now ≤ 6 }
     requires number { number < 100 }
-    ensures { result.bytes ≡ name.now & two_digits number }
+    ensures { result.bytes ≡ name.now & digits_of number }
 {
     let mut text = begun(name);
     push_two_digits(&mut text, number);
@@ -102,7 +106,7 @@ fn with_operand(name: &str, operand: Operand) -> LineText
 
 /// A name and a text in quotes, of at most 15 characters.
 fn named(name: &str, characters: &[u8]) -> LineText
-    requires name { length name.now ≤ 6 }
+    requires name { length name.now ≤ 3 }
     requires characters { length characters.now ≤ 15 }
     ensures { result.bytes ≡ name.now & quoted characters.now }
 {
@@ -122,16 +126,16 @@ fn module(number: ModuleNumber, entry: EntryNumber) -> LineText
 }
 
 /// A number of at most 16 characters.
-fn number_text(characters: &[Character]) -> LineText
+fn number_line(characters: &[Character]) -> LineText
     requires { length characters.now ≤ 16 }
-    ensures { result.bytes ≡ spec.number_text characters.now }
+    ensures { result.bytes ≡ spec.number_line characters.now }
 {
     if let [Character::Minus] = characters {
         return alone("NEG");
     }
     let mut text = LineText::new();
     for character in characters {
-        push_ascii(&mut text, character_text(*character));
+        push_ascii(&mut text, character_byte(*character));
     }
     text
 }
@@ -154,26 +158,25 @@ fn alpha(characters: &[u8]) -> LineText
 
 /// Adds an ASCII character.
 fn push_ascii(text: &mut LineText, character: u8)
-    requires room { array_string_len text.old ≤ 60 }
+    requires room { array_string_len text.old < TEXT_CAPACITY }
     requires ascii { character < 128 }
     ensures { text.new.bytes ≡ text.old.bytes ++ character ∷ [] }
 {
-    let _ = text.try_push(char::from(character));
+    text.push(char::from(character));
 }
 
 /// Adds a number below 100 in two decimal digits.
 fn push_two_digits(text: &mut LineText, number: u8)
-    requires room { array_string_len text.old ≤ 59 }
+    requires room { array_string_len text.old + 2 ≤ TEXT_CAPACITY }
     requires number { number < 100 }
-    ensures { text.new.bytes ≡ text.old.bytes ++ two_digits number }
+    ensures { text.new.bytes ≡ text.old.bytes ++ digits_of number }
 {
-    push_ascii(text, b'0' + number / 10);
-    push_ascii(text, b'0' + number % 10);
+    text.push_str(two_digits(number).as_str());
 }
 
 /// Adds the text of a parameter.
 fn push_parameter(text: &mut LineText, number: u8)
-    requires room { array_string_len text.old ≤ 50 }
+    requires room { array_string_len text.old + 6 ≤ TEXT_CAPACITY }
     requires number { number < parameter_count }
     ensures { text.new.bytes ≡ text.old.bytes ++ spec.parameter_text number }
 {
@@ -186,48 +189,24 @@ fn push_parameter(text: &mut LineText, number: u8)
 
 /// Adds a text of at most 15 characters in quotes.
 fn push_quoted(text: &mut LineText, characters: &[u8])
-    requires room { array_string_len text.old ≤ 7 }
+    requires room { array_string_len text.old ≤ 4 }
     requires characters { length characters.now ≤ 15 }
     ensures { text.new.bytes ≡ text.old.bytes ++ quoted characters.now }
 {
     text.push_str("\"");
     for character in characters {
-        push_character(text, *character);
+        text.push_str(character_quoted(*character).as_str());
     }
     text.push_str("\"");
 }
 
-/// Adds a character of a text: itself, or `\` and two hexadecimal digits.
-fn push_character(text: &mut LineText, character: u8)
-    requires { array_string_len text.old ≤ 58 }
-    ensures value { text.new.bytes ≡ text.old.bytes ++ character_quoted character }
-    ensures most { array_string_len text.new ≤ array_string_len text.old + 3 }
+/// A character of a text: as the display shows it, but `"` too is `\` and two hexadecimal digits.
+fn character_quoted(character: u8) -> ArrayString<3>
+    ensures { result.bytes ≡ spec.character_quoted character }
 {
-    if is_plain(character) {
-        push_ascii(text, character);
+    if character == b'"' {
+        escaped(character)
     } else {
-        push_ascii(text, b'\\');
-        push_ascii(text, glyph(character / 16));
-        push_ascii(text, glyph(character % 16));
-    }
-}
-
-/// Whether a character stands for itself within quotes: 20 to 7E, but for `"` and `\`.
-fn is_plain(character: u8) -> bool
-    ensures { result ≡ spec.is_plain character }
-{
-    character >= 0x20 && character <= 0x7E && character != b'"' && character != b'\\'
-}
-
-/// A hexadecimal digit, 0 to 15, in upper case.
-fn glyph(digit: u8) -> u8
-    requires { digit < 16 }
-    ensures value { result ≡ digit_glyph true digit }
-    ensures ascii { result < 128 }
-{
-    if digit < 10 {
-        b'0' + digit
-    } else {
-        b'A' + digit - 10
+        character_text(character)
     }
 }

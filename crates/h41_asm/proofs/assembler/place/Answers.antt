@@ -3,7 +3,7 @@ use Rattle.h41_asm.specs.CodeStatements.{in_line}
 use Rattle.h41_asm.specs.Placing.{Labels}
 use Rattle.h41_asm.specs.LabelTable.{labels_in}
 use Rattle.h41_asm.specs.SourceLines.{SourceLine, line_of, source_lines, words_of}
-use Rattle.h41_asm.proofs.LineCount.{length-lines}
+use Rattle.h41_lines.proofs.LineCount.{length-lines}
 use Rattle.h41_asm.proofs.Placed.{IsPlaced, placed_next, placed_none, placed_within}
 use Rattle.h41_asm.proofs.assembler.place.Goals as goal
 

@@ -5,7 +5,7 @@ use Rattle.h41_asm.specs.Faults.{reference_faults}
 use Rattle.h41_asm.specs.Placing.{Labels}
 use Rattle.h41_asm.specs.LabelTable.{IsReady, labels_in}
 use Rattle.h41_asm.specs.Statements.{reading, statement_length}
-use Rattle.h41_asm.proofs.LineCount.{length-lines}
+use Rattle.h41_lines.proofs.LineCount.{length-lines}
 use Rattle.h41_asm.proofs.Spelling.{ready_behind, faults_behind, not_ready, words_behind}
 use Rattle.h41_asm.proofs.assembler.spell.Goals as goal
 use Rattle.h41_asm.proofs.assembler.spell.Goals.{in-Ok+in-Ok-push_statement, in_default}

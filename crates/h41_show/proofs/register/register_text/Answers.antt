@@ -3,7 +3,7 @@ use Rattle.std.specs.Option.{option_map}
 use Rattle.h41_digits.specs.Register.{text}
 use Rattle.h41_decimal.specs.Holding.{after_nulls, holding_of, worth}
 use Rattle.h41_decimal.specs.Units.{units}
-use Rattle.h41_show.specs.RegisterText.{bytes_text}
+use Rattle.h41_lines.specs.Characters.{characters_text}
 use Rattle.h41_show.proofs.Held.{register_text-number, register_text-bytes, register_text-digits}
 use Rattle.h41_show.proofs.register.register_text.Goals as goal
 
@@ -16,8 +16,8 @@ pub returns-then-get-eq-ALPHA_DATA : goal.returns-then-get-eq-ALPHA_DATA
 returns-then-get-eq-ALPHA_DATA c =
     let none : worth (holding_of c.args.register) ≡ None = sym c.from_reg.ensures ∙ ap (option_map units) c.in_default.is in
     let place = sym c.get.ensures.digit ∙ c.if-get-eq-ALPHA_DATA.true in
-    c.push_bytes.ensures ∙ ap (λ t. t ++ bytes_text c.after_nulls.result.now) c.new-text.ensures
-    ∙ ap bytes_text (c.after_nulls.ensures.bytes ∙ ap after_nulls c.alpha_data.ensures)
+    c.push_characters.ensures ∙ ap (λ t. t ++ characters_text c.after_nulls.result.now) c.new-text.ensures
+    ∙ ap characters_text (c.after_nulls.ensures.bytes ∙ ap after_nulls c.alpha_data.ensures)
     ∙ sym (register_text-bytes c.args.format c.args.register none place)
 
 pub returns-else-get-eq-ALPHA_DATA : goal.returns-else-get-eq-ALPHA_DATA

@@ -1,0 +1,5 @@
+pub mod Characters
+pub mod Laws
+pub mod Lines
+pub mod Numbers
+pub mod Words

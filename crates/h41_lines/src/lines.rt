@@ -1,0 +1,76 @@
+//! The lines of a text, each without its end.
+
+ghost use Rattle.std.specs.Iterator.{YieldsFirstRef, item_count};
+ghost use Rattle.std.specs.List.{position};
+ghost use Rattle.std.specs.Prelude.{◌≡◌, ◌==◌};
+ghost use Rattle.std.specs.Str.Lines.{strip_carriage_return};
+ghost use Rattle.h41_lines.specs.Lines.{ended_lines, lines};
+
+/// The lines that are left of a text, each without its LF and without a CR right before that. The last LF may be missing.
+#[derive(Debug, Drop)]
+pub struct Lines<'a> {
+    /// The bytes from the next line on.
+    pub rest: &'a [u8],
+}
+
+impl<'a> Lines<'a> {
+    /// All lines of a text.
+    pub fn new(text: &'a [u8]) -> Self
+        ensures { result.rest.now ≡ text.now }
+    {
+        Lines { rest: text }
+    }
+}
+
+impl<'a> Iterator for Lines<'a> {
+    type Item = &'a [u8];
+
+    ghost next_gives = { YieldsFirstRef (λ s. lines s.rest.now) };
+
+    ghost remaining = { item_count (λ s. lines s.rest.now) };
+
+    fn next(&mut self) -> Option<&'a [u8]> {
+        let text = self.rest;
+        if text.is_empty() {
+            return None;
+        }
+        match line_end(text) {
+            Some(end) => {
+                self.rest = &text[end + 1..];
+                Some(without_return(&text[..end]))
+            }
+            None => {
+                self.rest = &[];
+                Some(text)
+            }
+        }
+    }
+}
+
+/// Where the first LF of a text stands.
+pub fn line_end(text: &[u8]) -> Option<usize>
+    ensures { result ≡ position (λ byte. byte == 10) text.now }
+{
+    text.iter().position(|byte| *byte == b'\n')
+}
+
+/// A line without the CR at its end, if it has one.
+fn without_return(line: &[u8]) -> &[u8]
+    ensures { result.now ≡ strip_carriage_return line.now }
+{
+    match line {
+        [line @ .., b'\r'] => line,
+        _ => line,
+    }
+}
+
+/// The lines of a text that have their end: all bytes up to the last LF, with it.
+pub fn ended_lines(text: &[u8]) -> &[u8]
+    ensures { result.now ≡ ended_lines text.now }
+{
+    let mut end = text.len();
+    while end > 0 && text[end - 1] != b'\n' {
+        end -= 1;
+    }
+    &text[..end]
+}

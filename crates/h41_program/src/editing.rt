@@ -33,7 +33,7 @@ pub fn insert<const REGS: usize>(
 }
 
 /// Deletes the line that a position stands for; `.END.` stays. 14 where the list has no such line or does not reach `.END.`, 16
-/// where the program would pass below main memory: only where numbers stood together without a null.
+/// where the program would pass below main memory.
 pub fn delete<const REGS: usize>(ram: &mut Ram<REGS>, at: u16) -> Result<(), Refusal>
     requires { IsTrue (is_sound ram.old) }
     ensures { Edits ram.old ram.new without_deleted at result }

@@ -1,6 +1,6 @@
 //! One step: the word at the processor's address, and what it changes.
 
-ghost use Rattle.h41_nut.specs.RowStep.{CarriesOut};
+ghost use Rattle.h41_nut.specs.RowStep.{Ran};
 ghost use Rattle.h41_nut.specs.WordStep.{Stepped};
 
 use crate::base::Base;
@@ -42,7 +42,7 @@ fn execute_row<const REGS: usize>(
     pages: &mut Pages,
     keys: &mut Keys,
 ) -> Result<(), Refusal>
-    ensures { CarriesOut row result cpu.old ram.old pages.old keys.old cpu.new ram.new pages.new keys.new }
+    ensures { Ran row result cpu.old ram.old pages.old keys.old cpu.new ram.new pages.new keys.new }
 {
     match row {
         Row::Arithmetic(operation, field) => cpu.arithmetic(operation, field),

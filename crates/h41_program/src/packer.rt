@@ -24,7 +24,7 @@ const MOST: usize = 2237;
 pub type Bytes = ArrayVec<u8, 2240>;
 
 /// Lines put one behind the other, as program memory holds them.
-#[derive(Debug, Drop)]
+#[derive(Drop)]
 pub struct Packer {
     /// Their bytes, where they are not too many.
     pub bytes: Bytes,

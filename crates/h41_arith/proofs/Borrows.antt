@@ -1,12 +1,15 @@
 -- The borrow of a difference tells which of two registers is below the other.
-use Rattle.std.proofs.Common.{◌≡◌, ℕ, zero, suc, ◌+◌, ◌-◌, ◌*◌, ◌^◌, ◌<◌, ◌≤◌, ◌⊎◌, Bool, true, false, nat_lt, List, [], slice_index, sym, ap, subst, arith, inl, inr, ◌∙◌}
+use Rattle.std.proofs.Common.{◌≡◌, ℕ, zero, suc, ◌+◌, ◌-◌, ◌*◌, ◌^◌, ◌<◌, ◌≤◌, ◌⊎◌, Bool, true, false, nat_lt, List, [], slice_index, refl, sym, ap, subst, arith, inl, inr, ◌∙◌}
 use Rattle.std.proofs.Math.Nat.{mul-le-mul_right, pow-succ'}
 use Rattle.std.proofs.lemmas.Bool.Decides.{nat_tests}
 use Rattle.std.proofs.lemmas.List.Sums.{sum_by-cons}
 use Rattle.std.specs.List.{sum_by, range_with_len}
+use Rattle.std.proofs.lemmas.List.{get_or-replicate}
+use Rattle.std.proofs.Math.ListN.{get_or-eq_default}
+use Rattle.std.proofs.lemmas.Bool.{cases_lt}
 use Rattle.h41_digits.specs.Register.{IsRegister}
 use Rattle.h41_fields.specs.Field.{from_to}
-use Rattle.h41_arith.specs.DigitRule.{DifferenceDigit, HasCarries, DifferenceInto, carry_digit, span_value, is_less}
+use Rattle.h41_arith.specs.DigitRule.{DifferenceDigit, HasCarries, Difference, DifferenceInto, carry_digit, zeros, span_value, is_less}
 use Rattle.h41_arith.specs.DigitRuleLaws.{BorrowTellsLess}
 
 -- a sum over a row of numbers, with the last of them
@@ -93,3 +96,33 @@ pub borrow_is_less : BorrowTellsLess
 unfolding is_less span_value from_to
 borrow_is_less base lo hi into x y z borrow ordered inside p q difference =
     told borrow (span_value x lo hi) (span_value y lo hi) (borrow_out base lo hi x y z (carry_digit borrow) p q inside difference.digits ordered)
+
+zero_at : (place : ℕ) → slice_index zeros place ≡ 0
+zero_at place = elim (cases_lt place 14) [
+  | inl below ↦ get_or-replicate 14 place 0 0 below
+  | inr above ↦ get_or-eq_default zeros 0 (above)
+]
+
+module _ (base lo hi : ℕ) (x z : List ℕ) (out : ℕ) (d : Difference base zeros x 1 lo hi z out) where
+  -- nothing is left of a zero from which a borrow is taken
+  borrow_goes_on : (count : ℕ) → lo + count ≤ hi + 1 → slice_index d.carries (lo + count) ≡ 1
+  borrow_goes_on zero within =
+      let at : lo + 0 ≡ lo = omega arith in
+      ap (slice_index d.carries) at ∙ d.first
+  borrow_goes_on (suc count) within =
+      let at : lo + count + 1 ≡ lo + suc count = omega arith in
+      sym (ap (slice_index d.carries) at) ∙ out_of (slice_index zeros (lo + count)) (slice_index x (lo + count)) (slice_index d.carries (lo + count)) _ _ (zero_at (lo + count)) (borrow_goes_on count (omega arith)) (d.places (lo + count) (omega arith) (omega arith))
+    where
+      out_of : (a b borrow digit out : ℕ) → a ≡ 0 → borrow ≡ 1 → DifferenceDigit base a b borrow digit out → out ≡ 1
+      out_of a b borrow digit out none one (inl p) = absurd (omega (arith, p.0, none, one))
+      out_of a b borrow digit out none one (inr p) = p.2
+
+  borrow_stays : lo ≤ hi → out ≡ 1
+  borrow_stays ordered =
+      let at : lo + (hi + 1 - lo) ≡ hi + 1 = omega arith in
+      sym d.last ∙ sym (ap (slice_index d.carries) at) ∙ borrow_goes_on (hi + 1 - lo) (omega arith)
+
+-- 0 - x with a borrow in has a borrow out
+pub complement_borrows : (base lo hi : ℕ) (into x z : List ℕ) (borrow : Bool) → lo ≤ hi → DifferenceInto base into zeros x true lo hi z borrow → borrow ≡ true
+complement_borrows base lo hi into x z true ordered d = refl
+complement_borrows base lo hi into x z false ordered d = absurd (omega (arith, borrow_stays base lo hi x z 0 d.digits ordered))

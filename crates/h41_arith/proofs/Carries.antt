@@ -119,7 +119,7 @@ same_carry_bit false true h = absurd (omega (arith, h))
 same_carry_bit false false h = refl
 
 -- a rule that determines one place gives one register and one carry
-pub result_determined : (rule : ℕ → ℕ → ℕ → ℕ → ℕ → Type 0) → Determines rule → IsDetermined rule
+pub result_determined : (rule : ℕ → ℕ → ℕ → ℕ → ℕ → Type 0) → Determines rule → IsDetermined (HasCarries rule)
 result_determined rule determines into x y z w carry_in carry other lo hi ordered a b = (
   ext_get_or 0 z w (a.register.size ∙ sym b.register.size) (λ place _. elim (cases_lt place lo) [
     | inl below ↦ a.outside.below place below ∙ sym (b.outside.below place below)

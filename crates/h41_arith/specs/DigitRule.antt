@@ -5,8 +5,6 @@ use Rattle.std.specs.Prelude.{◌≡◌, ℕ, ◌+◌, ◌-◌, ◌*◌, ◌%◌
 use Rattle.std.specs.List.{list_any}
 use Rattle.h41_digits.specs.Register.{IsRegister}
 use Rattle.h41_fields.specs.Field.{from_to}
-use Rattle.h41_arith.specs.declared.sums.DigitOperation.{DigitOperation}
-use Rattle.h41_arith.specs.declared.sums.DigitOperation.TheVariants.{Add, Subtract}
 
 -- one place of a sum: z and the carry out, from x, y and the carry in
 abbrev pub SumDigit : ℕ → ℕ → ℕ → ℕ → ℕ → ℕ → Type 0
@@ -20,11 +18,6 @@ abbrev pub DifferenceDigit : ℕ → ℕ → ℕ → ℕ → ℕ → ℕ → Typ
 DifferenceDigit base x y borrow_in z borrow_out =
     ((y + borrow_in ≤ x) × (z ≡ x - (y + borrow_in)) × (borrow_out ≡ 0))
     ⊎ ((x < y + borrow_in) × (z ≡ (x + base + 16 - (y + borrow_in)) % 16) × (borrow_out ≡ 1))
-
--- the rule of one place, by what is done there
-abbrev pub rule_of : DigitOperation → ℕ → ℕ → ℕ → ℕ → ℕ → ℕ → Type 0
-rule_of Add base = SumDigit base
-rule_of Subtract base = DifferenceDigit base
 
 -- There is a list of carries, the carry in (0 or 1) at place lo and the carry out after place hi, by which the rule of
 -- one place holds at each place from lo to hi. So each of these carries is 0 or 1.
@@ -51,10 +44,6 @@ base_of decimal = if decimal then 10 else 16
 abbrev pub carry_digit : Bool → ℕ
 carry_digit carry = if carry then 1 else 0
 
--- one place by a rule, with carries that are there or not
-abbrev pub HasDigit : (ℕ → ℕ → ℕ → ℕ → ℕ → Type 0) → ℕ → ℕ → Bool → ℕ → Bool → Type 0
-HasDigit rule x y carry_in z carry_out = rule x y (carry_digit carry_in) z (carry_digit carry_out)
-
 -- a register of zeros
 abbrev pub zeros : List ℕ
 zeros = replicate 14 0
@@ -64,24 +53,20 @@ pub record KeepsOutside (other : List ℕ) (lo hi : ℕ) (z : List ℕ) : Type 0
   pub below : (place : ℕ) → place < lo → slice_index z place ≡ slice_index other place
   pub above : (place : ℕ) → hi < place → slice_index z place ≡ slice_index other place
 
--- The register z has at each place from lo to hi the digit that the rule gives for x, y and the carry in, and elsewhere the
--- digit of `into`; the carry out comes from place hi.
-pub record HasResult (rule : ℕ → ℕ → ℕ → ℕ → ℕ → Type 0) (into x y : List ℕ) (carry_in : Bool) (lo hi : ℕ) (z : List ℕ) (carry_out : Bool) : Type 0 where
+-- The register z and the carry out are, over the places from lo to hi, what a rule such as `Sum` gives for x, y and the carry
+-- in; elsewhere z has the digits of `into`.
+pub record HasResult (rule : List ℕ → List ℕ → ℕ → ℕ → ℕ → List ℕ → ℕ → Type 0) (into x y : List ℕ) (carry_in : Bool) (lo hi : ℕ) (z : List ℕ) (carry_out : Bool) : Type 0 where
   pub register : IsRegister 14 z
-  pub digits : HasCarries rule x y (carry_digit carry_in) lo hi z (carry_digit carry_out)
+  pub digits : rule x y (carry_digit carry_in) lo hi z (carry_digit carry_out)
   pub outside : KeepsOutside into lo hi z
 
 -- the register z is `into` with x + y + carry in, in the places from lo to hi
 abbrev pub SumInto : ℕ → List ℕ → List ℕ → List ℕ → Bool → ℕ → ℕ → List ℕ → Bool → Type 0
-SumInto base into x y carry_in lo hi z carry_out = HasResult (SumDigit base) into x y carry_in lo hi z carry_out
+SumInto base into x y carry_in lo hi z carry_out = HasResult (Sum base) into x y carry_in lo hi z carry_out
 
 -- the register z is `into` with x - y - borrow in, in the places from lo to hi
 abbrev pub DifferenceInto : ℕ → List ℕ → List ℕ → List ℕ → Bool → ℕ → ℕ → List ℕ → Bool → Type 0
-DifferenceInto base into x y borrow_in lo hi z borrow_out = HasResult (DifferenceDigit base) into x y borrow_in lo hi z borrow_out
-
--- the register z is `into` with the sum or the difference of x and y, by what is done, in the places from lo to hi
-abbrev pub RuleInto : DigitOperation → ℕ → List ℕ → List ℕ → List ℕ → Bool → ℕ → ℕ → List ℕ → Bool → Type 0
-RuleInto operation base into x y carry_in lo hi z carry_out = HasResult (rule_of operation base) into x y carry_in lo hi z carry_out
+DifferenceInto base into x y borrow_in lo hi z borrow_out = HasResult (Difference base) into x y borrow_in lo hi z borrow_out
 
 -- the register with these digits at the places from lo to hi, and elsewhere with those of `into`
 unfoldable pub replaced : List ℕ → ℕ → ℕ → (ℕ → ℕ) → List ℕ

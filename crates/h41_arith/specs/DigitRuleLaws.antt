@@ -1,20 +1,20 @@
 -- What follows from the digit rule alone.
 use Rattle.std.specs.Prelude.{◌≡◌, ◌≢◌, ℕ, ◌<◌, ◌≤◌, ◌↔◌, Bool, false, IsTrue, List, length, slice_index}
 use Rattle.h41_digits.specs.Register.{IsRegister}
-use Rattle.h41_arith.specs.DigitRule.{SumDigit, DifferenceDigit, HasResult, DifferenceInto, KeepsOutside, replaced, is_less, is_different}
+use Rattle.h41_arith.specs.DigitRule.{Sum, Difference, HasResult, DifferenceInto, KeepsOutside, replaced, is_less, is_different}
 
--- a rule of one place gives one register and one carry
-abbrev pub IsDetermined : (ℕ → ℕ → ℕ → ℕ → ℕ → Type 0) → Type 0
+-- a rule gives one register and one carry
+abbrev pub IsDetermined : (List ℕ → List ℕ → ℕ → ℕ → ℕ → List ℕ → ℕ → Type 0) → Type 0
 IsDetermined rule = (into x y z w : List ℕ) (carry_in carry other : Bool) (lo hi : ℕ) → lo ≤ hi
     → HasResult rule into x y carry_in lo hi z carry → HasResult rule into x y carry_in lo hi w other → (z ≡ w) × (carry ≡ other)
 
 -- a sum is determined, with its carry
 abbrev pub SumIsDetermined : Type 0
-SumIsDetermined = (base : ℕ) → IsDetermined (SumDigit base)
+SumIsDetermined = (base : ℕ) → IsDetermined (Sum base)
 
 -- a difference is determined, with its borrow
 abbrev pub DifferenceIsDetermined : Type 0
-DifferenceIsDetermined = (base : ℕ) → IsDetermined (DifferenceDigit base)
+DifferenceIsDetermined = (base : ℕ) → IsDetermined (Difference base)
 
 -- in any base, the borrow of x - y tells whether x is below y
 abbrev pub BorrowTellsLess : Type 0

@@ -1,2 +1,3 @@
 pub mod DigitRule
+pub mod DigitOperations
 pub mod DigitRuleLaws

@@ -2,7 +2,8 @@
 
 ghost use Rattle.std.specs.Prelude.{◌≡◌, ◌<◌, ◌⊎◌, true, false};
 ghost use Rattle.h41_digits.specs.Register.{IsRegister};
-ghost use Rattle.h41_arith.specs.DigitRule.{SumDigit, DifferenceDigit, HasDigit, SumInto, DifferenceInto, RuleInto, rule_of, base_of, zeros};
+ghost use Rattle.h41_arith.specs.DigitRule.{SumDigit, DifferenceDigit, SumInto, DifferenceInto, base_of, zeros};
+ghost use Rattle.h41_arith.specs.DigitOperations.{HasDigit, RuleInto, rule_of};
 
 use h41_digits::Reg;
 use h41_fields::Span;
@@ -135,7 +136,8 @@ pub fn neg<const DEC: bool>(into: Reg, x: Reg, span: Span) -> (Reg, bool)
 
 /// `into` with 0 - `x` - 1 in the span, each digit's complement to the base less one, and the borrow, which is always set.
 pub fn neg1<const DEC: bool>(into: Reg, x: Reg, span: Span) -> (Reg, bool)
-    ensures { DifferenceInto (base_of DEC) into zeros x true span.lo span.hi result.0 result.1 }
+    ensures digits { DifferenceInto (base_of DEC) into zeros x true span.lo span.hi result.0 result.1 }
+    ensures borrow { result.1 ≡ true }
 {
     sub::<DEC>(into, Reg::zero(), x, true, span)
 }

@@ -1,5 +1,5 @@
 -- Laws of the byte grammar, and of the shortest spelling.
-use Rattle.std.proofs.Common.{◌≡◌, ℕ, ◌<◌, ◌≤◌, List, [], ◌++◌, length, nat_lt, refl, sym, ◌∙◌, ap, arith}
+use Rattle.std.proofs.Common.{◌≡◌, ℕ, ◌<◌, ◌≤◌, List, [], ◌++◌, length, nat_lt, refl, sym, ◌∙◌, ap, arith, subst}
 use Rattle.std.proofs.lemmas.Bool.{cond_both, cond-false, ltb-true}
 use Rattle.std.proofs.lemmas.List.{append_cancel_left, append-nil}
 use Rattle.h41_codes.specs.declared.functions.Branch.{Branch}
@@ -73,11 +73,14 @@ branch_is_shortest GoTo label =
     cond_both (nat_lt label 15) _ _ (λ line. length (spelling line) ≤ 3) (λ short. omega arith) (λ long. omega arith)
 branch_is_shortest Execute label = omega arith
 
+canonical_is_no_longer : (line : Line) → length (spelling (canonical line)) ≤ length (spelling line)
+canonical_is_no_longer (WithOperand function operand) = function_is_shortest function operand
+canonical_is_no_longer (BranchTo branch distance backwards label) = branch_is_shortest branch label
+canonical_is_no_longer Null = omega arith
+canonical_is_no_longer line = omega arith
+
 pub canonical_is_shortest : CanonicalIsShortest
-canonical_is_shortest (WithOperand function operand) = function_is_shortest function operand
-canonical_is_shortest (BranchTo branch distance backwards label) = branch_is_shortest branch label
-canonical_is_shortest Null = omega arith
-canonical_is_shortest line = omega arith
+canonical_is_shortest line other same = subst (λ shortest. length (spelling shortest) ≤ length (spelling other)) same (canonical_is_no_longer other)
 
 -- and its own
 function_once : (function : ParameterFunction) (operand : Operand) → canonical (shortest_function function operand) ≡ shortest_function function operand

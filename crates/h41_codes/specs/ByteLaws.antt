@@ -27,12 +27,12 @@ NoPrefix = (line other : Line) (rest : List ℕ) → IsLine line → IsLine othe
 abbrev pub LineHasBytes : Type 0
 LineHasBytes = (line : Line) → IsLine line → (1 ≤ length (spelling line)) × (length (spelling line) ≤ 18)
 
--- the canonical line is a line, of no more bytes, and its own canonical line
+-- the canonical line is a line, takes the fewest bytes of all lines with that canonical line, and is its own
 abbrev pub CanonicalIsLine : Type 0
 CanonicalIsLine = (line : Line) → IsLine line → IsLine (canonical line)
 
 abbrev pub CanonicalIsShortest : Type 0
-CanonicalIsShortest = (line : Line) → length (spelling (canonical line)) ≤ length (spelling line)
+CanonicalIsShortest = (line other : Line) → canonical other ≡ canonical line → length (spelling (canonical line)) ≤ length (spelling other)
 
 abbrev pub CanonicalOnce : Type 0
 CanonicalOnce = (line : Line) → canonical (canonical line) ≡ canonical line

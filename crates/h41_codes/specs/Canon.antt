@@ -1,4 +1,4 @@
--- The shortest line that means the same, with nothing kept that only the calculator uses.
+-- The canonical line: the short spelling where there are two, with nothing kept that only the calculator uses.
 use Rattle.std.specs.Prelude.{ℕ, false, nat_lt, if◌then◌else◌}
 use Rattle.h41_codes.specs.declared.functions.ParameterFunction.{ParameterFunction}
 use Rattle.h41_codes.specs.declared.functions.ParameterFunction.TheVariants.{Recall, Store, Label}

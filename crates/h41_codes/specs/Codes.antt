@@ -123,11 +123,6 @@ parameter_function_code TestClear = 0xAD
 parameter_function_code Exchange = 0xCE
 parameter_function_code Label = 0xCF
 
--- whether a byte is the code of such a function
-abbrev pub IsParameterCode : ℕ → Type 0
-IsParameterCode code =
-    ((0x90 ≤ code) × (code ≤ 0x9F)) ⊎ ((0xA8 ≤ code) × (code ≤ 0xAD)) ⊎ (code ≡ 0xCE) ⊎ (code ≡ 0xCF)
-
 -- the characters of numbers, 10 to 1C
 abbrev pub character_code : Character → ℕ
 character_code Zero = 0x10

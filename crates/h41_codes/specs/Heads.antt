@@ -1,4 +1,4 @@
--- Which first bytes lines of one and of two bytes have.
+-- What first bytes stand for, as the functions that read bytes promise it one another. No public contract needs this file.
 use Rattle.std.specs.Prelude.{ℕ, ◌<◌, ◌≤◌, ◌⊎◌, ◌≡◌, ◌+◌, List, [], length, slice_index}
 
 -- a number from the first on and below the second
@@ -21,3 +21,8 @@ LacksText bytes =
 -- so many characters of a number are all: no further one follows, or there are 16
 abbrev pub IsWholeRun : List ℕ → ℕ → Type 0
 IsWholeRun bytes count = count < length bytes → IsIn 0x10 0x1D (slice_index bytes count) → count ≡ 16
+
+-- a byte is the code of a function with a parameter
+abbrev pub IsParameterCode : ℕ → Type 0
+IsParameterCode code =
+    ((0x90 ≤ code) × (code ≤ 0x9F)) ⊎ ((0xA8 ≤ code) × (code ≤ 0xAD)) ⊎ (code ≡ 0xCE) ⊎ (code ≡ 0xCF)

@@ -13,8 +13,8 @@ const SHORT_REGISTERS: u8 = 16;
 /// The first label without a short spelling.
 const SHORT_LABELS: u8 = 15;
 
-/// The line that means the same in the fewest bytes, without the distances, links, keys and marks that only the
-/// calculator uses.
+/// The canonical line: of all lines with that canonical line the one of the fewest bytes, without the distances, links, keys
+/// and marks that only the calculator uses.
 pub fn canon(line: Line) -> Line
     ensures { result ≡ canonical line }
 {

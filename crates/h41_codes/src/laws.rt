@@ -19,7 +19,7 @@ pub fn line_has_bytes()
     ensures { LineHasBytes }
 {}
 
-/// The canonical line takes no more bytes than the line, and is its own canonical line.
+/// The canonical line takes the fewest bytes of all lines with that canonical line, and is its own.
 pub fn canonical_is_shortest()
     ensures line { CanonicalIsLine }
     ensures shortest { CanonicalIsShortest }

@@ -1,6 +1,7 @@
 //! The codes of functions and characters. Each number stands once, in a list of which macros write both directions.
 ghost use Rattle.std.specs.Prelude.{◌≡◌, ◌<◌, ◌≤◌, ◌⊎◌};
 ghost use Rattle.h41_codes.specs.Codes as spec;
+ghost use Rattle.h41_codes.specs.Heads.{IsParameterCode};
 
 use crate::characters::Character;
 use crate::functions::{Branch, Function, NameFunction, ParameterFunction, RegisterFunction};
@@ -260,7 +261,7 @@ pub(crate) fn function_code(function: Function) -> u8
 
 /// The function with a parameter of a code, 90 to 9F, A8 to AD, CE or CF.
 pub(crate) fn parameter_function(code: u8) -> ParameterFunction
-    requires { spec.IsParameterCode code }
+    requires { IsParameterCode code }
     ensures { spec.parameter_function_code result ≡ code }
 {
     parameter_functions!(name_beside (all code))

@@ -1,4 +1,4 @@
--- For this crate's own functions: a whole number to which an exact size was cut, before it is rounded.
+-- A whole number to which an exact size was cut, before it is rounded. No public contract needs this file.
 use Rattle.std.specs.Prelude.{ℕ, ◌+◌, ◌*◌, ◌^◌, ◌<◌, ◌≤◌, Result}
 use Rattle.h41_decimal.specs.NearestDecimal.{Exact, Fraction, RootOf, IsBelow, IsAtLeast, IsRounded}
 use Rattle.h41_decimal.specs.declared.fault.Fault.{Fault}

@@ -24,14 +24,6 @@ decimal_in register place (suc count) =
     then option_map (λ rest. slice_index register place + 10 * rest) (decimal_in register (place + 1) count)
     else None
 
--- two registers have the same digits below a place
-abbrev pub SameBelow : ℕ → List ℕ → List ℕ → Type 0
-SameBelow place x y = (k : ℕ) → k < place → slice_index x k ≡ slice_index y k
-
--- and from a place on
-abbrev pub SameFrom : ℕ → List ℕ → List ℕ → Type 0
-SameFrom place x y = (k : ℕ) → place ≤ k → slice_index x k ≡ slice_index y k
-
 -- the sign, in place 13: 0, or 9 for a negative number
 abbrev pub sign_in : ℕ → Option Sign
 sign_in digit = if digit == 0 then Some Plus else if digit == 9 then Some Minus else None

@@ -5,3 +5,4 @@ pub mod Operations
 pub mod Holding
 pub mod Laws
 pub mod Cut
+pub mod SameDigits

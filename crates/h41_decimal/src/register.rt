@@ -1,10 +1,11 @@
 //! Numbers in registers of 14 digits: the sign in place 13, the mantissa in places 12 to 3, the exponent in places 2 to 0.
 
 ghost use Rattle.std.specs.Prelude.{◌≡◌, ℕ, ◌+◌, ◌*◌, ◌^◌, ◌<◌, ◌≤◌, IfSome, Some, None, slice_index};
+ghost use Rattle.h41_decimal.specs.SameDigits.{SameDigitsBelow, SameDigitsFrom};
 ghost use Rattle.h41_decimal.specs.Signs.{signed};
 ghost use Rattle.std.specs.Option.{option_map};
 ghost use Rattle.h41_decimal.specs.Units.{size, units};
-ghost use Rattle.h41_decimal.specs.Holding.{SameBelow, SameFrom, decimal_in, sign_in, steps_in, parts_worth, holding_of, worth, Number};
+ghost use Rattle.h41_decimal.specs.Holding.{decimal_in, sign_in, steps_in, parts_worth, holding_of, worth, Number};
 
 use crate::parts::{Exponent, Mantissa, Size};
 use crate::sign::Sign;
@@ -116,8 +117,8 @@ fn with_digits(register: Reg, place: usize, count: usize, number: u64) -> Reg
     requires places { place + count ≤ 14 }
     requires fits { number < 10 ^ count }
     ensures written { decimal_in result place count ≡ Some number }
-    ensures below { SameBelow place result register }
-    ensures above { SameFrom (place + count) result register }
+    ensures below { SameDigitsBelow place result register }
+    ensures above { SameDigitsFrom (place + count) result register }
 {
     if count == 0 {
         return register;

@@ -6,7 +6,7 @@ ghost use Rattle.std.specs.Prelude.{◌≡◌};
 use h41_words::{Word, length};
 
 /// An instruction: a word, and the word behind it where it takes two.
-#[derive(Clone, Copy, Debug, PartialEq, Eq)]
+#[derive(Clone, Copy)]
 pub struct Piece {
     /// The word that it begins with.
     pub first: Word,
@@ -29,7 +29,7 @@ impl Piece {
 }
 
 /// The instructions that are left of words, one at a time from the front.
-#[derive(Debug, Drop)]
+#[derive(Drop)]
 pub struct Pieces<'a> {
     /// The words from the next instruction on.
     pub rest: &'a [Word],

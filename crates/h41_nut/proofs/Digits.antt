@@ -6,7 +6,7 @@ use Rattle.std.proofs.lemmas.List.FromFn.{get_or-map-range_with_len, length-map-
 use Rattle.std.proofs.lemmas.Nat.{or_lt}
 use Rattle.h41_nut.specs.RegisterWords.{by_place}
 
--- two digits joined are a digit
+-- the bits of two digits are a digit
 pub or_is_digit : (a b : ℕ) → a < 16 → b < 16 → bit_or a b < 16
 or_is_digit a b a_digit b_digit = or_lt 4 a b a_digit b_digit
 

@@ -1,14 +1,13 @@
 -- Where the processor goes: jumps and returns, and the four return addresses. An empty stack gives 0000, and a fifth
 -- address loses the oldest (this project's choice).
-use Rattle.std.specs.Prelude.{ℕ, ◌+◌, ◌*◌, ◌/◌, ℤ, Bool, true, false, not, [], ◌∷◌, ◌++◌, slice_index, take, drop, ◌&&◌, if◌then◌else◌, Result}
+use Rattle.std.specs.Prelude.{ℕ, ◌+◌, ◌*◌, ◌/◌, ℤ, Bool, true, false, not, [], ◌∷◌, ◌++◌, slice_index, take, drop, ◌&&◌, if◌then◌else◌}
 use Rattle.h41_words.specs.declared.rows.Condition.{Condition}
 use Rattle.h41_words.specs.declared.rows.Condition.TheVariants.{NoCarry, Carry}
 use Rattle.h41_words.specs.declared.second_word.LongJumpKind.{LongJumpKind}
 use Rattle.h41_words.specs.declared.second_word.LongJumpKind.TheVariants.{Execute, Go}
 use Rattle.h41_words.specs.declared.second_word.SecondWord.{SecondWord}
 use Rattle.h41_nut.specs.Addresses.{displaced}
-use Rattle.h41_nut.specs.declared.refusal.Refusal.{Refusal}
-use Rattle.h41_nut.specs.Going.{next_address, address_after_both, GoesTo}
+use Rattle.h41_nut.specs.Arrivals.{next_address, address_after_both}
 use Rattle.h41_nut.specs.Processor.{Processor}
 
 -- whether a jump or return is taken at this carry
@@ -53,13 +52,3 @@ return_change condition s = if is_taken condition s.carry then popped s else s
 -- GOTO KEY: the next address with the key's code as its low byte
 abbrev pub key_target : ℕ → Processor → ℕ
 key_target key s = next_address s / 256 * 256 + key
-
--- how the processor goes by a long jump, by a short jump, and by a return on a condition
-abbrev pub JumpsLong : {T : Type 0} → ℕ → SecondWord → Processor → Processor → Result T Refusal → Type 0
-JumpsLong low_byte second s t result = GoesTo (jump_target low_byte second) (jump_change second) s t result
-
-abbrev pub JumpsShort : {T : Type 0} → Condition → ℤ → Processor → Processor → Result T Refusal → Type 0
-JumpsShort condition displacement s t result = GoesTo (short_jump_target condition displacement) (λ s. s) s t result
-
-abbrev pub ReturnsIf : {T : Type 0} → Condition → Processor → Processor → Result T Refusal → Type 0
-ReturnsIf condition s t result = GoesTo (return_target condition) (return_change condition) s t result

@@ -1,12 +1,14 @@
 pub mod Addresses
 pub mod Arithmetic
-pub mod Going
+pub mod Arrivals
 pub mod Jumps
 pub mod MemoryWords
 pub mod PageWords
 pub mod Pointers
 pub mod Processor
+pub mod ProcessorSteps
 pub mod ProcessorLaws
 pub mod RegisterWords
+pub mod RowStep
 pub mod Unheld
 pub mod WordStep

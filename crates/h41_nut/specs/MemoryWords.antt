@@ -1,9 +1,8 @@
 -- The words that read and write the memory and the pages.
-use Rattle.std.specs.Prelude.{ℕ, List, ◌+◌, ◌*◌, ◌/◌, Option, Result}
+use Rattle.std.specs.Prelude.{ℕ, ◌+◌, ◌*◌, ◌/◌, Option}
 use Rattle.h41_pages.specs.PageMap.{PageMap, written}
 use Rattle.h41_ram.specs.RegisterMap.{RegisterMap, register_at, with_register}
 use Rattle.h41_nut.specs.declared.refusal.Refusal.{Refusal}
-use Rattle.h41_nut.specs.Going.{GoesOnUnless}
 use Rattle.h41_nut.specs.PageWords.{fetched, system_refusal, word_or_zero, write_refusal}
 use Rattle.h41_nut.specs.Processor.{Processor}
 use Rattle.h41_nut.specs.RegisterWords.{with_c, word_in_c, address_in_c, with_word_in_c}
@@ -16,9 +15,6 @@ block_address register s = s.selected / 16 * 16 + register
 -- (this project's choice)
 abbrev pub selecting : ℕ → Processor → Processor
 selecting address s = record s { selected = address }
-
-abbrev pub selecting_and_loading : ℕ → List ℕ → Processor → Processor
-selecting_and_loading address register s = selecting address (with_c register s)
 
 abbrev pub selecting_from_c : Processor → Processor
 selecting_from_c s = selecting (word_in_c s) s
@@ -54,10 +50,3 @@ refusal_to_write pages s = write_refusal pages (address_in_c s)
 -- WROM: the pages with the word in C at the address in C
 abbrev pub with_word_written : PageMap → Processor → PageMap
 with_word_written pages s = written pages (address_in_c s) (word_in_c s)
-
--- how the processor goes on with FETCH S&X, and with WROM
-abbrev pub FetchesWord : {T : Type 0} → PageMap → Processor → Processor → Result T Refusal → Type 0
-FetchesWord pages s t result = GoesOnUnless (refusal_to_fetch s) (with_fetched_word pages) s t result
-
-abbrev pub WritesWord : {T : Type 0} → PageMap → Processor → Processor → Result T Refusal → Type 0
-WritesWord pages s t result = GoesOnUnless (refusal_to_write pages s) (λ s. s) s t result

@@ -99,18 +99,18 @@ rotated register digits = by_place (λ place. slice_index register ((place + dig
 abbrev pub with_c_rotated : ℕ → Processor → Processor
 with_c_rotated digits s = with_c (rotated s.c digits) s
 
--- two registers joined, and met, bit by bit
-abbrev pub joined : List ℕ → List ℕ → List ℕ
-joined x y = by_place (λ place. bit_or (slice_index x place) (slice_index y place))
+-- the bits that one of two registers has, and those that both have
+abbrev pub digits_or : List ℕ → List ℕ → List ℕ
+digits_or x y = by_place (λ place. bit_or (slice_index x place) (slice_index y place))
 
-abbrev pub met : List ℕ → List ℕ → List ℕ
-met x y = by_place (λ place. bit_and (slice_index x place) (slice_index y place))
+abbrev pub digits_and : List ℕ → List ℕ → List ℕ
+digits_and x y = by_place (λ place. bit_and (slice_index x place) (slice_index y place))
 
-abbrev pub with_c_joined : Processor → Processor
-with_c_joined s = with_c (joined s.c s.a) s
+abbrev pub with_c_or_a : Processor → Processor
+with_c_or_a s = with_c (digits_or s.c s.a) s
 
-abbrev pub with_c_met : Processor → Processor
-with_c_met s = with_c (met s.c s.a) s
+abbrev pub with_c_and_a : Processor → Processor
+with_c_and_a s = with_c (digits_and s.c s.a) s
 
 -- A, B and C cleared
 abbrev pub with_abc_clear : Processor → Processor

@@ -14,7 +14,7 @@ use Rattle.h41_nut.specs.declared.base.Base.TheVariants.{Hexadecimal, Decimal}
 use Rattle.h41_nut.specs.declared.keys.Keys.{Keys}
 use Rattle.h41_nut.specs.declared.refusal.Refusal.{Refusal}
 use Rattle.h41_nut.specs.declared.refusal.Refusal.TheVariants.{WordNotInProfile, Asleep}
-use Rattle.h41_nut.specs.Going.{next_address, address_after_both, arrival_refusal, at_address, gone_on}
+use Rattle.h41_nut.specs.Arrivals.{next_address, address_after_both, arrival_refusal, at_address, gone_on}
 use Rattle.h41_nut.specs.Jumps as jumps
 use Rattle.h41_nut.specs.MemoryWords as memory
 use Rattle.h41_nut.specs.PageWords.{fetched, word_or_zero}
@@ -95,8 +95,8 @@ registers_after rows.FetchWord s = memory.with_fetched_word s.pages s.processor
 registers_after (rows.Transfer transfer) s = registers.transferred transfer s.processor
 -- CLRABC, C=C OR A and C=C AND A
 registers_after rows.ClearRegisters s = registers.with_abc_clear s.processor
-registers_after rows.Or s = registers.with_c_joined s.processor
-registers_after rows.And s = registers.with_c_met s.processor
+registers_after rows.Or s = registers.with_c_or_a s.processor
+registers_after rows.And s = registers.with_c_and_a s.processor
 -- XQ->GO, RTN, ?C RTN and ?NC RTN take the newest return address off
 registers_after rows.DropReturn s = jumps.popped s.processor
 registers_after rows.Return s = jumps.popped s.processor
@@ -199,8 +199,3 @@ pub record RefusesOr {T : Type 0} (reason : Option Refusal) (Change : Nut → Nu
 abbrev pub Stepped : {T : Type 0} → Result T Refusal → Processor → RegisterMap → PageMap → Keys → Processor → RegisterMap → PageMap → Keys → Type 0
 Stepped result cpu ram pages keys cpu' ram' pages' keys' =
     RefusesOr (refused (nut_of cpu ram pages keys)) Micro result (nut_of cpu ram pages keys) (nut_of cpu' ram' pages' keys')
-
--- a row was carried out: refused as `row_refusal` says and then without a change, or with its `Effect`
-abbrev pub Ran : {T : Type 0} → Row → Result T Refusal → Processor → RegisterMap → PageMap → Keys → Processor → RegisterMap → PageMap → Keys → Type 0
-Ran row result cpu ram pages keys cpu' ram' pages' keys' =
-    RefusesOr (row_refusal row (nut_of cpu ram pages keys)) (Effect row) result (nut_of cpu ram pages keys) (nut_of cpu' ram' pages' keys')

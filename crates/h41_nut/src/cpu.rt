@@ -12,7 +12,7 @@ use h41_fields::Pointer;
 use std::marker::Model;
 
 mod arithmetic;
-mod going;
+mod jumps;
 pub(crate) mod pointers;
 mod registers;
 mod status;

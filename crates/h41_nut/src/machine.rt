@@ -1,6 +1,7 @@
 //! One step: the word at the processor's address, and what it changes.
 
-ghost use Rattle.h41_nut.specs.WordStep.{Ran, Stepped};
+ghost use Rattle.h41_nut.specs.RowStep.{Ran};
+ghost use Rattle.h41_nut.specs.WordStep.{Stepped};
 
 use crate::base::Base;
 use crate::cpu::Cpu;
@@ -30,11 +31,11 @@ pub fn step<const REGS: usize>(
     ensures { Stepped result cpu.old ram.old pages.old keys.old cpu.new ram.new pages.new keys.new }
 {
     let word = fetch(pages, cpu.pc())?;
-    carry_out(row(word), cpu, ram, pages, keys)
+    execute_row(row(word), cpu, ram, pages, keys)
 }
 
 /// Carries out a row of the table of words.
-fn carry_out<const REGS: usize>(
+fn execute_row<const REGS: usize>(
     row: Row,
     cpu: &mut Cpu,
     ram: &mut Ram<REGS>,
@@ -93,8 +94,8 @@ fn carry_out<const REGS: usize>(
         Row::WriteData => write_data(cpu, ram),
         Row::ReadData => cpu.load_register(ram.read(cpu.selected())),
         Row::FetchWord => fetch_word(cpu, pages),
-        Row::Or => cpu.join_a(),
-        Row::And => cpu.meet_a(),
+        Row::Or => cpu.or_with_a(),
+        Row::And => cpu.and_with_a(),
         Row::SelectPeripheral => select_peripheral(cpu),
     }
 }

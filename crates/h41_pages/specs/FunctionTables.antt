@@ -83,13 +83,6 @@ functions_at pages page = option_map_or (λ image. functions_of image.words) (fi
 abbrev pub functions : PageMap → List Function
 functions pages = flat_map (functions_at pages) all_pages
 
--- a list after the functions of a page were put behind it: by the page's words, and by its number
-abbrev pub AddsOf : List ℕ → List Function → List Function → Type 0
-AddsOf words old new = new ≡ old ++ functions_of words
-
-abbrev pub AddsAt : PageMap → ℕ → List Function → List Function → Type 0
-AddsAt pages page old new = new ≡ old ++ functions_at pages page
-
 -- the function with a name is the first that has it; it is called by its two numbers
 abbrev pub is_named : List ℕ → Function → Bool
 is_named name function = option_map_or (λ own. bytes_eq own name) function.name false

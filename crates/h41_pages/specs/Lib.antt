@@ -2,4 +2,5 @@ pub mod Addresses
 pub mod PageMap
 pub mod Images
 pub mod FunctionTables
+pub mod AddedFunctions
 pub mod PageLaws

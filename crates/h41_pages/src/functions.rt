@@ -3,6 +3,7 @@
 
 ghost use Rattle.std.specs.Prelude.{◌≡◌, ◌<◌, ◌≤◌, ◌+◌, ◌++◌, find, option_map, IfOk, IfSome, OnOk, Some, length, slice_index};
 ghost use Rattle.h41_words.specs.Counts.{word_count};
+ghost use Rattle.h41_pages.specs.AddedFunctions.{AddsAt, AddsOf};
 ghost use Rattle.h41_pages.specs.Addresses.{page_size};
 ghost use Rattle.h41_pages.specs.FunctionTables as spec;
 
@@ -120,7 +121,7 @@ impl Pages {
     /// Adds the functions of a page to a list.
     fn add_functions_at(&self, page: usize, functions: &mut Vec<Function>) -> Result<(), AllocError>
         requires { page < 16 }
-        ensures { OnOk result (spec.AddsAt self.now page functions.old.items functions.new.items) }
+        ensures { OnOk result (AddsAt self.now page functions.old.items functions.new.items) }
     {
         match self.image(page, Bank::First) {
             None => Ok(()),
@@ -252,7 +253,7 @@ impl Image {
 
     /// Adds its functions to a list.
     fn add_functions(&self, functions: &mut Vec<Function>) -> Result<(), AllocError>
-        ensures { OnOk result (spec.AddsOf self.now.words functions.old.items functions.new.items) }
+        ensures { OnOk result (AddsOf self.now.words functions.old.items functions.new.items) }
     {
         let count = self.entry_count();
         for entry in 0..count {

@@ -6,11 +6,9 @@ use Rattle.h41_codes.specs.declared.line.Line.{Line}
 use Rattle.h41_codes.specs.declared.line.Line.TheVariants.{End}
 use Rattle.h41_ram.specs.RegisterMap.{RegisterMap}
 use Rattle.h41_program.specs.declared.listed_line.ListedLine.{ListedLine}
-use Rattle.h41_program.specs.declared.packer.Packer.{Packer}
 use Rattle.h41_program.specs.declared.refusal.Refusal.{Refusal}
 use Rattle.h41_program.specs.declared.refusal.Refusal.TheVariants.{BrokenProgram}
 use Rattle.h41_program.specs.Lines.{is_end, is_final_end}
-use Rattle.h41_program.specs.Packers.{Packs}
 use Rattle.h41_program.specs.Packing.{last_line, packed}
 use Rattle.h41_program.specs.ProgramBytes.{program_bytes, final_position}
 use Rattle.h41_program.specs.ProgramLines.{FirstFrom, HasNoLine, LinesFrom, Reads, behind}
@@ -55,10 +53,6 @@ loaded_of bytes given =
 abbrev pub answered : {A : Type 0} → A → Result RegisterMap Refusal → Result (RegisterMap × A) Refusal
 answered answer (Ok memory) = Ok (memory, answer)
 answered answer (Err refusal) = Err refusal
-
--- the lines of a packer are written into memory
-abbrev pub Writes : Packer → RegisterMap → RegisterMap → Result (Unit {0}) Refusal → Type 0
-Writes packer old new result = (lines : List Line) → Packs packer lines → Gives old new result (answered tt (written old lines))
 
 -- lines loaded behind others: the answer is where the first of them begins
 abbrev pub joined : RegisterMap → List Line → List Line → Result (RegisterMap × ℕ) Refusal
@@ -123,14 +117,3 @@ EditGives memory change at outcome =
 -- the list is changed at the line that a position stands for
 abbrev pub Edits : RegisterMap → RegisterMap → (ℕ → ListedLine → List Line) → ℕ → Result (Unit {0}) Refusal → Type 0
 Edits old new change at result = (outcome : Result (RegisterMap × Unit {0}) Refusal) × EditGives old change at outcome × Gives old new result outcome
-
--- the same by the line's own position
-abbrev pub EditsAt : RegisterMap → RegisterMap → (ListedLine → List Line) → ℕ → Result (Unit {0}) Refusal → Type 0
-EditsAt old new change position result =
-    (outcome : Result (RegisterMap × Unit {0}) Refusal) × ChangeGives old change position outcome × Gives old new result outcome
-
--- a packer has the changed lines, where the list reaches .END. and has a line at the position
-abbrev pub PacksChanged : RegisterMap → (ListedLine → List Line) → ℕ → Result Packer Refusal → Type 0
-PacksChanged memory change position result =
-    (lines : List ListedLine) × LinesFrom memory 0 lines
-    × MatchBool (is_some (before_end lines) && has_line_at position lines) (IsOkAnd result (λ packer. Packs packer (flat_map change lines))) (result ≡ Err BrokenProgram)

@@ -1,4 +1,5 @@
 pub mod Edits
+pub mod EditSteps
 pub mod Lines
 pub mod LoadSteps
 pub mod Packers
@@ -6,6 +7,7 @@ pub mod Packing
 pub mod ProgramBytes
 pub mod ProgramLaws
 pub mod ProgramLines
+pub mod ProgramPlaces
 pub mod Reading
 pub mod Rewriting
 pub mod Searches

@@ -1,4 +1,4 @@
--- What the functions that load promise one another.
+-- What the functions that load promise one another. No public contract needs this file.
 use Rattle.std.specs.Prelude.{◌≡◌, ℕ, List, [], ◌∷◌, ◌++◌, length, ◌==◌, if◌then◌else◌, Option, Some, None, MatchOption, IsOkAnd, Result, Ok, Err}
 use Rattle.std.specs.List.{list_all}
 use Rattle.h41_program.specs.Lines.{is_end}

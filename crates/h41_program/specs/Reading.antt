@@ -1,4 +1,4 @@
--- What the functions that read program memory promise one another.
+-- What the functions that read program memory promise one another. No public contract needs this file.
 use Rattle.std.specs.Prelude.{◌≡◌, ℕ, ◌-◌, ◌/◌, IsTrue, IsFalse, MatchBool, List, length}
 use Rattle.h41_ram.specs.RegisterMap.{RegisterMap, curtain_of, register_at}
 use Rattle.h41_program.specs.declared.listed_line.ListedLine.{ListedLine}

@@ -48,11 +48,3 @@ written memory lines =
 abbrev pub Gives : {A : Type 0} → RegisterMap → RegisterMap → Result A Refusal → Result (RegisterMap × A) Refusal → Type 0
 Gives old new result (Ok outcome) = (result ≡ Ok outcome.1) × (new ≡ outcome.0)
 Gives old new result (Err refusal) = (result ≡ Err refusal) × (new ≡ old)
-
--- where a program of so many bytes ends that fills its registers
-pub record IsPlace (memory : RegisterMap) (count end : ℕ) : Type 0 where
-  pub size : 7 * (curtain_of memory - end) ≡ count
-  pub low : main_start ≤ end
-  pub order : end ≤ curtain_of memory
-  pub inside : curtain_of memory ≤ top_of memory
-  pub small : top_of memory ≤ main_start + 320

@@ -50,12 +50,3 @@ size_outcome memory size =
     (if nat_lt (moved_curtain memory size + end_of memory) (main_start + curtain_of memory) then Err NoRoom
     else Ok (resized memory size, tt))
     else Err SizeTooLarge
-
--- an end and a curtain to which the program of a memory moves
-pub record IsMove (memory : RegisterMap) (curtain end : ℕ) : Type 0 where
-  pub low : main_start ≤ end
-  pub high : curtain ≤ top_of memory
-  pub same : end + curtain_of memory ≡ curtain + end_of memory
-  pub order : end_of memory < curtain_of memory
-  pub inside : curtain_of memory ≤ top_of memory
-  pub small : top_of memory ≤ main_start + 320

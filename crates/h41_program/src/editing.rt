@@ -2,7 +2,8 @@
 ghost use Rattle.std.specs.Prelude.{◌≡◌, ◌==◌, ◌||◌, if◌then◌else◌, IsTrue, Ok, Err};
 ghost use Rattle.h41_codes.specs.ByteGrammar.{IsLine};
 ghost use Rattle.h41_ram.specs.RegisterMap.{is_sound};
-ghost use Rattle.h41_program.specs.Edits.{Edits, EditsAt, PacksChanged, with_inserted, with_replaced, without_deleted};
+ghost use Rattle.h41_program.specs.Edits.{Edits, with_inserted, with_replaced, without_deleted};
+ghost use Rattle.h41_program.specs.EditSteps.{EditsAt, PacksChanged};
 ghost use Rattle.h41_program.specs.Packers.{Puts, line_if};
 ghost use Rattle.h41_program.specs.declared.refusal.Refusal.TheVariants.{BrokenProgram};
 
@@ -33,7 +34,7 @@ pub fn insert<const REGS: usize>(
 }
 
 /// Deletes the line that a position stands for; `.END.` stays. 14 where the list has no such line or does not reach `.END.`, 16
-/// where the program would pass below main memory: only where numbers stood together without a null.
+/// where the program would pass below main memory.
 pub fn delete<const REGS: usize>(ram: &mut Ram<REGS>, at: u16) -> Result<(), Refusal>
     requires { IsTrue (is_sound ram.old) }
     ensures { Edits ram.old ram.new without_deleted at result }
@@ -114,7 +115,7 @@ fn packed_with<const REGS: usize>(
         let Found { listed, behind } = found;
         let here = stands_at(&listed, place);
         put_if(&mut packer, line, here);
-        met = either(met, here);
+        met = is_met(met, here);
         if is_final_end(listed.line) {
             return where_met(packer, met);
         }
@@ -135,7 +136,7 @@ fn packed_without<const REGS: usize>(ram: &Ram<REGS>, place: u16) -> Result<Pack
     while let Some(found) = first_from(ram, at) {
         let Found { listed, behind } = found;
         let here = stands_at(&listed, place);
-        met = either(met, here);
+        met = is_met(met, here);
         if is_final_end(listed.line) {
             return where_met(packer, met);
         }
@@ -162,7 +163,7 @@ fn packed_replaced<const REGS: usize>(
         let Found { listed, behind } = found;
         let there = stands_at(&listed, place);
         put_if(&mut packer, line, there);
-        met = either(met, there);
+        met = is_met(met, there);
         if is_final_end(listed.line) {
             return where_met(packer, met);
         }
@@ -179,11 +180,11 @@ fn stands_at(listed: &ListedLine, place: u16) -> bool
     listed.position == place
 }
 
-/// Whether one of two holds.
-fn either(one: bool, other: bool) -> bool
-    ensures { result ≡ (one || other) }
+/// Whether the line at the position was met before, or is met here.
+fn is_met(before: bool, here: bool) -> bool
+    ensures { result ≡ (before || here) }
 {
-    one || other
+    before || here
 }
 
 /// Puts a line behind others where it is wanted.

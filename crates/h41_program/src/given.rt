@@ -7,7 +7,7 @@ use h41_codes::laws::byte_round_trip;
 use h41_codes::{Line, decode};
 
 /// A line that was taken of bytes.
-#[derive(Clone, Copy, Debug)]
+#[derive(Clone, Copy)]
 pub struct Taken {
     /// Where it begins.
     pub position: usize,

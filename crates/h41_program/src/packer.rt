@@ -4,7 +4,8 @@ ghost use Rattle.std.specs.Option.{option_map_or};
 ghost use Rattle.h41_program.specs.Lines.{is_number, is_end};
 ghost use Rattle.h41_codes.specs.ByteGrammar.{spelling, IsLine};
 ghost use Rattle.h41_codes.specs.declared.line.Line.{Line as Spoken};
-ghost use Rattle.h41_program.specs.Edits.{Writes, closed};
+ghost use Rattle.h41_program.specs.Edits.{closed};
+ghost use Rattle.h41_program.specs.EditSteps.{Writes};
 ghost use Rattle.h41_ram.specs.RegisterMap.{curtain_of, is_sound, main_start};
 ghost use Rattle.h41_program.specs.Packers.{Packs, Pushes, Puts, parting};
 ghost use Rattle.h41_program.specs.Packing.{filled_up};
@@ -23,7 +24,7 @@ const MOST: usize = 2237;
 pub type Bytes = ArrayVec<u8, 2240>;
 
 /// Lines put one behind the other, as program memory holds them.
-#[derive(Debug, Drop)]
+#[derive(Drop)]
 pub struct Packer {
     /// Their bytes, where they are not too many.
     pub bytes: Bytes,

@@ -1,9 +1,10 @@
 //! The number of data registers.
 ghost use Rattle.std.specs.Prelude.{◌≡◌, ◌+◌, ◌-◌, ◌<◌, ◌≤◌, IsTrue};
 ghost use Rattle.h41_ram.specs.RegisterMap.{IsMemory, is_sound, curtain_of, top_of};
+ghost use Rattle.h41_program.specs.ProgramPlaces.{IsMove};
 ghost use Rattle.h41_program.specs.Rewriting.{Gives};
 ghost use Rattle.h41_program.specs.Size as place;
-ghost use Rattle.h41_program.specs.Size.{IsMove, resized, resized_c, resized_register, size_outcome};
+ghost use Rattle.h41_program.specs.Size.{resized, resized_c, resized_register, size_outcome};
 
 use crate::refusal::Refusal;
 use crate::registers::{

@@ -83,11 +83,6 @@ means number (Some meant) = meant == number
 abbrev pub mapped_line : ℕ → ℕ
 mapped_line number = position_or_len (means number) mapped_column
 
--- which columns are mapped
-abbrev pub IsMappedColumn : ℕ → Type 0
-IsMappedColumn column =
-    (column ≡ 0x04) ⊎ (column ≡ 0x08) ⊎ (column ≡ 0x0C) ⊎ (column ≡ 0x14) ⊎ (column ≡ 0x1C) ⊎ (column ≡ 0x3C)
-
 -- the bits 9 to 3 of a short jump: its displacement, where -1 is 127 and -64 is 64
 abbrev pub displacement_bits : ℤ → ℕ
 displacement_bits (pos words) = words

@@ -1,6 +1,7 @@
 //! The table of the words: from a word to its row, and back.
 ghost use Rattle.std.specs.Prelude.{◌≡◌, ◌%◌, ◌/◌, ◌<◌, ◌⊎◌, IfSome, IfNone};
 ghost use Rattle.h41_words.specs.Counts.{word_count, place_count};
+ghost use Rattle.h41_words.specs.MappedColumns.{IsMappedColumn};
 ghost use Rattle.h41_words.specs.WordTable as spec;
 
 use crate::operands::{BlockRegister, Digit, Displacement, Place, ReadRegister, StatusBit};
@@ -310,7 +311,7 @@ fn meant_by(line: u8) -> Option<u8>
 /// The row of a word of a mapped column where its line means a number, 0 to 13.
 #[tactic(auto, unfolding(crate::specs::WordTable::number_of))]
 fn mapped(word: Word, meant: u8) -> Row
-    requires column { spec.IsMappedColumn (word % 64) }
+    requires column { IsMappedColumn (word % 64) }
     requires meant { spec.mapped_line meant ≡ word / 64 }
     requires bound { meant < place_count }
     ensures number { spec.number_of result ≡ word }
@@ -329,7 +330,7 @@ fn mapped(word: Word, meant: u8) -> Row
 /// The row of a word of a mapped column where its line, 7 or 15, means no number.
 #[tactic(auto, unfolding(crate::specs::WordTable::number_of))]
 fn unmapped(word: Word) -> Row
-    requires column { spec.IsMappedColumn (word % 64) }
+    requires column { IsMappedColumn (word % 64) }
     requires line { (word / 64 ≡ 7) ⊎ (word / 64 ≡ 15) }
     ensures number { spec.number_of result ≡ word }
     ensures valid { spec.IsRow result }

@@ -4,11 +4,11 @@ ghost use Rattle.std.specs.Prelude.{◌≡◌, false, OnOk, OnErr};
 ghost use Rattle.std.specs.Result.{result_err};
 ghost use Rattle.h41_arith.specs.DigitRule.{base_of};
 ghost use Rattle.h41_nut.specs.Arithmetic.{Operates, OperatesOn, base_number};
-ghost use Rattle.h41_nut.specs.Going.{arrival_refusal, next_address, gone_on};
+ghost use Rattle.h41_nut.specs.Arrivals.{arrival_refusal, next_address, gone_on};
 
 use crate::base::Base;
 use crate::cpu::Cpu;
-use crate::cpu::going::arrival;
+use crate::cpu::jumps::arrival;
 use crate::refusal::Refusal;
 use h41_arith::{
     add, copy, dec, differs, exchange, inc, less, neg, neg1, nonzero, shift_left, shift_right, sub,

@@ -1,11 +1,11 @@
 //! The words of the pointers.
 
 ghost use Rattle.std.specs.Prelude.{◌≡◌, ◌<◌};
-ghost use Rattle.h41_nut.specs.Going.{GoesOn};
+ghost use Rattle.h41_nut.specs.ProcessorSteps.{GoesOn};
 ghost use Rattle.h41_nut.specs.Pointers as spec;
 
 use crate::cpu::Cpu;
-use crate::cpu::going::arrival;
+use crate::cpu::jumps::arrival;
 use crate::refusal::Refusal;
 use h41_digits::PLACES;
 use h41_fields::Pointer;

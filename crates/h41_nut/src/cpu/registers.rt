@@ -2,13 +2,14 @@
 
 ghost use Rattle.std.specs.Prelude.{◌≡◌, ◌<◌};
 ghost use Rattle.h41_words.specs.Counts.{word_count};
-ghost use Rattle.h41_nut.specs.Going.{GoesOn, GoesTo, address_after_both};
-ghost use Rattle.h41_nut.specs.MemoryWords.{block_address, selecting, selecting_and_loading};
+ghost use Rattle.h41_nut.specs.Arrivals.{address_after_both};
+ghost use Rattle.h41_nut.specs.MemoryWords.{block_address, selecting};
+ghost use Rattle.h41_nut.specs.ProcessorSteps.{GoesOn, GoesTo, selecting_and_loading};
 ghost use Rattle.h41_nut.specs.RegisterWords as spec;
 
 use crate::base::Base;
 use crate::cpu::Cpu;
-use crate::cpu::going::arrival;
+use crate::cpu::jumps::arrival;
 use crate::cpu::pointers::{place_above, place_below};
 use crate::refusal::Refusal;
 use h41_digits::{PLACES, Reg};
@@ -108,22 +109,22 @@ impl Cpu {
         Ok(())
     }
 
-    /// `C=C OR A`: joins C and A bit by bit.
-    pub(crate) fn join_a(&mut self) -> Result<(), Refusal>
-        ensures { GoesOn spec.with_c_joined self.old self.new result }
+    /// `C=C OR A`: C keeps its bits and takes those of A.
+    pub(crate) fn or_with_a(&mut self) -> Result<(), Refusal>
+        ensures { GoesOn spec.with_c_or_a self.old self.new result }
     {
         let next = arrival(self.next_address())?;
-        self.c = joined(self.c, self.a);
+        self.c = digits_or(self.c, self.a);
         self.arrive(next, false);
         Ok(())
     }
 
-    /// `C=C AND A`: meets C and A bit by bit.
-    pub(crate) fn meet_a(&mut self) -> Result<(), Refusal>
-        ensures { GoesOn spec.with_c_met self.old self.new result }
+    /// `C=C AND A`: C keeps the bits that A has too.
+    pub(crate) fn and_with_a(&mut self) -> Result<(), Refusal>
+        ensures { GoesOn spec.with_c_and_a self.old self.new result }
     {
         let next = arrival(self.next_address())?;
-        self.c = met(self.c, self.a);
+        self.c = digits_and(self.c, self.a);
         self.arrive(next, false);
         Ok(())
     }
@@ -261,10 +262,10 @@ fn rotated(register: Reg, digits: usize) -> Reg
     result
 }
 
-/// Two registers joined bit by bit.
+/// The bits that stand in one of two registers or in both.
 #[tactic(auto, using(crate::proofs::Digits::or_is_digit))]
-fn joined(x: Reg, y: Reg) -> Reg
-    ensures { result ≡ spec.joined x y }
+fn digits_or(x: Reg, y: Reg) -> Reg
+    ensures { result ≡ spec.digits_or x y }
 {
     let mut result = x;
     for place in 0..PLACES {
@@ -273,9 +274,9 @@ fn joined(x: Reg, y: Reg) -> Reg
     result
 }
 
-/// Two registers met bit by bit.
-fn met(x: Reg, y: Reg) -> Reg
-    ensures { result ≡ spec.met x y }
+/// The bits that stand in both of two registers.
+fn digits_and(x: Reg, y: Reg) -> Reg
+    ensures { result ≡ spec.digits_and x y }
 {
     let mut result = x;
     for place in 0..PLACES {

@@ -1,11 +1,11 @@
 //! The words of the status bits.
 
 ghost use Rattle.std.specs.Prelude.{◌≡◌};
-ghost use Rattle.h41_nut.specs.Going.{GoesOn};
+ghost use Rattle.h41_nut.specs.ProcessorSteps.{GoesOn};
 ghost use Rattle.h41_nut.specs.Pointers as spec;
 
 use crate::cpu::Cpu;
-use crate::cpu::going::arrival;
+use crate::cpu::jumps::arrival;
 use crate::refusal::Refusal;
 use crate::status_bits::{StatusBits, named};
 use bitflags::Flags;

@@ -1,7 +1,7 @@
 //! The words that write and read the memory.
 
 ghost use Rattle.std.specs.Prelude.{◌≡◌, OnOk, OnErr};
-ghost use Rattle.h41_nut.specs.Going.{GoesOn};
+ghost use Rattle.h41_nut.specs.ProcessorSteps.{GoesOn};
 ghost use Rattle.h41_nut.specs.MemoryWords as spec;
 
 use crate::cpu::Cpu;

@@ -1,7 +1,7 @@
 //! The words of the key flag and of peripherals, and those that stand for nothing.
 
 ghost use Rattle.std.specs.Prelude.{◌≡◌, false, OnOk, OnErr};
-ghost use Rattle.h41_nut.specs.Going.{GoesOn, GoesOnUnless};
+ghost use Rattle.h41_nut.specs.ProcessorSteps.{GoesOn, GoesOnUnless};
 ghost use Rattle.h41_nut.specs.Unheld as spec;
 
 use crate::cpu::Cpu;

@@ -4,6 +4,7 @@ ghost use Rattle.std.specs.Prelude.{◌≡◌, IfOk, OnOk, OnErr};
 ghost use Rattle.std.specs.Result.{result_err};
 ghost use Rattle.h41_nut.specs.PageWords.{fetched, system_refusal, word_or_zero};
 ghost use Rattle.h41_nut.specs.MemoryWords as spec;
+ghost use Rattle.h41_nut.specs.ProcessorSteps.{FetchesWord, WritesWord};
 
 use crate::cpu::Cpu;
 use crate::refusal::Refusal;
@@ -32,7 +33,7 @@ fn fetch_or_zero(pages: &Pages, address: u16) -> Result<Word, Refusal>
 
 /// `WROM`: the word in C is written at the address in C. Refused as 12 before all else where its page is not writable.
 pub fn write_rom(cpu: &mut Cpu, pages: &mut Pages) -> Result<(), Refusal>
-    ensures processor { spec.WritesWord pages.old cpu.old cpu.new result }
+    ensures processor { WritesWord pages.old cpu.old cpu.new result }
     ensures written { OnOk result (pages.new ≡ spec.with_word_written pages.old cpu.old) }
     ensures kept { OnErr result (pages.new ≡ pages.old) }
 {
@@ -47,7 +48,7 @@ pub fn write_rom(cpu: &mut Cpu, pages: &mut Pages) -> Result<(), Refusal>
 /// `FETCH S&X`: the word at the address in C goes to C; 000 where no page is plugged there. Refused as 8 before all else in
 /// the system's pages.
 pub fn fetch_word(cpu: &mut Cpu, pages: &Pages) -> Result<(), Refusal>
-    ensures { spec.FetchesWord pages.now cpu.old cpu.new result }
+    ensures { FetchesWord pages.now cpu.old cpu.new result }
 {
     let word = fetch_or_zero(pages, cpu.address_in_c())?;
     cpu.load_word(word)

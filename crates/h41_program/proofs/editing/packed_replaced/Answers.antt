@@ -16,7 +16,7 @@ loop-found-preserved g c =
     let found = c.in-Some.found in
     let before = c.loop-found.invariant in
     let running = sym c.is_final_end.ensures ∙ c.if-is_final_end.false in
-    let met = c.either-met.ensures ∙ ap (λ b. b || c.stands_at-there.result) before.1.found ∙ ap (λ b. has_line_at c.args.place before.0 || b) c.stands_at-there.ensures in (
+    let met = c.is_met-met.ensures ∙ ap (λ b. b || c.stands_at-there.result) before.1.found ∙ ap (λ b. has_line_at c.args.place before.0 || b) c.stands_at-there.ensures in (
       before.0 ++ found.listed ∷ [],
       record {
         read = up_to_more (program_bytes memory) (final_position memory) 0 c.loop-found.at found.behind before.0 found.listed before.1.read c.in-Some.ensures.first running;
@@ -33,11 +33,11 @@ returns-then-is_final_end g c =
     let before = c.loop-found.invariant in
     let lines = before.0 ++ found.listed ∷ [] in
     let final = sym c.is_final_end.ensures ∙ c.if-is_final_end.true in
-    let met = c.either-met.ensures ∙ ap (λ b. b || c.stands_at-there.result) before.1.found ∙ ap (λ b. has_line_at c.args.place before.0 || b) c.stands_at-there.ensures in
+    let met = c.is_met-met.ensures ∙ ap (λ b. b || c.stands_at-there.result) before.1.found ∙ ap (λ b. has_line_at c.args.place before.0 || b) c.stands_at-there.ensures in
     let reads = all_final (program_bytes memory) (final_position memory) 0 c.loop-found.at found.behind before.0 found.listed before.1.read c.in-Some.ensures.first final in (
       lines,
       from_reads memory 0 lines c.requires.sound reads,
-      changed_final (program_bytes memory) (final_position memory) c.loop-found.at found.behind c.put_if.new.packer c.either-met.result (with_replaced c.args.line.now c.args.place) c.args.place before.0 lines found.listed
+      changed_final (program_bytes memory) (final_position memory) c.loop-found.at found.behind c.put_if.new.packer c.is_met-met.result (with_replaced c.args.line.now c.args.place) c.args.place before.0 lines found.listed
           before.1.read c.in-Some.ensures.first final
           (replaced_last c.put_if.new.packer c.args.line.now c.args.place before.0 found.listed c.stands_at-there.result c.stands_at-there.ensures final (c.put_if.ensures (flat_map (with_replaced c.args.line.now c.args.place) before.0) before.1.packs))
           (met ∙ sym (has_line_at-more c.args.place before.0 found.listed)) reads c.where_met.result c.where_met.ensures,

@@ -1,6 +1,7 @@
 use Rattle.std.proofs.Common.{◌≡◌, ◌+◌, ◌<◌, ◌≢◌, length, arith, refl, subst, ◌∙◌}
 use Rattle.std.proofs.lemmas.List.{get_or-set_other}
-use Rattle.h41_arith.specs.DigitRule.{rule_of, carry_digit}
+use Rattle.h41_arith.specs.DigitRule.{carry_digit}
+use Rattle.h41_arith.specs.DigitOperations.{rule_of}
 use Rattle.h41_arith.proofs.Carries.{CarriedTo, carried_none, carried_more, carried_all, carry_le}
 use Rattle.h41_arith.proofs.sums.DigitOperation.over_span.Goals as goal
 

@@ -1,7 +1,7 @@
 use Rattle.std.proofs.Common.{get_or, arith}
 use Rattle.std.specs.Int.RustNames.{bit_or}
 use Rattle.h41_nut.proofs.Digits.{by_place-is}
-use Rattle.h41_nut.proofs.cpu.registers.joined.Goals as goal
+use Rattle.h41_nut.proofs.cpu.registers.digits_or.Goals as goal
 
 pub returns : goal.returns
 returns c =

@@ -1,6 +1,6 @@
 use Rattle.std.proofs.Common.{◌≡◌, ℕ, ◌<◌, length, get_or}
 use Rattle.std.specs.Int.RustNames.{bit_or}
-use Rattle.h41_nut.proofs.cpu.registers.joined.Given as goal
+use Rattle.h41_nut.proofs.cpu.registers.digits_or.Given as goal
 
 -- the digits below this place are those of the result
 abbrev pub invariant-loop-place : goal.invariant-loop-place

@@ -1,7 +1,7 @@
 use Rattle.std.proofs.Common.{get_or, arith}
 use Rattle.std.specs.Int.RustNames.{bit_and}
 use Rattle.h41_nut.proofs.Digits.{by_place-is}
-use Rattle.h41_nut.proofs.cpu.registers.met.Goals as goal
+use Rattle.h41_nut.proofs.cpu.registers.digits_and.Goals as goal
 
 pub returns : goal.returns
 returns c =

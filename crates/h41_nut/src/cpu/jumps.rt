@@ -3,8 +3,8 @@
 ghost use Rattle.std.specs.Prelude.{◌≡◌, IfOk};
 ghost use Rattle.std.specs.Result.{result_err};
 ghost use Rattle.h41_nut.specs.Addresses.{displaced};
-ghost use Rattle.h41_nut.specs.Going as going;
-ghost use Rattle.h41_nut.specs.Going.{GoesTo, GoesOn, GoesOnTelling};
+ghost use Rattle.h41_nut.specs.Arrivals as arrivals;
+ghost use Rattle.h41_nut.specs.ProcessorSteps.{GoesTo, GoesOn, GoesOnTelling, JumpsLong, JumpsShort, ReturnsIf};
 ghost use Rattle.h41_nut.specs.Jumps as spec;
 ghost use Rattle.h41_nut.specs.RegisterWords.{with_address_pushed, with_address_popped};
 
@@ -17,14 +17,14 @@ use h41_words::{Condition, Displacement, LongJumpKind, SecondWord};
 impl Cpu {
     /// The address after the word.
     pub(crate) fn next_address(&self) -> u16
-        ensures { result ≡ going.next_address self.now }
+        ensures { result ≡ arrivals.next_address self.now }
     {
         self.pc.wrapping_add(1)
     }
 
     /// Stands at an address, with a carry.
     pub(crate) fn arrive(&mut self, address: u16, carry: bool)
-        ensures { self.new ≡ going.at_address address carry self.old }
+        ensures { self.new ≡ arrivals.at_address address carry self.old }
     {
         self.pc = address;
         self.carry = carry;
@@ -58,7 +58,7 @@ impl Cpu {
     /// `?NC XQ` and the like: goes to the address of both words, where the carry is as the second word says. `XQ` keeps the
     /// address after both words.
     pub(crate) fn long_jump(&mut self, low_byte: u8, second: SecondWord) -> Result<(), Refusal>
-        ensures { spec.JumpsLong low_byte second self.old self.new result }
+        ensures { JumpsLong low_byte second self.old self.new result }
     {
         let after_both = self.pc.wrapping_add(2);
         if !is_taken(second.condition, self.carry) {
@@ -78,7 +78,7 @@ impl Cpu {
         condition: Condition,
         displacement: Displacement,
     ) -> Result<(), Refusal>
-        ensures { spec.JumpsShort condition displacement self.old self.new result }
+        ensures { JumpsShort condition displacement self.old self.new result }
     {
         if is_taken(condition, self.carry) {
             self.go_to(displaced(self.pc, displacement))
@@ -99,7 +99,7 @@ impl Cpu {
 
     /// `?C RTN` and `?NC RTN`: returns where the carry is as the condition says.
     pub(crate) fn return_if(&mut self, condition: Condition) -> Result<(), Refusal>
-        ensures { spec.ReturnsIf condition self.old self.new result }
+        ensures { ReturnsIf condition self.old self.new result }
     {
         if is_taken(condition, self.carry) {
             self.return_to_newest()
@@ -200,7 +200,7 @@ fn displaced(address: u16, displacement: Displacement) -> u16
 
 /// The address, unless no step may arrive there.
 pub(crate) fn arrival(address: u16) -> Result<u16, Refusal>
-    ensures refusal { result_err result ≡ going.arrival_refusal address }
+    ensures refusal { result_err result ≡ arrivals.arrival_refusal address }
     ensures address { IfOk result (λ arrived. arrived ≡ address) }
 {
     if address < FIRST_ADDRESS && address != END_OF_FUNCTION {

@@ -1,0 +1,18 @@
+-- What the private functions of sums promise one another: one loop does sums and differences. No public contract needs this file.
+use Rattle.std.specs.Prelude.{ℕ, Bool, List}
+use Rattle.h41_arith.specs.DigitRule.{SumDigit, DifferenceDigit, HasCarries, HasResult, carry_digit}
+use Rattle.h41_arith.specs.declared.sums.DigitOperation.{DigitOperation}
+use Rattle.h41_arith.specs.declared.sums.DigitOperation.TheVariants.{Add, Subtract}
+
+-- the rule of one place, by what is done there
+abbrev pub rule_of : DigitOperation → ℕ → ℕ → ℕ → ℕ → ℕ → ℕ → Type 0
+rule_of Add base = SumDigit base
+rule_of Subtract base = DifferenceDigit base
+
+-- one place by a rule, with carries that are there or not
+abbrev pub HasDigit : (ℕ → ℕ → ℕ → ℕ → ℕ → Type 0) → ℕ → ℕ → Bool → ℕ → Bool → Type 0
+HasDigit rule x y carry_in z carry_out = rule x y (carry_digit carry_in) z (carry_digit carry_out)
+
+-- the register z is `into` with the sum or the difference of x and y, by what is done, in the places from lo to hi
+abbrev pub RuleInto : DigitOperation → ℕ → List ℕ → List ℕ → List ℕ → Bool → ℕ → ℕ → List ℕ → Bool → Type 0
+RuleInto operation base into x y carry_in lo hi z carry_out = HasResult (HasCarries (rule_of operation base)) into x y carry_in lo hi z carry_out

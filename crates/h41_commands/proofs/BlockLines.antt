@@ -8,7 +8,7 @@ use Rattle.std.proofs.lemmas.List.Folds.{list_any-append}
 use Rattle.h41_commands.specs.declared.commands.BlockKind.{BlockKind}
 use Rattle.h41_commands.specs.Blocks.{TakenBlock, Takes}
 use Rattle.h41_commands.specs.Entries.{IsTaken}
-use Rattle.h41_commands.specs.Lines.{is_end}
+use Rattle.h41_commands.specs.DeckLines.{is_end}
 
 -- The lines inside so far are no end, the block has taken them, and the rest follows them.
 pub record ReadsBlock (kind : Option BlockKind) (inside all rest : List (List ℕ)) (block : TakenBlock) : Type 0 where

@@ -4,7 +4,8 @@ use Rattle.std.proofs.lemmas.Bool.{cond-true, cond-false}
 use Rattle.std.specs.List.{after_first, position_or_len}
 use Rattle.h41_commands.specs.Commands.{is_opening}
 use Rattle.h41_commands.specs.Items.{opened_block, spelled_by, spelled_within, commands}
-use Rattle.h41_commands.specs.Lines.{is_long, is_skipped, is_end, words_of}
+use Rattle.h41_lines.specs.Words.{words_of}
+use Rattle.h41_commands.specs.DeckLines.{is_long, is_skipped, is_end}
 use Rattle.h41_commands.specs.declared.refusal.LineRefusal.TheVariants.{LineTooLong}
 
 after_first-le : (lines : List (List ℕ)) (most : ℕ) → length lines ≤ most → length (after_first is_end lines) ≤ most

@@ -1,9 +1,6 @@
 pub mod BlockLines
 pub mod BlocksDetermined
 pub mod DeckItems
-pub mod DeckLines
-pub mod DeckWords
 pub mod Filling
-pub mod Numbers
 pub mod ProgramTextLines
 pub mod WordValues

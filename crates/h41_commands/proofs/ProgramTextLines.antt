@@ -14,7 +14,7 @@ use Rattle.h41_commands.specs.declared.refusal.LineRefusal.TheVariants.{BadText}
 use Rattle.h41_commands.specs.ProgramBlocks.{IsBadText, SayLines, SaysLine, texts_of, with_more}
 use Rattle.h41_commands.specs.declared.blocks.program_text.Packed.{Packed}
 use Rattle.h41_commands.specs.ProgramTexts.{IsPacked, parting}
-use Rattle.h41_commands.proofs.DeckLines.{position_none, position_some}
+use Rattle.h41_lines.proofs.Positions.{position_none, position_some}
 
 -- the first text, and those behind it
 pub texts_at : (text : List ℕ) (n : ℕ) → Some n ≡ position (λ byte. byte == 10) text → texts_of text ≡ take n text ∷ texts_of (drop (n + 1) text)

@@ -10,8 +10,9 @@ use Rattle.std.proofs.lemmas.List.Folds.{list_all-append, list_any-append}
 use Rattle.std.proofs.lemmas.Grind.{flat_map-append}
 use Rattle.h41_pages.specs.Addresses.{page_size}
 use Rattle.h41_commands.specs.Blocks.{word_values, block_words, filled}
-use Rattle.h41_commands.specs.Lines.{is_skipped, words_of}
-use Rattle.h41_commands.specs.Numbers.{is_hexadecimal}
+use Rattle.h41_lines.specs.Words.{words_of}
+use Rattle.h41_commands.specs.DeckLines.{is_skipped}
+use Rattle.h41_lines.specs.Numbers.{is_hexadecimal}
 use Rattle.h41_commands.specs.Contents.{unless_fault}
 use Rattle.h41_commands.specs.declared.refusal.LineRefusal.{LineRefusal}
 use Rattle.h41_commands.specs.declared.refusal.LineRefusal.TheVariants.{BadNumber, BadImage}

@@ -13,8 +13,9 @@ use Rattle.h41_commands.specs.declared.commands.PageKind.TheVariants.{Words, Ima
 use Rattle.h41_commands.specs.declared.commands.ProgramKind.TheVariants.{Bytes, Text}
 use Rattle.h41_commands.specs.declared.refusal.LineRefusal.{LineRefusal}
 use Rattle.h41_commands.specs.declared.refusal.LineRefusal.TheVariants.{BadImage, BadNumber, LineTooLong}
-use Rattle.h41_commands.specs.Lines.{is_blank, is_long, is_skipped, words_of}
-use Rattle.h41_commands.specs.Numbers.{is_hexadecimal}
+use Rattle.h41_lines.specs.Words.{is_blank, words_of}
+use Rattle.h41_commands.specs.DeckLines.{is_long, is_skipped}
+use Rattle.h41_lines.specs.Numbers.{is_hexadecimal}
 
 -- the words of a block's lines
 abbrev pub block_words : List (List ℕ) → List (List ℕ)

@@ -3,10 +3,10 @@ use Rattle.std.specs.Prelude.{◌≡◌, ℕ, ◌<◌, List, [], ◌∷◌, leng
 use Rattle.h41_commands.specs.declared.item.Item.{Item}
 use Rattle.h41_commands.specs.declared.item.Item.TheVariants.{Given, Refused}
 use Rattle.h41_commands.specs.declared.commands.BlockKind.{BlockKind}
-use Rattle.h41_commands.specs.declared.lines.Lines.{Lines}
+use Rattle.h41_lines.specs.declared.lines.Lines.{Lines}
 use Rattle.h41_commands.specs.Blocks.{HasTaken, TakenBlock, judgement}
 use Rattle.h41_commands.specs.Items.{Spelled, commands, with_values}
-use Rattle.h41_commands.specs.Lines.{lines}
+use Rattle.h41_lines.specs.Lines.{lines}
 
 -- what an item's lines spell
 abbrev pub given : Item → Spelled

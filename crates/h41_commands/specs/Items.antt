@@ -6,7 +6,8 @@ use Rattle.h41_commands.specs.declared.refusal.LineRefusal.{LineRefusal}
 use Rattle.h41_commands.specs.declared.refusal.LineRefusal.TheVariants.{NoEnd, LineTooLong}
 use Rattle.h41_commands.specs.Blocks.{block_values}
 use Rattle.h41_commands.specs.Commands.{and_then, is_opening, kind_of, parsed}
-use Rattle.h41_commands.specs.Lines.{is_end, is_long, is_skipped, words_of}
+use Rattle.h41_lines.specs.Words.{words_of}
+use Rattle.h41_commands.specs.DeckLines.{is_end, is_long, is_skipped}
 
 -- What lines spell: a command and its block's values (none where it has no block), or why the lines are refused.
 abbrev pub Spelled : Type 0

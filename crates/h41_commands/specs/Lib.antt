@@ -2,9 +2,9 @@ pub mod BlockLaws
 pub mod Blocks
 pub mod Commands
 pub mod Contents
+pub mod DeckLines
 pub mod Entries
 pub mod Items
-pub mod Lines
 pub mod Numbers
 pub mod PageBlocks
 pub mod ProgramBlocks

@@ -11,7 +11,7 @@ use crate::blocks::hex_bytes::HexBytes;
 use crate::blocks::page_words::PageWords;
 use crate::blocks::source_text::SourceText;
 use crate::commands::{BlockKind, Command, PageKind, ProgramKind};
-use crate::lines::line::is_long;
+use crate::line::is_long;
 use crate::refusal::LineRefusal;
 use std::alloc::{AllocError, Global};
 use std::marker::Model;

@@ -5,15 +5,15 @@ ghost use Rattle.std.specs.Prelude.{◌≡◌, [], is_some, IfOk, OnOk};
 ghost use Rattle.h41_commands.specs.Blocks.{HasTaken};
 ghost use Rattle.h41_commands.specs.Entries.{IfTaken, NextOf, TakesSome, given, left};
 ghost use Rattle.h41_commands.specs.Items.{opened_block, spelled_by};
-ghost use Rattle.h41_commands.specs.Lines.{is_end};
+ghost use Rattle.h41_commands.specs.DeckLines.{is_end};
 
 use crate::blocks::Block;
 use crate::commands::Command;
 use crate::commands::parse::{is_opening, parse};
 use crate::item::{Entry, Item};
-use crate::lines::Lines;
-use crate::lines::line::{is_end, is_long, is_skipped};
+use crate::line::{is_end, is_long, is_skipped};
 use crate::refusal::LineRefusal;
+use h41_lines::lines::Lines;
 use std::alloc::{AllocError, Global};
 
 /// The next item of a deck, by the lines that are left of it; nothing where they have none. Its lines are taken. 21 where

@@ -6,7 +6,7 @@ mod commands;
 mod item;
 mod items;
 pub mod laws;
-mod lines;
+mod line;
 mod refusal;
 
 pub use blocks::Block;
@@ -15,5 +15,4 @@ pub use commands::parse::parse;
 pub use commands::{BlockKind, Command, PageKind, ProgramKind, View};
 pub use item::{Entry, Item};
 pub use items::next_item;
-pub use lines::{Lines, ended_lines};
 pub use refusal::LineRefusal;

@@ -1,7 +1,7 @@
 -- Where the calculator is, as a text. The form is this project's choice.
-use Rattle.std.specs.Prelude.{ℕ, ◌/◌, ◌%◌, true, List, [], ◌∷◌, ◌++◌, codes}
-use Rattle.std.specs.Fmt.{digit_glyph}
+use Rattle.std.specs.Prelude.{ℕ, ◌/◌, ◌%◌, List, ◌++◌, codes}
 use Rattle.h41_digits.specs.Register.{hexadecimal_text}
+use Rattle.h41_lines.specs.Characters.{two_digits}
 use Rattle.h41_debug.specs.Bench.{BenchState}
 use Rattle.h41_xrom.specs.Calculator.{CalculatorState}
 use Rattle.h41_xrom.specs.declared.calculator.Mode.{Mode}
@@ -9,8 +9,7 @@ use Rattle.h41_xrom.specs.declared.calculator.Mode.TheVariants as modes
 
 -- a position of program memory by its four decimal digits
 abbrev pub position_digits : ℕ → List ℕ
-position_digits position =
-    digit_glyph true (position / 1000) ∷ digit_glyph true (position / 100 % 10) ∷ digit_glyph true (position / 10 % 10) ∷ digit_glyph true (position % 10) ∷ []
+position_digits position = two_digits (position / 100) ++ two_digits (position % 100)
 
 -- the mode, and the address of the next word; while nothing runs the position in program memory
 abbrev pub position_in : CalculatorState → Mode → List ℕ

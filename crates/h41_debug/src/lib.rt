@@ -6,4 +6,4 @@ pub mod laws;
 mod position;
 
 pub use bench::Bench;
-pub use position::{PositionText, position_digits};
+pub use position::position_digits;

@@ -4,7 +4,7 @@ use Rattle.std.specs.List.{join_with_byte, range_with_len}
 use Rattle.std.proofs.lemmas.List.Elements.{filter-append}
 use Rattle.h41_ram.specs.RegisterMap.{RegisterMap, flag_of}
 use Rattle.h41_deck.proofs.Ranges.{range_more}
-use Rattle.h41_deck.specs.PageViews.{two_digits}
+use Rattle.h41_lines.specs.Characters.{two_digits}
 use Rattle.h41_deck.specs.Views.{flags_below}
 
 -- a text, and a blank behind it where it is not empty

@@ -3,7 +3,7 @@ use Rattle.std.proofs.Common.{◌≡◌, ℕ, ◌≤◌, Bool, true, nat_le, Lis
 use Rattle.std.proofs.lemmas.Bool.{leb-true}
 use Rattle.std.proofs.lemmas.List.{take_all}
 use Rattle.h41_commands.specs.Items.{commands}
-use Rattle.h41_commands.specs.Lines.{lines}
+use Rattle.h41_lines.specs.Lines.{lines}
 use Rattle.h41_ends.specs.Ends.{most_bytes}
 use Rattle.h41_deck.specs.AnsweredItems.{AnswersItems}
 use Rattle.h41_deck.specs.Deck.{Deck, DeckEnds, WritesText}

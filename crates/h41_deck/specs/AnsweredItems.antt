@@ -4,7 +4,7 @@ use Rattle.std.specs.Io.KnownBytes.{Appends}
 use Rattle.h41_commands.specs.declared.item.Item.{Item}
 use Rattle.h41_commands.specs.Entries.{given}
 use Rattle.h41_commands.specs.Items.{Spelled, closed, commands}
-use Rattle.h41_commands.specs.Lines.{lines}
+use Rattle.h41_lines.specs.Lines.{lines}
 use Rattle.h41_debug.specs.Bench.{BenchState, start}
 use Rattle.h41_deck.specs.declared.replies.Outcome.{Outcome}
 use Rattle.h41_deck.specs.declared.replies.Outcome.TheVariants.{Accepted, Refused}

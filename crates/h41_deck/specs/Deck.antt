@@ -9,7 +9,7 @@ use Rattle.h41_ends.specs.declared.sink.Sink as sinks
 use Rattle.h41_deck.specs.declared.fault.Fault.{Fault}
 use Rattle.h41_deck.specs.declared.fault.Fault.TheVariants.{ReadFault}
 use Rattle.h41_commands.specs.Items.{Spelled, closed, commands}
-use Rattle.h41_commands.specs.Lines.{ended_lines, lines}
+use Rattle.h41_lines.specs.Lines.{ended_lines, lines}
 use Rattle.h41_debug.specs.Bench.{BenchState, start}
 use Rattle.h41_ends.specs.Ends.{most_bytes}
 use Rattle.h41_deck.specs.Answers.{Answer, printed}

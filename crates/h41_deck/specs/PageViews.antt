@@ -1,27 +1,13 @@
 -- What `show functions` and `show image` print. The form is this project's choice.
-use Rattle.std.specs.Prelude.{ℕ, ◌*◌, ◌/◌, ◌%◌, Bool, true, not, ◌&&◌, List, [], ◌∷◌, ◌++◌, take, drop, nat_le, ◌==◌, if◌then◌else◌, Option, Some, None, codes}
-use Rattle.std.specs.Fmt.{digit_glyph}
+use Rattle.std.specs.Prelude.{ℕ, ◌*◌, List, [], ◌++◌, take, drop, Option, Some, None, codes}
 use Rattle.std.specs.List.{flat_map, range_with_len}
 use Rattle.std.specs.Option.{option_map_or}
 use Rattle.h41_digits.specs.Register.{hexadecimal_text}
 use Rattle.h41_pages.specs.Images.{image_bytes}
 use Rattle.h41_pages.specs.PageMap.{PageMap, bank_numbered, image_at}
 use Rattle.h41_pages.specs.declared.functions.Function.{Function}
+use Rattle.h41_lines.specs.Characters.{characters_text, two_digits}
 use Rattle.h41_deck.specs.Pages.{block_bank}
-
--- a number below 100 by its two decimal digits
-abbrev pub two_digits : ℕ → List ℕ
-two_digits number = digit_glyph true (number / 10) ∷ digit_glyph true (number % 10) ∷ []
-
--- a character as it is printed: 20 to 7E but `\` (5C) as it is, any other as `\` and its two hexadecimal digits
-abbrev pub is_plain : ℕ → Bool
-is_plain character = nat_le 0x20 character && nat_le character 0x7E && not (character == 0x5C)
-
-abbrev pub character_text : ℕ → List ℕ
-character_text character = if is_plain character then character ∷ [] else 0x5C ∷ hexadecimal_text 2 character
-
-abbrev pub characters_text : List ℕ → List ℕ
-characters_text characters = flat_map character_text characters
 
 -- a name by its characters, and `-` where there is none
 abbrev pub name_text : Option (List ℕ) → List ℕ

@@ -20,7 +20,8 @@ use Rattle.h41_show.specs.RegisterText.{alpha_text}
 use Rattle.h41_xrom.specs.Display.{display_text}
 use Rattle.h41_deck.specs.Answers.{text_unless}
 use Rattle.h41_deck.specs.Pages.{image_refusal}
-use Rattle.h41_deck.specs.PageViews.{two_digits, functions_text, image_at_text}
+use Rattle.h41_lines.specs.Characters.{two_digits}
+use Rattle.h41_deck.specs.PageViews.{functions_text, image_at_text}
 use Rattle.h41_deck.specs.ProgramListing.{ListsProgram}
 
 abbrev pub bit_text : Bool → List ℕ

@@ -7,9 +7,10 @@ ghost use Rattle.h41_deck.specs.Deck.{EndsKnown, EndsUnread, WritesDeck};
 use crate::fault::{CommandFault, Fault};
 use crate::refusal::Refusal;
 use crate::replies::{Outcome, apply, end};
-use h41_commands::{Entry, Item, Lines, ended_lines, next_item};
+use h41_commands::{Entry, Item, next_item};
 use h41_debug::Bench;
 use h41_ends::{Sink, Source, flush, read_whole};
+use h41_lines::lines::{Lines, ended_lines};
 use std::alloc::Global;
 
 /// Reads a deck whole, carries its commands out, and writes what they print and nothing else. Both ends' marks are clear

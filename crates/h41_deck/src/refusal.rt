@@ -12,7 +12,6 @@ mod heading;
 mod line;
 
 pub use line::Detail;
-pub(crate) use line::glyph;
 
 /// Why a command was refused, or what ends a deck (21 to 23). A refused command changes nothing, but for the steps before the
 /// one that is refused.

@@ -16,7 +16,8 @@ use Rattle.h41_words.specs.Mnemonics.{field_text, operation_text, long_jump_text
 use Rattle.h41_words.specs.WordTable.{number_of}
 use Rattle.h41_asm.specs.Operands.{field_in, number_in}
 use Rattle.h41_asm.specs.Statements.{is_in_reach, long_jump_words, one_word, said, takes_number, takes_field, takes_displacement, takes_address, takes_immediate, takes_constant}
-use Rattle.h41_listings.proofs.ListingNumbers.{length-hexadecimal, solid_hexadecimal, read_address, read_word, read_forward, read_backward}
+use Rattle.h41_lines.proofs.HexadecimalDigits.{length-hexadecimal}
+use Rattle.h41_listings.proofs.ListingNumbers.{solid_hexadecimal, read_address, read_word, read_forward, read_backward}
 use Rattle.h41_listings.proofs.ListingTexts.{Reads, IsTaken, IsOperand, reads_operand, constant_taken, immediate_taken, long_jump_taken, short_jump_taken, operation_taken, clear_status_taken, set_status_taken, test_status_taken, test_pointer_taken, set_pointer_taken, rotate_taken, load_digit_taken, write_taken, read_taken}
 use Rattle.h41_listings.proofs.ListingWords.{is_solid}
 

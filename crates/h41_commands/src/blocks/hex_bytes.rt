@@ -4,9 +4,9 @@ ghost use Rattle.std.specs.Prelude.{◌≡◌, IfOk};
 ghost use Rattle.h41_commands.specs.Blocks.{line_digits};
 ghost use Rattle.h41_commands.specs.Contents.{AreBytesOf};
 
-use crate::lines::line::is_skipped;
-use crate::lines::words::is_blank;
+use crate::line::is_skipped;
 use crate::refusal::LineRefusal;
+use h41_lines::words::is_blank;
 use h41_pages::{ReadRefusal, image_read, is_image_bytes};
 use hex::FromHexError;
 use std::alloc::{AllocError, Global};

@@ -4,9 +4,9 @@ ghost use Rattle.std.specs.Prelude.{◌≤◌, vec_len};
 ghost use Rattle.h41_pages.specs.Addresses.{page_size};
 
 use crate::commands::number::hexadecimal;
-use crate::lines::line::is_skipped;
-use crate::lines::words::LineWords;
+use crate::line::is_skipped;
 use crate::refusal::LineRefusal;
+use h41_lines::words::LineWords;
 use std::alloc::{AllocError, Global};
 
 /// How many words a page has.

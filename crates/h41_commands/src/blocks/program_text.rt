@@ -8,10 +8,10 @@ ghost use Rattle.h41_program.specs.Lines as lines;
 ghost use Rattle.h41_commands.specs.ProgramTexts.{IsPacked, PushesLine, parting, texts_left};
 ghost use Rattle.h41_commands.specs.ProgramBlocks.{TextSpells, texts_of};
 
-use crate::lines::line_end;
 use crate::refusal::LineRefusal;
 use h41_codes::laws::line_has_bytes;
 use h41_codes::{LINE_CAPACITY, Line, encode};
+use h41_lines::lines::line_end;
 use h41_text::{BadText, read_line};
 use std::alloc::{AllocError, Global};
 

@@ -7,7 +7,7 @@ ghost use Rattle.h41_commands.specs.PageBlocks.{fitting};
 
 use crate::blocks::page_words::PAGE_WORDS;
 use crate::blocks::program_text::program_bytes;
-use crate::lines::line::is_skipped;
+use crate::line::is_skipped;
 use crate::refusal::LineRefusal;
 use h41_asm::{AssembleError, assemble};
 use h41_words::Word;

@@ -2,13 +2,13 @@
 
 ghost use Rattle.std.specs.Prelude.{◌≡◌};
 ghost use Rattle.h41_commands.specs.Commands.{call_command, load_command, reset_command, size_command, unplug_command, is_opening, opening_command, parsed, plain_command, plug_at, plug_command, show_command, step_command, view_named, view_of, list_command};
-ghost use Rattle.h41_commands.specs.Lines.{words_of};
+ghost use Rattle.h41_lines.specs.Words.{words_of};
 ghost use Rattle.h41_commands.specs.Numbers as spec;
 
 use crate::commands::number::{count_up_to, hexadecimal, number_up_to};
 use crate::commands::{BlockKind, Command, PageKind, ProgramKind, View};
-use crate::lines::words::LineWords;
 use crate::refusal::LineRefusal;
+use h41_lines::words::LineWords;
 
 /// The most single steps of one command.
 const MOST_STEPS: u32 = 9_999_999;

@@ -1,14 +1,13 @@
 //! The line that prints a refusal, and what it tells beside the name.
 
-ghost use Rattle.std.specs.Prelude.{◌≡◌, ◌+◌, ◌≤◌, ◌<◌, ◌++◌, true};
-ghost use Rattle.std.specs.Fmt.{digit_glyph};
+ghost use Rattle.std.specs.Prelude.{◌≡◌, ◌≤◌, ◌<◌, ◌++◌};
 ghost use Rattle.arrayvec.specs.ArrayString.{array_string_len};
-ghost use Rattle.h41_digits.specs.Register.{hexadecimal_text};
 ghost use Rattle.h41_deck.specs.Refusals.{calculator_detail, detail_text, line_detail, word_detail};
 
 use crate::refusal::Refusal;
 use arrayvec::ArrayString;
 use h41_commands::LineRefusal;
+use h41_lines::characters::address_digits;
 use h41_nut::Refusal as WordRefusal;
 use h41_xrom::CalculatorRefusal;
 use itoa::Buffer;
@@ -98,35 +97,11 @@ fn push_detail(line: &mut ArrayString<LINE>, detail: Option<Detail>)
         None => {}
         Some(Detail::Address(address)) => {
             line.push(' ');
-            push_address(line, address);
+            line.push_str(address_digits(address).as_str());
         }
         Some(Detail::Line(number)) => {
             line.push(' ');
             line.push_str(Buffer::new().format(number));
         }
     }
-}
-
-/// Appends the four digits of an address.
-fn push_address(line: &mut ArrayString<LINE>, address: u16)
-    requires { array_string_len line.old + 4 ≤ LINE }
-    ensures { line.new.bytes ≡ line.old.bytes ++ hexadecimal_text 4 address }
-{
-    let third = address / 16;
-    let second = third / 16;
-    let first = second / 16;
-    line.push(glyph(first % 16));
-    line.push(glyph(second % 16));
-    line.push(glyph(third % 16));
-    line.push(glyph(address % 16));
-}
-
-/// A hexadecimal digit, in upper case.
-pub(crate) fn glyph(digit: u16) -> char
-    requires { digit < 16 }
-    ensures { result ≡ digit_glyph true digit }
-{
-    char::from_digit(u32::from(digit), 16)
-        .unwrap()
-        .to_ascii_uppercase()
 }

@@ -1,11 +1,12 @@
 //! The functions of modules, as `show functions` prints them.
 
 ghost use Rattle.std.specs.Prelude.{◌≡◌, ◌<◌, ◌++◌, IfOk, OnOk};
-ghost use Rattle.h41_digits.specs.Register.{hexadecimal_text};
+ghost use Rattle.h41_lines.specs.Characters.{characters_text};
 ghost use Rattle.h41_pages.specs.FunctionTables.{functions};
 ghost use Rattle.h41_deck.specs.PageViews as spec;
 
-use crate::replies::digits::{push_hexadecimal, push_number};
+use crate::replies::digits::push_number;
+use h41_lines::characters::character_text;
 use h41_pages::{Function, Name, Pages};
 use std::alloc::{AllocError, Global};
 
@@ -47,22 +48,10 @@ fn push_name(text: &mut Vec<u8>, name: &Option<Name>) -> Result<(), AllocError>
 
 /// Appends characters as they are printed.
 fn push_characters(text: &mut Vec<u8>, characters: &[u8]) -> Result<(), AllocError>
-    ensures { OnOk result (text.new.items ≡ text.old.items ++ spec.characters_text characters.now) }
+    ensures { OnOk result (text.new.items ≡ text.old.items ++ characters_text characters.now) }
 {
     for character in characters {
-        push_character(text, *character)?;
+        text.extend_from_slice(character_text(*character).as_str().as_bytes())?;
     }
     Ok(())
-}
-
-/// Appends a character: 20 to 7E but `\` as it is, any other as `\` and its two hexadecimal digits.
-fn push_character(text: &mut Vec<u8>, character: u8) -> Result<(), AllocError>
-    ensures { OnOk result (text.new.items ≡ text.old.items ++ spec.character_text character) }
-{
-    if (0x20..=0x7E).contains(&character) && character != b'\\' {
-        text.extend_from_slice(&[character])
-    } else {
-        text.extend_from_slice(b"\\")?;
-        push_hexadecimal(text, character)
-    }
 }

@@ -4,11 +4,11 @@ ghost use Rattle.std.specs.Prelude.{◌≡◌, ◌+◌, ◌*◌, ◌<◌, ◌≤
 ghost use Rattle.std.specs.Fmt.{WritesOnOk};
 ghost use Rattle.arrayvec.specs.ArrayString.{array_string_len};
 ghost use Rattle.h41_deck.specs.Views.{flags_below, flags_line, level_line, register_line, stack_text};
-ghost use Rattle.h41_deck.specs.PageViews.{two_digits};
+ghost use Rattle.h41_lines.specs.Characters.{two_digits};
 
-use crate::refusal::glyph;
 use arrayvec::ArrayString;
 use h41_digits::{Digits, Reg};
+use h41_lines::characters::two_digits as digits_of;
 use h41_ram::Ram;
 use h41_xrom::REGISTERS;
 use std::fmt;
@@ -133,6 +133,5 @@ fn push_number(flags: &mut ArrayString<FLAGS_TEXT>, flag: usize)
     requires number { flag < 100 }
     ensures { flags.new.bytes ≡ flags.old.bytes ++ two_digits flag }
 {
-    flags.push(glyph((flag / 10) as u16));
-    flags.push(glyph((flag % 10) as u16));
+    flags.push_str(digits_of(flag as u8).as_str());
 }

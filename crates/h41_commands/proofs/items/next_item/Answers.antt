@@ -1,7 +1,7 @@
 use Rattle.std.proofs.Common.{◌≡◌, ◌∷◌, sym, ap, ◌∙◌}
 use Rattle.h41_commands.specs.Entries.{given}
 use Rattle.h41_commands.specs.Items as deck
-use Rattle.h41_commands.specs.Lines.{lines}
+use Rattle.h41_lines.specs.Lines.{lines}
 use Rattle.h41_commands.proofs.DeckItems.{commands-opening, commands-line}
 use Rattle.h41_commands.proofs.items.next_item.Goals as goal
 use Rattle.h41_commands.proofs.items.next_item.Goals.{then-is_opening+in_ok-item, else-is_opening}

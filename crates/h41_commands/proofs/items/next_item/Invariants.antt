@@ -1,6 +1,6 @@
 use Rattle.std.proofs.Common.{◌≡◌, ◌≤◌, length}
 use Rattle.h41_commands.specs.Items as deck
-use Rattle.h41_commands.specs.Lines.{lines}
+use Rattle.h41_lines.specs.Lines.{lines}
 use Rattle.h41_commands.proofs.items.next_item.Given as goal
 
 -- the lines passed over give no item

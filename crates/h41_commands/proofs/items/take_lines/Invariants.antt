@@ -1,5 +1,5 @@
 use Rattle.std.proofs.Common.{List, ℕ}
-use Rattle.h41_commands.specs.Lines.{lines}
+use Rattle.h41_lines.specs.Lines.{lines}
 use Rattle.h41_commands.proofs.BlockLines.{ReadsBlock}
 use Rattle.h41_commands.proofs.items.take_lines.Given as goal
 

@@ -2,7 +2,7 @@ use Rattle.std.proofs.Common.{◌≡◌, true, false, sym, ◌∙◌, rules}
 use Rattle.std.proofs.KnownBytes.{Appends-kept}
 use Rattle.h41_commands.specs.Entries.{given}
 use Rattle.h41_commands.specs.Items.{commands, is_open}
-use Rattle.h41_commands.specs.Lines.{lines}
+use Rattle.h41_lines.specs.Lines.{lines}
 use Rattle.h41_deck.proofs.AnswersInTurn.{answered-none, told_next, told_all}
 use Rattle.h41_deck.proofs.deck.answer_deck.Goals as goal
 use Rattle.h41_deck.proofs.deck.answer_deck.Goals.{else-not-is_whole-via-then-not-is_whole+else-is_open, else-not-is_whole-via-else-not-is_whole}

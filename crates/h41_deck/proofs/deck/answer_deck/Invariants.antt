@@ -1,7 +1,7 @@
 use Rattle.std.proofs.Common.{◌≡◌, false, length}
 use Rattle.h41_deck.specs.AnsweredItems.{answered_items}
 use Rattle.h41_commands.specs.Items as deck
-use Rattle.h41_commands.specs.Lines.{lines}
+use Rattle.h41_lines.specs.Lines.{lines}
 use Rattle.h41_deck.proofs.AnswersInTurn.{Told}
 use Rattle.h41_deck.proofs.deck.answer_deck.Given as goal
 

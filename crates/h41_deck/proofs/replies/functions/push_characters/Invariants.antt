@@ -1,5 +1,5 @@
 use Rattle.std.proofs.Common.{◌≡◌, ◌++◌, take}
-use Rattle.h41_deck.specs.PageViews.{characters_text}
+use Rattle.h41_lines.specs.Characters.{characters_text}
 use Rattle.h41_deck.proofs.replies.functions.push_characters.Given as goal
 
 -- the characters so far

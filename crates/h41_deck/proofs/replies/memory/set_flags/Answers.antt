@@ -1,6 +1,6 @@
 use Rattle.std.proofs.Common.{◌≡◌, ◌+◌, ◌++◌, ◌∷◌, [], arith, sym, refl, ap, ◌∙◌, length-append, length, lit<}
 use Rattle.arrayvec.specs.ArrayString.{ArrayString}
-use Rattle.h41_deck.specs.PageViews.{two_digits}
+use Rattle.h41_lines.specs.Characters.{two_digits}
 use Rattle.std.proofs.lemmas.Bool.{eqb-true, eqb-false}
 use Rattle.h41_deck.proofs.FlagTexts.{clear_flag, first_flag, next_flag}
 use Rattle.h41_deck.proofs.replies.memory.set_flags.Goals as goal

@@ -2,7 +2,7 @@ use Rattle.std.proofs.Common.{◌≡◌, ◌∷◌, ◌++◌, [], List, ℕ, map
 use Rattle.std.proofs.lemmas.List.{map-append}
 use Rattle.std.proofs.lemmas.Iterator.Consumers.{YieldsList-from_first, YieldsList-end}
 use Rattle.h41_commands.specs.Blocks.{word_values, block_words}
-use Rattle.h41_commands.specs.Lines.{words_of}
+use Rattle.h41_lines.specs.Words.{words_of}
 use Rattle.h41_commands.proofs.WordValues.{block_words-push}
 use Rattle.h41_commands.proofs.blocks.page_words.PageWords.add_line.Goals as goal
 

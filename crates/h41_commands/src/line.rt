@@ -1,9 +1,9 @@
 //! What a line is before its words are read: too long, one that says nothing, or the end of a block.
 
 ghost use Rattle.std.specs.Prelude.{◌≡◌};
-ghost use Rattle.h41_commands.specs.Lines.{is_end, is_long, is_skipped};
+ghost use Rattle.h41_commands.specs.DeckLines.{is_end, is_long, is_skipped};
 
-use crate::lines::words::LineWords;
+use h41_lines::words::LineWords;
 
 /// The most bytes that a line may have.
 const MOST_BYTES: usize = 200;

@@ -1,0 +1,24 @@
+-- Which lines of a deck say nothing, are too long, or end a block. The language is this project's own.
+use Rattle.std.specs.Prelude.{ℕ, Bool, not, ◌&&◌, ◌||◌, List, [], ◌∷◌, length, slice_index, nat_lt, ◌==◌, codes, bytes_eq, false}
+use Rattle.h41_lines.specs.Words.{words_of}
+
+-- the most bytes that a line may have
+abbrev pub longest_line : ℕ
+longest_line = 200
+
+abbrev pub is_long : List ℕ → Bool
+is_long line = nat_lt longest_line (length line)
+
+-- a line that says nothing: a blank one, or a comment, whose first byte is '#'
+abbrev pub is_skipped : List ℕ → Bool
+is_skipped line = length (words_of line) == 0 || slice_index line 0 == 35
+
+-- a line whose one word is 'end' ends a block
+abbrev pub is_only_end : List (List ℕ) → Bool
+is_only_end [] = false
+is_only_end (name ∷ []) = bytes_eq name (codes "end")
+is_only_end (name ∷ other ∷ others) = false
+
+-- and is not too long
+abbrev pub is_end : List ℕ → Bool
+is_end line = not (is_long line) && is_only_end (words_of line)

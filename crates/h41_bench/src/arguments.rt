@@ -87,6 +87,9 @@ A deck is a text file of commands, one a line. Such as:
   image P [rw]  likewise with the bytes of an image file, in hexadecimal
   asm P [rw]    likewise with the words that the source on these lines spells
   unplug P      takes the page out again
+  load          loads a keystroke program from the bytes up to `end`
+  program       likewise from its text, a line of the program on each line
+  size n        sets the number of data registers
   reset         begins anew; pages stay plugged
   call hhhh     begins the function at an address
   step [n]      carries out n of its instructions, one where n is missing
@@ -98,6 +101,7 @@ A deck is a text file of commands, one a line. Such as:
   show alpha    prints the text of ALPHA
   show display  prints what the display shows
   show pos      prints whether a function runs, and where
+  show lines    prints the lines of program memory
   show image P  prints the page's image in hexadecimal
   show functions  prints the functions of plugged modules
   # ...         is a comment, where # is the first character of the line

@@ -1,0 +1,7 @@
+pub mod BenchCommand
+pub mod CommandLine
+pub mod Ending
+pub mod Inputs
+pub mod Statuses
+pub mod Tasks
+pub mod WordTexts

@@ -1,11 +1,12 @@
 -- What a job makes of its input: the text that it prints, how it ends, and what is said where it goes wrong.
 use Rattle.std.specs.Global.{Global}
-use Rattle.std.specs.Prelude.{◌≡◌, ◌≢◌, ◌⊎◌, ℕ, ◌<◌, ◌≤◌, true, false, Vec, List, [], ◌++◌, length, codes, Option, Some, IfSome, Result, Ok, Err, IfOk, OnOk}
+use Rattle.std.specs.Prelude.{◌≡◌, ◌≢◌, ◌⊎◌, ℕ, ◌<◌, ◌≤◌, true, false, Vec, List, [], ◌++◌, length, take, codes, Option, Some, IfSome, Result, Ok, Err, IfErr, IfOk, OnOk}
 use Rattle.std.specs.Fmt.{decimal}
+use Rattle.std.specs.Io.KnownBytes.{Appends, Keeps}
 use Rattle.h41_deck.specs.declared.ends.sink.Sink as sinks
 use Rattle.h41_deck.specs.declared.ends.source.Source as sources
 use Rattle.h41_deck.specs.declared.fault.Fault.{Fault}
-use Rattle.h41_deck.specs.declared.fault.Fault.TheVariants.{ReadFault}
+use Rattle.h41_deck.specs.declared.fault.Fault.TheVariants.{ReadFault, WriteFault}
 use Rattle.h41_deck.specs.declared.refusal.Refusal.{Refusal}
 use Rattle.h41_deck.specs.declared.replies.Outcome.{Outcome}
 use Rattle.h41_deck.specs.declared.replies.Outcome.TheVariants as outcomes
@@ -22,7 +23,7 @@ use Rattle.h41_jobs.specs.declared.ended.Ended.TheVariants.{Accepted, Refused, W
 use Rattle.h41_jobs.specs.WordTexts.{WritesWords, word_lines, wrong_word}
 
 -- what a source gives at an origin, where it isn't too long: the words that it spells, or its refusal
-pub record SourceGives (origin : ℕ) (source : List ℕ) (given : Result (List ℕ) Refusal) : Type 0 where
+pub record SourceAssemblesTo (origin : ℕ) (source : List ℕ) (given : Result (List ℕ) Refusal) : Type 0 where
   pub bound : length source ≤ decks.most_bytes
   pub gives : fillings.Gives source origin given
 
@@ -33,30 +34,30 @@ given_text (Err refusal) = refusal_line refusal
 
 abbrev pub AssemblyText : ℕ → List ℕ → List ℕ → Type 0
 AssemblyText origin source text =
-    (given : Result (List ℕ) Refusal) × SourceGives origin source given × (text ≡ given_text given)
+    (given : Result (List ℕ) Refusal) × SourceAssemblesTo origin source given × (text ≡ given_text given)
 
 -- what a text of words says: the words that it writes, or the number of its first part that is none
-abbrev pub Says : List ℕ → Result (List ℕ) ℕ → Type 0
-Says text (Ok words) = WritesWords text words
-Says text (Err number) = wrong_word text ≡ Some number
+abbrev pub ReadsAs : List ℕ → Result (List ℕ) ℕ → Type 0
+ReadsAs text (Ok words) = WritesWords text words
+ReadsAs text (Err number) = wrong_word text ≡ Some number
 
 -- what code made of it
-abbrev pub said_in : Result (Vec ℕ Global) ℕ → Result (List ℕ) ℕ
-said_in (Ok words) = Ok words.items
-said_in (Err number) = Err number
+abbrev pub words_or_number : Result (Vec ℕ Global) ℕ → Result (List ℕ) ℕ
+words_or_number (Ok words) = Ok words.items
+words_or_number (Err number) = Err number
 
 -- where it isn't too long
-pub record TextSays (text : List ℕ) (said : Result (List ℕ) ℕ) : Type 0 where
+pub record ListReadsAs (text : List ℕ) (said : Result (List ℕ) ℕ) : Type 0 where
   pub bound : length text ≤ decks.most_bytes
-  pub says : Says text said
+  pub says : ReadsAs text said
 
 -- the listing of the words, and nothing where one is wrong
-abbrev pub said_text : Result (List ℕ) ℕ → List ℕ
-said_text (Ok words) = spell words
-said_text (Err number) = []
+abbrev pub list_text : Result (List ℕ) ℕ → List ℕ
+list_text (Ok words) = spell words
+list_text (Err number) = []
 
 abbrev pub ListingText : List ℕ → List ℕ → Type 0
-ListingText input text = (said : Result (List ℕ) ℕ) × TextSays input said × (text ≡ said_text said)
+ListingText input text = (said : Result (List ℕ) ℕ) × ListReadsAs input said × (text ≡ list_text said)
 
 -- the text that a task prints of an input; the listing of words is the same at each origin
 abbrev pub HasText : Task → List ℕ → List ℕ → Type 0
@@ -64,46 +65,55 @@ HasText tasks.Run = decks.Deck
 HasText (tasks.Assemble origin) = AssemblyText origin
 HasText (tasks.List origin) = ListingText
 
+-- what is written is a text that the input has
+abbrev pub WritesTextOf : (List ℕ → List ℕ → Type 0) → Option (List ℕ) → Option (List ℕ) → List ℕ → Type 0
+WritesTextOf text_of old new input = (text : List ℕ) × text_of input text × Appends old new text
+
+-- a front of such a text, which may be all of it
+abbrev pub WritesFrontOf : (List ℕ → List ℕ → Type 0) → Option (List ℕ) → Option (List ℕ) → List ℕ → Type 0
+WritesFrontOf text_of old new input =
+    (text : List ℕ) × text_of input text × (count : ℕ) × Appends old new (take count text)
+
 -- where the input is known, its text is written
-abbrev pub TaskPrints : {W : Type 0} → Task → Option (List ℕ) → (W → Option (List ℕ)) → W → W → Type 0
-TaskPrints task known contents old new = IfSome known (decks.Gives (HasText task) (contents old) (contents new))
+abbrev pub WritesTaskText : {W : Type 0} → Task → Option (List ℕ) → (W → Option (List ℕ)) → W → W → Type 0
+WritesTaskText task known contents old new = IfSome known (WritesTextOf (HasText task) (contents old) (contents new))
 
 -- where a task ends without a fault, it is: any task, a source at an origin, a list of words
-abbrev pub Prints : {E R W : Type 0} → Result Ended E → Task → sources.Ghosts R → sinks.Ghosts W → R → W → W → Type 0
-Prints result task source sink before old new =
-    OnOk result (TaskPrints task (source.remaining before) sink.contents old new)
+abbrev pub OkWritesText : {E R W : Type 0} → Result Ended E → Task → sources.Ghosts R → sinks.Ghosts W → R → W → W → Type 0
+OkWritesText result task source sink before old new =
+    OnOk result (WritesTaskText task (source.remaining before) sink.contents old new)
 
 abbrev pub Assembled : {E R W : Type 0} → ℕ → Result Ended E → sources.Ghosts R → sinks.Ghosts W → R → W → W → Type 0
-Assembled origin result source sink before old new = Prints result (tasks.Assemble origin) source sink before old new
+Assembled origin result source sink before old new = OkWritesText result (tasks.Assemble origin) source sink before old new
 
 abbrev pub Listed : {E R W : Type 0} → Result Ended E → sources.Ghosts R → sinks.Ghosts W → R → W → W → Type 0
 Listed result source sink before old new =
-    OnOk result (IfSome (source.remaining before) (decks.Gives ListingText (sink.contents old) (sink.contents new)))
+    OnOk result (IfSome (source.remaining before) (WritesTextOf ListingText (sink.contents old) (sink.contents new)))
 
 -- and where a job's status is not that of a fault
-abbrev pub JobPrints : {R W : Type 0} → ℕ → Job → sources.Ghosts R → sinks.Ghosts W → R → W → W → Type 0
-JobPrints status job source sink before old new =
-    status ≢ 3 → TaskPrints job.task (source.remaining before) sink.contents old new
+abbrev pub JobWritesText : {R W : Type 0} → ℕ → Job → sources.Ghosts R → sinks.Ghosts W → R → W → W → Type 0
+JobWritesText status job source sink before old new =
+    status ≢ 3 → WritesTaskText job.task (source.remaining before) sink.contents old new
 
 -- how a deck, a source and a text of words end
-abbrev pub of_outcome : Outcome → Ended
-of_outcome outcomes.Accepted = Accepted
-of_outcome outcomes.Refused = Refused
+abbrev pub ended_of_deck : Outcome → Ended
+ended_of_deck outcomes.Accepted = Accepted
+ended_of_deck outcomes.Refused = Refused
 
-abbrev pub of_given : Result (List ℕ) Refusal → Ended
-of_given (Ok words) = Accepted
-of_given (Err refusal) = Refused
+abbrev pub ended_of_source : Result (List ℕ) Refusal → Ended
+ended_of_source (Ok words) = Accepted
+ended_of_source (Err refusal) = Refused
 
-abbrev pub of_said : Result (List ℕ) ℕ → Ended
-of_said (Ok words) = Accepted
-of_said (Err number) = WrongWord number
+abbrev pub ended_of_list : Result (List ℕ) ℕ → Ended
+ended_of_list (Ok words) = Accepted
+ended_of_list (Err number) = WrongWord number
 
 -- how a task ends over an input
 abbrev pub TaskEnds : Task → Ended → List ℕ → Type 0
-TaskEnds tasks.Run ended input = (outcome : Outcome) × decks.DeckEnds input outcome × (ended ≡ of_outcome outcome)
+TaskEnds tasks.Run ended input = (outcome : Outcome) × decks.DeckEnds input outcome × (ended ≡ ended_of_deck outcome)
 TaskEnds (tasks.Assemble origin) ended input =
-    (given : Result (List ℕ) Refusal) × SourceGives origin input given × (ended ≡ of_given given)
-TaskEnds (tasks.List origin) ended input = (said : Result (List ℕ) ℕ) × TextSays input said × (ended ≡ of_said said)
+    (given : Result (List ℕ) Refusal) × SourceAssemblesTo origin input given × (ended ≡ ended_of_source given)
+TaskEnds (tasks.List origin) ended input = (said : Result (List ℕ) ℕ) × ListReadsAs input said × (ended ≡ ended_of_list said)
 
 -- a deck and a source have no wrong word
 abbrev pub HasNoWrongWord : Ended → Type 0
@@ -138,21 +148,57 @@ LongText (tasks.List origin) = IsTooLong
 abbrev pub FailedOrTooLong : {R W : Type 0} → Task → sources.Ghosts R → sinks.Ghosts W → R → R → W → W → Type 0
 FailedOrTooLong task source sink before after old new =
     (source.failed after ≡ true)
-    ⊎ IfSome (source.remaining before) (decks.Gives (LongText task) (sink.contents old) (sink.contents new))
+    ⊎ IfSome (source.remaining before) (WritesTextOf (LongText task) (sink.contents old) (sink.contents new))
 
 -- where a task ends without a fault, it ends so over the input, where that is known
 abbrev pub Ends : {E : Type 0} → Result Ended E → Task → Option (List ℕ) → Type 0
 Ends result task known = IfOk result (λ ended. IfSome known (TaskEnds task ended))
 
 -- where a task ends with a fault of reading, this is why
-abbrev pub Unread : {A R W : Type 0} → Result A Fault → Task → sources.Ghosts R → sinks.Ghosts W → R → R → W → W → Type 0
-Unread result task source sink before after old new =
+abbrev pub WhyUnread : {A R W : Type 0} → Result A Fault → Task → sources.Ghosts R → sinks.Ghosts W → R → R → W → W → Type 0
+WhyUnread result task source sink before after old new =
     result ≡ Err ReadFault → FailedOrTooLong task source sink before after old new
 
--- that of a source or of a list of words, of which nothing is printed then
-abbrev pub UnreadWhole : {A R W : Type 0} → Result A Fault → sources.Ghosts R → sinks.Ghosts W → R → R → W → W → Type 0
-UnreadWhole result source sink before after old new = result ≡ Err ReadFault
-    → (source.failed after ≡ true) ⊎ IfSome (source.remaining before) (decks.Gives IsTooLong (sink.contents old) (sink.contents new))
+-- where a write or the flush failed, a front of the text of a source or of a list of words is written
+abbrev pub AssemblyCut : {A R W : Type 0} → ℕ → Result A Fault → sources.Ghosts R → sinks.Ghosts W → R → W → W → Type 0
+AssemblyCut origin result source sink before old new = result ≡ Err WriteFault
+    → IfSome (source.remaining before) (WritesFrontOf (AssemblyText origin) (sink.contents old) (sink.contents new))
+
+abbrev pub ListingCut : {A R W : Type 0} → Result A Fault → sources.Ghosts R → sinks.Ghosts W → R → W → W → Type 0
+ListingCut result source sink before old new = result ≡ Err WriteFault
+    → IfSome (source.remaining before) (WritesFrontOf ListingText (sink.contents old) (sink.contents new))
+
+-- what a task leaves written where its input or memory failed: a source and a list of words nothing; of a deck nothing is said
+abbrev pub LeavesNothing : {W : Type 0} → Task → sinks.Ghosts W → W → W → Type 0
+LeavesNothing tasks.Run sink old new = Unit {0}
+LeavesNothing (tasks.Assemble origin) sink old new = Keeps (sink.contents old) (sink.contents new)
+LeavesNothing (tasks.List origin) sink old new = Keeps (sink.contents old) (sink.contents new)
+
+-- and where the output failed: a front of their text
+abbrev pub LeavesFront : {W : Type 0} → Task → Option (List ℕ) → sinks.Ghosts W → W → W → Type 0
+LeavesFront tasks.Run known sink old new = Unit {0}
+LeavesFront (tasks.Assemble origin) known sink old new =
+    IfSome known (WritesFrontOf (AssemblyText origin) (sink.contents old) (sink.contents new))
+LeavesFront (tasks.List origin) known sink old new =
+    IfSome known (WritesFrontOf ListingText (sink.contents old) (sink.contents new))
+
+-- where a task ends with a fault of another end than the output, and of the output
+abbrev pub ErrLeavesNothing : {A W : Type 0} → Result A Fault → Task → sinks.Ghosts W → W → W → Type 0
+ErrLeavesNothing result task sink old new =
+    IfErr result (λ fault. fault ≢ WriteFault → LeavesNothing task sink old new)
+
+abbrev pub ErrLeavesFront : {A R W : Type 0} → Result A Fault → Task → sources.Ghosts R → sinks.Ghosts W → R → W → W → Type 0
+ErrLeavesFront result task source sink before old new =
+    result ≡ Err WriteFault → LeavesFront task (source.remaining before) sink old new
+
+-- where a job has the status of a fault, and the output did not fail, or did
+abbrev pub JobLeavesNothing : {W : Type 0} → ℕ → Job → sinks.Ghosts W → W → W → Type 0
+JobLeavesNothing status job sink old new =
+    status ≡ 3 → sink.failed new ≡ false → LeavesNothing job.task sink old new
+
+abbrev pub JobLeavesFront : {R W : Type 0} → ℕ → Job → sources.Ghosts R → sinks.Ghosts W → R → W → W → Type 0
+JobLeavesFront status job source sink before old new =
+    status ≡ 3 → sink.failed new ≡ true → LeavesFront job.task (source.remaining before) sink old new
 
 -- the text that tells a wrong word by its number
 abbrev pub mistake_line : ℕ → List ℕ

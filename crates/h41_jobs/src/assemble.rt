@@ -3,7 +3,9 @@
 ghost use Rattle.std.specs.Prelude.{◌≡◌, ◌≢◌, ◌<◌, true, false, Err, IfOk, OnOk};
 ghost use Rattle.std.specs.Fmt.{digit_glyph};
 ghost use Rattle.h41_jobs.specs.declared.arguments.Task.TheVariants as tasks;
-ghost use Rattle.h41_jobs.specs.Tasks.{Assembled, Ends, MayEnd, UnreadWhole};
+ghost use Rattle.h41_jobs.specs.Inputs.{IsUnread};
+ghost use Rattle.h41_jobs.specs.Outputs.{ErrKeeps};
+ghost use Rattle.h41_jobs.specs.Tasks.{Assembled, AssemblyCut, Ends, MayEnd};
 ghost use Rattle.h41_jobs.specs.WordTexts.{word_line, word_lines};
 
 use crate::ended::Ended;
@@ -33,7 +35,11 @@ pub fn assemble_input<R: Source, W: Sink>(
     ensures ends { Ends result (tasks.Assemble origin) (R.remaining reader.old) }
     ensures kind { IfOk result (MayEnd (tasks.Assemble origin)) }
     ensures flushed { OnOk result (W.flushed writer.new ≡ true) }
-    ensures read { UnreadWhole result R.Source W.Sink reader.old reader.new writer.old writer.new }
+
+    // What stands written where it fails.
+    ensures read { result ≡ Err Fault.ReadFault → IsUnread R.Source reader.old reader.new }
+    ensures unwritten { ErrKeeps result W.Sink writer.old writer.new }
+    ensures cut { AssemblyCut origin result R.Source W.Sink reader.old writer.old writer.new }
 
     // The marks tell which end failed.
     ensures write_fault { result ≡ Err Fault.WriteFault → W.failed writer.new ≡ true }

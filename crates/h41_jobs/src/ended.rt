@@ -23,9 +23,9 @@ pub enum Ended {
 
 impl From<Outcome> for Ended {
     ghost use Rattle.std.specs.Prelude.{◌≡◌};
-    ghost use Rattle.h41_jobs.specs.Tasks.{of_outcome};
+    ghost use Rattle.h41_jobs.specs.Tasks.{ended_of_deck};
 
-    ghost from_gives = { λ outcome own. own ≡ of_outcome outcome };
+    ghost from_gives = { λ outcome own. own ≡ ended_of_deck outcome };
 
     fn from(outcome: Outcome) -> Self {
         match outcome {

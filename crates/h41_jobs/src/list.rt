@@ -2,7 +2,9 @@
 
 ghost use Rattle.std.specs.Prelude.{◌≡◌, ◌≢◌, true, false, Err, IfOk, OnOk};
 ghost use Rattle.h41_jobs.specs.declared.arguments.Task.TheVariants as tasks;
-ghost use Rattle.h41_jobs.specs.Tasks.{Ends, Listed, MayEnd, Says, UnreadWhole, said_in};
+ghost use Rattle.h41_jobs.specs.Inputs.{IsUnread};
+ghost use Rattle.h41_jobs.specs.Outputs.{ErrKeeps};
+ghost use Rattle.h41_jobs.specs.Tasks.{Ends, Listed, ListingCut, MayEnd, ReadsAs, words_or_number};
 ghost use Rattle.h41_jobs.specs.WordTexts.{is_white_space};
 
 use crate::ended::Ended;
@@ -33,7 +35,11 @@ pub fn list_input<R: Source, W: Sink>(
     ensures ends { Ends result (tasks.List origin) (R.remaining reader.old) }
     ensures kind { IfOk result (MayEnd (tasks.List origin)) }
     ensures flushed { OnOk result (W.flushed writer.new ≡ true) }
-    ensures read { UnreadWhole result R.Source W.Sink reader.old reader.new writer.old writer.new }
+
+    // What stands written where it fails.
+    ensures read { result ≡ Err Fault.ReadFault → IsUnread R.Source reader.old reader.new }
+    ensures unwritten { ErrKeeps result W.Sink writer.old writer.new }
+    ensures cut { ListingCut result R.Source W.Sink reader.old writer.old writer.new }
 
     // The marks tell which end failed.
     ensures write_fault { result ≡ Err Fault.WriteFault → W.failed writer.new ≡ true }
@@ -56,7 +62,7 @@ pub fn list_input<R: Source, W: Sink>(
 
 /// The words that a text writes, or the number of the first that is wrong, counted from 1. Refuses only memory.
 fn words_in(alloc: Global, text: &[u8]) -> Result<Result<Vec<Word>, usize>, AllocError>
-    ensures { IfOk result (λ said. Says text.now (said_in said)) }
+    ensures { IfOk result (λ said. ReadsAs text.now (words_or_number said)) }
 {
     let mut words = Vec::new(alloc);
     let parts = text

@@ -4,7 +4,7 @@ ghost use Rattle.std.specs.Prelude.{◌≡◌, ◌≢◌, ◌≤◌, true, false
 ghost use Rattle.std.specs.Io.KnownBytes.{Keeps};
 ghost use Rattle.h41_deck.specs.Ends.{Appended};
 ghost use Rattle.h41_jobs.specs.Statuses.{EndsJob, IsTaskStatus, TellsFault, fault_line};
-ghost use Rattle.h41_jobs.specs.Tasks.{Ends, JobPrints, MayEnd, Prints, Tells, TellsWord, Unread, mistake_line};
+ghost use Rattle.h41_jobs.specs.Tasks.{Ends, ErrLeavesFront, ErrLeavesNothing, JobLeavesFront, JobLeavesNothing, JobWritesText, MayEnd, OkWritesText, Tells, TellsWord, WhyUnread, mistake_line};
 
 use crate::arguments::{Job, Task};
 use crate::assemble::assemble_input;
@@ -43,7 +43,7 @@ pub fn serve<R: Source, W: Sink, E: Sink>(
     ensures status { IsTaskStatus job.entry.task result }
 
     // Where nothing failed, the task's text was written, and the status tells how it ended.
-    ensures text { JobPrints result job.entry R.Source W.Sink reader.old writer.old writer.new }
+    ensures text { JobWritesText result job.entry R.Source W.Sink reader.old writer.old writer.new }
     ensures flushed { result ≢ 3 → W.flushed writer.new ≡ true }
     ensures outcome { result ≢ 3 → IfSome (R.remaining reader.old) (EndsJob job.entry result) }
 
@@ -51,11 +51,14 @@ pub fn serve<R: Source, W: Sink, E: Sink>(
     ensures silent { result ≤ 1 → Keeps (E.contents faults.old) (E.contents faults.new) }
     ensures mistake { TellsWord result job.entry R.Source E.Sink reader.old faults.old faults.new }
 
-    // Where something failed, the fault's line is told, if it can be.
+    // Where something failed, nothing of a source or of a list is written, or where writing failed a front of its text. The
+    // fault's line is told, if it can be.
+    ensures unwritten { JobLeavesNothing result job.entry W.Sink writer.old writer.new }
+    ensures cut { JobLeavesFront result job.entry R.Source W.Sink reader.old writer.old writer.new }
     ensures fault { TellsFault result job.entry.task R.Source W.Sink E.Sink
         reader.old reader.new writer.old writer.new faults.old faults.new }
 {
-    match carry_out(alloc, job.task, reader, writer) {
+    match do_task(alloc, job.task, reader, writer) {
         Ok(Ended::Accepted) => ACCEPTED,
         Ok(Ended::Refused) => REFUSED,
         Ok(Ended::WrongWord(number)) => tell_mistake(number, faults),
@@ -64,7 +67,7 @@ pub fn serve<R: Source, W: Sink, E: Sink>(
 }
 
 /// Carries a task out.
-fn carry_out<R: Source, W: Sink>(
+fn do_task<R: Source, W: Sink>(
     alloc: Global,
     task: Task,
     reader: &mut R,
@@ -72,11 +75,13 @@ fn carry_out<R: Source, W: Sink>(
 ) -> Result<Ended, Fault>
     requires reader_clear { R.failed reader.old ≡ false }
     requires writer_clear { W.failed writer.old ≡ false }
-    ensures text { Prints result task R.Source W.Sink reader.old writer.old writer.new }
+    ensures text { OkWritesText result task R.Source W.Sink reader.old writer.old writer.new }
     ensures ends { Ends result task (R.remaining reader.old) }
     ensures kind { IfOk result (MayEnd task) }
     ensures flushed { OnOk result (W.flushed writer.new ≡ true) }
-    ensures read { Unread result task R.Source W.Sink reader.old reader.new writer.old writer.new }
+    ensures read { WhyUnread result task R.Source W.Sink reader.old reader.new writer.old writer.new }
+    ensures unwritten { ErrLeavesNothing result task W.Sink writer.old writer.new }
+    ensures cut { ErrLeavesFront result task R.Source W.Sink reader.old writer.old writer.new }
     ensures write_fault { result ≡ Err Fault.WriteFault → W.failed writer.new ≡ true }
     ensures reader { result ≢ Err Fault.ReadFault → R.failed reader.new ≡ false }
     ensures writer { result ≢ Err Fault.WriteFault → W.failed writer.new ≡ false }

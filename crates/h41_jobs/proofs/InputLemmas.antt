@@ -1,12 +1,12 @@
 -- What was read of an input, and what a task makes of it.
-use Rattle.std.proofs.Common.{inl, inr, ◌⊎◌, ◌≡◌, ◌≢◌, ℕ, ◌<◌, ◌≤◌, Bool, true, nat_le, List, [], ◌++◌, length, take, Option, Some, None, IfSome, Result, Ok, Err, IfErr, OnErr, arith, ap, refl, sym, subst, ◌∙◌}
+use Rattle.std.proofs.Common.{inl, inr, ◌⊎◌, ◌≡◌, ◌≢◌, ℕ, ◌<◌, ◌≤◌, Bool, true, false, nat_le, List, [], ◌++◌, length, take, Option, Some, None, IfSome, Result, Ok, Err, IfErr, OnErr, arith, ap, refl, sym, subst, ◌∙◌}
 use Rattle.std.proofs.lemmas.Bool.{leb-true}
 use Rattle.std.proofs.lemmas.List.{append-nil, take_all}
 use Rattle.std.specs.Io.KnownBytes.{Appends, Keeps}
 use Rattle.h41_asm.specs.Faults.{assembly_fault}
 use Rattle.h41_asm.specs.declared.fault.Fault as asm
 use Rattle.h41_deck.specs.declared.fault.Fault.{Fault}
-use Rattle.h41_deck.specs.declared.fault.Fault.TheVariants.{ReadFault, WriteFault}
+use Rattle.h41_deck.specs.declared.fault.Fault.TheVariants.{OutOfMemory, ReadFault, WriteFault}
 use Rattle.h41_deck.specs.declared.refusal.Refusal.{Refusal}
 use Rattle.h41_deck.specs.Deck.{most_bytes}
 use Rattle.h41_deck.specs.Fillings.{Gives}
@@ -96,6 +96,14 @@ kept_unread : {A : Type 0} (result : Result A Fault) (old new : Option (List ℕ
     → IfErr result (λ fault. fault ≢ WriteFault → Keeps old new) → Keeps old new
 kept_unread (Ok value) old new is kept = absurd (cc)
 kept_unread (Err fault) old new is kept = kept (λ other. cc)
+
+-- where reading failed, nothing is written
+pub kept_where_failed : {A : Type 0} (result : Result A Fault) (failed : Bool) (old new : Option (List ℕ)) → failed ≡ true
+    → (result ≢ Err ReadFault → failed ≡ false) → IfErr result (λ fault. fault ≢ WriteFault → Keeps old new) → Keeps old new
+kept_where_failed (Ok value) failed old new is clear kept = let none = clear (λ other. cc) in absurd (cc)
+kept_where_failed (Err OutOfMemory) failed old new is clear kept = let none = clear (λ other. cc) in absurd (cc)
+kept_where_failed (Err ReadFault) failed old new is clear kept = kept (λ other. cc)
+kept_where_failed (Err WriteFault) failed old new is clear kept = let none = clear (λ other. cc) in absurd (cc)
 
 -- why the whole of an input was not read, with nothing written
 pub why_unread : {A F : Type 0} (result : Result A Fault) (known old new : Option (List ℕ)) → result ≡ Err ReadFault

@@ -174,6 +174,12 @@ LeavesNothing tasks.Run sink old new = Unit {0}
 LeavesNothing (tasks.Assemble origin) sink old new = Keeps (sink.contents old) (sink.contents new)
 LeavesNothing (tasks.List origin) sink old new = Keeps (sink.contents old) (sink.contents new)
 
+-- and where reading failed
+abbrev pub LeavesUnread : {W : Type 0} → Task → sinks.Ghosts W → W → W → Type 0
+LeavesUnread tasks.Run sink old new = Unit {0}
+LeavesUnread (tasks.Assemble origin) sink old new = Keeps (sink.contents old) (sink.contents new)
+LeavesUnread (tasks.List origin) sink old new = Keeps (sink.contents old) (sink.contents new)
+
 -- and where the output failed: a front of their text
 abbrev pub LeavesFront : {W : Type 0} → Task → Option (List ℕ) → sinks.Ghosts W → W → W → Type 0
 LeavesFront tasks.Run known sink old new = Unit {0}
@@ -195,6 +201,9 @@ ErrLeavesFront result task source sink before old new =
 abbrev pub JobLeavesNothing : {W : Type 0} → ℕ → Job → sinks.Ghosts W → W → W → Type 0
 JobLeavesNothing status job sink old new =
     status ≡ 3 → sink.failed new ≡ false → LeavesNothing job.task sink old new
+
+abbrev pub JobLeavesUnread : {R W : Type 0} → Job → sources.Ghosts R → sinks.Ghosts W → R → W → W → Type 0
+JobLeavesUnread job source sink after old new = source.failed after ≡ true → LeavesUnread job.task sink old new
 
 abbrev pub JobLeavesFront : {R W : Type 0} → ℕ → Job → sources.Ghosts R → sinks.Ghosts W → R → W → W → Type 0
 JobLeavesFront status job source sink before old new =

@@ -4,7 +4,7 @@ ghost use Rattle.std.specs.Prelude.{◌≡◌, ◌≢◌, ◌≤◌, true, false
 ghost use Rattle.std.specs.Io.KnownBytes.{Keeps};
 ghost use Rattle.h41_deck.specs.Ends.{Appended};
 ghost use Rattle.h41_jobs.specs.Statuses.{EndsJob, IsTaskStatus, TellsFault, fault_line};
-ghost use Rattle.h41_jobs.specs.Tasks.{Ends, ErrLeavesFront, ErrLeavesNothing, JobLeavesFront, JobLeavesNothing, JobWritesText, MayEnd, OkWritesText, Tells, TellsWord, WhyUnread, mistake_line};
+ghost use Rattle.h41_jobs.specs.Tasks.{Ends, ErrLeavesFront, ErrLeavesNothing, JobLeavesFront, JobLeavesNothing, JobLeavesUnread, JobWritesText, LeavesUnread, MayEnd, OkWritesText, Tells, TellsWord, WhyUnread, mistake_line};
 
 use crate::arguments::{Job, Task};
 use crate::assemble::assemble_input;
@@ -54,6 +54,7 @@ pub fn serve<R: Source, W: Sink, E: Sink>(
     // Where something failed, nothing of a source or of a list is written, or where writing failed a front of its text. The
     // fault's line is told, if it can be.
     ensures unwritten { JobLeavesNothing result job.entry W.Sink writer.old writer.new }
+    ensures unread { JobLeavesUnread job.entry R.Source W.Sink reader.new writer.old writer.new }
     ensures cut { JobLeavesFront result job.entry R.Source W.Sink reader.old writer.old writer.new }
     ensures fault { TellsFault result job.entry.task R.Source W.Sink E.Sink
         reader.old reader.new writer.old writer.new faults.old faults.new }
@@ -81,6 +82,7 @@ fn do_task<R: Source, W: Sink>(
     ensures flushed { OnOk result (W.flushed writer.new ≡ true) }
     ensures read { WhyUnread result task R.Source W.Sink reader.old reader.new writer.old writer.new }
     ensures unwritten { ErrLeavesNothing result task W.Sink writer.old writer.new }
+    ensures unread { R.failed reader.new ≡ true → LeavesUnread task W.Sink writer.old writer.new }
     ensures cut { ErrLeavesFront result task R.Source W.Sink reader.old writer.old writer.new }
     ensures write_fault { result ≡ Err Fault.WriteFault → W.failed writer.new ≡ true }
     ensures reader { result ≢ Err Fault.ReadFault → R.failed reader.new ≡ false }

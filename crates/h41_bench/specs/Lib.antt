@@ -1,7 +1,1 @@
-pub mod BenchCommand
-pub mod CommandLine
-pub mod Ending
-pub mod Inputs
-pub mod Statuses
-pub mod Tasks
-pub mod WordTexts
+pub mod ProgramWords

@@ -1,25 +1,13 @@
 //! The HP-41 bench: runs decks of commands, assembles sources and lists words.
 #![tactic(auto)]
 
-mod arguments;
-mod assemble;
-mod ended;
-mod input;
-mod list;
-mod numbers;
-mod output;
-mod serve;
-#[cfg(test)]
-mod tests;
-
 ghost use Rattle.std.specs.Prelude.{◌≡◌, ◌≢◌, ◌∷◌, ◌≤◌, true, Err, IfOk, IfSome, IsSome, Ok, OnErr, codes, drop, map, string_bytes};
-ghost use Rattle.h41_bench.specs.CommandLine.{asks_help, file_to_run, is_mistake, named};
-ghost use Rattle.h41_bench.specs.Ending.{status_of};
-ghost use Rattle.h41_bench.specs.Statuses.{EndsJobOf, EndsTask, IsOrFailed, IsStatus, IsTaskStatus};
+ghost use Rattle.h41_bench.specs.ProgramWords.{named};
+ghost use Rattle.h41_jobs.specs.CommandLine.{asks_help, file_to_run, is_mistake};
+ghost use Rattle.h41_jobs.specs.Ending.{status_of};
+ghost use Rattle.h41_jobs.specs.Statuses.{EndsJobOf, EndsTask, IsOrFailed, IsStatus, IsTaskStatus};
 
-use crate::arguments::{Ending, Job, read_words};
-use crate::serve::{serve, tell};
-use h41_deck::{Fault, FromRead, ToWrite};
+use h41_jobs::{Ending, Fault, FromRead, Job, ToWrite, read_words, serve, tell};
 use std::alloc::{AllocError, Global};
 use std::env;
 use std::fs::File;

@@ -65,15 +65,16 @@ pub record ReadingFailed {R W : Type 0} (source : sources.Ghosts R) (sink : sink
   pub failed : source.failed after ≡ true
   pub nothing : Keeps (sink.contents old) (sink.contents new)
 
--- the deck is too long, and its text within the bound is written and passed on
-pub record IsTooLong {R W : Type 0} (source : sources.Ghosts R) (sink : sinks.Ghosts W) (before : R) (old new : W) : Type 0 where
+-- no read failed, but the deck is too long, and its text within the bound is written and passed on
+pub record IsTooLong {R W : Type 0} (source : sources.Ghosts R) (sink : sinks.Ghosts W) (before after : R) (old new : W) : Type 0 where
+  pub clear : source.failed after ≡ false
   pub text : IfSome (source.remaining before) (WritesText LongDeck (sink.contents old) (sink.contents new))
   pub flushed : sink.flushed new ≡ true
 
 -- where a deck ends with a fault of reading, this is why
 abbrev pub EndsUnread : {A R W : Type 0} → Result A Fault → sources.Ghosts R → sinks.Ghosts W → R → R → W → W → Type 0
 EndsUnread result source sink before after old new =
-    result ≡ Err ReadFault → ReadingFailed source sink after old new ⊎ IsTooLong source sink before old new
+    result ≡ Err ReadFault → ReadingFailed source sink after old new ⊎ IsTooLong source sink before after old new
 
 -- The laws of decks: a deck determines its text, whether a refusal is printed, and where it is too long the text that is
 -- printed all the same.

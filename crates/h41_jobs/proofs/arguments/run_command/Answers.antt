@@ -1,0 +1,21 @@
+use Rattle.std.proofs.Common.{ap, ap₂, Bool, false, ◌||◌, ◌≡◌, ◌∙◌}
+use Rattle.std.proofs.lemmas.Result.{IfOk-weaker}
+use Rattle.clap.specs.Words.{with_rule}
+use Rattle.clap.specs.Simple.{app_of_fields}
+use Rattle.clap.specs.declared.builder.command.Command.{Command}
+use Rattle.clap.specs.declared.builder.command.Command.TheOpen.{Command-F}
+use Rattle.clap.specs.declared.builder.command.Command.TheViews.{out-Command}
+use Rattle.h41_jobs.proofs.arguments.run_command.Goals as goal
+
+abbrev globals : Command-F Command → Bool
+globals fields = fields.has_globals
+
+pub returns-clause-app : goal.returns-clause-app
+returns-clause-app c =
+    let before = ap app_of_fields c.after_help.ensures ∙ ap app_of_fields c.about.ensures ∙ c.new.ensures.app in
+    IfOk-weaker c.arg.result _ _ (λ r h. h.shape c.file_argument.ensures.local ∙ ap₂ with_rule before c.file_argument.ensures.rule) c.arg.ensures
+
+pub returns-clause-local : goal.returns-clause-local
+returns-clause-local c =
+    let before : (out-Command c.after_help.result).has_globals ≡ false = ap globals c.after_help.ensures ∙ ap globals c.about.ensures ∙ c.new.ensures.local in
+    IfOk-weaker c.arg.result _ _ (λ r h. h.globals ∙ ap₂ (λ a b. a || b) before c.file_argument.ensures.local) c.arg.ensures

@@ -1,0 +1,69 @@
+-- What the words of a command line ask for. The first word is the program's name.
+use Rattle.std.specs.Prelude.{map, ◌==◌, ◌&&◌, ◌||◌, ℕ, Bool, true, false, not, List, [], ◌∷◌, Option, Some, None, is_some, if◌then◌else◌, codes, slice_get}
+use Rattle.std.specs.Borrow.{Bor}
+use Rattle.std.specs.Str.{bytes_eq, chars}
+
+-- a hyphen (45), and at least one character after it
+abbrev pub is_flag : List ℕ → Bool
+is_flag [] = false
+is_flag (c ∷ rest) = c == 45 && is_some (slice_get (chars rest) 0)
+
+-- the mark after which no word is a flag
+abbrev pub is_last_flag : List ℕ → Bool
+is_last_flag word = bytes_eq word (codes "--")
+
+-- the one FILE of the words after `run`, before or after that mark
+abbrev pub only_file : List (List ℕ) → Option (List ℕ)
+only_file [] = None
+only_file (file ∷ []) = if is_flag file then None else Some file
+only_file (a ∷ b ∷ []) = if is_last_flag a then Some b
+    else (if is_last_flag b && not (is_flag a) then Some a else None)
+only_file (a ∷ b ∷ c ∷ rest) = None
+
+-- the FILE that the words ask to run, where they do
+abbrev pub file_to_run : List (List ℕ) → Option (List ℕ)
+file_to_run [] = None
+file_to_run (name ∷ []) = None
+file_to_run (name ∷ command ∷ rest) =
+    if bytes_eq (codes "run") command then only_file rest else None
+
+-- the FILE that the words hand to a command, with nothing beside it, where they do
+abbrev pub file_for : List ℕ → List (List ℕ) → Option (List ℕ)
+file_for command [] = None
+file_for command (name ∷ []) = None
+file_for command (name ∷ word ∷ rest) = if bytes_eq command word then only_file rest else None
+
+-- the names of the commands
+abbrev pub is_command : List ℕ → Bool
+is_command word = bytes_eq (codes "run") word || (bytes_eq (codes "asm") word || bytes_eq (codes "dis") word)
+
+-- a flag for help stands alone, or alone after a command
+abbrev pub is_help_flag : List ℕ → Bool
+is_help_flag word = bytes_eq word (codes "--help") || bytes_eq word (codes "-h")
+
+abbrev pub asks_help : List (List ℕ) → Bool
+asks_help [] = false
+asks_help (name ∷ []) = false
+asks_help (name ∷ a ∷ []) = is_help_flag a
+asks_help (name ∷ a ∷ b ∷ []) = is_command a && is_help_flag b
+asks_help (name ∷ a ∷ b ∷ c ∷ rest) = false
+
+-- FILE is missing, or the first two words after a command are both FILEs
+abbrev pub has_wrong_files : List (List ℕ) → Bool
+has_wrong_files [] = true
+has_wrong_files (file ∷ []) = false
+has_wrong_files (a ∷ b ∷ rest) = not (is_flag a) && not (is_flag b)
+
+-- the command is missing or unknown, or FILE is missing, or there are two
+abbrev pub is_mistake : List (List ℕ) → Bool
+is_mistake [] = true
+is_mistake (name ∷ []) = true
+is_mistake (name ∷ command ∷ rest) = if is_command command then has_wrong_files rest
+    else (not (bytes_eq (codes "help") command) && not (is_flag command))
+
+-- the FILE alone that the words ask to assemble, and to list
+abbrev pub asm_file : List (Bor (List ℕ)) → Option (List ℕ)
+asm_file words = file_for (codes "asm") (map (λ word. word.now) words)
+
+abbrev pub dis_file : List (Bor (List ℕ)) → Option (List ℕ)
+dis_file words = file_for (codes "dis") (map (λ word. word.now) words)

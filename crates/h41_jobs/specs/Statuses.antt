@@ -1,0 +1,72 @@
+-- The statuses that the program ends with, and what they tell.
+use Rattle.std.specs.Prelude.{◌≡◌, ◌≢◌, ◌⊎◌, ℕ, true, false, List, [], MatchOption}
+use Rattle.std.specs.Io.KnownBytes.{Appends}
+use Rattle.h41_ends.specs.declared.sink.Sink as sinks
+use Rattle.h41_ends.specs.declared.source.Source as sources
+use Rattle.h41_deck.specs.declared.fault.Fault.{Fault}
+use Rattle.h41_deck.specs.declared.fault.Fault.TheVariants.{ReadFault, WriteFault}
+use Rattle.h41_deck.specs.Refusals.{of_fault, refusal_line}
+use Rattle.h41_jobs.specs.declared.arguments.Job.{Job}
+use Rattle.h41_jobs.specs.declared.arguments.Task.{Task}
+use Rattle.h41_jobs.specs.declared.arguments.Task.TheVariants as tasks
+use Rattle.h41_jobs.specs.declared.ended.Ended.{Ended}
+use Rattle.h41_jobs.specs.declared.ended.Ended.TheVariants.{Accepted, Refused, WrongWord}
+use Rattle.clap.specs.Words.{fault_of}
+use Rattle.h41_jobs.specs.BenchCommand.{bench_app, job_asked}
+use Rattle.h41_jobs.specs.Tasks.{FailedOrTooLong, TaskEnds}
+
+-- the status of a deck or a source that was begun: 0, 1 or 3
+abbrev pub IsStatus : ℕ → Type 0
+IsStatus status = (status ≡ 0) ⊎ ((status ≡ 1) ⊎ (status ≡ 3))
+
+-- and of a list of words: 0, 2 or 3
+abbrev pub IsListStatus : ℕ → Type 0
+IsListStatus status = (status ≡ 0) ⊎ ((status ≡ 2) ⊎ (status ≡ 3))
+
+-- the status of a task that was begun
+abbrev pub IsTaskStatus : Task → ℕ → Type 0
+IsTaskStatus tasks.Run = IsStatus
+IsTaskStatus (tasks.Assemble origin) = IsStatus
+IsTaskStatus (tasks.List origin) = IsListStatus
+
+-- this status, or 3 where memory or an end failed
+abbrev pub IsOrFailed : ℕ → ℕ → Type 0
+IsOrFailed status result = (result ≡ status) ⊎ (result ≡ 3)
+
+-- where a parse takes the words, a status of the task that it meets, or 2 or 3 where its origin is wrong
+abbrev pub EndsJobOf : List (List ℕ) → ℕ → Type 0
+EndsJobOf words status =
+    fault_of bench_app words ≡ [] → MatchOption (job_asked words) (IsOrFailed 2 status) (λ parts. IsTaskStatus parts.0 status)
+
+-- the status that tells how a job ended
+abbrev pub status_of_ended : Ended → ℕ
+status_of_ended Accepted = 0
+status_of_ended Refused = 1
+status_of_ended (WrongWord number) = 2
+
+-- the task ends over the input so that this is its status
+abbrev pub EndsTask : Task → ℕ → List ℕ → Type 0
+EndsTask task status input = (ended : Ended) × TaskEnds task ended input × (status ≡ status_of_ended ended)
+
+abbrev pub EndsJob : Job → ℕ → List ℕ → Type 0
+EndsJob job status input = EndsTask job.task status input
+
+-- the line that tells a fault
+abbrev pub fault_line : Fault → List ℕ
+fault_line fault = refusal_line (of_fault fault)
+
+-- A fault's line is told. It is a read's where reading failed or the input was too long, a write's where writing failed, and
+-- any other where neither did.
+pub record IsTold {R W E : Type 0} (task : Task) (source : sources.Ghosts R) (sink : sinks.Ghosts W) (told : sinks.Ghosts E)
+    (before after : R) (old new : W) (told_old told_new : E) : Type 0 where
+  pub fault : Fault
+  pub line : Appends (told.contents told_old) (told.contents told_new) (fault_line fault)
+  pub read : fault ≡ ReadFault → FailedOrTooLong task source sink before after old new
+  pub write : fault ≡ WriteFault → sink.failed new ≡ true
+  pub not_read : fault ≢ ReadFault → source.failed after ≡ false
+  pub not_write : fault ≢ WriteFault → sink.failed new ≡ false
+
+-- where something failed, and the end for faults did not, its line is told
+abbrev pub TellsFault : {R W E : Type 0} → ℕ → Task → sources.Ghosts R → sinks.Ghosts W → sinks.Ghosts E → R → R → W → W → E → E → Type 0
+TellsFault status task source sink told before after old new told_old told_new =
+    status ≡ 3 → told.failed told_new ≡ false → IsTold task source sink told before after old new told_old told_new

@@ -1,0 +1,233 @@
+-- What a job makes of its input: the text that it prints, how it ends, and what is said where it goes wrong.
+use Rattle.std.specs.Global.{Global}
+use Rattle.std.specs.Prelude.{◌≡◌, ◌≢◌, ◌⊎◌, ℕ, ◌<◌, ◌≤◌, true, false, Vec, List, [], ◌++◌, length, take, codes, Option, Some, IfSome, Result, Ok, Err, IfErr, IfOk, OnOk}
+use Rattle.std.specs.Fmt.{decimal}
+use Rattle.std.specs.Io.KnownBytes.{Appends, Keeps}
+use Rattle.h41_ends.specs.declared.sink.Sink as sinks
+use Rattle.h41_ends.specs.declared.source.Source as sources
+use Rattle.h41_deck.specs.declared.fault.Fault.{Fault}
+use Rattle.h41_deck.specs.declared.fault.Fault.TheVariants.{ReadFault, WriteFault}
+use Rattle.h41_commands.specs.declared.refusal.LineRefusal.{LineRefusal}
+use Rattle.h41_deck.specs.declared.refusal.Refusal.TheVariants.{Line}
+use Rattle.h41_deck.specs.declared.replies.Outcome.{Outcome}
+use Rattle.h41_deck.specs.declared.replies.Outcome.TheVariants as outcomes
+use Rattle.h41_deck.specs.Deck as decks
+use Rattle.h41_ends.specs.Ends.{Appended, most_bytes}
+use Rattle.h41_commands.specs.PageBlocks.{SourceMakes}
+use Rattle.h41_deck.specs.Refusals.{refusal_line}
+use Rattle.h41_dis.specs.Spelling.{spell}
+use Rattle.h41_jobs.specs.declared.arguments.Job.{Job}
+use Rattle.h41_jobs.specs.declared.arguments.Task.{Task}
+use Rattle.h41_jobs.specs.declared.arguments.Task.TheVariants as tasks
+use Rattle.h41_jobs.specs.declared.ended.Ended.{Ended}
+use Rattle.h41_jobs.specs.declared.ended.Ended.TheVariants.{Accepted, Refused, WrongWord}
+use Rattle.h41_jobs.specs.WordTexts.{WritesWords, word_lines, wrong_word}
+
+-- what a source gives at an origin, where it isn't too long: the words that it spells, or its refusal
+pub record SourceAssemblesTo (origin : ℕ) (source : List ℕ) (given : Result (List ℕ) LineRefusal) : Type 0 where
+  pub bound : length source ≤ most_bytes
+  pub gives : SourceMakes source origin given
+
+-- the words' lines, or the refusal's
+abbrev pub given_text : Result (List ℕ) LineRefusal → List ℕ
+given_text (Ok words) = word_lines words
+given_text (Err refusal) = refusal_line (Line refusal)
+
+abbrev pub AssemblyText : ℕ → List ℕ → List ℕ → Type 0
+AssemblyText origin source text =
+    (given : Result (List ℕ) LineRefusal) × SourceAssemblesTo origin source given × (text ≡ given_text given)
+
+-- what a text of words says: the words that it writes, or the number of its first part that is none
+abbrev pub ReadsAs : List ℕ → Result (List ℕ) ℕ → Type 0
+ReadsAs text (Ok words) = WritesWords text words
+ReadsAs text (Err number) = wrong_word text ≡ Some number
+
+-- what code made of it
+abbrev pub words_or_number : Result (Vec ℕ Global) ℕ → Result (List ℕ) ℕ
+words_or_number (Ok words) = Ok words.items
+words_or_number (Err number) = Err number
+
+-- where it isn't too long
+pub record ListReadsAs (text : List ℕ) (said : Result (List ℕ) ℕ) : Type 0 where
+  pub bound : length text ≤ most_bytes
+  pub says : ReadsAs text said
+
+-- the listing of the words, and nothing where one is wrong
+abbrev pub list_text : Result (List ℕ) ℕ → List ℕ
+list_text (Ok words) = spell words
+list_text (Err number) = []
+
+abbrev pub ListingText : List ℕ → List ℕ → Type 0
+ListingText input text = (said : Result (List ℕ) ℕ) × ListReadsAs input said × (text ≡ list_text said)
+
+-- the text that a task prints of an input; the listing of words is the same at each origin
+abbrev pub HasText : Task → List ℕ → List ℕ → Type 0
+HasText tasks.Run = decks.Deck
+HasText (tasks.Assemble origin) = AssemblyText origin
+HasText (tasks.List origin) = ListingText
+
+-- what is written is a text that the input has
+abbrev pub WritesTextOf : (List ℕ → List ℕ → Type 0) → Option (List ℕ) → Option (List ℕ) → List ℕ → Type 0
+WritesTextOf text_of old new input = (text : List ℕ) × text_of input text × Appends old new text
+
+-- a front of such a text, which may be all of it
+abbrev pub WritesFrontOf : (List ℕ → List ℕ → Type 0) → Option (List ℕ) → Option (List ℕ) → List ℕ → Type 0
+WritesFrontOf text_of old new input =
+    (text : List ℕ) × text_of input text × (count : ℕ) × Appends old new (take count text)
+
+-- where the input is known, its text is written
+abbrev pub WritesTaskText : {W : Type 0} → Task → Option (List ℕ) → (W → Option (List ℕ)) → W → W → Type 0
+WritesTaskText task known contents old new = IfSome known (WritesTextOf (HasText task) (contents old) (contents new))
+
+-- where a task ends without a fault, it is: any task, a source at an origin, a list of words
+abbrev pub OkWritesText : {E R W : Type 0} → Result Ended E → Task → sources.Ghosts R → sinks.Ghosts W → R → W → W → Type 0
+OkWritesText result task source sink before old new =
+    OnOk result (WritesTaskText task (source.remaining before) sink.contents old new)
+
+abbrev pub Assembled : {E R W : Type 0} → ℕ → Result Ended E → sources.Ghosts R → sinks.Ghosts W → R → W → W → Type 0
+Assembled origin result source sink before old new = OkWritesText result (tasks.Assemble origin) source sink before old new
+
+abbrev pub Listed : {E R W : Type 0} → Result Ended E → sources.Ghosts R → sinks.Ghosts W → R → W → W → Type 0
+Listed result source sink before old new =
+    OnOk result (IfSome (source.remaining before) (WritesTextOf ListingText (sink.contents old) (sink.contents new)))
+
+-- and where a job's status is not that of a fault
+abbrev pub JobWritesText : {R W : Type 0} → ℕ → Job → sources.Ghosts R → sinks.Ghosts W → R → W → W → Type 0
+JobWritesText status job source sink before old new =
+    status ≢ 3 → WritesTaskText job.task (source.remaining before) sink.contents old new
+
+-- how a deck, a source and a text of words end
+abbrev pub ended_of_deck : Outcome → Ended
+ended_of_deck outcomes.Accepted = Accepted
+ended_of_deck outcomes.Refused = Refused
+
+abbrev pub ended_of_source : Result (List ℕ) LineRefusal → Ended
+ended_of_source (Ok words) = Accepted
+ended_of_source (Err refusal) = Refused
+
+abbrev pub ended_of_list : Result (List ℕ) ℕ → Ended
+ended_of_list (Ok words) = Accepted
+ended_of_list (Err number) = WrongWord number
+
+-- how a task ends over an input
+abbrev pub TaskEnds : Task → Ended → List ℕ → Type 0
+TaskEnds tasks.Run ended input = (outcome : Outcome) × decks.DeckEnds input outcome × (ended ≡ ended_of_deck outcome)
+TaskEnds (tasks.Assemble origin) ended input =
+    (given : Result (List ℕ) LineRefusal) × SourceAssemblesTo origin input given × (ended ≡ ended_of_source given)
+TaskEnds (tasks.List origin) ended input = (said : Result (List ℕ) ℕ) × ListReadsAs input said × (ended ≡ ended_of_list said)
+
+-- a deck and a source have no wrong word
+abbrev pub HasNoWrongWord : Ended → Type 0
+HasNoWrongWord Accepted = Unit {0}
+HasNoWrongWord Refused = Unit {0}
+HasNoWrongWord (WrongWord number) = ⊥
+
+-- a list of words is never refused
+abbrev pub IsNotRefused : Ended → Type 0
+IsNotRefused Accepted = Unit {0}
+IsNotRefused Refused = ⊥
+IsNotRefused (WrongWord number) = Unit {0}
+
+-- how a task may end
+abbrev pub MayEnd : Task → Ended → Type 0
+MayEnd tasks.Run = HasNoWrongWord
+MayEnd (tasks.Assemble origin) = HasNoWrongWord
+MayEnd (tasks.List origin) = IsNotRefused
+
+-- an input that is too long, of which nothing is printed
+pub record IsTooLong (input text : List ℕ) : Type 0 where
+  pub too_long : most_bytes < length input
+  pub nothing : text ≡ []
+
+-- the text that is printed of an input that is too long
+abbrev pub LongText : Task → List ℕ → List ℕ → Type 0
+LongText tasks.Run = decks.LongDeck
+LongText (tasks.Assemble origin) = IsTooLong
+LongText (tasks.List origin) = IsTooLong
+
+-- the text of a deck that is too long is passed on; of others there is none
+abbrev pub PassesOn : {W : Type 0} → Task → sinks.Ghosts W → W → Type 0
+PassesOn tasks.Run sink new = sink.flushed new ≡ true
+PassesOn (tasks.Assemble origin) sink new = Unit {0}
+PassesOn (tasks.List origin) sink new = Unit {0}
+
+-- why reading ends with a fault: a read failed, or the input is too long, and its text within the bound is written
+abbrev pub FailedOrTooLong : {R W : Type 0} → Task → sources.Ghosts R → sinks.Ghosts W → R → R → W → W → Type 0
+FailedOrTooLong task source sink before after old new =
+    (source.failed after ≡ true)
+    ⊎ (IfSome (source.remaining before) (WritesTextOf (LongText task) (sink.contents old) (sink.contents new)) × PassesOn task sink new)
+
+-- where a task ends without a fault, it ends so over the input, where that is known
+abbrev pub Ends : {E : Type 0} → Result Ended E → Task → Option (List ℕ) → Type 0
+Ends result task known = IfOk result (λ ended. IfSome known (TaskEnds task ended))
+
+-- where a task ends with a fault of reading, this is why
+abbrev pub WhyUnread : {A R W : Type 0} → Result A Fault → Task → sources.Ghosts R → sinks.Ghosts W → R → R → W → W → Type 0
+WhyUnread result task source sink before after old new =
+    result ≡ Err ReadFault → FailedOrTooLong task source sink before after old new
+
+-- where a write or the flush failed, a front of the text of a source or of a list of words is written
+abbrev pub AssemblyCut : {A R W : Type 0} → ℕ → Result A Fault → sources.Ghosts R → sinks.Ghosts W → R → W → W → Type 0
+AssemblyCut origin result source sink before old new = result ≡ Err WriteFault
+    → IfSome (source.remaining before) (WritesFrontOf (AssemblyText origin) (sink.contents old) (sink.contents new))
+
+abbrev pub ListingCut : {A R W : Type 0} → Result A Fault → sources.Ghosts R → sinks.Ghosts W → R → W → W → Type 0
+ListingCut result source sink before old new = result ≡ Err WriteFault
+    → IfSome (source.remaining before) (WritesFrontOf ListingText (sink.contents old) (sink.contents new))
+
+-- what a task leaves written where its input or memory failed: a source and a list of words nothing; of a deck nothing is said
+abbrev pub LeavesNothing : {W : Type 0} → Task → sinks.Ghosts W → W → W → Type 0
+LeavesNothing tasks.Run sink old new = Unit {0}
+LeavesNothing (tasks.Assemble origin) sink old new = Keeps (sink.contents old) (sink.contents new)
+LeavesNothing (tasks.List origin) sink old new = Keeps (sink.contents old) (sink.contents new)
+
+-- and where reading failed: nothing
+abbrev pub LeavesUnread : {W : Type 0} → sinks.Ghosts W → W → W → Type 0
+LeavesUnread sink old new = Keeps (sink.contents old) (sink.contents new)
+
+-- and where the output failed: a front of their text
+abbrev pub LeavesFront : {W : Type 0} → Task → Option (List ℕ) → sinks.Ghosts W → W → W → Type 0
+LeavesFront tasks.Run known sink old new = Unit {0}
+LeavesFront (tasks.Assemble origin) known sink old new =
+    IfSome known (WritesFrontOf (AssemblyText origin) (sink.contents old) (sink.contents new))
+LeavesFront (tasks.List origin) known sink old new =
+    IfSome known (WritesFrontOf ListingText (sink.contents old) (sink.contents new))
+
+-- where a task ends with a fault of another end than the output, and of the output
+abbrev pub ErrLeavesNothing : {A W : Type 0} → Result A Fault → Task → sinks.Ghosts W → W → W → Type 0
+ErrLeavesNothing result task sink old new =
+    IfErr result (λ fault. fault ≢ WriteFault → LeavesNothing task sink old new)
+
+abbrev pub ErrLeavesFront : {A R W : Type 0} → Result A Fault → Task → sources.Ghosts R → sinks.Ghosts W → R → W → W → Type 0
+ErrLeavesFront result task source sink before old new =
+    result ≡ Err WriteFault → LeavesFront task (source.remaining before) sink old new
+
+-- where a job has the status of a fault, and the output did not fail, or did
+abbrev pub JobLeavesNothing : {W : Type 0} → ℕ → Job → sinks.Ghosts W → W → W → Type 0
+JobLeavesNothing status job sink old new =
+    status ≡ 3 → sink.failed new ≡ false → LeavesNothing job.task sink old new
+
+abbrev pub JobLeavesUnread : {R W : Type 0} → sources.Ghosts R → sinks.Ghosts W → R → W → W → Type 0
+JobLeavesUnread source sink after old new = source.failed after ≡ true → LeavesUnread sink old new
+
+abbrev pub JobLeavesFront : {R W : Type 0} → ℕ → Job → sources.Ghosts R → sinks.Ghosts W → R → W → W → Type 0
+JobLeavesFront status job source sink before old new =
+    status ≡ 3 → sink.failed new ≡ true → LeavesFront job.task (source.remaining before) sink old new
+
+-- the text that tells a wrong word by its number
+abbrev pub mistake_line : ℕ → List ℕ
+mistake_line number = codes "error: word " ++ (decimal number ++ codes " is not a hexadecimal number up to 3FF\n")
+
+-- where the end for faults did not fail, the number of the wrong word is told, and nothing else
+abbrev pub TellsMistake : {E : Type 0} → Task → Option (List ℕ) → sinks.Ghosts E → E → E → Type 0
+TellsMistake task known told old new = told.failed new ≡ false
+    → (number : ℕ) × IfSome known (TaskEnds task (WrongWord number)) × Appended told.contents old new (mistake_line number)
+
+-- where a job has the status of a wrong word
+abbrev pub TellsWord : {R E : Type 0} → ℕ → Job → sources.Ghosts R → sinks.Ghosts E → R → E → E → Type 0
+TellsWord status job source told before old new =
+    status ≡ 2 → TellsMistake job.task (source.remaining before) told old new
+
+-- a text is told, as far as the end for faults takes it
+abbrev pub Tells : {E : Type 0} → sinks.Ghosts E → E → E → List ℕ → Type 0
+Tells told old new text = told.failed new ≡ false → Appended told.contents old new text

@@ -1,0 +1,313 @@
+//! Reads the command line.
+
+ghost use Rattle.std.specs.Prelude.{◌≡◌, ◌≢◌, [], true, false, codes, map, IfOk, IfSome, IfNone, IsErr, option_map};
+ghost use Rattle.clap.specs.Words.{FailsBy, HasMatchesOf, app_of, fault_of, kind_of, rule_of, subcommand_rows_of};
+ghost use Rattle.clap.specs.declared.error.kind.ErrorKind.TheVariants as kind;
+ghost use Rattle.h41_jobs.specs.BenchCommand.{bench_app, file_rule, has_globals, job_in, origin_app, origin_asked, origin_in, origin_rule, run_app, task_asked};
+ghost use Rattle.h41_jobs.specs.CommandLine.{asks_help, asm_file, dis_file, file_to_run, is_mistake};
+ghost use Rattle.h41_jobs.specs.Ending.{AsksForNoRun, AsksTo, AsksToRun, EndsAtOnce, EndsWith, GivesJob, GivesJobOf, IsNoHelp, parts_of, status_of, text_of};
+
+use crate::numbers::origin_value;
+use clap::error::ErrorKind;
+use clap::{Arg, ArgAction, ArgMatches, Command, Error};
+use h41_deck::Refusal;
+use std::alloc::{AllocError, Global};
+
+/// What a job does with its file.
+#[derive(Clone, Copy, Debug, PartialEq, Eq)]
+pub enum Task {
+    /// Runs the deck in it.
+    Run,
+    /// Assembles the source in it, from an address on.
+    Assemble { origin: u16 },
+    /// Lists the words in it, of which the first stands at an address.
+    List { origin: u16 },
+}
+
+/// What the command line asks for: a task, and the file that it is for, where `-` is standard input.
+#[derive(Clone, Copy, Debug, PartialEq, Eq)]
+pub struct Job<'a> {
+    pub task: Task,
+    pub file: &'a str,
+}
+
+/// How the program ends at once.
+#[derive(Debug, Drop)]
+pub enum Ending {
+    /// Help was asked for. The text is for standard output.
+    Help(String),
+    /// The words are wrong. The text is for standard error.
+    Mistake(String),
+    /// No memory is left for the words or for a text.
+    OutOfMemory,
+}
+
+impl Ending {
+    /// The status that the program ends with: 0, 2 or 3.
+    pub fn status(&self) -> u8
+        ensures { result ≡ status_of self.now }
+    {
+        match self {
+            Ending::Help(_) => 0,
+            Ending::Mistake(_) => 2,
+            Ending::OutOfMemory => 3,
+        }
+    }
+
+    /// The text that the program prints. Where memory is refused, it is the fault's line without its end.
+    pub fn text(&self) -> &str
+        ensures { result.now ≡ text_of self.now }
+    {
+        match self {
+            Ending::Help(text) => text.as_str(),
+            Ending::Mistake(text) => text.as_str(),
+            Ending::OutOfMemory => Refusal::OutOfMemory.heading(),
+        }
+    }
+}
+
+/// The address of the first word where none is given.
+const ORIGIN: u16 = 0x8000;
+
+/// What a wrong origin is answered with.
+const WRONG_ORIGIN: &str = "error: the origin has not four hexadecimal digits\n";
+
+/// What help tells behind the usage.
+const DECKS: &str = "\
+A deck is a text file of commands, one a line. Such as:
+
+    words 8
+    130 123 226 3E0
+    end
+    call 8000
+    step 2
+    show cpu
+
+  words P [rw]  fills page P, 4 to F, with the words on the lines up to `end`
+  image P [rw]  likewise with the bytes of an image file, in hexadecimal
+  asm P [rw]    likewise with the words that the source on these lines spells
+  unplug P      takes the page out again
+  load          loads a keystroke program from the bytes up to `end`
+  program       likewise from its text, a line of the program on each line
+  size n        sets the number of data registers
+  reset         begins anew; pages stay plugged
+  call hhhh     begins the function at an address
+  step [n]      carries out n of its instructions, one where n is missing
+  list hhhh n   prints n words from an address on, as instructions
+  show cpu      prints the processor
+  show ram hhh  prints the register at an address in memory
+  show stack    prints the registers T, Z, Y, X and L of the stack
+  show flags    prints the numbers of the flags that are set
+  show alpha    prints the text of ALPHA
+  show display  prints what the display shows
+  show pos      prints whether a function runs, and where
+  show lines    prints the lines of program memory
+  show image P  prints the page's image in hexadecimal
+  show functions  prints the functions of plugged modules
+  # ...         is a comment, where # is the first character of the line
+
+A refused command prints a line such as `! 24 Busy`, and the deck goes on.
+
+The program ends with status 0 where nothing was refused, 1 where a refusal was
+printed, 2 at a wrong command line, and 3 where the deck could not be read, its
+output could not be written, or memory was refused.
+
+Beside the program's sources, README.md is the place to begin, docs/DECK.md has
+the whole deck language with each refusal and its usual causes, examples/ has
+decks to try, and tools/where tells which lines of a deck were refused.";
+
+/// What help tells of `asm`, behind the usage.
+const SOURCES: &str = "\
+A source is a text file of instructions, one a line, as HP's VASM listings spell
+them. A label ends with a colon, a reference to it begins with one, and a comment
+begins with a semicolon. Such as:
+
+    BACK: LDI 123
+          C=C+1 S&X
+          JNC :BACK ; until the carry is set
+          RTN
+
+The words of it are printed, each three hexadecimal digits on a line of its own.
+A source with a fault prints a line such as `! 30 BadLine 2`, which tells the
+fault's line, and ends with status 1.";
+
+/// What help tells of `dis`, behind the usage.
+const WORDS: &str = "\
+The words are hexadecimal numbers up to 3FF, which blanks, tabs and line ends
+part. Such as:
+
+    130 123 226 3E0
+
+They are printed as instructions, one a line. The origin changes none of them,
+since a jump tells its address or its distance. A word that is none ends the
+program with status 2, and nothing is listed.";
+
+/// The command `bench` with its subcommands.
+fn bench<'a>(alloc: Global) -> Result<Command<'a>, AllocError>
+    ensures { IfOk result (λ command. app_of command ≡ bench_app) }
+{
+    Command::new(alloc, "bench")
+        .about("Runs decks of commands of the bench, assembles sources, lists words")
+        .after_help(DECKS)
+        .subcommand_required(true)
+        .subcommand(run_command(alloc)?)?
+        .subcommand(origin_command(alloc, "asm", "Assembles a source", SOURCES)?)?
+        .subcommand(origin_command(alloc, "dis", "Lists words as instructions", WORDS)?)
+}
+
+/// The command that takes FILE alone.
+fn run_command<'a>(alloc: Global) -> Result<Command<'a>, AllocError>
+    ensures app { IfOk result (λ command. app_of command ≡ run_app) }
+    ensures local { IfOk result (λ command. has_globals command ≡ false) }
+{
+    Command::new(alloc, "run")
+        .about("Runs a deck of commands")
+        .after_help(DECKS)
+        .arg(file_argument(alloc))
+}
+
+/// A command that takes an origin beside FILE. Help says what it is about, and the text behind the usage.
+fn origin_command<'a>(
+    alloc: Global,
+    name: &'a str,
+    about: &'a str,
+    text: &'a str,
+) -> Result<Command<'a>, AllocError>
+    ensures app { IfOk result (λ command. app_of command ≡ origin_app name.now) }
+    ensures local { IfOk result (λ command. has_globals command ≡ false) }
+{
+    Command::new(alloc, name)
+        .about(about)
+        .after_help(text)
+        .arg(origin_argument(alloc))?
+        .arg(file_argument(alloc))
+}
+
+/// The argument `--origin`.
+fn origin_argument<'a>(alloc: Global) -> Arg<'a>
+    ensures rule { rule_of result ≡ origin_rule }
+    ensures local { result.global ≡ false }
+{
+    Arg::new(alloc, "origin")
+        .long("origin")
+        .value_name("HHHH")
+        .help("The address of the first word, in four hexadecimal digits: 8000 if not given")
+        .action(ArgAction::Set)
+}
+
+/// The argument FILE.
+fn file_argument<'a>(alloc: Global) -> Arg<'a>
+    ensures rule { rule_of result ≡ file_rule }
+    ensures local { result.global ≡ false }
+{
+    Arg::new(alloc, "FILE")
+        .help("The file to read, or - for standard input")
+        .required(true)
+        .action(ArgAction::Set)
+}
+
+/// The words of the command line, matched.
+fn matched<'a>(alloc: Global, words: &'a [&'a str]) -> Result<ArgMatches<'a>, Error>
+    ensures kinds { FailsBy (fault_of bench_app (map (λ w. w.now) words.now)) result }
+    ensures matches { IfOk result (HasMatchesOf bench_app (map (λ w. w.now) words.now)) }
+{
+    bench(alloc)?.try_get_matches_from(words)
+}
+
+/// The job that the matches have. None where an origin is wrong.
+fn job_of<'a>(matches: &ArgMatches<'a>) -> Option<Job<'a>>
+    ensures { option_map parts_of result ≡ job_in (subcommand_rows_of matches.now) }
+{
+    let (name, command) = matches.subcommand()?;
+    let task = task_of(name, command)?;
+    let file = command.get_str("FILE")?;
+    Some(Job { task, file })
+}
+
+/// The task that a command's name asks for.
+fn task_of(name: &str, command: &ArgMatches<'_>) -> Option<Task>
+    ensures { result ≡ task_asked name.now (origin_in command.now) }
+{
+    match name {
+        "run" => Some(Task::Run),
+        "asm" => Some(Task::Assemble {
+            origin: origin_of(command)?,
+        }),
+        "dis" => Some(Task::List {
+            origin: origin_of(command)?,
+        }),
+        _ => None,
+    }
+}
+
+/// The address of the first word: 8000 where it is not given. None where the one that is given has not four hexadecimal digits.
+fn origin_of(command: &ArgMatches<'_>) -> Option<u16>
+    ensures { result ≡ origin_asked (origin_in command.now) }
+{
+    match command.get_str("origin") {
+        Some(digits) => origin_value(digits),
+        None => Some(ORIGIN),
+    }
+}
+
+/// The job that the matches have, or how the program ends where an origin is wrong.
+fn job_or_mistake<'a>(alloc: Global, matches: &ArgMatches<'a>) -> Result<Job<'a>, Ending>
+    ensures { GivesJob (job_in (subcommand_rows_of matches.now)) result }
+{
+    match job_of(matches) {
+        Some(job) => Ok(job),
+        None => Err(wrong_origin(alloc)),
+    }
+}
+
+/// How the program ends where an origin is wrong.
+fn wrong_origin(alloc: Global) -> Ending
+    ensures { EndsWith 2 result }
+{
+    match String::from_str(alloc, WRONG_ORIGIN) {
+        Ok(text) => Ending::Mistake(text),
+        Err(_) => Ending::OutOfMemory,
+    }
+}
+
+/// How the program ends where the words ask for no job.
+fn make_ending(alloc: Global, error: Error) -> Ending
+    ensures memory { kind_of error ≡ kind.OutOfMemory → result ≡ Ending.OutOfMemory }
+    ensures help { kind_of error ≡ kind.DisplayHelp → EndsWith 0 result }
+    ensures mistake { IsNoHelp (kind_of error) → EndsWith 2 result }
+{
+    if error.kind() == ErrorKind::OutOfMemory {
+        return Ending::OutOfMemory;
+    }
+    match format!(in alloc; "{error}") {
+        Ok(text) if error.use_stderr() => Ending::Mistake(text),
+        Ok(text) => Ending::Help(text),
+        Err(_) => Ending::OutOfMemory,
+    }
+}
+
+/// Reads the words of the command line, of which the first is the program's name. They ask for a
+/// run as `run FILE`, with FILE `-` or no flag, or with the mark `--` before or after it; for the
+/// other tasks as `asm` and `dis`, with FILE and an origin.
+///
+/// # Errors
+///
+/// `Help` (status 0), `Mistake` (status 2) and `OutOfMemory` (status 3).
+pub fn read_words<'a>(alloc: Global, words: &'a [&'a str]) -> Result<Job<'a>, Ending>
+    ensures run { IfSome (file_to_run (map (λ w. w.now) words.now)) (AsksToRun result) }
+    ensures no_run { IfNone (file_to_run (map (λ w. w.now) words.now)) (AsksForNoRun result) }
+    ensures asm { IfSome (asm_file words.now) (AsksTo result (Task.Assemble 0x8000)) }
+    ensures dis { IfSome (dis_file words.now) (AsksTo result (Task.List 0x8000)) }
+    ensures help { asks_help (map (λ w. w.now) words.now) ≡ true → EndsAtOnce 0 result }
+    ensures mistake { is_mistake (map (λ w. w.now) words.now) ≡ true → EndsAtOnce 2 result }
+
+    // Where the words are taken, the job is that of the command, the FILE and the origin in them, and a wrong origin ends the
+    // program.
+    ensures refused { fault_of bench_app (map (λ w. w.now) words.now) ≢ [] → IsErr result }
+    ensures job { GivesJobOf (map (λ w. w.now) words.now) result }
+{
+    match matched(alloc, words) {
+        Ok(matches) => job_or_mistake(alloc, &matches),
+        Err(error) => Err(make_ending(alloc, error)),
+    }
+}

@@ -1,0 +1,47 @@
+//! How a job ends.
+
+ghost use Rattle.std.specs.Prelude.{◌≡◌, ◌++◌, ◌≤◌, length};
+ghost use Rattle.h41_jobs.specs.Tasks.{mistake_line};
+
+use arrayvec::ArrayString;
+use h41_deck::Outcome;
+use itoa::Buffer;
+
+/// The most bytes of the line that tells a wrong word: 51 without the word's number, which has up to 20 digits.
+const LINE: usize = 72;
+
+/// How a job ended that no fault of reading, writing or memory ended.
+#[derive(Clone, Copy, Debug, PartialEq, Eq)]
+pub enum Ended {
+    /// No refusal was printed.
+    Accepted,
+    /// A refusal was printed.
+    Refused,
+    /// The word with this number, counted from 1, is no hexadecimal number up to 3FF. Nothing was printed.
+    WrongWord(usize),
+}
+
+impl From<Outcome> for Ended {
+    ghost use Rattle.std.specs.Prelude.{◌≡◌};
+    ghost use Rattle.h41_jobs.specs.Tasks.{ended_of_deck};
+
+    ghost from_gives = { λ outcome own. own ≡ ended_of_deck outcome };
+
+    fn from(outcome: Outcome) -> Self {
+        match outcome {
+            Outcome::Accepted => Ended::Accepted,
+            Outcome::Refused => Ended::Refused,
+        }
+    }
+}
+
+/// The line that tells a wrong word by its number.
+pub fn mistake_line(number: usize) -> ArrayString<LINE>
+    ensures { result.bytes ≡ mistake_line number }
+{
+    let mut line = ArrayString::new();
+    line.push_str("error: word ");
+    line.push_str(Buffer::new().format(number));
+    line.push_str(" is not a hexadecimal number up to 3FF\n");
+    line
+}

@@ -1,0 +1,27 @@
+//! Reads an input whole, or refuses it where it is too long.
+
+ghost use Rattle.std.specs.Prelude.{◌≡◌, ◌≢◌, true, false, Err, IfOk, IfSome};
+ghost use Rattle.h41_jobs.specs.Inputs.{IsUnread, IsWhole};
+
+use h41_deck::{Fault, Source, read_whole};
+use std::alloc::Global;
+
+/// All bytes of an input.
+///
+/// # Errors
+///
+/// `ReadFault` (22) where a read fails, or the input has more than 67,108,864 bytes; `OutOfMemory` (21).
+pub fn read_input<R: Source>(alloc: Global, reader: &mut R) -> Result<Vec<u8>, Fault>
+    requires { R.failed reader.old ≡ false }
+    ensures bytes { IfOk result (λ bytes. IfSome (R.remaining reader.old) (IsWhole bytes.items)) }
+    ensures read_fault { result ≡ Err Fault.ReadFault → IsUnread R.Source reader.old reader.new }
+    ensures no_write { result ≢ Err Fault.WriteFault }
+    ensures clear { result ≢ Err Fault.ReadFault → R.failed reader.new ≡ false }
+{
+    let input = read_whole(alloc, reader)?;
+    if input.is_whole {
+        Ok(input.bytes)
+    } else {
+        Err(Fault::ReadFault)
+    }
+}

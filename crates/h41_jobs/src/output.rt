@@ -1,0 +1,24 @@
+//! Writes a text and passes it on.
+
+ghost use Rattle.std.specs.Prelude.{◌≡◌, true, false, OnOk, OnErr};
+ghost use Rattle.h41_ends.specs.Ends.{Appended};
+ghost use Rattle.h41_jobs.specs.Outputs.{AppendsFront};
+
+use h41_deck::{Sink, WriteFault, flush, write_whole};
+
+/// Writes a text whole, and flushes it.
+///
+/// # Errors
+///
+/// `WriteFault` (23) where a write or the flush fails. A front of the text is then written, or all of it.
+pub fn write_text<W: Sink>(writer: &mut W, text: &[u8]) -> Result<(), WriteFault>
+    requires { W.failed writer.old ≡ false }
+    ensures text { OnOk result (Appended W.contents writer.old writer.new text.now) }
+    ensures front { OnErr result (AppendsFront W.contents writer.old writer.new text.now) }
+    ensures flushed { OnOk result (W.flushed writer.new ≡ true) }
+    ensures clear { OnOk result (W.failed writer.new ≡ false) }
+    ensures mark { OnErr result (W.failed writer.new ≡ true) }
+{
+    write_whole(writer, text)?;
+    flush(writer)
+}

@@ -1,0 +1,126 @@
+//! Does a job from one end to another, and tells how it went by a status.
+
+ghost use Rattle.std.specs.Prelude.{◌≡◌, ◌≢◌, ◌≤◌, true, false, Err, OnOk, OnErr, IfOk, IfSome};
+ghost use Rattle.std.specs.Io.KnownBytes.{Keeps};
+ghost use Rattle.h41_ends.specs.Ends.{Appended};
+ghost use Rattle.h41_jobs.specs.Statuses.{EndsJob, IsTaskStatus, TellsFault, fault_line};
+ghost use Rattle.h41_jobs.specs.Tasks.{Ends, ErrLeavesFront, ErrLeavesNothing, JobLeavesFront, JobLeavesNothing, JobLeavesUnread, JobWritesText, LeavesUnread, MayEnd, OkWritesText, Tells, TellsWord, WhyUnread, mistake_line};
+
+use crate::arguments::{Job, Task};
+use crate::assemble::assemble_input;
+use crate::ended::{Ended, mistake_line};
+use crate::list::list_input;
+use crate::output::write_text;
+use h41_deck::{Fault, Sink, Source, WriteFault, run_deck};
+use std::alloc::Global;
+
+/// The status of a job that was carried out and printed no refusal.
+pub const ACCEPTED: u8 = 0;
+
+/// The status of a job that printed a refusal.
+pub const REFUSED: u8 = 1;
+
+/// The status where reading, writing or memory failed.
+pub const FAILED: u8 = 3;
+
+/// The status of a job whose input has a wrong word.
+pub const MISTAKEN: u8 = 2;
+
+/// Does the job with what `reader` gives: writes what it prints to `writer`. Where a word of a list is wrong, the text that
+/// tells it goes to `faults`, and where reading, writing or memory fails, the line of that fault. All three ends' marks are clear
+/// before. Answers the status that the program ends with: 0, 1 where a refusal was printed, 2 where a word of a list is wrong,
+/// 3 where something failed.
+pub fn serve<R: Source, W: Sink, E: Sink>(
+    alloc: Global,
+    job: Job<'_>,
+    reader: &mut R,
+    writer: &mut W,
+    faults: &mut E,
+) -> u8
+    requires reader_clear { R.failed reader.old ≡ false }
+    requires writer_clear { W.failed writer.old ≡ false }
+    requires faults_clear { E.failed faults.old ≡ false }
+    ensures status { IsTaskStatus job.entry.task result }
+
+    // Where nothing failed, the task's text was written, and the status tells how it ended.
+    ensures text { JobWritesText result job.entry R.Source W.Sink reader.old writer.old writer.new }
+    ensures flushed { result ≢ 3 → W.flushed writer.new ≡ true }
+    ensures outcome { result ≢ 3 → IfSome (R.remaining reader.old) (EndsJob job.entry result) }
+
+    // A wrong word is told by its number, if it can be, and where nothing is wrong nothing is told.
+    ensures silent { result ≤ 1 → Keeps (E.contents faults.old) (E.contents faults.new) }
+    ensures mistake { TellsWord result job.entry R.Source E.Sink reader.old faults.old faults.new }
+
+    // Where something failed, nothing of a source or of a list is written, or where writing failed a front of its text. The
+    // fault's line is told, if it can be.
+    ensures unwritten { JobLeavesNothing result job.entry W.Sink writer.old writer.new }
+    ensures unread { JobLeavesUnread R.Source W.Sink reader.new writer.old writer.new }
+    ensures cut { JobLeavesFront result job.entry R.Source W.Sink reader.old writer.old writer.new }
+    ensures fault { TellsFault result job.entry.task R.Source W.Sink E.Sink
+        reader.old reader.new writer.old writer.new faults.old faults.new }
+{
+    match do_task(alloc, job.task, reader, writer) {
+        Ok(Ended::Accepted) => ACCEPTED,
+        Ok(Ended::Refused) => REFUSED,
+        Ok(Ended::WrongWord(number)) => tell_mistake(number, faults),
+        Err(fault) => tell(fault, faults),
+    }
+}
+
+/// Carries a task out.
+fn do_task<R: Source, W: Sink>(
+    alloc: Global,
+    task: Task,
+    reader: &mut R,
+    writer: &mut W,
+) -> Result<Ended, Fault>
+    requires reader_clear { R.failed reader.old ≡ false }
+    requires writer_clear { W.failed writer.old ≡ false }
+    ensures text { OkWritesText result task R.Source W.Sink reader.old writer.old writer.new }
+    ensures ends { Ends result task (R.remaining reader.old) }
+    ensures kind { IfOk result (MayEnd task) }
+    ensures flushed { OnOk result (W.flushed writer.new ≡ true) }
+    ensures read { WhyUnread result task R.Source W.Sink reader.old reader.new writer.old writer.new }
+    ensures unwritten { ErrLeavesNothing result task W.Sink writer.old writer.new }
+    ensures unread { R.failed reader.new ≡ true → LeavesUnread W.Sink writer.old writer.new }
+    ensures cut { ErrLeavesFront result task R.Source W.Sink reader.old writer.old writer.new }
+    ensures write_fault { result ≡ Err Fault.WriteFault → W.failed writer.new ≡ true }
+    ensures reader { result ≢ Err Fault.ReadFault → R.failed reader.new ≡ false }
+    ensures writer { result ≢ Err Fault.WriteFault → W.failed writer.new ≡ false }
+{
+    match task {
+        Task::Run => Ok(Ended::from(run_deck(alloc, reader, writer)?)),
+        Task::Assemble { origin } => assemble_input(alloc, origin, reader, writer),
+        Task::List { origin } => list_input(alloc, origin, reader, writer),
+    }
+}
+
+/// Tells a wrong word by its number, as far as the end for faults takes the line. Answers the status 2.
+fn tell_mistake<E: Sink>(number: usize, faults: &mut E) -> u8
+    requires { E.failed faults.old ≡ false }
+    ensures status { result ≡ 2 }
+    ensures line { Tells E.Sink faults.old faults.new (mistake_line number) }
+{
+    let _ = write_text(faults, mistake_line(number).as_str().as_bytes());
+    MISTAKEN
+}
+
+/// Tells a fault, as far as the end for faults takes its line. Answers the status 3.
+pub fn tell<E: Sink>(fault: Fault, faults: &mut E) -> u8
+    requires { E.failed faults.old ≡ false }
+    ensures status { result ≡ 3 }
+    ensures line { Tells E.Sink faults.old faults.new (fault_line fault) }
+{
+    let _ = report(fault, faults);
+    FAILED
+}
+
+/// Writes a fault's line.
+fn report<E: Sink>(fault: Fault, faults: &mut E) -> Result<(), WriteFault>
+    requires { E.failed faults.old ≡ false }
+    ensures line { OnOk result (Appended E.contents faults.old faults.new (fault_line fault)) }
+    ensures flushed { OnOk result (E.flushed faults.new ≡ true) }
+    ensures mark { OnErr result (E.failed faults.new ≡ true) }
+{
+    write_text(faults, fault.refusal().line().as_str().as_bytes())
+}

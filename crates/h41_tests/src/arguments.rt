@@ -1,0 +1,119 @@
+//! Rows of command lines.
+
+use crate::judge::wants;
+use h41_jobs::{Task, read_words};
+use std::alloc::Global;
+use std::process::Abort;
+use std::test::Fail;
+
+#[test]
+fn runs_a_file(rt: HostRuntime) -> Result<(), Fail> {
+    for file in ["deck.txt", "-", "help", "run", ""] {
+        match read_words(rt.alloc(), &["bench", "run", file]) {
+            Ok(job) => wants(&rt, file, job.task == Task::Run && job.file == file),
+            Err(_) => wants(&rt, file, false),
+        }
+    }
+    Ok(())
+}
+
+#[test]
+fn takes_an_origin(rt: HostRuntime) {
+    let rows: [(&[&str], u16); 7] = [
+        (&["bench", "asm", "f"], 0x8000),
+        (&["bench", "asm", "--origin", "9aF0", "f"], 0x9AF0),
+        (&["bench", "asm", "f", "--origin", "0000"], 0),
+        (&["bench", "asm", "--origin=FFFF", "f"], 0xFFFF),
+        (&["bench", "asm", "f", "--origin=9000"], 0x9000),
+        (&["bench", "asm", "--origin=9000", "--", "f"], 0x9000),
+        (&["bench", "asm", "--", "f"], 0x8000),
+    ];
+    for (words, origin) in rows {
+        takes(&rt, rt.alloc(), words, Task::Assemble { origin }, "f");
+    }
+    let words = ["bench", "dis", "-", "--origin", "C000"];
+    takes(&rt, rt.alloc(), &words, Task::List { origin: 0xC000 }, "-");
+}
+
+/// The words give this job.
+fn takes<'a>(rt: &impl Abort, alloc: Global, words: &'a [&'a str], task: Task, file: &str) {
+    let holds = match read_words(alloc, words) {
+        Ok(job) => job.task == task && job.file == file,
+        Err(_) => false,
+    };
+    assert!(rt; holds, "at {words:?}");
+}
+
+#[test]
+fn refuses_an_origin(rt: HostRuntime) {
+    for digits in ["900", "09000", "+900", "900G", "", " 900", "0x90"] {
+        is_mistake(&rt, rt.alloc(), &["bench", "dis", "--origin", digits, "f"]);
+    }
+    is_mistake(&rt, rt.alloc(), &["bench", "asm", "--origin"]);
+}
+
+/// The words end the program with status 2.
+fn is_mistake<'a>(rt: &impl Abort, alloc: Global, words: &'a [&'a str]) {
+    let holds = match read_words(alloc, words) {
+        Ok(_) => false,
+        Err(ending) => ending.status() == 2,
+    };
+    assert!(rt; holds, "at {words:?}");
+}
+
+/// The words end the program with the status, and the text shows how `bench` is used.
+fn ends<'a>(rt: &impl Abort, alloc: Global, words: &'a [&'a str], status: u8) {
+    let holds = match read_words(alloc, words) {
+        Ok(_) => false,
+        Err(ending) => ending.status() == status && ending.text().contains("Usage: bench"),
+    };
+    assert!(rt; holds, "at {words:?}");
+}
+
+#[test]
+fn prints_help(rt: HostRuntime) {
+    for words in [["bench", "help"], ["bench", "--help"], ["bench", "-h"]] {
+        ends(&rt, rt.alloc(), &words, 0);
+    }
+    for command in ["run", "asm", "dis"] {
+        for words in [[command, "--help"], [command, "-h"], ["help", command]] {
+            ends(&rt, rt.alloc(), &["bench", words[0], words[1]], 0);
+        }
+    }
+}
+
+#[test]
+fn refuses_other_words(rt: HostRuntime) {
+    ends(&rt, rt.alloc(), &[], 2);
+    ends(&rt, rt.alloc(), &["bench"], 2);
+    for word in ["run", "walk", "-", "--", "-x", "--run"] {
+        ends(&rt, rt.alloc(), &["bench", word], 2);
+    }
+    for words in [
+        ["run", "-x"],
+        ["run", "--walk"],
+        ["help", "walk"],
+        ["walk", "a"],
+    ] {
+        ends(&rt, rt.alloc(), &["bench", words[0], words[1]], 2);
+    }
+    for command in ["asm", "dis"] {
+        ends(&rt, rt.alloc(), &["bench", command], 2);
+        ends(&rt, rt.alloc(), &["bench", command, "--origin", "9000"], 2);
+        ends(
+            &rt,
+            rt.alloc(),
+            &["bench", command, "--origin=9000", "--origin=9000", "a"],
+            2,
+        );
+        ends(
+            &rt,
+            rt.alloc(),
+            &["bench", command, "a", "--origin=9000", "b"],
+            2,
+        );
+    }
+    ends(&rt, rt.alloc(), &["bench", "run", "a", "--origin=9000"], 2);
+    ends(&rt, rt.alloc(), &["bench", "run", "a", "b"], 2);
+    ends(&rt, rt.alloc(), &["bench", "run", "--", "a", "b"], 2);
+}

@@ -1,0 +1,142 @@
+//! Decks over ends that cut and fail, and at the bound of their length.
+
+use crate::ends::{Long, reader, writer};
+use crate::judge::wants;
+use h41_deck::{Fault, FromRead, Outcome, Sink, Source, ToWrite, run_deck};
+use std::alloc::Global;
+use std::io::{BufWriter, Cursor};
+use std::process::Abort;
+use std::test::Fail;
+
+/// A deck with two refusals.
+pub const DECK: &str =
+    "words 8\n130 123\n226 3E0\nend\ncall 8000\ncall 9000\nstep 2\nshow cpu\nfly\n";
+
+/// What `DECK` prints.
+pub const TEXT: &str = "! 24 Busy\nA=00000000000000 B=00000000000000 C=00000000000124\n\
+    M=00000000000000 N=00000000000000\nG=00 T=00 ST=0000 P=0 Q=0 PT=P\n\
+    PC=8003 CY=0 MODE=HEX RAM=000 KY=00 KF=0\nRTN=00F0 0000 0000 0000\n! 50 BadCommand\n";
+
+#[test]
+fn runs_in_pieces(rt: HostRuntime) -> Result<(), Fail> {
+    for (reads, writes) in [(1, 1), (2, 3), (7, 1), (100, 100), (1, 100), (100, 1)] {
+        let mut reader = reader(DECK, reads, 1000);
+        let mut writer = writer(rt.alloc(), writes, 1000);
+        let outcome = run_deck(rt.alloc(), &mut reader, &mut writer)?;
+        let is_whole = writer.taken.as_slice() == TEXT.as_bytes();
+        let holds = outcome == Outcome::Refused && is_whole;
+        assert!(rt; holds, "by {reads} and {writes}");
+        wants(&rt, "no end fails", !reader.failed() && !writer.failed());
+    }
+    Ok(())
+}
+
+#[test]
+fn stops_at_a_failed_read(rt: HostRuntime) {
+    for calls in 0..=DECK.len().div_ceil(7) {
+        let mut reader = reader(DECK, 7, calls);
+        let mut writer = writer(rt.alloc(), 100, 1000);
+        let result = run_deck(rt.alloc(), &mut reader, &mut writer);
+        let is_told = result == Err(Fault::ReadFault) && reader.failed() && !writer.failed();
+        assert!(rt; is_told && writer.taken.is_empty(), "at call {calls}");
+    }
+}
+
+#[test]
+fn stops_at_a_failed_write(rt: HostRuntime) {
+    // The last of these calls is the flush.
+    for calls in [0, 1, 9, 10, 100, TEXT.len() - 1, TEXT.len()] {
+        let mut reader = reader(DECK, 100, 1000);
+        let mut writer = writer(rt.alloc(), 1, calls);
+        let result = run_deck(rt.alloc(), &mut reader, &mut writer);
+        let is_told = result == Err(Fault::WriteFault) && writer.failed() && !reader.failed();
+        let is_front = TEXT.as_bytes().starts_with(&writer.taken);
+        assert!(rt;
+            is_told && is_front && writer.taken.len() == calls,
+            "at call {calls}"
+        );
+    }
+}
+
+#[test]
+fn stops_where_a_write_takes_nothing(rt: HostRuntime) {
+    let mut none = writer(rt.alloc(), 0, 1000);
+    let result = run_deck(rt.alloc(), &mut reader(DECK, 100, 1000), &mut none);
+    let is_told = result == Err(Fault::WriteFault) && none.failed();
+    wants(
+        &rt,
+        "a sink that takes nothing",
+        is_told && none.taken.is_empty(),
+    );
+
+    // Room for the first refusal and the start of the processor.
+    let mut room = [0u8; 20];
+    let mut full = ToWrite::new(Cursor::new(room.as_mut_slice()));
+    let result = run_deck(rt.alloc(), &mut reader(DECK, 100, 1000), &mut full);
+    let is_told = result == Err(Fault::WriteFault) && full.failed();
+    let is_full = full.into_inner().position() == 20;
+    let is_front = TEXT.as_bytes().starts_with(&room);
+    wants(&rt, "a sink that is full", is_told && is_full && is_front);
+}
+
+/// The deck of these bytes, of blanks up to so many bytes in all, and of more bytes ends and prints so.
+fn ends_at_the_bound(
+    rt: &impl Abort,
+    alloc: Global,
+    (before, count, after): (&[u8], usize, &[u8]),
+    expected: Result<Outcome, Fault>,
+    text: &str,
+) {
+    wants(rt, "a count", before.len() <= count);
+    let mut reader = Long {
+        before,
+        blanks: count - before.len(),
+        after,
+    };
+    let mut writer = writer(alloc, 100, 1000);
+    let result = run_deck(alloc, &mut reader, &mut writer);
+    wants(rt, "how it ends", result == expected);
+    wants(rt, text, writer.taken.as_slice() == text.as_bytes());
+    wants(rt, "no end fails", !reader.failed() && !writer.failed());
+}
+
+#[test]
+fn the_longest_deck_is_whole(rt: HostRuntime) {
+    let text = "! 50 BadCommand\n! 53 LineTooLong\n";
+    let deck: (&[u8], usize, &[u8]) = (b"fly\n", 67_108_864, b"");
+    ends_at_the_bound(&rt, rt.alloc(), deck, Ok(Outcome::Refused), text);
+}
+
+#[test]
+fn a_longer_deck_ends_with_its_last_whole_line(rt: HostRuntime) {
+    let text = "! 51 BadNumber\n! 53 LineTooLong\n";
+    let deck: (&[u8], usize, &[u8]) = (b"step x\n", 67_108_863, b"\nfly\n");
+    ends_at_the_bound(&rt, rt.alloc(), deck, Err(Fault::ReadFault), text);
+}
+
+#[test]
+fn an_open_block_of_a_longer_deck_prints_nothing(rt: HostRuntime) {
+    let deck: (&[u8], usize, &[u8]) = (b"fly\nwords 8\n", 67_108_860, b"\n1\nend\n");
+    ends_at_the_bound(
+        &rt,
+        rt.alloc(),
+        deck,
+        Err(Fault::ReadFault),
+        "! 50 BadCommand\n",
+    );
+}
+
+#[test]
+fn flushes_a_writer_of_std(rt: HostRuntime) -> Result<(), Fail> {
+    let inner = Cursor::new([0u8; 20]);
+    let mut writer = ToWrite::new(BufWriter::new(rt.alloc(), inner)?);
+    run_deck(
+        rt.alloc(),
+        &mut FromRead::new("fly\n".as_bytes()),
+        &mut writer,
+    )?;
+    wants(&rt, "no end fails", !writer.failed());
+    let count = writer.into_inner().get_ref().position();
+    wants(&rt, "all is passed on", count == 16);
+    Ok(())
+}

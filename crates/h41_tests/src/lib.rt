@@ -1,0 +1,16 @@
+//! Tests of the bench: what no clause says. Known values of the libraries, by which their definitions can be judged, and jobs
+//! over ends that cut and fail. What the program can run stands in the repository's folder `rows`.
+#![tactic(auto)]
+
+#[cfg(test)]
+mod arguments;
+#[cfg(test)]
+mod decks;
+#[cfg(test)]
+mod ends;
+#[cfg(test)]
+mod judge;
+#[cfg(test)]
+mod libraries;
+#[cfg(test)]
+mod serving;

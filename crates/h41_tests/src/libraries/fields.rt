@@ -1,0 +1,26 @@
+//! h41_fields: the places of each field.
+
+use h41_fields::{Field, Pointer, span};
+
+#[test]
+fn fields_at_pointers(rt: HostRuntime) {
+    let rows = [
+        (Field::PToQ, 10, 3, Pointer::P, (10, 13)),
+        (Field::PToQ, 3, 10, Pointer::P, (3, 10)),
+        (Field::PToQ, 7, 7, Pointer::Q, (7, 7)),
+        (Field::ToPointer, 13, 0, Pointer::P, (0, 13)),
+        (Field::ToPointer, 13, 4, Pointer::Q, (0, 4)),
+        (Field::AtPointer, 2, 9, Pointer::Q, (9, 9)),
+        (Field::All, 5, 5, Pointer::P, (0, 13)),
+        (Field::SignAndExponent, 5, 5, Pointer::P, (0, 2)),
+        (Field::ExponentSign, 5, 5, Pointer::P, (2, 2)),
+        (Field::Mantissa, 5, 5, Pointer::P, (3, 12)),
+        (Field::MantissaSign, 5, 5, Pointer::P, (13, 13)),
+    ];
+    for (field, p, q, active, (lo, hi)) in rows {
+        assert!(rt; p < 14 && q < 14);
+        let places = span(field, p, q, active);
+        let holds = places.lo == lo && places.hi == hi;
+        assert!(rt; holds, "{field:?} at P={p}, Q={q}");
+    }
+}

@@ -1,0 +1,78 @@
+//! h41_pages: the functions of a module, and images that come and go.
+
+use crate::judge::wants;
+use h41_pages::{Entry, FetchRefusal, Pages, PlugRefusal, UnplugRefusal, image_read};
+use h41_words::Word;
+use std::test::Fail;
+
+/// The first words of a module with the functions KIT and KILL.
+const MODULE: [u16; 17] = [
+    0x005, 0x002, 0x000, 0x00B, 0x000, 0x010, 0x000, 0x000, 0x094, 0x009, 0x00B, 0x3E0, 0x08C,
+    0x00C, 0x009, 0x00B, 0x3E0,
+];
+
+/// The words of this module.
+fn module() -> [u16; 4096] {
+    let mut words = [0; 4096];
+    for (place, word) in MODULE.iter().enumerate() {
+        words[place] = *word;
+    }
+    words
+}
+
+#[test]
+fn functions_of_a_module(rt: HostRuntime) -> Result<(), Fail> {
+    let mut pages = Pages::new(rt.alloc())?;
+    pages.plug(rt.alloc(), 9, 1, false, &module())?;
+    pages.plug(rt.alloc(), 8, 1, true, &[0; 4096])?;
+    for (name, number) in [("KIT", Some((5, 0))), ("KILL", Some((5, 1))), ("KI", None)] {
+        wants(&rt, name, pages.find(name.as_bytes()) == number);
+    }
+    let entry = Entry {
+        address: 0x9010,
+        keystroke: false,
+    };
+    wants(&rt, "the entry of 05,01", pages.entry(5, 1) == Some(entry));
+    wants(&rt, "no entry of 05,02", pages.entry(5, 2).is_none());
+    let functions = pages.functions(rt.alloc())?;
+    wants(&rt, "two functions", functions.len() == 2);
+    let name = functions[1].name.as_ref().ok_or("a name")?;
+    wants(
+        &rt,
+        "the second name",
+        name.as_bytes() == b"KILL".as_slice(),
+    );
+    Ok(())
+}
+
+#[test]
+fn images_come_and_go(rt: HostRuntime) -> Result<(), Fail> {
+    let mut pages = Pages::new(rt.alloc())?;
+    pages.plug(rt.alloc(), 8, 1, true, &module())?;
+    let again = pages.plug(rt.alloc(), 8, 1, true, &module());
+    wants(&rt, "a page twice", again == Err(PlugRefusal::Occupied));
+    let bytes = pages.image_write(rt.alloc(), 8, 1)?;
+    let first = [0x00, 0x05, 0x00, 0x02, 0x00, 0x00, 0x00, 0x0B];
+    wants(&rt, "the bytes of an image", bytes.len() == 8192);
+    wants(&rt, "the first bytes", bytes.as_slice().starts_with(&first));
+    let words = image_read(rt.alloc(), &bytes)?;
+    wants(&rt, "read again", words.as_slice() == module().as_slice());
+    let cut = image_read(rt.alloc(), &bytes[1..]);
+    wants(&rt, "a byte less", cut.is_err());
+    pages.write(0x8010, Word::new(0x3FF).ok_or("a word")?)?;
+    wants(&rt, "written", pages.fetch(0x8010)?.number() == 0x3FF);
+    pages.unplug(8)?;
+    let unplugged = pages.unplug(8);
+    wants(
+        &rt,
+        "unplugged",
+        unplugged == Err(UnplugRefusal::NotPlugged),
+    );
+    let fetched = pages.fetch(0x8010);
+    wants(
+        &rt,
+        "fetched",
+        fetched == Err(FetchRefusal::EmptyPage(0x8010)),
+    );
+    Ok(())
+}

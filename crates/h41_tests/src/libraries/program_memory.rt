@@ -1,0 +1,194 @@
+//! h41_program: programs edited, and lines and labels found.
+
+ghost use Rattle.std.specs.Prelude.{IsTrue};
+ghost use Rattle.h41_ram.specs.RegisterMap.{is_sound};
+
+use h41_codes::{Line, RegisterFunction, ShortRegister, decode};
+use h41_digits::Reg;
+use h41_program::{
+    ListedLine, Refusal, delete, first_from, global, insert, line_at, load, next, replace,
+    set_size, start_of,
+};
+use h41_ram::Ram;
+
+/// A call on memory with its answer, where a line is given by its bytes; or a register with its digits.
+enum Step {
+    Load(&'static [u8], Result<u16, Refusal>),
+    Insert(u16, &'static [u8], Result<(), Refusal>),
+    Replace(u16, &'static [u8], Result<(), Refusal>),
+    Delete(u16, Result<(), Refusal>),
+    SetSize(u16, Result<(), Refusal>),
+    Next(u16, Result<u16, Refusal>),
+    StartOf(u16, u16),
+    Global(&'static [u8], Option<u16>),
+    /// From a position on, the first line is `RCL 05` in its short form, at a position, with another behind it.
+    Recall(u16, u16, u16),
+    /// The same line stands at two positions.
+    SameLine(u16, u16),
+    /// A register is written.
+    Write(u16, u64),
+    Register(u16, u64),
+}
+
+/// The line that bytes begin with; a null where they begin with none.
+fn line(bytes: &[u8]) -> Line {
+    match decode(bytes) {
+        Ok((line, _)) => line,
+        Err(_) => Line::Null,
+    }
+}
+
+/// Whether a line stands at a position, and is `RCL 05` in its short form.
+fn is_recall(listed: ListedLine, position: u16) -> bool {
+    let recall = Line::Register(RegisterFunction::RecallRegister, ShortRegister::new(5));
+    listed.position == position && listed.line == recall
+}
+
+/// Whether this is the first line from a position on, by both of the calls that tell it.
+fn finds_recall(ram: &Ram<320>, at: u16, position: u16, behind: u16) -> bool
+    requires { IsTrue (is_sound ram.now) }
+{
+    match (line_at(ram, at), first_from(ram, at)) {
+        (Ok(listed), Some(found)) => {
+            is_recall(listed, position)
+                && is_recall(found.listed, position)
+                && found.behind == behind
+        }
+        _ => false,
+    }
+}
+
+/// Makes the step, and says whether its answer is the one that is wanted.
+fn makes(ram: &mut Ram<320>, step: &Step) -> bool
+    requires { IsTrue (is_sound ram.old) }
+{
+    match step {
+        Step::Load(bytes, answer) => load(ram, bytes) == *answer,
+        Step::Insert(before, bytes, answer) => insert(ram, *before, line(bytes)) == *answer,
+        Step::Replace(at, bytes, answer) => replace(ram, *at, line(bytes)) == *answer,
+        Step::Delete(at, answer) => delete(ram, *at) == *answer,
+        Step::SetSize(size, answer) => set_size(ram, *size) == *answer,
+        Step::Next(at, answer) => next(ram, *at) == *answer,
+        Step::StartOf(at, answer) => start_of(ram, *at) == *answer,
+        Step::Global(name, answer) => global(ram, name) == *answer,
+        Step::Recall(at, position, behind) => finds_recall(ram, *at, *position, *behind),
+        Step::SameLine(at, other) => line_at(ram, *at) == line_at(ram, *other),
+        Step::Write(address, digits) => match Reg::from_u64(*digits) {
+            Some(register) => {
+                ram.write(*address, register);
+                true
+            }
+            None => false,
+        },
+        Step::Register(address, digits) => ram.read(*address).to_u64() == *digits,
+    }
+}
+
+/// Rows of steps, each from an empty memory on.
+static ROWS: [(&str, &[Step]); 9] = [
+    (
+        "two recalls",
+        &[
+            Step::Load(&[0x90, 0x05, 0x25], Ok(0)),
+            Step::Recall(2, 2, 3),
+            Step::Next(0, Ok(2)),
+            Step::Next(2, Ok(4)),
+            Step::Next(4, Ok(4)),
+            Step::Register(0x19B, 0x90_0525_00C0_0020),
+        ],
+    ),
+    (
+        "one recall",
+        &[Step::Load(&[0x25], Ok(0)), Step::Recall(0, 0, 1)],
+    ),
+    (
+        "a worked program, and sizes",
+        &[
+            Step::Load(
+                &[0xC0, 0x00, 0xF2, 0x00, 0x54, 0x11, 0x83, 0x13, 0x43],
+                Ok(0),
+            ),
+            Step::Register(0x19B, 0xC0_00F2_0054_1183),
+            Step::Register(0x19A, 0x13_4300_00C0_0020),
+            Step::Global(b"T", Some(0)),
+            Step::Next(8, Ok(11)),
+            Step::SetSize(319, Err(Refusal::NoRoom)),
+            Step::SetSize(320, Err(Refusal::SizeTooLarge)),
+            Step::SetSize(99, Ok(())),
+            Step::Register(0x19A, 0),
+        ],
+    ),
+    (
+        "numbers parted and joined",
+        &[
+            Step::Load(&[0x11, 0x00, 0x12, 0x25], Ok(0)),
+            Step::SameLine(1, 2),
+            Step::Insert(1, &[0x83], Ok(())),
+            Step::Register(0x19B, 0x11_8312_25C0_0020),
+            Step::Delete(1, Ok(())),
+            Step::Register(0x19B, 0x11_0012_25C0_0020),
+            Step::Insert(3, &[0x13], Ok(())),
+            Step::Register(0x19B, 0x11_0012_0013_2500),
+        ],
+    ),
+    (
+        "programs begin behind an END",
+        &[
+            Step::Load(&[0x25, 0xC0, 0x00, 0x00, 0x26], Ok(0)),
+            Step::StartOf(0, 0),
+            Step::StartOf(1, 0),
+            Step::StartOf(2, 4),
+            Step::StartOf(4, 4),
+        ],
+    ),
+    (
+        "positions without a line",
+        &[
+            Step::Load(&[0x90, 0x05, 0x25], Ok(0)),
+            Step::Insert(1, &[0x83], Err(Refusal::BrokenProgram)),
+            Step::Delete(5, Err(Refusal::BrokenProgram)),
+            Step::Register(0x19B, 0x90_0525_00C0_0020),
+        ],
+    ),
+    (
+        "bytes that are no line",
+        &[
+            Step::Load(&[0x25; 8], Ok(0)),
+            Step::Write(0x19B, 0x25_0000_AF25_2525),
+            Step::Next(0, Ok(1)),
+            Step::Insert(0, &[0x83], Err(Refusal::BrokenProgram)),
+            Step::Register(0x19B, 0x25_0000_AF25_2525),
+        ],
+    ),
+    (
+        "an .END. before the last",
+        &[
+            Step::Load(&[0x25; 8], Ok(0)),
+            Step::Write(0x19B, 0x25_C000_2025_2525),
+            Step::Insert(0, &[0x26], Ok(())),
+            Step::Register(0x19B, 0x26_2500_00C0_0020),
+            Step::Register(0x19A, 0),
+        ],
+    ),
+    (
+        "a replaced line is one change",
+        &[
+            Step::SetSize(319, Ok(())),
+            Step::Load(&[0x25; 4], Ok(0)),
+            Step::Insert(0, &[0x26], Err(Refusal::NoRoom)),
+            Step::Replace(0, &[0x26], Ok(())),
+            Step::Register(0x0C0, 0x26_2525_25C0_0020),
+        ],
+    ),
+];
+
+#[test]
+fn rows_of_steps(rt: HostRuntime) {
+    for (name, steps) in &ROWS {
+        let mut ram = Ram::<320>::new();
+        for step in *steps {
+            assert!(rt; ram.is_sound(), "{name}");
+            assert!(rt; makes(&mut ram, step), "{name}");
+        }
+    }
+}

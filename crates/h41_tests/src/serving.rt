@@ -1,0 +1,103 @@
+//! Jobs over ends that cut and fail: the status, what stands on the output, and what is told.
+
+use crate::decks::{DECK, TEXT};
+use crate::ends::{reader, writer};
+use crate::judge::wants;
+use h41_jobs::{Job, Task, serve};
+use std::alloc::Global;
+use std::process::Abort;
+
+const RUN: Task = Task::Run;
+
+const ASSEMBLE: Task = Task::Assemble { origin: 0x8000 };
+
+const LIST: Task = Task::List { origin: 0x8000 };
+
+/// A job over an input.
+#[derive(Clone, Copy)]
+struct Input {
+    task: Task,
+    text: &'static str,
+    /// What it prints.
+    output: &'static str,
+}
+
+/// The calls that the input, the output and the end for faults take, each write a byte; the status, how many bytes stand on
+/// the output, and what is told.
+type Row = (usize, usize, usize, u8, usize, &'static str);
+
+/// Each row ends so.
+fn end(rt: &impl Abort, alloc: Global, input: &Input, rows: &[Row]) {
+    let job = Job {
+        task: input.task,
+        file: "-",
+    };
+    for (reads, writes, tells, status, count, told) in rows {
+        let mut source = reader(input.text, 7, *reads);
+        let mut output = writer(alloc, 1, *writes);
+        let mut faults = writer(alloc, 1, *tells);
+        let answered = serve(alloc, job, &mut source, &mut output, &mut faults);
+        assert!(rt; answered == *status, "at {reads}, {writes}, {tells}");
+        let is_front = input.output.as_bytes().starts_with(&output.taken);
+        wants(rt, "the output", is_front && output.taken.len() == *count);
+        wants(rt, told, faults.taken.as_slice() == told.as_bytes());
+    }
+}
+
+#[test]
+fn jobs(rt: HostRuntime) {
+    let idle = Input {
+        task: RUN,
+        text: "# idle\nstep\n",
+        output: "",
+    };
+    end(&rt, rt.alloc(), &idle, &[(1000, 1000, 1000, 0, 0, "")]);
+
+    let deck = Input {
+        task: RUN,
+        text: DECK,
+        output: TEXT,
+    };
+    let rows = [
+        (1000, 1000, 1000, 1, TEXT.len(), ""),
+        (3, 1000, 1000, 3, 0, "! 22 ReadFault\n"),
+        (1000, 0, 1000, 3, 0, "! 23 WriteFault\n"),
+        (1000, 30, 1000, 3, 30, "! 23 WriteFault\n"),
+        (0, 0, 1000, 3, 0, "! 22 ReadFault\n"),
+        (1000, 30, 5, 3, 30, "! 23 "),
+        (3, 1000, 0, 3, 0, ""),
+    ];
+    end(&rt, rt.alloc(), &deck, &rows);
+
+    let source = Input {
+        task: ASSEMBLE,
+        text: "LDI 123\nRTN\n",
+        output: "130\n123\n3E0\n",
+    };
+    let rows = [
+        (1000, 1000, 1000, 0, 12, ""),
+        (1, 1000, 1000, 3, 0, "! 22 ReadFault\n"),
+        (1000, 5, 1000, 3, 5, "! 23 WriteFault\n"),
+        (1000, 12, 1000, 3, 12, "! 23 WriteFault\n"),
+    ];
+    end(&rt, rt.alloc(), &source, &rows);
+
+    let list = Input {
+        task: LIST,
+        text: "130 123 3E0",
+        output: "LDI 123\nRTN\n",
+    };
+    end(&rt, rt.alloc(), &list, &rows);
+
+    let wrong = Input {
+        task: LIST,
+        text: "3E0 400 123",
+        output: "",
+    };
+    let rows = [
+        (1, 1000, 1000, 3, 0, "! 22 ReadFault\n"),
+        (1000, 0, 1000, 3, 0, "! 23 WriteFault\n"),
+        (1000, 1000, 6, 2, 0, "error:"),
+    ];
+    end(&rt, rt.alloc(), &wrong, &rows);
+}

@@ -1,5 +1,5 @@
 -- What lines program memory has after a line was inserted or deleted, or bytes were loaded.
-use Rattle.std.specs.Prelude.{◌≡◌, ◌⊎◌, ℕ, Bool, false, not, ◌||◌, is_some, MatchBool, IsOkAnd, ◌&&◌, List, [], ◌∷◌, ◌++◌, map, length, drop, ◌==◌, if◌then◌else◌, Option, Some, None, Result, Ok, Err}
+use Rattle.std.specs.Prelude.{◌≡◌, ◌⊎◌, ℕ, Bool, false, not, ◌||◌, is_some, ◌&&◌, List, [], ◌∷◌, ◌++◌, map, length, drop, ◌==◌, if◌then◌else◌, Option, Some, None, Result, Ok, Err}
 use Rattle.std.specs.List.{list_all, list_any, flat_map}
 use Rattle.std.specs.Option.{option_map, option_map_or}
 use Rattle.h41_codes.specs.declared.line.Line.{Line}

@@ -1,9 +1,9 @@
 -- Memory with another program in it: the registers below the curtain hold the new bytes, and c the new end. Registers that leave the
 -- program become zero (this project's choice), all others are as they were.
-use Rattle.std.specs.Prelude.{◌≡◌, ℕ, ◌≤◌, ◌+◌, ◌-◌, ◌*◌, ◌/◌, List, map, length, slice_set, nat_lt, if◌then◌else◌, Result, Ok, Err}
+use Rattle.std.specs.Prelude.{◌≡◌, ℕ, ◌+◌, ◌-◌, ◌*◌, ◌/◌, List, map, length, slice_set, nat_lt, if◌then◌else◌, Result, Ok, Err}
 use Rattle.std.specs.List.{range_with_len}
 use Rattle.h41_codes.specs.declared.line.Line.{Line}
-use Rattle.h41_ram.specs.RegisterMap.{RegisterMap, main_start, top_of, c_address, zeros, register_at, c_of, curtain_of, end_of, digits_from, seven_from, with_three_places}
+use Rattle.h41_ram.specs.RegisterMap.{RegisterMap, main_start, c_address, zeros, register_at, c_of, curtain_of, end_of, digits_from, seven_from, with_three_places}
 use Rattle.h41_program.specs.declared.refusal.Refusal.{Refusal}
 use Rattle.h41_program.specs.declared.refusal.Refusal.TheVariants.{NoRoom}
 use Rattle.h41_program.specs.Packing.{packing}

@@ -21,6 +21,6 @@ pub use editing::{delete, insert, replace};
 pub use listed_line::ListedLine;
 pub use loading::load;
 pub use reading::{Found, first_from, line_at, next};
-pub use refusal::Refusal;
+pub use refusal::ProgramRefusal;
 pub use searches::{global, local, start_of};
 pub use size::set_size;

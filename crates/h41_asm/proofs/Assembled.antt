@@ -11,8 +11,8 @@ use Rattle.std.proofs.lemmas.Option.{none-some}
 use Rattle.std.proofs.lemmas.Slice.Eq.{bytes_eq-Decides}
 use Rattle.h41_words.specs.declared.rows.Row.TheVariants.{ShortJump}
 use Rattle.h41_words.specs.WordTable.{number_of}
-use Rattle.h41_asm.specs.declared.fault.Fault.{Fault}
-use Rattle.h41_asm.specs.declared.fault.Fault.TheVariants.{NoLabel, TooFar}
+use Rattle.h41_asm.specs.declared.fault.SourceFault.{SourceFault}
+use Rattle.h41_asm.specs.declared.fault.SourceFault.TheVariants.{NoLabel, TooFar}
 use Rattle.h41_asm.specs.Assembly.{Assembles, address_count}
 use Rattle.h41_asm.specs.AssemblyLaws.{HasWordsOrFault, NeverBoth}
 use Rattle.h41_asm.specs.Faults.{assembly_fault, at_line, label_address, line_length, missing_fault, own_faults, reach_fault, read_fault, reference_fault, reference_faults}
@@ -78,7 +78,7 @@ no_reference_fault labels address (LongJumpTo condition kind name) own spelled =
 no_reference_fault labels address (ShortJumpTo condition name) own spelled = rw (spelled.2, no_reach_fault address spelled.0 spelled.1 spelled.3) refl
 no_reference_fault labels address (EntryAt bits name) own spelled = rw spelled.1 refl
 
-no_read_fault : (labels : Labels) (address : ℕ) (read : Result Statement Fault) (own : List ℕ) → SpellsRead labels address read own → read_fault labels address read ≡ None
+no_read_fault : (labels : Labels) (address : ℕ) (read : Result Statement SourceFault) (own : List ℕ) → SpellsRead labels address read own → read_fault labels address read ≡ None
 no_read_fault labels address (Ok said) own spelled = no_reference_fault labels address said own spelled
 no_read_fault labels address (Err fault) own spelled = absurd spelled
 
@@ -90,7 +90,7 @@ no_reference_faults labels (line ∷ rest) number address words spelled =
     (no_reference_faults labels rest (suc number) (address + line_length line) spelled.1 (subst (λ (n : ℕ). LinesSpell labels (address + n) rest spelled.1) long spelled.4))
 
 -- nor has a line of it a fault of its own
-was_read : (labels : Labels) (address : ℕ) (read : Result Statement Fault) (own : List ℕ) → SpellsRead labels address read own → IsOk read
+was_read : (labels : Labels) (address : ℕ) (read : Result Statement SourceFault) (own : List ℕ) → SpellsRead labels address read own → IsOk read
 was_read labels address (Ok said) own spelled = refl
 was_read labels address (Err fault) own spelled = absurd spelled
 
@@ -160,7 +160,7 @@ spelled_statement labels address (ShortJumpTo condition name) none =
 spelled_statement labels address (EntryAt bits name) none =
     let found = spelled_long (labels name) none in (entry_words bits found.0, (found.0, found.1, refl))
 
-spelled_line : (labels : Labels) (address : ℕ) (read : Result Statement Fault) → IsOk read → read_fault labels address read ≡ None → (own : List ℕ) × SpellsRead labels address read own
+spelled_line : (labels : Labels) (address : ℕ) (read : Result Statement SourceFault) → IsOk read → read_fault labels address read ≡ None → (own : List ℕ) × SpellsRead labels address read own
 spelled_line labels address (Ok said) ok none = spelled_statement labels address said none
 spelled_line labels address (Err fault) ok none = let no : false ≡ true = ok in cc
 

@@ -9,7 +9,7 @@ use Rattle.std.proofs.lemmas.Option.{none-some, same_Some}
 use Rattle.std.proofs.lemmas.Slice.Eq.{bytes_eq-Decides}
 use Rattle.h41_words.specs.declared.rows.Row.TheVariants.{ShortJump}
 use Rattle.h41_words.specs.WordTable.{number_of}
-use Rattle.h41_asm.specs.declared.fault.Fault.{Fault}
+use Rattle.h41_asm.specs.declared.fault.SourceFault.{SourceFault}
 use Rattle.h41_asm.specs.Assembly.{AssemblesBy}
 use Rattle.h41_asm.specs.Faults.{has_label, label_address, line_length, read_length}
 use Rattle.h41_asm.specs.Placing.{Labels, LinesSpell, StatementSpells, SpellsRead, entry_words}
@@ -20,7 +20,7 @@ use Rattle.h41_asm.proofs.Found.{unfound}
 use Rattle.h41_asm.proofs.Spelling.{length-spelled}
 
 -- a line spells as many words as it takes
-pub length-line : (labels : Labels) (address : ℕ) (read : Result Statement Fault) (own : List ℕ) → SpellsRead labels address read own → length own ≡ read_length read
+pub length-line : (labels : Labels) (address : ℕ) (read : Result Statement SourceFault) (own : List ℕ) → SpellsRead labels address read own → length own ≡ read_length read
 length-line labels address (Ok said) own spelled = length-spelled labels address said own spelled
 length-line labels address (Err fault) own spelled = absurd spelled
 
@@ -43,7 +43,7 @@ spells_once labels address (EntryAt bits name) one other first second =
     let same : first.0 ≡ second.0 = same_Some first.0 second.0 (sym first.1 ∙ second.1) in
     first.2 ∙ ap (entry_words bits) same ∙ sym second.2
 
-line_spells_once : (labels : Labels) (address : ℕ) (read : Result Statement Fault) (one other : List ℕ) → SpellsRead labels address read one → SpellsRead labels address read other → one ≡ other
+line_spells_once : (labels : Labels) (address : ℕ) (read : Result Statement SourceFault) (one other : List ℕ) → SpellsRead labels address read one → SpellsRead labels address read other → one ≡ other
 line_spells_once labels address (Ok said) one other first second = spells_once labels address said one other first second
 line_spells_once labels address (Err fault) one other first second = absurd first
 

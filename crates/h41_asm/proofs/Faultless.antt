@@ -9,8 +9,8 @@ use Rattle.std.proofs.lemmas.Bool.{leb-false, ltb-false}
 use Rattle.std.proofs.lemmas.List.Folds.{list_any-append}
 use Rattle.std.proofs.lemmas.Option.{none-some}
 use Rattle.std.proofs.lemmas.Map.Keys.{IsDistinct-cons, IsDistinct-head, IsDistinct-tail}
-use Rattle.h41_asm.specs.declared.fault.Fault.{Fault}
-use Rattle.h41_asm.specs.declared.fault.Fault.TheVariants.{LabelTwice, TooLong}
+use Rattle.h41_asm.specs.declared.fault.SourceFault.{SourceFault}
+use Rattle.h41_asm.specs.declared.fault.SourceFault.TheVariants.{LabelTwice, TooLong}
 use Rattle.h41_asm.specs.Assembly.{address_count}
 use Rattle.h41_asm.specs.Faults.{at_line, has_label, labelled_fault, line_length, long_fault, own_fault, own_faults, twice_fault}
 use Rattle.h41_asm.specs.SourceLines.{SourceLine, labels_of}
@@ -33,7 +33,7 @@ AreFaultless earlier address [] = Unit {0}
 AreFaultless earlier address (line ∷ rest) = IsFaultless earlier address line × AreFaultless (earlier ++ line ∷ []) (address + line_length line) rest
 
 -- a line's fault and its facts
-readable_from : (read : Result Statement Fault) → result_err read ≡ None → IsOk read
+readable_from : (read : Result Statement SourceFault) → result_err read ≡ None → IsOk read
 readable_from (Ok said) none = refl
 readable_from (Err fault) none = let no : Some fault ≡ None = none in cc
 
@@ -61,7 +61,7 @@ faultless_line earlier address line none =
       ends = ltb-false address_count (address + line_length line) long.1;
     }
 
-none_readable : (read : Result Statement Fault) → IsOk read → result_err read ≡ None
+none_readable : (read : Result Statement SourceFault) → IsOk read → result_err read ≡ None
 none_readable (Ok said) ok = refl
 none_readable (Err fault) ok = let no : false ≡ true = ok in cc
 
@@ -79,7 +79,7 @@ none_line earlier address line fits =
     rw (none_readable (reading line.code) fits.readable, none_new earlier line.label fits.new, none_low address line.label fits.low, long) refl
 
 -- and those of all
-pub at_no_line : (number : ℕ) (fault : Option Fault) → at_line number fault ≡ None → fault ≡ None
+pub at_no_line : (number : ℕ) (fault : Option SourceFault) → at_line number fault ≡ None → fault ≡ None
 at_no_line number None none = refl
 at_no_line number (Some fault) none = absurd (none-some (fault, number) (sym none))
 

@@ -9,8 +9,8 @@ use Rattle.std.proofs.lemmas.Bool.{cases_Bool, ltb-false}
 use Rattle.std.proofs.lemmas.List.Folds.{list_any-append}
 use Rattle.std.specs.Cmp.Lexicographic.{nat_list_eq_equiv}
 use Rattle.std.proofs.lemmas.Slice.Eq.{bytes_eq-Decides}
-use Rattle.h41_asm.specs.declared.fault.Fault.{Fault}
-use Rattle.h41_asm.specs.declared.fault.Fault.TheVariants.{LabelTwice, TooLong}
+use Rattle.h41_asm.specs.declared.fault.SourceFault.{SourceFault}
+use Rattle.h41_asm.specs.declared.fault.SourceFault.TheVariants.{LabelTwice, TooLong}
 use Rattle.h41_asm.specs.Assembly.{address_count}
 use Rattle.h41_asm.specs.Faults.{at_line, has_label, label_address, labelled_fault, line_length, own_fault, own_faults, twice_fault}
 use Rattle.h41_asm.specs.Placing.{Labels}
@@ -69,7 +69,7 @@ known_next labels earlier address known (Some own) name =
     ]
 
 -- a name that is new has no address
-new_name : (found : Option ℕ) (others : Option Fault) → option_or (then_some (is_some found) LabelTwice) others ≡ None → found ≡ None
+new_name : (found : Option ℕ) (others : Option SourceFault) → option_or (then_some (is_some found) LabelTwice) others ≡ None → found ≡ None
 new_name None others none = refl
 new_name (Some address) others none = let no : Some LabelTwice ≡ None = none in cc
 

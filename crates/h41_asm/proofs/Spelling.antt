@@ -1,6 +1,6 @@
 -- The second pass: what its loop keeps over the lines.
 use Rattle.std.proofs.Common.{◌≡◌, ℕ, ◌+◌, ◌≤◌, List, ◌∷◌, ◌++◌, length, refl, sym, ap, ◌∙◌, subst, append_assoc, IfSome, Some, None, Ok, Err, Result, is_ok, true, false, add-one}
-use Rattle.h41_asm.specs.declared.fault.Fault.{Fault}
+use Rattle.h41_asm.specs.declared.fault.SourceFault.{SourceFault}
 use Rattle.h41_asm.specs.declared.statement.Statement as code
 use Rattle.h41_asm.specs.CodeStatements.{read_in_code}
 use Rattle.h41_asm.specs.Faults.{line_length, read_length, reference_fault, reference_faults}
@@ -54,7 +54,7 @@ words_behind labels address line rest said before after others read label next s
     )
 
 -- a line that cannot be read is not ready
-pub not_ready : {T : Type 0} (labels : Labels) (address : ℕ) (line : SourceLine) (rest : List SourceLine) (read : Result code.Statement Fault) → read_in_code read ≡ reading line.code
+pub not_ready : {T : Type 0} (labels : Labels) (address : ℕ) (line : SourceLine) (rest : List SourceLine) (read : Result code.Statement SourceFault) → read_in_code read ≡ reading line.code
     → ((said : code.Statement) → read ≡ Ok said → ⊥) → IsReady labels address (line ∷ rest) → T
 not_ready labels address line rest (Ok said) same none ready = absurd (none said refl)
 not_ready labels address line rest (Err fault) same none ready = let no : true ≡ false = sym ready.0 ∙ ap is_ok (sym same) in cc

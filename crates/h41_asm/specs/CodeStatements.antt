@@ -3,7 +3,7 @@ use Rattle.std.specs.Prelude.{ℕ, ◌%◌, map, reverse, List, [], ◌∷◌, O
 use Rattle.std.specs.Borrow.{Bor}
 use Rattle.std.specs.Option.{option_map}
 use Rattle.h41_words.specs.declared.rows.Row.{Row}
-use Rattle.h41_asm.specs.declared.fault.Fault.{Fault}
+use Rattle.h41_asm.specs.declared.fault.SourceFault.{SourceFault}
 use Rattle.h41_asm.specs.declared.source.SourceLine as lines
 use Rattle.h41_asm.specs.declared.statement.Statement as code
 use Rattle.h41_asm.specs.declared.statement.Statement.TheVariants as codes_of
@@ -35,7 +35,7 @@ in_code (codes_of.LongJumpTo condition kind name) = LongJumpTo condition kind na
 in_code (codes_of.ShortJumpTo condition name) = ShortJumpTo condition name.now
 in_code (codes_of.EntryAt kind name) = EntryAt (entry_bits kind) name.now
 
-abbrev pub read_in_code : Result code.Statement Fault → Result Statement Fault
+abbrev pub read_in_code : Result code.Statement SourceFault → Result Statement SourceFault
 read_in_code (Ok statement) = Ok (in_code statement)
 read_in_code (Err fault) = Err fault
 
@@ -73,7 +73,7 @@ abbrev pub takers_in : List (Bor (List ℕ) × table.Taking) → List (List ℕ 
 takers_in entries = map (λ entry. (entry.0.now, takes_in_code entry.1)) entries
 
 -- what was found in one
-abbrev pub taken_in_code : Option (Result code.Statement Fault) → Option (Result Statement Fault)
+abbrev pub taken_in_code : Option (Result code.Statement SourceFault) → Option (Result Statement SourceFault)
 taken_in_code None = None
 taken_in_code (Some read) = Some (read_in_code read)
 
@@ -90,8 +90,8 @@ abbrev pub words_left : Option rests.LineWords → Option (List (List ℕ))
 words_left left = option_map (λ rest. words_of rest.rest.now) left
 
 -- what words say by the code's table, and by one mnemonic's operand
-abbrev pub taken_by : List (Bor (List ℕ) × table.Taking) → Bor (List ℕ) → Option (Result Statement Fault)
+abbrev pub taken_by : List (Bor (List ℕ) × table.Taking) → Bor (List ℕ) → Option (Result Statement SourceFault)
 taken_by entries rest = taken_among (takers_in entries) (words_of rest.now)
 
-abbrev pub taken_operand : table.Taking → Bor (List ℕ) → Result Statement Fault
+abbrev pub taken_operand : table.Taking → Bor (List ℕ) → Result Statement SourceFault
 taken_operand takes rest = taken (takes_in_code takes) (words_of rest.now)

@@ -10,8 +10,8 @@ use Rattle.indexmap.specs.IndexMap.{IndexMap, get_by}
 use Rattle.h41_words.specs.declared.rows.Condition.{Condition}
 use Rattle.h41_words.specs.declared.rows.Row.TheVariants.{ShortJump}
 use Rattle.h41_words.specs.WordTable.{number_of}
-use Rattle.h41_asm.specs.declared.fault.Fault.{Fault}
-use Rattle.h41_asm.specs.declared.fault.Fault.TheVariants.{LabelTwice, TooFar, TooLong}
+use Rattle.h41_asm.specs.declared.fault.SourceFault.{SourceFault}
+use Rattle.h41_asm.specs.declared.fault.SourceFault.TheVariants.{LabelTwice, TooFar, TooLong}
 use Rattle.h41_asm.specs.declared.source.SourceLine as code_lines
 use Rattle.h41_asm.specs.declared.statement.Statement as code
 use Rattle.h41_asm.specs.Assembly.{address_count}
@@ -39,7 +39,7 @@ AddsOwn table address statement before after =
     SpellsNext (labels_in table) address (in_code statement) before.items after.items
 
 -- the fault of a statement's reference, and the first of a source's references
-abbrev pub fault_by : {S : Type 0} → Table S → ℕ → code.Statement → Option Fault
+abbrev pub fault_by : {S : Type 0} → Table S → ℕ → code.Statement → Option SourceFault
 fault_by table address statement = reference_fault (labels_in table) address (in_code statement)
 
 abbrev pub first_fault_by : {S : Type 0} → Table S → ℕ → List ℕ → LineFault
@@ -50,7 +50,7 @@ abbrev pub SpellsBy : {S : Type 0} → Table S → ℕ → List ℕ → List ℕ
 SpellsBy table origin source words = LinesSpell (labels_in table) origin (source_lines source) words
 
 -- the word of a short jump, or that it is out of reach
-abbrev pub jump_word : Condition → ℤ → Result ℕ Fault
+abbrev pub jump_word : Condition → ℤ → Result ℕ SourceFault
 jump_word condition displacement = if is_in_reach displacement then Ok (number_of (ShortJump condition displacement)) else Err TooFar
 
 -- lines that can be read and placed from an address on, each label at its line
@@ -68,25 +68,25 @@ abbrev pub first_own_fault : ℕ → List ℕ → LineFault
 first_own_fault origin source = own_faults 1 origin [] (source_lines source)
 
 -- the fault of a label at an address, where the labels are those of the lines before
-abbrev pub label_fault : Labels → ℕ → List ℕ → Option Fault
+abbrev pub label_fault : Labels → ℕ → List ℕ → Option SourceFault
 label_fault labels address name =
     option_or (then_some (is_some (labels name)) LabelTwice) (then_some (nat_le address_count address) TooLong)
 
-abbrev pub placed_fault : Labels → ℕ → Option (List ℕ) → Option Fault
+abbrev pub placed_fault : Labels → ℕ → Option (List ℕ) → Option SourceFault
 placed_fault labels address None = None
 placed_fault labels address (Some name) = label_fault labels address name
 
 -- and that of a line
-abbrev pub placing_fault : Labels → ℕ → SourceLine → Option Fault
+abbrev pub placing_fault : Labels → ℕ → SourceLine → Option SourceFault
 placing_fault labels address line =
     option_or (result_err (reading line.code)) (option_or (placed_fault labels address line.label)
     (then_some (nat_lt address_count (address + line_length line)) TooLong))
 
 -- both by a table
-abbrev pub name_fault_in : {S : Type 0} → Table S → ℕ → List ℕ → Option Fault
+abbrev pub name_fault_in : {S : Type 0} → Table S → ℕ → List ℕ → Option SourceFault
 name_fault_in table address name = label_fault (labels_in table) address name
 
-abbrev pub line_fault_in : {S : Type 0} → Table S → ℕ → code_lines.SourceLine → Option Fault
+abbrev pub line_fault_in : {S : Type 0} → Table S → ℕ → code_lines.SourceLine → Option SourceFault
 line_fault_in table address line = placing_fault (labels_in table) address (in_line line)
 
 -- one more name has an address

@@ -3,7 +3,7 @@
 use Rattle.std.specs.Prelude.{◌≡◌, ℕ, ◌+◌, ◌/◌, ◌%◌, ℤ, pos, ◌+ℤ◌, true, List, [], ◌∷◌, ◌++◌, length, IfSome, Option, Some, Result, Ok, Err}
 use Rattle.h41_words.specs.declared.rows.Row.TheVariants.{ShortJump}
 use Rattle.h41_words.specs.WordTable.{number_of}
-use Rattle.h41_asm.specs.declared.fault.Fault.{Fault}
+use Rattle.h41_asm.specs.declared.fault.SourceFault.{SourceFault}
 use Rattle.h41_asm.specs.SourceLines.{SourceLine}
 use Rattle.h41_asm.specs.Statements.{Statement, Words, OutOfReach, LongJumpTo, ShortJumpTo, EntryAt, is_in_reach, long_jump_words, reading}
 
@@ -33,7 +33,7 @@ StatementSpells labels address (EntryAt bits name) own =
     (target : ℕ) × (labels name ≡ Some target) × (own ≡ entry_words bits target)
 
 -- and so does a line that was read; one that cannot be read spells none
-abbrev pub SpellsRead : Labels → ℕ → Result Statement Fault → List ℕ → Type 0
+abbrev pub SpellsRead : Labels → ℕ → Result Statement SourceFault → List ℕ → Type 0
 SpellsRead labels address (Ok statement) own = StatementSpells labels address statement own
 SpellsRead labels address (Err fault) own = ⊥
 

@@ -2,7 +2,7 @@
 use Rattle.std.specs.Prelude.{◌≡◌, ℕ, Option, Some}
 use Rattle.h41_asm.specs.declared.fault.AssembleError as errors
 use Rattle.h41_asm.specs.declared.fault.AssembleError.TheVariants as refusals
-use Rattle.h41_asm.specs.declared.fault.Fault.{Fault}
+use Rattle.h41_asm.specs.declared.fault.SourceFault.{SourceFault}
 use Rattle.h41_asm.specs.declared.fault.SpellError as spell
 use Rattle.h41_asm.specs.declared.fault.SpellError.TheVariants as spell_errors
 use Rattle.h41_asm.specs.Faults.{LineFault}
@@ -13,7 +13,7 @@ refusal_of (spell_errors.Fault fault) line = refusals.Line fault line
 refusal_of spell_errors.OutOfMemory line = refusals.OutOfMemory
 
 -- this fault, or memory that was refused
-abbrev pub IsFault : Option Fault → spell.SpellError → Type 0
+abbrev pub IsFault : Option SourceFault → spell.SpellError → Type 0
 IsFault found (spell_errors.Fault fault) = found ≡ Some fault
 IsFault found spell_errors.OutOfMemory = Unit {0}
 

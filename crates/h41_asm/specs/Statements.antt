@@ -17,8 +17,8 @@ use Rattle.h41_words.specs.Mnemonics.{mnemonic, operand, operation_text, long_ju
 use Rattle.h41_words.specs.SecondWord.{second_number_of}
 use Rattle.h41_words.specs.Listing.{operations, single_rows}
 use Rattle.h41_words.specs.WordTable.{number_of}
-use Rattle.h41_asm.specs.declared.fault.Fault.{Fault}
-use Rattle.h41_asm.specs.declared.fault.Fault.TheVariants.{BadLine, BadOperand}
+use Rattle.h41_asm.specs.declared.fault.SourceFault.{SourceFault}
+use Rattle.h41_asm.specs.declared.fault.SourceFault.TheVariants.{BadLine, BadOperand}
 use Rattle.h41_asm.specs.Operands.{address_in, displacement_in, field_in, number_in, text_in, word_in}
 use Rattle.h41_asm.specs.SourceLines.{reference_in, words_of}
 
@@ -162,7 +162,7 @@ abbrev pub begins : List (List ℕ) → List ℕ → Bool
 begins words name = is_some (behind name words)
 
 -- the words behind a mnemonic: its operand is one word, and nothing else stands there
-abbrev pub taken : Taking → List (List ℕ) → Result Statement Fault
+abbrev pub taken : Taking → List (List ℕ) → Result Statement SourceFault
 taken takes [] = Err BadOperand
 taken takes (word ∷ []) = ok_or (takes word) BadOperand
 taken takes (word ∷ other ∷ others) = Err BadOperand
@@ -177,32 +177,32 @@ abbrev pub is_begun : List (List ℕ × Row) → List (List ℕ) → Bool
 is_begun some words = list_any (λ single. begins words single.0) some
 
 -- what the words behind the first mnemonic that they begin with say as its operand
-abbrev pub taken_or : Option (List (List ℕ)) → Taking → Option (Result Statement Fault) → Option (Result Statement Fault)
+abbrev pub taken_or : Option (List (List ℕ)) → Taking → Option (Result Statement SourceFault) → Option (Result Statement SourceFault)
 taken_or None takes other = other
 taken_or (Some words) takes other = Some (taken takes words)
 
-abbrev pub taken_among : List (List ℕ × Taking) → List (List ℕ) → Option (Result Statement Fault)
+abbrev pub taken_among : List (List ℕ × Taking) → List (List ℕ) → Option (Result Statement SourceFault)
 taken_among [] words = None
 taken_among (taker ∷ others) words = taken_or (behind taker.0 words) taker.1 (taken_among others words)
 
 -- the fault of words that begin with none of these: a single mnemonic with something behind it, or nothing that is known
-abbrev pub unread_fault : List (List ℕ) → Fault
+abbrev pub unread_fault : List (List ℕ) → SourceFault
 unread_fault words = if is_begun singles words then BadOperand else BadLine
 
-abbrev pub taken_or_unread : Option (Result Statement Fault) → List (List ℕ) → Result Statement Fault
+abbrev pub taken_or_unread : Option (Result Statement SourceFault) → List (List ℕ) → Result Statement SourceFault
 taken_or_unread (Some read) words = read
 taken_or_unread None words = Err (unread_fault words)
 
 -- words that are not a single mnemonic
-abbrev pub not_single : List (List ℕ) → Result Statement Fault
+abbrev pub not_single : List (List ℕ) → Result Statement SourceFault
 not_single words = taken_or_unread (taken_among takers words) words
 
-abbrev pub single_or_not : Option Row → List (List ℕ) → Result Statement Fault
+abbrev pub single_or_not : Option Row → List (List ℕ) → Result Statement SourceFault
 single_or_not (Some row) words = Ok (one_word row)
 single_or_not None words = not_single words
 
 -- What the words behind a label say: nothing, a single mnemonic, or one that takes an operand. BadOperand is a known mnemonic
 -- or directive with an operand that is missing, too many, or not one that it takes; BadLine is everything else.
-abbrev pub reading : List (List ℕ) → Result Statement Fault
+abbrev pub reading : List (List ℕ) → Result Statement SourceFault
 reading [] = Ok (Words [])
 reading (first ∷ others) = single_or_not (single_among singles (first ∷ others)) (first ∷ others)

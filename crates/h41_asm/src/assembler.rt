@@ -9,7 +9,7 @@ ghost use Rattle.h41_asm.specs.LabelTable.{AddsLabel, AddsName, AddsOwn, HoldsLa
 ghost use Rattle.h41_asm.specs.Refusals.{IsFault, IsRefusal};
 
 use crate::emit::{entry_words, push_name};
-use crate::fault::{AssembleError, Fault, SpellError};
+use crate::fault::{AssembleError, SourceFault, SpellError};
 use crate::source::{SourceLine, read_line};
 use crate::statement::{Statement, long_jump_words, read};
 use crate::table::EntryKind;
@@ -75,7 +75,7 @@ fn place_line<'a>(
         note(labels, name, address)?;
     }
     if length > (ADDRESSES - address) as usize {
-        return Err(SpellError::Fault(Fault::TooLong));
+        return Err(SpellError::Fault(SourceFault::TooLong));
     }
     Ok(length as u32)
 }
@@ -87,10 +87,10 @@ fn note<'a>(labels: &mut Labels<'a>, name: &'a [u8], address: u32) -> Result<(),
     ensures err { IfErr result (IsFault (name_fault_in labels.old address name.now)) }
 {
     if labels.contains_key(name) {
-        return Err(SpellError::Fault(Fault::LabelTwice));
+        return Err(SpellError::Fault(SourceFault::LabelTwice));
     }
     if ADDRESSES <= address {
-        return Err(SpellError::Fault(Fault::TooLong));
+        return Err(SpellError::Fault(SourceFault::TooLong));
     }
     labels.insert(name, address as u16)?;
     Ok(())
@@ -141,7 +141,7 @@ fn push_statement(
         Statement::One(word) => words.push(*word)?,
         Statement::Two(first, second) => push_two(words, *first, *second)?,
         Statement::Name(text) => push_name(words, text)?,
-        Statement::OutOfReach => return Err(SpellError::Fault(Fault::TooFar)),
+        Statement::OutOfReach => return Err(SpellError::Fault(SourceFault::TooFar)),
         Statement::LongJumpTo(condition, kind, name) => {
             let target = label_address(labels, name)?;
             let (first, second) = long_jump_words(*condition, *kind, target);
@@ -171,23 +171,23 @@ fn push_two(words: &mut Vec<Word>, first: Word, second: Word) -> Result<(), Allo
 }
 
 /// The address of a label.
-fn label_address(labels: &Labels<'_>, name: &[u8]) -> Result<u16, Fault>
-    ensures { result ≡ ok_or (labels_in labels.now name.now) Fault.NoLabel }
+fn label_address(labels: &Labels<'_>, name: &[u8]) -> Result<u16, SourceFault>
+    ensures { result ≡ ok_or (labels_in labels.now name.now) SourceFault.NoLabel }
 {
     match labels.get(name) {
         Some(address) => Ok(*address),
-        None => Err(Fault::NoLabel),
+        None => Err(SourceFault::NoLabel),
     }
 }
 
 /// The word of a short jump by a displacement.
-fn short_jump(condition: Condition, displacement: i32) -> Result<Word, Fault>
+fn short_jump(condition: Condition, displacement: i32) -> Result<Word, SourceFault>
     ensures { result ≡ jump_word condition displacement }
 {
     if -64 <= displacement && displacement <= 63 {
         let displacement = Displacement::new(displacement as i8);
         Ok(word(Row::ShortJump(condition, displacement)))
     } else {
-        Err(Fault::TooFar)
+        Err(SourceFault::TooFar)
     }
 }

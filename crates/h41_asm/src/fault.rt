@@ -9,7 +9,7 @@ use thiserror::Error;
 
 /// What is wrong with a line. The numbers and names are this project's own.
 #[derive(Clone, Copy, Debug, PartialEq, Eq, Error)]
-pub enum Fault {
+pub enum SourceFault {
     /// 30: the label, or the mnemonic or directive, cannot be read.
     #[error("no line of a source")]
     BadLine,
@@ -37,7 +37,7 @@ pub enum AssembleError {
     #[error("line {line}: {fault}")]
     Line {
         /// What is wrong with it.
-        fault: Fault,
+        fault: SourceFault,
         /// Its number.
         line: usize,
     },
@@ -66,7 +66,7 @@ impl<T: Drop> From<AllocFailed<T>> for AssembleError {
 #[derive(Clone, Copy, Debug, PartialEq, Eq)]
 pub(crate) enum SpellError {
     /// What is wrong with it.
-    Fault(Fault),
+    Fault(SourceFault),
     /// 21: no memory is left.
     OutOfMemory,
 }
@@ -85,10 +85,10 @@ impl SpellError {
     }
 }
 
-impl From<Fault> for SpellError {
+impl From<SourceFault> for SpellError {
     ghost from_gives = { λ fault error. error ≡ spell_errors.Fault fault };
 
-    fn from(fault: Fault) -> Self {
+    fn from(fault: SourceFault) -> Self {
         SpellError::Fault(fault)
     }
 }

@@ -14,4 +14,4 @@ mod table;
 mod words;
 
 pub use assembler::assemble;
-pub use fault::{AssembleError, Fault};
+pub use fault::{AssembleError, SourceFault};

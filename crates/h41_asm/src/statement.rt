@@ -5,7 +5,7 @@ ghost use Rattle.h41_asm.specs.CodeStatements.{found_in_code, in_code, read_in_c
 ghost use Rattle.h41_asm.specs.SourceLines.{words_of};
 ghost use Rattle.h41_asm.specs.Statements as spec;
 
-use crate::fault::Fault;
+use crate::fault::SourceFault;
 use crate::names::reference_in;
 use crate::operands::{address_in, displacement_in, field_in, number_in, text_in, word_in};
 use crate::table::{EntryKind, Numbered, SINGLES, TAKERS, Taking};
@@ -51,7 +51,7 @@ impl Statement<'_> {
 }
 
 /// What the words behind a label say, or why they cannot be read.
-pub(crate) fn read(words: LineWords<'_>) -> Result<Statement<'_>, Fault>
+pub(crate) fn read(words: LineWords<'_>) -> Result<Statement<'_>, SourceFault>
     ensures { read_in_code result ≡ spec.reading (words_of words.entry.rest.now) }
 {
     if is_nothing(words) {
@@ -64,7 +64,7 @@ pub(crate) fn read(words: LineWords<'_>) -> Result<Statement<'_>, Fault>
 }
 
 /// What words say that are not a single mnemonic.
-fn read_taker(words: LineWords<'_>) -> Result<Statement<'_>, Fault>
+fn read_taker(words: LineWords<'_>) -> Result<Statement<'_>, SourceFault>
     ensures { read_in_code result ≡ spec.not_single (words_of words.entry.rest.now) }
 {
     match with_operand(words) {
@@ -75,7 +75,7 @@ fn read_taker(words: LineWords<'_>) -> Result<Statement<'_>, Fault>
 
 /// What words say that begin with a mnemonic that takes an operand.
 #[tactic(auto, unfolding(crate::specs::Statements::takers))]
-fn with_operand<'a>(words: LineWords<'a>) -> Option<Result<Statement<'a>, Fault>>
+fn with_operand<'a>(words: LineWords<'a>) -> Option<Result<Statement<'a>, SourceFault>>
     ensures { taken_in_code result ≡ spec.taken_among spec.takers (words_of words.entry.rest.now) }
 {
     taken_among(&TAKERS, words)
@@ -90,13 +90,13 @@ fn single(words: LineWords<'_>) -> Option<Row>
 }
 
 /// The fault of words that are no single mnemonic, and do not begin with one that takes an operand.
-fn unread_fault(words: LineWords<'_>) -> Fault
+fn unread_fault(words: LineWords<'_>) -> SourceFault
     ensures { result ≡ spec.unread_fault (words_of words.entry.rest.now) }
 {
     if begins_single(words) {
-        Fault::BadOperand
+        SourceFault::BadOperand
     } else {
-        Fault::BadLine
+        SourceFault::BadLine
     }
 }
 
@@ -138,7 +138,7 @@ fn is_begun(singles: &[(&str, Row)], words: LineWords<'_>) -> bool
 fn taken_among<'a>(
     takers: &[(&str, Taking)],
     words: LineWords<'a>,
-) -> Option<Result<Statement<'a>, Fault>>
+) -> Option<Result<Statement<'a>, SourceFault>>
     ensures { taken_in_code result ≡ taken_by takers.now words.entry.rest }
 {
     for (name, taking) in takers {
@@ -172,16 +172,16 @@ fn is_nothing(words: LineWords<'_>) -> bool
 }
 
 /// The one operand behind a mnemonic.
-fn taken(taking: Taking, operands: LineWords<'_>) -> Result<Statement<'_>, Fault>
+fn taken(taking: Taking, operands: LineWords<'_>) -> Result<Statement<'_>, SourceFault>
     ensures { read_in_code result ≡ taken_operand taking operands.entry.rest }
 {
     let mut operands = operands;
     match (operands.next(), operands.next()) {
         (Some(operand), None) => match take(taking, operand) {
             Some(statement) => Ok(statement),
-            None => Err(Fault::BadOperand),
+            None => Err(SourceFault::BadOperand),
         },
-        _ => Err(Fault::BadOperand),
+        _ => Err(SourceFault::BadOperand),
     }
 }
 

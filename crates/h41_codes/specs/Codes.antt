@@ -1,5 +1,5 @@
 -- The codes of functions and characters, those of HP's byte table. Each stands beside its name.
-use Rattle.std.specs.Prelude.{◌≡◌, ℕ, ◌≤◌, ◌⊎◌}
+use Rattle.std.specs.Prelude.{ℕ}
 use Rattle.h41_codes.specs.declared.functions.Function.{Function}
 use Rattle.h41_codes.specs.declared.functions.Function.TheVariants.{Add, Subtract, Multiply, Divide, TestXLessThanY, TestXGreaterThanY, TestXAtMostY, AddStatistics, SubtractStatistics, AddHours, SubtractHours, Modulo, Percent, PercentChange, PolarToRectangular, RectangularToPolar, NaturalLogarithm, Square, SquareRoot, Power, ChangeSign, Exponential, CommonLogarithm, PowerOfTen, ExponentialLessOne, Sine, Cosine, Tangent, ArcSine, ArcCosine, ArcTangent, OctalToDecimal, Reciprocal, AbsoluteValue, Factorial, TestXNotZero, TestXPositive, LogarithmOfOneMore, TestXNegative, TestXZero, IntegerPart, FractionPart, DegreesToRadians, RadiansToDegrees, DecimalToHours, HoursToDecimal, Round, DecimalToOctal, ClearStatistics, ExchangeXY, Pi, ClearStack, RollUp, RollDown, LastX, ClearX, TestXEqualsY, TestXDiffersFromY, Signum, TestXAtMostZero, Mean, StandardDeviation, ViewAlpha, ClearDisplay, Degrees, Radians, Grads, Enter, Stop, Return, Beep, ClearAlpha, ShiftAlpha, Pause, ClearRegisters, AlphaOff, AlphaOn, TurnOff, Prompt, Advance}
 use Rattle.h41_codes.specs.declared.functions.ParameterFunction.{ParameterFunction}

@@ -2,7 +2,7 @@
 use Rattle.std.proofs.Common.{inl, inr, ◌≡◌, ℕ, suc, Result, option_map, IsSome, Option, Some, None, Ok, Err, List, [], ◌∷◌, refl, sym, ap, ◌∙◌}
 use Rattle.h41_asm.specs.AssemblyLaws.{NeverBoth, WordsAreDetermined}
 use Rattle.h41_asm.specs.Faults.{assembly_fault}
-use Rattle.h41_asm.specs.declared.fault.Fault as asm
+use Rattle.h41_asm.specs.declared.fault.SourceFault as asm
 use Rattle.h41_codes.specs.declared.line.Line.{Line}
 use Rattle.h41_program.specs.Packing.{packed}
 use Rattle.h41_text.specs.TextLaws.{OneLineOfText}
@@ -16,7 +16,7 @@ use Rattle.h41_commands.specs.Commands.{and_then}
 use Rattle.h41_commands.specs.PageBlocks.{Fills, SourceMakes, fitting, page_address}
 use Rattle.h41_commands.specs.ProgramBlocks.{IsBadText, Means, SayLines, SaysLine, texts_of, with_more}
 
-same_fault : (fault other : Option (asm.Fault × ℕ)) (why : LineRefusal) → option_map (λ found. Source found.0 found.1) fault ≡ Some why → fault ≡ other → IsSome other
+same_fault : (fault other : Option (asm.SourceFault × ℕ)) (why : LineRefusal) → option_map (λ found. Source found.0 found.1) fault ≡ Some why → fault ≡ other → IsSome other
 same_fault None other why e same = cc
 same_fault (Some found) other why e same = rw (sym same) refl
 

@@ -3,7 +3,7 @@ use Rattle.std.proofs.Common.{◌≡◌, ℕ, List, Some, Ok, Err, Result, Vec, 
 use Rattle.std.specs.Global.{Global}
 use Rattle.h41_asm.specs.Assembly.{Assembles}
 use Rattle.h41_asm.specs.Faults.{assembly_fault}
-use Rattle.h41_asm.specs.declared.fault.Fault.{Fault}
+use Rattle.h41_asm.specs.declared.fault.SourceFault.{SourceFault}
 use Rattle.h41_commands.specs.declared.commands.PageKind.TheVariants.{Asm}
 use Rattle.h41_commands.specs.declared.refusal.LineRefusal.{LineRefusal}
 use Rattle.h41_commands.specs.Contents.{values_in}
@@ -18,7 +18,7 @@ fills_words source text page origin words (Ok made) same at spelled fits = (Ok w
 fills_words source text page origin words (Err why) same at spelled fits = fits
 
 -- a source with a fault
-pub fills_fault : (source text : List ℕ) (page origin line : ℕ) (fault : Fault) (why : LineRefusal) → text ≡ source → origin ≡ page_address page
+pub fills_fault : (source text : List ℕ) (page origin line : ℕ) (fault : SourceFault) (why : LineRefusal) → text ≡ source → origin ≡ page_address page
     → assembly_fault text origin ≡ Some (fault, line) → why ≡ Source fault line → Fills Asm page source (Err why)
 fills_fault source text page origin line fault why same at found own =
     (Err why, rw (sym same, sym at) (rw (found, own) refl), refl)

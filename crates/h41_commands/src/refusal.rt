@@ -2,7 +2,7 @@
 
 ghost use Rattle.std.specs.Prelude.{◌≡◌};
 
-use h41_asm::Fault as SourceFault;
+use h41_asm::SourceFault;
 
 /// Why lines of a deck are refused: a command that is none, or a block whose lines don't say what they have to.
 #[derive(Clone, Copy, Debug, PartialEq, Eq)]

@@ -6,7 +6,7 @@ use Rattle.std.proofs.lemmas.Nat.{pow-add, le-div, div_below}
 use Rattle.std.proofs.lemmas.Bool.{cases_lt}
 use Rattle.h41_decimal.specs.NearestDecimal.{Exact, Fraction, RootOf, IsBelow, IsAtLeast, IsTenDigits, IsBounded, IsRounded}
 use Rattle.h41_decimal.specs.Cut.{IsAtMost, IsCut, IsCutFarEnough, origin}
-use Rattle.h41_decimal.specs.declared.fault.Fault.{Fault}
+use Rattle.h41_decimal.specs.declared.fault.DecimalFault.{DecimalFault}
 use Rattle.h41_decimal.specs.declared.sign.Sign.{Sign}
 use Rattle.h41_decimal.specs.declared.ten.Ten.{Ten}
 use Rattle.h41_decimal.specs.declared.ten.Ten.TheVariants.{Zero}
@@ -28,7 +28,7 @@ high_link n m ps pu p128 w parts link =
     omega arith
 
 -- the answer for what was cut to eleven digits: n ten digits whose last stands at a place are worth the rounded m
-pub rounded_at : (sign : Sign) (v : Exact) (T m n scale place : ℕ) (answer : Result Ten Fault) → IsCut v T scale
+pub rounded_at : (sign : Sign) (v : Exact) (T m n scale place : ℕ) (answer : Result Ten DecimalFault) → IsCut v T scale
     → 10 ^ 10 ≤ T → 10 * m ≤ T + 5 → T + 5 < 10 * m + 10 → 10 ^ 9 ≤ m → IsTenDigits n
     → n * 10 ^ place ≡ m * (10 * 10 ^ scale)
     → (place < 128 → answer ≡ Ok Zero) → (128 ≤ place → IsBounded sign n (pos (place - 128)) answer)

@@ -8,8 +8,8 @@ use Rattle.h41_decimal.specs.Signs.{signed, sign_of}
 use Rattle.h41_decimal.specs.Units.{one, size_of, units}
 use Rattle.h41_decimal.specs.NearestDecimal.{Exact, Fraction, RootOf, IsBelow, IsAtLeast, IsNear, IsTenDigits, IsBounded, IsRounded, Nearest, NearestRoot, up_of, down_of}
 use Rattle.h41_decimal.proofs.Same.{units_injective}
-use Rattle.h41_decimal.specs.declared.fault.Fault.{Fault}
-use Rattle.h41_decimal.specs.declared.fault.Fault.TheVariants.{Range}
+use Rattle.h41_decimal.specs.declared.fault.DecimalFault.{DecimalFault}
+use Rattle.h41_decimal.specs.declared.fault.DecimalFault.TheVariants.{Range}
 use Rattle.h41_decimal.specs.declared.sign.Sign.{Sign}
 use Rattle.h41_decimal.specs.declared.sign.Sign.TheVariants.{Plus}
 use Rattle.h41_decimal.specs.declared.ten.Ten.{Ten}
@@ -68,7 +68,7 @@ not_below_range m n s d m_ten n_ten e =
     omega arith
 
 -- what is answered in range
-in_range : (b : Bool) (z : ℤ) (x y : Result Ten Fault)
+in_range : (b : Bool) (z : ℤ) (x y : Result Ten DecimalFault)
     → MatchBool b (IsOkAnd x (λ number. units number ≡ z)) (x ≡ Err Range) → MatchBool b (IsOkAnd y (λ number. units number ≡ z)) (y ≡ Err Range)
     → x ≡ y
 in_range true z (Ok x) (Ok y) h k = ap Ok (units_injective x y (h ∙ sym k))
@@ -76,7 +76,7 @@ in_range true z (Ok x) (Err f) h k = absurd k
 in_range true z (Err f) y h k = absurd h
 in_range false z x y h k = h ∙ sym k
 
-answers : (sign : Sign) (v : Exact) (m : ℕ) (e : ℤ) (n : ℕ) (f : ℤ) (x y : Result Ten Fault) → IsTenDigits m → IsTenDigits n
+answers : (sign : Sign) (v : Exact) (m : ℕ) (e : ℤ) (n : ℕ) (f : ℤ) (x y : Result Ten DecimalFault) → IsTenDigits m → IsTenDigits n
     → IsNear v m (up_of e) (down_of e) → IsNear v n (up_of f) (down_of f) → IsBounded sign m e x → IsBounded sign n f y
     → x ≡ y
 answers sign v m (negsuc d) n (negsuc d') x y m_ten n_ten near near' bounded bounded' = bounded ∙ sym bounded'
@@ -93,17 +93,17 @@ answers sign v m (pos s) n (pos t) x y m_ten n_ten near near' bounded bounded' =
     let Q : ℕ → Type 0 = λ k. IsBounded sign k (pos s) y in
     in_range (nat_le s 198) (signed sign (size_of m s)) x y bounded (subst Q (sym mn) (subst P (sym st) bounded'))
 
-rounded_determined : (sign : Sign) (v : Exact) (x y : Result Ten Fault) → IsRounded sign v x → IsRounded sign v y → x ≡ y
+rounded_determined : (sign : Sign) (v : Exact) (x y : Result Ten DecimalFault) → IsRounded sign v x → IsRounded sign v y → x ≡ y
 rounded_determined sign v x y h k = answers sign v h.digits h.exponent k.digits k.exponent x y h.ten_digits k.ten_digits h.near k.near h.bounded k.bounded
 
-either : (b : Bool) (sign : Sign) (v : Exact) (x y : Result Ten Fault)
+either : (b : Bool) (sign : Sign) (v : Exact) (x y : Result Ten DecimalFault)
     → MatchBool b (x ≡ Ok Zero) (IsRounded sign v x) → MatchBool b (y ≡ Ok Zero) (IsRounded sign v y) → x ≡ y
 either true sign v x y h k = h ∙ sym k
 either false sign v x y h k = rounded_determined sign v x y h k
 
-pub nearest_determined : (above : ℤ) (below : ℕ) (x y : Result Ten Fault) → Nearest above below x → Nearest above below y → x ≡ y
+pub nearest_determined : (above : ℤ) (below : ℕ) (x y : Result Ten DecimalFault) → Nearest above below x → Nearest above below y → x ≡ y
 nearest_determined above below x y h k = either (unsigned_abs above == 0) (sign_of above) (Fraction (unsigned_abs above) below) x y h k
 
-pub root_determined : (number : ℤ) (x y : Result Ten Fault) → NearestRoot number x → NearestRoot number y → x ≡ y
+pub root_determined : (number : ℤ) (x y : Result Ten DecimalFault) → NearestRoot number x → NearestRoot number y → x ≡ y
 root_determined (pos size) x y h k = either (size == 0) Plus (RootOf (size * one)) x y h k
 root_determined (negsuc size) x y h k = h ∙ sym k

@@ -9,7 +9,7 @@ use Rattle.h41_decimal.specs.Units.{size, units}
 use Rattle.h41_decimal.specs.NearestDecimal.{Fraction, Nearest}
 use Rattle.h41_decimal.specs.Operations.{IsFloor, RoundsRest, NearestModulo}
 use Rattle.h41_decimal.specs.Cut.{RoundsWhole}
-use Rattle.h41_decimal.specs.declared.fault.Fault.{Fault}
+use Rattle.h41_decimal.specs.declared.fault.DecimalFault.{DecimalFault}
 use Rattle.h41_decimal.specs.declared.parts.Size.{Size}
 use Rattle.h41_decimal.specs.declared.sign.Sign.{Sign}
 use Rattle.h41_decimal.specs.declared.sign.Sign.TheVariants.{Plus, Minus}
@@ -57,7 +57,7 @@ one_less zero = refl
 one_less (suc q) = omega (arith, ints)
 
 -- both of one sign
-pub rest_of_same : (s : Sign) (Y X q r : ℕ) (answer : Result Ten Fault) → Y ≡ q * X + r → r < X → Nearest (signed s r) 1 answer
+pub rest_of_same : (s : Sign) (Y X q r : ℕ) (answer : Result Ten DecimalFault) → Y ≡ q * X + r → r < X → Nearest (signed s r) 1 answer
     → RoundsRest (signed s Y) (signed s X) answer
 rest_of_same s Y X q r answer e less nearest =
     let x : signed s X *ℤ signed Plus q ≡ signed s (X * q) = signed-mul s Plus X q ∙ ap (λ t. signed t (X * q)) (product_with_plus s) in
@@ -71,7 +71,7 @@ rest_of_same s Y X q r answer e less nearest =
     }
 
 -- of two signs, with something left
-pub rest_of_apart : (s : Sign) (Y X q r : ℕ) (answer : Result Ten Fault) → Y ≡ q * X + r → 0 < r → r < X → Nearest (signed s (X - r)) 1 answer
+pub rest_of_apart : (s : Sign) (Y X q r : ℕ) (answer : Result Ten DecimalFault) → Y ≡ q * X + r → 0 < r → r < X → Nearest (signed s (X - r)) 1 answer
     → RoundsRest (signed (opposite_of s) Y) (signed s X) answer
 rest_of_apart s Y X q r answer e some less nearest =
     let x : signed s X *ℤ signed Minus (suc q) ≡ signed (opposite_of s) (X * suc q) =
@@ -126,12 +126,12 @@ sizes_divide n m t s r m_pos le r_is =
     (omega arith, less, mul-lt-mul_of_pos_right less (ten_pow_pos s))
 
 -- what is rounded is what is left
-pub rest_rounds : (sign : Sign) (k place : ℕ) (answer : Result Ten Fault) → 0 < k → RoundsWhole sign k (place + 128) answer → Nearest (signed sign (k * 10 ^ place)) 1 answer
+pub rest_rounds : (sign : Sign) (k place : ℕ) (answer : Result Ten DecimalFault) → 0 < k → RoundsWhole sign k (place + 128) answer → Nearest (signed sign (k * 10 ^ place)) 1 answer
 rest_rounds sign k place answer k_pos rounds =
     nearest_of (signed sign (k * 10 ^ place)) 1 sign (k * 10 ^ place) answer refl (mul-pos k_pos (ten_pow_pos place))
     (rounds (Fraction (k * 10 ^ place) 1) (exact_fraction (k * 10 ^ place) 1 k (place + 128) (omega arith) (at_unit_scale k place)))
 
-pub rest_rounds_at : (sign : Sign) (k place scale : ℕ) (answer : Result Ten Fault) → 0 < k → scale ≡ place + 128 → RoundsWhole sign k scale answer
+pub rest_rounds_at : (sign : Sign) (k place scale : ℕ) (answer : Result Ten DecimalFault) → 0 < k → scale ≡ place + 128 → RoundsWhole sign k scale answer
     → Nearest (signed sign (k * 10 ^ place)) 1 answer
 rest_rounds_at sign k place scale answer k_pos scale_is rounds =
     let P : ℕ → Type 0 = λ t. RoundsWhole sign k t answer in
@@ -142,7 +142,7 @@ pub rest_of_zero : (s : Sign) (X : ℕ) → 0 < X → RoundsRest (pos 0) (signed
 rest_of_zero Plus X some = rest_of_same Plus 0 X 0 0 (Ok Zero) (omega arith) some refl
 rest_of_zero Minus X some = rest_of_same Minus 0 X 0 0 (Ok Zero) (omega arith) some refl
 
-pub modulo_by : (y : Ten) (t : Sign) (x : Size) (z : ℤ) (answer : Result Ten Fault) → units y ≡ z → RoundsRest z (signed t (size x)) answer
+pub modulo_by : (y : Ten) (t : Sign) (x : Size) (z : ℤ) (answer : Result Ten DecimalFault) → units y ≡ z → RoundsRest z (signed t (size x)) answer
     → NearestModulo y (Nonzero t x) answer
 modulo_by y t x z answer e rest =
     let a : unsigned_abs (signed t (size x)) ≡ size x = unsigned_abs-signed t (size x) in

@@ -29,13 +29,13 @@ same_mantissa x y e =
     y.at_least y.below
 
 exponent_at : (s : ℕ) → s ≤ 198 → Exponent
-exponent_at s h = record { above_least = s; in_range = h }
+exponent_at s h = record { biased = s; in_range = h }
 
-same_exponent_of : (x y : Exponent) → x.above_least ≡ y.above_least → x ≡ y
+same_exponent_of : (x y : Exponent) → x.biased ≡ y.biased → x ≡ y
 unfolding exponent_at
 same_exponent_of x y e =
     let P : ℕ → Type 0 = λ s. (h : s ≤ 198) → x ≡ exponent_at s h in
-    subst P e (λ h. ap (λ t. exponent_at x.above_least t) (le_prop x.in_range h)) y.in_range
+    subst P e (λ h. ap (λ t. exponent_at x.biased t) (le_prop x.in_range h)) y.in_range
 
 size_at : Mantissa → Exponent → Size
 size_at m k = record { mantissa = m; exponent = k }
@@ -58,8 +58,8 @@ one_exponent m n s t m_least m_below n_least n_below e =
 
 same_sizes : (x y : Size) → size x ≡ size y → x ≡ y
 same_sizes x y e =
-    let s = x.exponent.above_least in
-    let t = y.exponent.above_least in
+    let s = x.exponent.biased in
+    let t = y.exponent.biased in
     let m = x.mantissa.digits in
     let n = y.mantissa.digits in
     let st : s ≡ t = one_exponent m n s t x.mantissa.at_least x.mantissa.below y.mantissa.at_least y.mantissa.below e in

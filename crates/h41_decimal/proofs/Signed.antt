@@ -6,7 +6,7 @@ use Rattle.std.proofs.lemmas.Int.{ints}
 use Rattle.std.proofs.Math.IntN.{pos-*ℤ-pos, pos-*ℤ-negsuc, negsuc-*ℤ-pos, negsuc-*ℤ-negsuc, *ℤ-zero, zero-*ℤ}
 use Rattle.h41_decimal.specs.Signs.{signed, opposite_of, product_of}
 use Rattle.h41_decimal.specs.NearestDecimal.{Fraction, IsRounded, Nearest}
-use Rattle.h41_decimal.specs.declared.fault.Fault.{Fault}
+use Rattle.h41_decimal.specs.declared.fault.DecimalFault.{DecimalFault}
 use Rattle.h41_decimal.specs.declared.sign.Sign.{Sign}
 use Rattle.h41_decimal.specs.declared.sign.Sign.TheVariants.{Plus, Minus}
 use Rattle.h41_decimal.specs.declared.ten.Ten.{Ten}
@@ -20,7 +20,7 @@ not_zero A B n n_pos b =
     subst P (sym f) b
 
 -- the nearest decimal of a size with a sign
-pub nearest_of : (z : ℤ) (d : ℕ) (sign : Sign) (n : ℕ) (answer : Result Ten Fault) → z ≡ signed sign n → 0 < n → IsRounded sign (Fraction n d) answer → Nearest z d answer
+pub nearest_of : (z : ℤ) (d : ℕ) (sign : Sign) (n : ℕ) (answer : Result Ten DecimalFault) → z ≡ signed sign n → 0 < n → IsRounded sign (Fraction n d) answer → Nearest z d answer
 nearest_of z d sign zero answer e n_pos rounded = absurd (omega arith)
 nearest_of z d Plus (suc n) answer e n_pos rounded =
     let P : ℤ → Type 0 = λ t. Nearest t d answer in
@@ -30,7 +30,7 @@ nearest_of z d Minus (suc n) answer e n_pos rounded =
     subst P (sym e) (not_zero (answer ≡ Ok Zero) (IsRounded Minus (Fraction (suc n) d) answer) (suc n) n_pos rounded)
 
 -- the nearest decimal of zero
-pub nearest_of_zero : (z : ℤ) (d : ℕ) (answer : Result Ten Fault) → z ≡ pos 0 → answer ≡ Ok Zero → Nearest z d answer
+pub nearest_of_zero : (z : ℤ) (d : ℕ) (answer : Result Ten DecimalFault) → z ≡ pos 0 → answer ≡ Ok Zero → Nearest z d answer
 nearest_of_zero z d answer e zero_is = let P : ℤ → Type 0 = λ t. Nearest t d answer in subst P (sym e) zero_is
 
 -- sums and differences of sizes with one sign

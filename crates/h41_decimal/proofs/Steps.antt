@@ -8,7 +8,7 @@ use Rattle.h41_decimal.specs.Units.{size}
 use Rattle.h41_decimal.specs.NearestDecimal.{Fraction, Nearest}
 use Rattle.h41_decimal.specs.Operations.{RoundsTo}
 use Rattle.h41_decimal.specs.Cut.{RoundsWhole}
-use Rattle.h41_decimal.specs.declared.fault.Fault.{Fault}
+use Rattle.h41_decimal.specs.declared.fault.DecimalFault.{DecimalFault}
 use Rattle.h41_decimal.specs.declared.parts.Size.{Size}
 use Rattle.h41_decimal.specs.declared.sign.Sign.{Sign}
 use Rattle.h41_decimal.specs.declared.sign.Sign.TheVariants.{Plus, Minus}
@@ -26,7 +26,7 @@ sign_of-signed Minus zero h = absurd (omega arith)
 sign_of-signed Minus (suc n) h = refl
 
 -- a size with its sign rounds as the size does
-pub rounds_of : (sign : Sign) (n steps step : ℕ) (answer : Result Ten Fault) → 0 < n
+pub rounds_of : (sign : Sign) (n steps step : ℕ) (answer : Result Ten DecimalFault) → 0 < n
     → 2 * (steps * step) ≤ 2 * n + step → 2 * n + step < 2 * ((steps + 1) * step) → Nearest (signed sign (steps * step)) 1 answer
     → RoundsTo step (signed sign n) answer
 rounds_of sign n steps step answer n_pos low high nearest =
@@ -49,10 +49,10 @@ zero_rounds step step_pos = record {
 }
 
 -- a size with no place below the step stays as it is
-pub whole_rounds : (sign : Sign) (x : Size) (place : ℕ) → place ≤ x.exponent.above_least → RoundsTo (10 ^ place) (signed sign (size x)) (Ok (Nonzero sign x))
+pub whole_rounds : (sign : Sign) (x : Size) (place : ℕ) → place ≤ x.exponent.biased → RoundsTo (10 ^ place) (signed sign (size x)) (Ok (Nonzero sign x))
 whole_rounds sign x place low =
     let m = x.mantissa.digits in
-    let s = x.exponent.above_least in
+    let s = x.exponent.biased in
     let p : 10 ^ (s - place) * 10 ^ place ≡ 10 ^ s = power_parts (s - place) place s (omega arith) in
     let e : (m * 10 ^ (s - place)) * 10 ^ place ≡ m * 10 ^ s = (let f = ap (λ t. m * t) p in omega (arith, f)) in
     let some = ten_pow_pos place in
@@ -61,10 +61,10 @@ whole_rounds sign x place low =
     (subst P (sym e) (own_nearest (Nonzero sign x)))
 
 -- one far below half a step becomes zero
-pub tiny_rounds : (sign : Sign) (x : Size) (place : ℕ) → x.exponent.above_least + 10 < place → RoundsTo (10 ^ place) (signed sign (size x)) (Ok Zero)
+pub tiny_rounds : (sign : Sign) (x : Size) (place : ℕ) → x.exponent.biased + 10 < place → RoundsTo (10 ^ place) (signed sign (size x)) (Ok Zero)
 tiny_rounds sign x place far =
     let m = x.mantissa.digits in
-    let s = x.exponent.above_least in
+    let s = x.exponent.biased in
     let m_below : m < 10 ^ 10 = x.mantissa.below in
     let ten : 0 < 10 = omega arith in
     let apart : s + 11 ≤ place = omega arith in
@@ -89,11 +89,11 @@ half_of_power : (p dropped : ℕ) → p ≡ 10 ^ dropped → 0 < dropped → 2 *
 half_of_power p zero e h = absurd (omega arith)
 half_of_power p (suc dropped) e h = let q : 10 ^ suc dropped ≡ 10 ^ dropped * 10 = pow-suc 10 dropped in omega arith
 
-quotient_rounds : (sign : Sign) (x : Size) (place dropped p k : ℕ) (answer : Result Ten Fault) → dropped + x.exponent.above_least ≡ place → 0 < dropped
+quotient_rounds : (sign : Sign) (x : Size) (place dropped p k : ℕ) (answer : Result Ten DecimalFault) → dropped + x.exponent.biased ≡ place → 0 < dropped
     → p ≡ 10 ^ dropped → k ≡ (x.mantissa.digits + p / 2) / p → Nearest (signed sign (k * 10 ^ place)) 1 answer → RoundsTo (10 ^ place) (signed sign (size x)) answer
 quotient_rounds sign x place dropped p k answer places some p_is k_is nearest =
     let m = x.mantissa.digits in
-    let s = x.exponent.above_least in
+    let s = x.exponent.biased in
     let pw = ten_pow_pos dropped in
     let p_pos : 0 < p = omega arith in
     let q : 10 ^ dropped * 10 ^ s ≡ 10 ^ place = power_parts dropped s place places in
@@ -108,7 +108,7 @@ quotient_rounds sign x place dropped p k answer places some p_is k_is nearest =
     rounds_of sign (m * 10 ^ s) k (10 ^ place) answer (size_pos x) (subst L step l) (subst H step h) nearest
 
 -- a quotient of zero
-pub quotient_rounds_to_zero : (sign : Sign) (x : Size) (place dropped p k : ℕ) → dropped + x.exponent.above_least ≡ place → 0 < dropped
+pub quotient_rounds_to_zero : (sign : Sign) (x : Size) (place dropped p k : ℕ) → dropped + x.exponent.biased ≡ place → 0 < dropped
     → p ≡ 10 ^ dropped → k ≡ (x.mantissa.digits + p / 2) / p → k ≡ 0 → RoundsTo (10 ^ place) (signed sign (size x)) (Ok Zero)
 quotient_rounds_to_zero sign x place dropped p k places some p_is k_is none =
     let e : k * 10 ^ place ≡ 0 = ap (λ t. t * 10 ^ place) none ∙ omega arith in
@@ -119,7 +119,7 @@ pub at_unit_scale : (k place : ℕ) → (k * 10 ^ place) * 10 ^ 128 ≡ (k * 10 
 at_unit_scale k place = let p = ap (λ t. k * t) (pow-add 10 place 128) in omega (arith, p)
 
 -- and another, rounded to ten digits
-pub quotient_rounds_to_steps : (sign : Sign) (x : Size) (place dropped p k : ℕ) (answer : Result Ten Fault) → dropped + x.exponent.above_least ≡ place → 0 < dropped
+pub quotient_rounds_to_steps : (sign : Sign) (x : Size) (place dropped p k : ℕ) (answer : Result Ten DecimalFault) → dropped + x.exponent.biased ≡ place → 0 < dropped
     → p ≡ 10 ^ dropped → k ≡ (x.mantissa.digits + p / 2) / p → 0 < k → RoundsWhole sign k (place + 128) answer → RoundsTo (10 ^ place) (signed sign (size x)) answer
 quotient_rounds_to_steps sign x place dropped p k answer places some p_is k_is k_pos rounds =
     quotient_rounds sign x place dropped p k answer places some p_is k_is

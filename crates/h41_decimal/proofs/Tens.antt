@@ -17,8 +17,8 @@ use Rattle.h41_decimal.specs.Signs.{signed, opposite_of, product_of}
 use Rattle.h41_decimal.specs.Units.{one, size, size_of, units}
 use Rattle.h41_decimal.specs.NearestDecimal.{Exact, Fraction, RootOf, IsBounded, IsRounded, Nearest, NearestRoot}
 use Rattle.h41_decimal.specs.Operations.{NearestQuotient}
-use Rattle.h41_decimal.specs.declared.fault.Fault.{Fault}
-use Rattle.h41_decimal.specs.declared.fault.Fault.TheVariants.{Data, Range}
+use Rattle.h41_decimal.specs.declared.fault.DecimalFault.{DecimalFault}
+use Rattle.h41_decimal.specs.declared.fault.DecimalFault.TheVariants.{Data, Range}
 use Rattle.h41_decimal.specs.declared.parts.Size.{Size}
 use Rattle.h41_decimal.specs.declared.sign.Sign.{Sign}
 use Rattle.h41_decimal.specs.declared.sign.Sign.TheVariants.{Plus, Minus}
@@ -34,7 +34,7 @@ pub size_pos : (x : Size) → 0 < size x
 size_pos x =
     let m : 10 ^ 9 ≤ x.mantissa.digits = x.mantissa.at_least in
     let d : 0 < x.mantissa.digits = omega arith in
-    mul-pos d (ten_pow_pos x.exponent.above_least)
+    mul-pos d (ten_pow_pos x.exponent.biased)
 
 pub unsigned_abs-signed : (sign : Sign) (n : ℕ) → unsigned_abs (signed sign n) ≡ n
 unsigned_abs-signed Plus n = refl
@@ -42,13 +42,13 @@ unsigned_abs-signed Minus zero = refl
 unsigned_abs-signed Minus (suc n) = refl
 
 -- a decimal is the answer for its own value
-own_bounded : (sign : Sign) (x : Size) (steps : ℕ) → steps ≡ x.exponent.above_least → IsBounded sign x.mantissa.digits (pos steps) (Ok (Nonzero sign x))
+own_bounded : (sign : Sign) (x : Size) (steps : ℕ) → steps ≡ x.exponent.biased → IsBounded sign x.mantissa.digits (pos steps) (Ok (Nonzero sign x))
 own_bounded sign x steps e =
-    let low : x.exponent.above_least ≤ 198 = x.exponent.in_range in
+    let low : x.exponent.biased ≤ 198 = x.exponent.in_range in
     let small : steps ≤ 198 = omega arith in
     let t : nat_le steps 198 ≡ true = grind (arith, nat_tests) in
     let same : signed sign (size x) ≡ signed sign (size_of x.mantissa.digits steps) = ap (λ k. signed sign (size_of x.mantissa.digits k)) (sym e) in
-    let answer : Result Ten Fault = Ok (Nonzero sign x) in
+    let answer : Result Ten DecimalFault = Ok (Nonzero sign x) in
     let Then : Type 0 = IsOkAnd answer (λ number. units number ≡ signed sign (size_of x.mantissa.digits steps)) in
     let Else : Type 0 = answer ≡ Err Range in
     let P : Bool → Type 0 = λ b. MatchBool b Then Else in
@@ -69,7 +69,7 @@ own_place m s =
 pub own_rounded : (sign : Sign) (x : Size) → IsRounded sign (Fraction (size x) 1) (Ok (Nonzero sign x))
 own_rounded sign x =
     let m = x.mantissa.digits in
-    let s = x.exponent.above_least in
+    let s = x.exponent.biased in
     let m_size : 10 ^ 9 ≤ m = x.mantissa.at_least in
     let m_below : m < 10 ^ 10 = x.mantissa.below in
     rounded_at sign (Fraction (size x) 1) (10 * m) m m (s + 127) (s + 128) (Ok (Nonzero sign x))
@@ -82,13 +82,13 @@ own_nearest Zero = refl
 own_nearest (Nonzero sign x) = nearest_of (units (Nonzero sign x)) 1 sign (size x) (Ok (Nonzero sign x)) refl (size_pos x) (own_rounded sign x)
 
 -- the product, and a hundredth of it
-pub product_nearest : (s t : Sign) (x y : Size) (d : ℕ) (answer : Result Ten Fault) → IsRounded (product_of s t) (Fraction (size x * size y) d) answer
+pub product_nearest : (s t : Sign) (x y : Size) (d : ℕ) (answer : Result Ten DecimalFault) → IsRounded (product_of s t) (Fraction (size x * size y) d) answer
     → Nearest (signed s (size x) *ℤ signed t (size y)) d answer
 product_nearest s t x y d answer rounded =
     nearest_of _ d (product_of s t) (size x * size y) answer (signed-mul s t (size x) (size y)) (mul-pos (size_pos x) (size_pos y)) rounded
 
 -- the quotient by what is not zero
-pub quotient_by : (z : ℤ) (t : Sign) (y : Size) (answer : Result Ten Fault) → Nearest (z *ℤ signed t (size y) *ℤ pos one) (size y * size y) answer
+pub quotient_by : (z : ℤ) (t : Sign) (y : Size) (answer : Result Ten DecimalFault) → Nearest (z *ℤ signed t (size y) *ℤ pos one) (size y * size y) answer
     → NearestQuotient z (signed t (size y)) answer
 quotient_by z t y answer nearest =
     let e : unsigned_abs (signed t (size y)) ≡ size y = unsigned_abs-signed t (size y) in
@@ -100,7 +100,7 @@ pub product_with_plus : (s : Sign) → product_of s Plus ≡ s
 product_with_plus Plus = refl
 product_with_plus Minus = refl
 
-pub quotient_nearest : (s t : Sign) (x y : Size) (answer : Result Ten Fault)
+pub quotient_nearest : (s t : Sign) (x y : Size) (answer : Result Ten DecimalFault)
     → IsRounded (product_of s t) (Fraction (size x * size y * one) (size y * size y)) answer
     → NearestQuotient (signed s (size x)) (signed t (size y)) answer
 quotient_nearest s t x y answer rounded =
@@ -116,7 +116,7 @@ quotient_of_zero t y =
     (nearest_of_zero _ (size y * size y) (Ok Zero) (ap (λ z. z *ℤ pos one) (zero-*ℤ (signed t (size y))) ∙ zero-*ℤ (pos one)) refl)
 
 -- the square root of what is above zero, and of what is below
-pub root_nearest : (x : Size) (answer : Result Ten Fault) → IsRounded Plus (RootOf (size x * one)) answer → NearestRoot (signed Plus (size x)) answer
+pub root_nearest : (x : Size) (answer : Result Ten DecimalFault) → IsRounded Plus (RootOf (size x * one)) answer → NearestRoot (signed Plus (size x)) answer
 root_nearest x answer rounded = not_zero (answer ≡ Ok Zero) _ (size x) (size_pos x) rounded
 
 pub root_of_negative : (x : Size) → NearestRoot (signed Minus (size x)) (Err Data)
@@ -127,10 +127,10 @@ root_of_negative x = go (size x) (size_pos x)
     go (suc n) n_pos = refl
 
 -- the same answers, where the code has the numbers under other names
-pub nearest_along : (z z' : ℤ) (d : ℕ) (answer : Result Ten Fault) → z ≡ z' → Nearest z' d answer → Nearest z d answer
+pub nearest_along : (z z' : ℤ) (d : ℕ) (answer : Result Ten DecimalFault) → z ≡ z' → Nearest z' d answer → Nearest z d answer
 nearest_along z z' d answer e nearest = let P : ℤ → Type 0 = λ t. Nearest t d answer in subst P (sym e) nearest
 
-pub rounded_along : (s s' : Sign) (v : Exact) (answer : Result Ten Fault) → s ≡ s' → IsRounded s v answer → IsRounded s' v answer
+pub rounded_along : (s s' : Sign) (v : Exact) (answer : Result Ten DecimalFault) → s ≡ s' → IsRounded s v answer → IsRounded s' v answer
 rounded_along s s' v answer e rounded = let P : Sign → Type 0 = λ t. IsRounded t v answer in subst P e rounded
 
 -- sums with zero, and in either order

@@ -1,7 +1,7 @@
 -- A whole number to which an exact size was cut, before it is rounded. No public contract needs this file.
 use Rattle.std.specs.Prelude.{ℕ, ◌+◌, ◌*◌, ◌^◌, ◌<◌, ◌≤◌, Result}
 use Rattle.h41_decimal.specs.NearestDecimal.{Exact, Fraction, RootOf, IsBelow, IsAtLeast, IsRounded}
-use Rattle.h41_decimal.specs.declared.fault.Fault.{Fault}
+use Rattle.h41_decimal.specs.declared.fault.DecimalFault.{DecimalFault}
 use Rattle.h41_decimal.specs.declared.sign.Sign.{Sign}
 use Rattle.h41_decimal.specs.declared.ten.Ten.{Ten}
 
@@ -25,9 +25,9 @@ pub record IsCutFarEnough (exact : Exact) (whole scale : ℕ) : Type 0 where
   pub whole_size : whole < 10 ^ 10 → IsAtMost exact (whole * 10 ^ scale) origin
 
 -- the answer is right for each exact size that was cut to eleven digits
-abbrev pub RoundsElevenDigits : Sign → ℕ → ℕ → Result Ten Fault → Type 0
+abbrev pub RoundsElevenDigits : Sign → ℕ → ℕ → Result Ten DecimalFault → Type 0
 RoundsElevenDigits sign whole scale answer = (exact : Exact) → IsCut exact whole scale → IsRounded sign exact answer
 
 -- and for each that was cut far enough
-abbrev pub RoundsWhole : Sign → ℕ → ℕ → Result Ten Fault → Type 0
+abbrev pub RoundsWhole : Sign → ℕ → ℕ → Result Ten DecimalFault → Type 0
 RoundsWhole sign whole scale answer = (exact : Exact) → IsCutFarEnough exact whole scale → IsRounded sign exact answer

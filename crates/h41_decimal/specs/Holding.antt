@@ -1,5 +1,5 @@
 -- What a register of 14 digits holds: a number, ALPHA data, or neither.
-use Rattle.std.specs.Prelude.{◌≡◌, ◌<◌, ◌≤◌, ℕ, zero, suc, ◌+◌, ◌-◌, ◌*◌, ◌^◌, ◌&&◌, List, [], ◌∷◌, map, slice_index, Option, Some, None, nat_le, nat_lt, ◌==◌, if◌then◌else◌, ℤ, pos}
+use Rattle.std.specs.Prelude.{ℕ, zero, suc, ◌+◌, ◌-◌, ◌*◌, ◌^◌, ◌&&◌, List, [], ◌∷◌, map, slice_index, Option, Some, None, nat_le, nat_lt, ◌==◌, if◌then◌else◌, ℤ, pos}
 use Rattle.std.specs.Option.{option_map}
 use Rattle.h41_digits.specs.Register.{byte_at}
 use Rattle.h41_decimal.specs.Signs.{signed}

@@ -2,7 +2,7 @@
 use Rattle.std.specs.Prelude.{◌≡◌, ℕ, Ok, Result, ℤ}
 use Rattle.h41_decimal.specs.Units.{units}
 use Rattle.h41_decimal.specs.NearestDecimal.{Nearest, NearestRoot}
-use Rattle.h41_decimal.specs.declared.fault.Fault.{Fault}
+use Rattle.h41_decimal.specs.declared.fault.DecimalFault.{DecimalFault}
 use Rattle.h41_decimal.specs.declared.ten.Ten.{Ten}
 
 -- two decimals that are worth the same are the same
@@ -12,12 +12,12 @@ UnitsAreInjective = (x y : Ten) → units x ≡ units y → x ≡ y
 -- the nearest decimal of a fraction is determined
 abbrev pub NearestIsDetermined : Type 0
 NearestIsDetermined =
-    (above : ℤ) (below : ℕ) (x y : Result Ten Fault) → Nearest above below x → Nearest above below y → x ≡ y
+    (above : ℤ) (below : ℕ) (x y : Result Ten DecimalFault) → Nearest above below x → Nearest above below y → x ≡ y
 
 -- and so is that of a root
 abbrev pub NearestRootIsDetermined : Type 0
 NearestRootIsDetermined =
-    (number : ℤ) (x y : Result Ten Fault) → NearestRoot number x → NearestRoot number y → x ≡ y
+    (number : ℤ) (x y : Result Ten DecimalFault) → NearestRoot number x → NearestRoot number y → x ≡ y
 
 -- a value that is a decimal already is answered as it is
 abbrev pub DecimalIsItsNearest : Type 0

@@ -2,8 +2,8 @@
 use Rattle.std.specs.Prelude.{◌≡◌, ℕ, ◌+◌, ◌*◌, ◌^◌, ◌<◌, ◌≤◌, ◌==◌, nat_le, MatchBool, IsOkAnd, Ok, Err, Result, ℤ, pos, negsuc, unsigned_abs}
 use Rattle.h41_decimal.specs.Signs.{signed, sign_of}
 use Rattle.h41_decimal.specs.Units.{one, size_of, units}
-use Rattle.h41_decimal.specs.declared.fault.Fault.{Fault}
-use Rattle.h41_decimal.specs.declared.fault.Fault.TheVariants.{Data, Range}
+use Rattle.h41_decimal.specs.declared.fault.DecimalFault.{DecimalFault}
+use Rattle.h41_decimal.specs.declared.fault.DecimalFault.TheVariants.{Data, Range}
 use Rattle.h41_decimal.specs.declared.sign.Sign.{Sign}
 use Rattle.h41_decimal.specs.declared.sign.Sign.TheVariants.{Plus}
 use Rattle.h41_decimal.specs.declared.ten.Ten.{Ten}
@@ -50,7 +50,7 @@ down_of (pos steps) = 0
 down_of (negsuc steps) = steps + 1
 
 -- what is answered for ten digits and an exponent counted from -99: above 99 it is out of range, below -99 zero
-abbrev pub IsBounded : Sign → ℕ → ℤ → Result Ten Fault → Type 0
+abbrev pub IsBounded : Sign → ℕ → ℤ → Result Ten DecimalFault → Type 0
 IsBounded sign digits (negsuc steps) answer = answer ≡ Ok Zero
 IsBounded sign digits (pos steps) answer =
     MatchBool (nat_le steps 198)
@@ -58,7 +58,7 @@ IsBounded sign digits (pos steps) answer =
     (answer ≡ Err Range)
 
 -- the answer for an exact size above zero and a sign: its nearest decimal, whatever the exponent, within the bounds
-pub record IsRounded (sign : Sign) (exact : Exact) (answer : Result Ten Fault) : Type 0 where
+pub record IsRounded (sign : Sign) (exact : Exact) (answer : Result Ten DecimalFault) : Type 0 where
   pub digits : ℕ
   pub exponent : ℤ
   pub ten_digits : IsTenDigits digits
@@ -66,13 +66,13 @@ pub record IsRounded (sign : Sign) (exact : Exact) (answer : Result Ten Fault) :
   pub bounded : IsBounded sign digits exponent answer
 
 -- the answer for a fraction, in units: zero gives zero, and another is rounded by its size
-abbrev pub Nearest : ℤ → ℕ → Result Ten Fault → Type 0
+abbrev pub Nearest : ℤ → ℕ → Result Ten DecimalFault → Type 0
 Nearest above below answer =
     MatchBool (unsigned_abs above == 0)
     (answer ≡ Ok Zero)
     (IsRounded (sign_of above) (Fraction (unsigned_abs above) below) answer)
 
 -- the answer for the square root of a number of units: of a negative one there is none
-abbrev pub NearestRoot : ℤ → Result Ten Fault → Type 0
+abbrev pub NearestRoot : ℤ → Result Ten DecimalFault → Type 0
 NearestRoot (pos size) answer = MatchBool (size == 0) (answer ≡ Ok Zero) (IsRounded Plus (RootOf (size * one)) answer)
 NearestRoot (negsuc size) answer = answer ≡ Err Data

@@ -3,15 +3,15 @@ use Rattle.std.specs.Prelude.{◌≡◌, ℕ, ◌+◌, ◌-◌, ◌*◌, ◌^◌
 use Rattle.h41_decimal.specs.Signs.{signed, sign_of}
 use Rattle.h41_decimal.specs.Units.{one, units}
 use Rattle.h41_decimal.specs.NearestDecimal.{Nearest}
-use Rattle.h41_decimal.specs.declared.fault.Fault.{Fault}
-use Rattle.h41_decimal.specs.declared.fault.Fault.TheVariants.{Data}
+use Rattle.h41_decimal.specs.declared.fault.DecimalFault.{DecimalFault}
+use Rattle.h41_decimal.specs.declared.fault.DecimalFault.TheVariants.{Data}
 use Rattle.h41_decimal.specs.declared.places.Places.{Places}
 use Rattle.h41_decimal.specs.declared.places.Places.TheVariants.{Decimals, Digits}
 use Rattle.h41_decimal.specs.declared.ten.Ten.{Ten}
 use Rattle.h41_decimal.specs.declared.ten.Ten.TheVariants.{Zero, Nonzero}
 
 -- x / y is x * y / (y * y), whose divisor is not negative; there is no quotient by zero
-abbrev pub NearestQuotient : ℤ → ℤ → Result Ten Fault → Type 0
+abbrev pub NearestQuotient : ℤ → ℤ → Result Ten DecimalFault → Type 0
 NearestQuotient x y answer =
     MatchBool (unsigned_abs y == 0)
     (answer ≡ Err Data)
@@ -23,23 +23,23 @@ IsFloor whole y (pos x) = ((whole *ℤ pos x) ≤ℤ y) × (y <ℤ ((whole +ℤ 
 IsFloor whole y (negsuc x) = (y ≤ℤ (whole *ℤ negsuc x)) × (((whole +ℤ pos 1) *ℤ negsuc x) <ℤ y)
 
 -- the answer for y - x * floor(y / x)
-pub record RoundsRest (y x : ℤ) (answer : Result Ten Fault) : Type 0 where
+pub record RoundsRest (y x : ℤ) (answer : Result Ten DecimalFault) : Type 0 where
   pub whole : ℤ
   pub floor : IsFloor whole y x
   pub rest : Nearest (y -ℤ x *ℤ whole) 1 answer
 
 -- and y where x is zero
-abbrev pub NearestModulo : Ten → Ten → Result Ten Fault → Type 0
+abbrev pub NearestModulo : Ten → Ten → Result Ten DecimalFault → Type 0
 NearestModulo y x answer = MatchBool (unsigned_abs (units x) == 0) (answer ≡ Ok y) (RoundsRest (units y) (units x) answer)
 
 -- what one step of the last place is worth, in units, of which there are 10^108 in 1: so many decimals, or so many digits
 abbrev pub step_of : Places → Ten → ℕ
 step_of (Decimals count) number = 10 ^ (108 - count)
 step_of (Digits count) Zero = 1
-step_of (Digits count) (Nonzero sign x) = 10 ^ (x.exponent.above_least + (10 - count))
+step_of (Digits count) (Nonzero sign x) = 10 ^ (x.exponent.biased + (10 - count))
 
 -- the answer for a number rounded to a whole count of steps, the nearest, a half going away from zero
-pub record RoundsTo (step : ℕ) (number : ℤ) (answer : Result Ten Fault) : Type 0 where
+pub record RoundsTo (step : ℕ) (number : ℤ) (answer : Result Ten DecimalFault) : Type 0 where
   pub steps : ℕ
   pub not_above : 2 * (steps * step) ≤ 2 * unsigned_abs number + step
   pub next_above : 2 * unsigned_abs number + step < 2 * ((steps + 1) * step)

@@ -15,7 +15,7 @@ abbrev pub size_of : ℕ → ℕ → ℕ
 size_of digits steps = digits * 10 ^ steps
 
 abbrev pub size : Size → ℕ
-size x = size_of x.mantissa.digits x.exponent.above_least
+size x = size_of x.mantissa.digits x.exponent.biased
 
 -- how many units a decimal is worth
 abbrev pub units : Ten → ℤ

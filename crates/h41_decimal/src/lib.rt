@@ -12,7 +12,7 @@ pub mod sign;
 mod sizes;
 pub mod ten;
 
-pub use fault::Fault;
+pub use fault::DecimalFault;
 pub use parts::{Exponent, Mantissa, Size};
 pub use places::Places;
 pub use sign::Sign;

@@ -5,7 +5,7 @@ ghost use Rattle.h41_decimal.specs.Signs.{signed, opposite_of};
 ghost use Rattle.h41_decimal.specs.Units.{size};
 ghost use Rattle.h41_decimal.specs.Operations.{RoundsRest};
 
-use crate::fault::Fault;
+use crate::fault::DecimalFault;
 use crate::parts::Size;
 use crate::rounding::{UNIT_SCALE, power_of_ten, round_whole};
 use crate::sign::Sign;
@@ -16,7 +16,7 @@ use crate::ten::Ten;
 const AT_ONCE: u32 = 28;
 
 /// What is left of a size with a sign by another.
-pub fn modulo(y_sign: Sign, y: Size, x_sign: Sign, x: Size) -> Result<Ten, Fault>
+pub fn modulo(y_sign: Sign, y: Size, x_sign: Sign, x: Size) -> Result<Ten, DecimalFault>
     ensures { RoundsRest (signed y_sign (size y)) (signed x_sign (size x)) result }
 {
     if x_sign == y_sign {
@@ -27,10 +27,10 @@ pub fn modulo(y_sign: Sign, y: Size, x_sign: Sign, x: Size) -> Result<Ten, Fault
 }
 
 /// What is left where both have one sign: the remainder of the sizes.
-fn rest_same(sign: Sign, y: Size, x: Size) -> Result<Ten, Fault>
+fn rest_same(sign: Sign, y: Size, x: Size) -> Result<Ten, DecimalFault>
     ensures { RoundsRest (signed sign (size y)) (signed sign (size x)) result }
 {
-    if y.exponent.above_least < x.exponent.above_least {
+    if y.exponent.biased < x.exponent.biased {
         return Ok(Ten::Nonzero(sign, y));
     }
     let rest = remainder(y.digits(), y.steps() - x.steps(), x.digits());
@@ -42,10 +42,10 @@ fn rest_same(sign: Sign, y: Size, x: Size) -> Result<Ten, Fault>
 
 /// What is left where the divisor has this sign and the dividend the other: what the remainder of the sizes lacks of the
 /// divisor, or nothing.
-fn rest_apart(sign: Sign, y: Size, x: Size) -> Result<Ten, Fault>
+fn rest_apart(sign: Sign, y: Size, x: Size) -> Result<Ten, DecimalFault>
     ensures { RoundsRest (signed (opposite_of sign) (size y)) (signed sign (size x)) result }
 {
-    if y.exponent.above_least < x.exponent.above_least {
+    if y.exponent.biased < x.exponent.biased {
         return sizes::subtract(sign, x, y);
     }
     let rest = remainder(y.digits(), y.steps() - x.steps(), x.digits());

@@ -14,17 +14,17 @@ pub struct Mantissa {
 /// A power of ten, from -99 to 99.
 #[derive(Clone, Copy, Debug, PartialEq, Eq)]
 pub struct Exponent {
-    /// How far it is above -99: 0 to 198.
-    pub above_least: u8,
-    pub ghost in_range: { above_least ≤ 198 },
+    /// The exponent plus 99: 0 to 198.
+    pub biased: u8,
+    pub ghost in_range: { biased ≤ 198 },
 }
 
 impl Exponent {
     /// The exponent as a number, -99 to 99.
     pub fn power(self) -> i16
-        ensures { result ≡ pos self.above_least -ℤ pos 99 }
+        ensures { result ≡ pos self.biased -ℤ pos 99 }
     {
-        i16::from(self.above_least) - 99
+        i16::from(self.biased) - 99
     }
 }
 
@@ -47,8 +47,8 @@ impl Size {
 
     /// The exponent, counted from -99: 0 to 198.
     pub fn steps(self) -> u32
-        ensures { result ≡ self.exponent.above_least }
+        ensures { result ≡ self.exponent.biased }
     {
-        u32::from(self.exponent.above_least)
+        u32::from(self.exponent.biased)
     }
 }

@@ -55,12 +55,12 @@ fn number(mantissa: u64, exponent: u64, sign: u8) -> Option<Ten>
         return Some(Ten::Zero);
     }
     match (sign_of(sign), steps_of(exponent)) {
-        (Some(sign), Some(above_least)) => {
+        (Some(sign), Some(biased)) => {
             if mantissa < 1_000_000_000 {
                 return None;
             }
             let mantissa = Mantissa { digits: mantissa };
-            let exponent = Exponent { above_least };
+            let exponent = Exponent { biased };
             Some(Ten::Nonzero(sign, Size { mantissa, exponent }))
         }
         _ => None,
@@ -140,9 +140,9 @@ fn sign_digit(sign: Sign) -> u8
 
 /// The three digits of an exponent: 1000 less its size, where it is negative.
 fn exponent_digits(exponent: Exponent) -> u64
-    ensures steps { steps_in result ≡ Some exponent.above_least }
+    ensures steps { steps_in result ≡ Some exponent.biased }
     ensures three { result < 10 ^ 3 }
 {
-    let steps = u64::from(exponent.above_least);
+    let steps = u64::from(exponent.biased);
     if steps < 99 { steps + 901 } else { steps - 99 }
 }

@@ -4,7 +4,7 @@ ghost use Rattle.std.specs.Prelude.{◌≡◌, ℕ, ◌+◌, ◌-◌, ◌*◌, �
 ghost use Rattle.h41_decimal.specs.NearestDecimal.{IsBounded};
 ghost use Rattle.h41_decimal.specs.Cut.{RoundsElevenDigits, RoundsWhole};
 
-use crate::fault::Fault;
+use crate::fault::DecimalFault;
 use crate::parts::{Exponent, Mantissa, Size};
 use crate::sign::Sign;
 use crate::ten::Ten;
@@ -85,25 +85,25 @@ fn digit_count(number: u128) -> u32
 }
 
 /// The decimal of ten digits whose last stands at a scale: out of range above 99, zero below -99.
-fn bounded(sign: Sign, mantissa: Mantissa, scale: u32) -> Result<Ten, Fault>
+fn bounded(sign: Sign, mantissa: Mantissa, scale: u32) -> Result<Ten, DecimalFault>
     ensures low { scale < 128 → result ≡ Ok Ten.Zero }
     ensures high { 128 ≤ scale → IsBounded sign mantissa.digits (pos (scale - 128)) result }
 {
     if scale < UNIT_SCALE {
         return Ok(Ten::Zero);
     }
-    let above_least = scale - UNIT_SCALE;
-    if above_least > 198 {
-        return Err(Fault::Range);
+    let biased = scale - UNIT_SCALE;
+    if biased > 198 {
+        return Err(DecimalFault::Range);
     }
     let exponent = Exponent {
-        above_least: above_least as u8,
+        biased: biased as u8,
     };
     Ok(Ten::Nonzero(sign, Size { mantissa, exponent }))
 }
 
 /// The nearest decimal of a size that was cut to eleven digits, which stand at a scale.
-fn round_eleven_digits(sign: Sign, whole: u64, scale: u32) -> Result<Ten, Fault>
+fn round_eleven_digits(sign: Sign, whole: u64, scale: u32) -> Result<Ten, DecimalFault>
     requires at_least { 10 ^ 10 ≤ whole }
     requires below { whole < 10 ^ 11 }
     requires scale { scale < 1000 }
@@ -120,7 +120,7 @@ fn round_eleven_digits(sign: Sign, whole: u64, scale: u32) -> Result<Ten, Fault>
 
 /// The nearest decimal of a size above zero that was cut to a whole number at a scale. Where that has fewer than eleven
 /// digits nothing may have been cut off.
-pub fn round_whole(sign: Sign, whole: u128, scale: u32) -> Result<Ten, Fault>
+pub fn round_whole(sign: Sign, whole: u128, scale: u32) -> Result<Ten, DecimalFault>
     requires positive { 0 < whole }
     requires at_least { 10 ≤ scale }
     requires below { scale < 900 }

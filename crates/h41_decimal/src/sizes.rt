@@ -7,7 +7,7 @@ ghost use Rattle.h41_decimal.specs.Units.{one, size};
 ghost use Rattle.h41_decimal.specs.NearestDecimal.{IsRounded, Nearest, Fraction, RootOf};
 ghost use Rattle.h41_decimal.specs.Operations.{RoundsTo};
 
-use crate::fault::Fault;
+use crate::fault::DecimalFault;
 use crate::parts::Size;
 use crate::rounding::{UNIT_SCALE, power_of_ten, round_whole};
 use crate::sign::Sign;
@@ -19,21 +19,21 @@ use std::cmp::Ordering;
 const FAR_APART: u32 = 12;
 
 /// The product of two sizes.
-pub fn multiply(sign: Sign, x: Size, y: Size) -> Result<Ten, Fault>
+pub fn multiply(sign: Sign, x: Size, y: Size) -> Result<Ten, DecimalFault>
     ensures { IsRounded sign (Fraction (size x * size y) one) result }
 {
     round_whole(sign, x.digits() * y.digits(), x.steps() + y.steps() + 20)
 }
 
 /// A hundredth of the product of two sizes.
-pub fn percent(sign: Sign, x: Size, y: Size) -> Result<Ten, Fault>
+pub fn percent(sign: Sign, x: Size, y: Size) -> Result<Ten, DecimalFault>
     ensures { IsRounded sign (Fraction (size x * size y) (100 * one)) result }
 {
     round_whole(sign, x.digits() * y.digits(), x.steps() + y.steps() + 18)
 }
 
 /// The quotient of two sizes.
-pub fn divide(sign: Sign, x: Size, y: Size) -> Result<Ten, Fault>
+pub fn divide(sign: Sign, x: Size, y: Size) -> Result<Ten, DecimalFault>
     ensures { IsRounded sign (Fraction (size x * size y * one) (size y * size y)) result }
 {
     let quotient = x.digits() * 100_000_000_000 / y.digits();
@@ -41,7 +41,7 @@ pub fn divide(sign: Sign, x: Size, y: Size) -> Result<Ten, Fault>
 }
 
 /// The square root of a size. It is taken of a whole number of 21 or 22 digits, at an even power of ten.
-pub fn root(x: Size) -> Result<Ten, Fault>
+pub fn root(x: Size) -> Result<Ten, DecimalFault>
     ensures { IsRounded Sign.Plus (RootOf (size x * one)) result }
 {
     let steps = x.steps();
@@ -51,8 +51,8 @@ pub fn root(x: Size) -> Result<Ten, Fault>
 }
 
 /// The sum of two sizes, the first of which has no lower exponent than the second.
-pub fn add(sign: Sign, x: Size, y: Size) -> Result<Ten, Fault>
-    requires { y.exponent.above_least ≤ x.exponent.above_least }
+pub fn add(sign: Sign, x: Size, y: Size) -> Result<Ten, DecimalFault>
+    requires { y.exponent.biased ≤ x.exponent.biased }
     ensures { IsRounded sign (Fraction (size x + size y) 1) result }
 {
     let apart = x.steps() - y.steps();
@@ -65,8 +65,8 @@ pub fn add(sign: Sign, x: Size, y: Size) -> Result<Ten, Fault>
 }
 
 /// The difference of two sizes that have this sign, the first of which has no lower exponent than the second.
-pub fn subtract(sign: Sign, x: Size, y: Size) -> Result<Ten, Fault>
-    requires { y.exponent.above_least ≤ x.exponent.above_least }
+pub fn subtract(sign: Sign, x: Size, y: Size) -> Result<Ten, DecimalFault>
+    requires { y.exponent.biased ≤ x.exponent.biased }
     ensures { Nearest (signed sign (size x) -ℤ signed sign (size y)) 1 result }
 {
     let apart = x.steps() - y.steps();
@@ -91,9 +91,9 @@ pub fn subtract(sign: Sign, x: Size, y: Size) -> Result<Ten, Fault>
 pub fn compare(x: Size, y: Size) -> Ordering
     ensures { result ≡ int_cmp (pos (size x)) (pos (size y)) }
 {
-    if x.exponent.above_least < y.exponent.above_least {
+    if x.exponent.biased < y.exponent.biased {
         Ordering::Less
-    } else if y.exponent.above_least < x.exponent.above_least {
+    } else if y.exponent.biased < x.exponent.biased {
         Ordering::Greater
     } else if x.mantissa.digits < y.mantissa.digits {
         Ordering::Less
@@ -105,7 +105,7 @@ pub fn compare(x: Size, y: Size) -> Ordering
 }
 
 /// A size rounded to a whole count of steps of a place, which is ten to a power of units.
-pub fn round_at(sign: Sign, x: Size, place: u32) -> Result<Ten, Fault>
+pub fn round_at(sign: Sign, x: Size, place: u32) -> Result<Ten, DecimalFault>
     requires { place < 300 }
     ensures { RoundsTo (10 ^ place) (signed sign (size x)) result }
 {

@@ -9,7 +9,7 @@ ghost use Rattle.h41_decimal.specs.Holding.{holding_of, worth, Number};
 ghost use Rattle.h41_decimal.specs.NearestDecimal.{Nearest, NearestRoot};
 ghost use Rattle.h41_decimal.specs.Operations.{NearestQuotient, NearestModulo, RoundsTo, step_of};
 
-use crate::fault::Fault;
+use crate::fault::DecimalFault;
 use crate::parts::Size;
 use crate::places::Places;
 use crate::sign::Sign;
@@ -52,7 +52,7 @@ impl Ten {
     }
 
     /// The sum, rounded. Its only fault is Range.
-    pub fn add(self, other: Self) -> Result<Self, Fault>
+    pub fn add(self, other: Self) -> Result<Self, DecimalFault>
         ensures { Nearest (units self +ℤ units other) 1 result }
     {
         match (self, other) {
@@ -63,14 +63,14 @@ impl Ten {
     }
 
     /// The difference, rounded. Its only fault is Range.
-    pub fn sub(self, other: Self) -> Result<Self, Fault>
+    pub fn sub(self, other: Self) -> Result<Self, DecimalFault>
         ensures { Nearest (units self -ℤ units other) 1 result }
     {
         self.add(other.negated())
     }
 
     /// The product, rounded. Its only fault is Range.
-    pub fn mul(self, other: Self) -> Result<Self, Fault>
+    pub fn mul(self, other: Self) -> Result<Self, DecimalFault>
         ensures { Nearest (units self *ℤ units other) one result }
     {
         match (self, other) {
@@ -82,7 +82,7 @@ impl Ten {
     }
 
     /// So many percent of a number: a hundredth of the product, rounded. Its only fault is Range.
-    pub fn percent(self, of: Self) -> Result<Self, Fault>
+    pub fn percent(self, of: Self) -> Result<Self, DecimalFault>
         ensures { Nearest (units self *ℤ units of) (100 * one) result }
     {
         match (self, of) {
@@ -94,11 +94,11 @@ impl Ten {
     }
 
     /// The quotient, rounded. Its faults are Data for a zero divisor, and Range.
-    pub fn div(self, other: Self) -> Result<Self, Fault>
+    pub fn div(self, other: Self) -> Result<Self, DecimalFault>
         ensures { NearestQuotient (units self) (units other) result }
     {
         match (self, other) {
-            (_, Ten::Zero) => Err(Fault::Data),
+            (_, Ten::Zero) => Err(DecimalFault::Data),
             (Ten::Zero, _) => Ok(Ten::Zero),
             (Ten::Nonzero(x_sign, x), Ten::Nonzero(y_sign, y)) => {
                 sizes::divide(x_sign.times(y_sign), x, y)
@@ -107,21 +107,21 @@ impl Ten {
     }
 
     /// The square root, rounded. Its only fault is Data, for a negative number.
-    pub fn sqrt(self) -> Result<Self, Fault>
+    pub fn sqrt(self) -> Result<Self, DecimalFault>
         ensures { NearestRoot (units self) result }
     {
         match self {
             Ten::Zero => Ok(Ten::Zero),
             Ten::Nonzero(sign, x) => match sign {
                 Sign::Plus => sizes::root(x),
-                Sign::Minus => Err(Fault::Data),
+                Sign::Minus => Err(DecimalFault::Data),
             },
         }
     }
 
     /// The number modulo a divisor, rounded: `self - divisor * floor(self / divisor)`, which has the divisor's sign, and the
     /// number itself where the divisor is zero. It answers no fault.
-    pub fn modulo(self, divisor: Self) -> Result<Self, Fault>
+    pub fn modulo(self, divisor: Self) -> Result<Self, DecimalFault>
         ensures { NearestModulo self divisor result }
     {
         match (self, divisor) {
@@ -134,7 +134,7 @@ impl Ten {
     }
 
     /// The number rounded to so many decimals or digits, halves away from zero. Its only fault is Range.
-    pub fn round_to(self, places: Places) -> Result<Self, Fault>
+    pub fn round_to(self, places: Places) -> Result<Self, DecimalFault>
         ensures { RoundsTo (step_of places self) (units self) result }
     {
         match self {
@@ -200,10 +200,10 @@ fn compare_signed(x_sign: Sign, x: Size, y_sign: Sign, y: Size) -> Ordering
 }
 
 /// The sum of two sizes with signs.
-fn add_signed(x_sign: Sign, x: Size, y_sign: Sign, y: Size) -> Result<Ten, Fault>
+fn add_signed(x_sign: Sign, x: Size, y_sign: Sign, y: Size) -> Result<Ten, DecimalFault>
     ensures { Nearest (signed x_sign (size x) +ℤ signed y_sign (size y)) 1 result }
 {
-    if x.exponent.above_least < y.exponent.above_least {
+    if x.exponent.biased < y.exponent.biased {
         add_smaller(y_sign, y, x_sign, x)
     } else {
         add_smaller(x_sign, x, y_sign, y)
@@ -211,8 +211,8 @@ fn add_signed(x_sign: Sign, x: Size, y_sign: Sign, y: Size) -> Result<Ten, Fault
 }
 
 /// The sum of two sizes with signs, the first of which has no lower exponent than the second.
-fn add_smaller(x_sign: Sign, x: Size, y_sign: Sign, y: Size) -> Result<Ten, Fault>
-    requires { y.exponent.above_least ≤ x.exponent.above_least }
+fn add_smaller(x_sign: Sign, x: Size, y_sign: Sign, y: Size) -> Result<Ten, DecimalFault>
+    requires { y.exponent.biased ≤ x.exponent.biased }
     ensures { Nearest (signed x_sign (size x) +ℤ signed y_sign (size y)) 1 result }
 {
     if x_sign == y_sign {

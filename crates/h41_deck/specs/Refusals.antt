@@ -2,14 +2,14 @@
 use Rattle.std.specs.Prelude.{ℕ, List, [], ◌++◌, Option, Some, None, codes}
 use Rattle.std.specs.Fmt.{decimal}
 use Rattle.h41_digits.specs.Register.{hexadecimal_text}
-use Rattle.h41_asm.specs.declared.fault.Fault as source
-use Rattle.h41_asm.specs.declared.fault.Fault.TheVariants.{BadLine, BadOperand, LabelTwice, NoLabel, TooFar, TooLong}
+use Rattle.h41_asm.specs.declared.fault.SourceFault as source
+use Rattle.h41_asm.specs.declared.fault.SourceFault.TheVariants.{BadLine, BadOperand, LabelTwice, NoLabel, TooFar, TooLong}
 use Rattle.h41_commands.specs.declared.refusal.LineRefusal.{LineRefusal}
 use Rattle.h41_commands.specs.declared.refusal.LineRefusal.TheVariants.{BadImage, Source, BadText, BadCommand, BadNumber, NoEnd, LineTooLong}
-use Rattle.h41_nut.specs.declared.refusal.Refusal as word
-use Rattle.h41_nut.specs.declared.refusal.Refusal.TheVariants.{UndefinedWord, WordNotInProfile, SystemRom, EmptyPage, PeripheralNotHeld, Asleep, ReadOnly}
-use Rattle.h41_program.specs.declared.refusal.Refusal as program
-use Rattle.h41_program.specs.declared.refusal.Refusal.TheVariants.{BrokenProgram, NoRoom, SizeTooLarge}
+use Rattle.h41_nut.specs.declared.refusal.WordRefusal as word
+use Rattle.h41_nut.specs.declared.refusal.WordRefusal.TheVariants.{UndefinedWord, WordNotInProfile, SystemRom, EmptyPage, PeripheralNotHeld, Asleep, ReadOnly}
+use Rattle.h41_program.specs.declared.refusal.ProgramRefusal as program
+use Rattle.h41_program.specs.declared.refusal.ProgramRefusal.TheVariants.{BrokenProgram, NoRoom, SizeTooLarge}
 use Rattle.h41_xrom.specs.declared.refusal.CalculatorRefusal.{CalculatorRefusal}
 use Rattle.h41_xrom.specs.declared.refusal.CalculatorRefusal.TheVariants.{Word, NotInProfile, Program, MemoryLost, Busy}
 use Rattle.h41_deck.specs.declared.refusal.line.Detail.{Detail}
@@ -20,7 +20,7 @@ use Rattle.h41_deck.specs.declared.fault.Fault.{Fault}
 use Rattle.h41_deck.specs.declared.fault.Fault.TheVariants as faults
 
 -- each refusal's number and name: a word's
-abbrev pub word_name : word.Refusal → List ℕ
+abbrev pub word_name : word.WordRefusal → List ℕ
 word_name (UndefinedWord address) = codes "06 UndefinedWord"
 word_name (WordNotInProfile address) = codes "07 WordNotInProfile"
 word_name (SystemRom address) = codes "08 SystemRom"
@@ -30,7 +30,7 @@ word_name (Asleep address) = codes "11 Asleep"
 word_name (ReadOnly address) = codes "12 ReadOnly"
 
 -- program memory's
-abbrev pub program_name : program.Refusal → List ℕ
+abbrev pub program_name : program.ProgramRefusal → List ℕ
 program_name BrokenProgram = codes "14 BrokenProgram"
 program_name NoRoom = codes "16 NoRoom"
 program_name SizeTooLarge = codes "17 SizeTooLarge"
@@ -44,7 +44,7 @@ calculator_name MemoryLost = codes "15 MemoryLost"
 calculator_name Busy = codes "24 Busy"
 
 -- a source's
-abbrev pub source_name : source.Fault → List ℕ
+abbrev pub source_name : source.SourceFault → List ℕ
 source_name BadLine = codes "30 BadLine"
 source_name BadOperand = codes "31 BadOperand"
 source_name LabelTwice = codes "32 LabelTwice"
@@ -74,7 +74,7 @@ number_and_name ReadFault = codes "22 ReadFault"
 number_and_name WriteFault = codes "23 WriteFault"
 
 -- what a refusal tells: the address of a word's, the line of a source's or a text's
-abbrev pub word_detail : word.Refusal → ℕ
+abbrev pub word_detail : word.WordRefusal → ℕ
 word_detail (UndefinedWord address) = address
 word_detail (WordNotInProfile address) = address
 word_detail (SystemRom address) = address

@@ -4,7 +4,7 @@
 ghost use Rattle.std.specs.Prelude.{◌≡◌};
 
 use h41_commands::LineRefusal;
-use h41_nut::Refusal as WordRefusal;
+use h41_nut::WordRefusal;
 use h41_pages::{FetchRefusal, ImageRefusal, PlugRefusal, UnplugRefusal};
 use h41_xrom::CalculatorRefusal;
 

@@ -1,9 +1,8 @@
 -- The column of addresses: addresses that agree in their 16 bits give the same lines, and a line is written at its place.
-use Rattle.std.specs.Prelude.{◌≡◌, ℕ, ◌+◌, ◌%◌, ◌<◌, List, [], ◌∷◌, ◌++◌, refl, codes}
+use Rattle.std.specs.Prelude.{◌≡◌, ℕ, ◌+◌, ◌%◌, ◌<◌, List, [], ◌∷◌, ◌++◌, refl}
 use Rattle.std.proofs.Common.{arith, ap, sym, ◌∙◌, append_assoc}
-use Rattle.h41_digits.specs.Register.{hexadecimal_text}
 use Rattle.h41_dis.specs.declared.cut.Piece.{Piece}
-use Rattle.h41_dis.specs.Spelling.{columns_of, columns_line, columns_text, piece_line, piece_length, words_column}
+use Rattle.h41_dis.specs.Spelling.{columns_of, columns_line, columns_text, piece_line, piece_length}
 
 pub same_columns : (a b : ℕ) (pieces : List Piece) → a % 0x10000 ≡ b % 0x10000 → columns_of a pieces ≡ columns_of b pieces
 same_columns a b [] same = refl

@@ -4,7 +4,7 @@ use Rattle.std.proofs.lemmas.Bool.{leb-true}
 use Rattle.std.proofs.lemmas.List.{append-nil, take_all}
 use Rattle.std.specs.Io.KnownBytes.{Appends, Keeps}
 use Rattle.h41_asm.specs.Faults.{assembly_fault}
-use Rattle.h41_asm.specs.declared.fault.Fault as asm
+use Rattle.h41_asm.specs.declared.fault.SourceFault as asm
 use Rattle.h41_deck.specs.declared.fault.Fault.{Fault}
 use Rattle.h41_deck.specs.declared.fault.Fault.TheVariants.{OutOfMemory, ReadFault, WriteFault}
 use Rattle.h41_commands.specs.declared.refusal.LineRefusal.{LineRefusal}
@@ -79,7 +79,7 @@ module _ (known old new : Option (List ℕ)) (bytes : List ℕ) where
   ] read
 
 -- a source with a fault
-pub source_refused : (source bytes : List ℕ) (origin line : ℕ) (fault : asm.Fault) (why : LineRefusal) → source ≡ bytes → assembly_fault source origin ≡ Some (fault, line)
+pub source_refused : (source bytes : List ℕ) (origin line : ℕ) (fault : asm.SourceFault) (why : LineRefusal) → source ≡ bytes → assembly_fault source origin ≡ Some (fault, line)
     → why ≡ Source fault line → SourceMakes bytes origin (Err why)
 source_refused source bytes origin line fault why same found own = rw (sym same) (rw (found, own) refl)
 

@@ -13,7 +13,7 @@ use Rattle.h41_words.specs.declared.rows.Row.TheVariants.{ClearStatus, SetStatus
 use Rattle.h41_words.specs.declared.second_word.LongJumpKind.{LongJumpKind}
 use Rattle.h41_words.specs.declared.second_word.LongJumpKind.TheVariants.{Execute, Go}
 use Rattle.h41_words.specs.Mnemonics.{operation_text, long_jump_text, short_jump_text}
-use Rattle.h41_asm.specs.declared.fault.Fault.TheVariants.{BadOperand}
+use Rattle.h41_asm.specs.declared.fault.SourceFault.TheVariants.{BadOperand}
 use Rattle.h41_asm.specs.SourceLines.{line_of, words_of}
 use Rattle.h41_asm.specs.Statements.{Words, Taking, reading, not_single, single_or_not, single_among, singles, takers, takes_field, takes_number, takes_address, takes_displacement, takes_immediate, takes_constant}
 use Rattle.h41_listings.proofs.ListingLines.{is_plain}

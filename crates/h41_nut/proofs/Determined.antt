@@ -1,6 +1,5 @@
 -- Why the change that a step makes is determined, where the digits and the carry of a sum and of a difference are.
 use Rattle.std.proofs.Common.{◌≡◌, ℕ, ◌≤◌, Bool, true, false, List, sym, ◌∙◌}
-use Rattle.h41_fields.specs.declared.field.Field.{Field}
 use Rattle.h41_fields.specs.FieldLaws.{PlacesAreOrdered}
 use Rattle.h41_arith.specs.DigitRule.{SumInto, DifferenceInto, zeros}
 use Rattle.h41_arith.specs.DigitRuleLaws.{SumIsDetermined, DifferenceIsDetermined}
@@ -12,7 +11,7 @@ use Rattle.h41_words.specs.WordTable.{row_of}
 use Rattle.h41_nut.specs.Arithmetic.{IntoA, IntoC, Operates}
 use Rattle.h41_nut.specs.Processor.{Processor}
 use Rattle.h41_nut.specs.ProcessorLaws.{MicroIsDetermined}
-use Rattle.h41_nut.specs.WordStep.{Nut, Effect, Micro, word_of}
+use Rattle.h41_nut.specs.WordStep.{Nut, Effect, word_of}
 
 -- a rule that gives one register and one carry
 abbrev Single : (List ℕ → Bool → Type 0) → Type 0

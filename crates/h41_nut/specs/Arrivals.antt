@@ -2,8 +2,8 @@
 use Rattle.std.specs.Prelude.{ℕ, Bool, false, Option}
 use Rattle.std.specs.Bool.{then_some}
 use Rattle.h41_nut.specs.Addresses.{address_after, is_closed}
-use Rattle.h41_nut.specs.declared.refusal.Refusal.{Refusal}
-use Rattle.h41_nut.specs.declared.refusal.Refusal.TheVariants.{SystemRom}
+use Rattle.h41_nut.specs.declared.refusal.WordRefusal.{WordRefusal}
+use Rattle.h41_nut.specs.declared.refusal.WordRefusal.TheVariants.{SystemRom}
 use Rattle.h41_nut.specs.Processor.{Processor}
 
 -- the address after the word, and after an instruction of two words
@@ -14,7 +14,7 @@ abbrev pub address_after_both : Processor → ℕ
 address_after_both s = address_after s.pc 2
 
 -- no step arrives in the system's pages, but where a function ends
-abbrev pub arrival_refusal : ℕ → Option Refusal
+abbrev pub arrival_refusal : ℕ → Option WordRefusal
 arrival_refusal address = then_some (is_closed address) (SystemRom address)
 
 -- a processor at an address, with a carry

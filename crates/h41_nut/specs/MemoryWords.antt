@@ -2,7 +2,7 @@
 use Rattle.std.specs.Prelude.{ℕ, ◌+◌, ◌*◌, ◌/◌, Option}
 use Rattle.h41_pages.specs.PageMap.{PageMap, written}
 use Rattle.h41_ram.specs.RegisterMap.{RegisterMap, register_at, with_register}
-use Rattle.h41_nut.specs.declared.refusal.Refusal.{Refusal}
+use Rattle.h41_nut.specs.declared.refusal.WordRefusal.{WordRefusal}
 use Rattle.h41_nut.specs.PageWords.{fetched, system_refusal, word_or_zero, write_refusal}
 use Rattle.h41_nut.specs.Processor.{Processor}
 use Rattle.h41_nut.specs.RegisterWords.{with_c, word_in_c, address_in_c, with_word_in_c}
@@ -41,10 +41,10 @@ abbrev pub with_fetched_word : PageMap → Processor → Processor
 with_fetched_word pages s = with_word_in_c (word_or_zero (fetched pages (address_in_c s))) s
 
 -- FETCH S&X reads no word of the system's pages (8), and WROM writes none that is not writable (12); both with C's address
-abbrev pub refusal_to_fetch : Processor → Option Refusal
+abbrev pub refusal_to_fetch : Processor → Option WordRefusal
 refusal_to_fetch s = system_refusal (address_in_c s)
 
-abbrev pub refusal_to_write : PageMap → Processor → Option Refusal
+abbrev pub refusal_to_write : PageMap → Processor → Option WordRefusal
 refusal_to_write pages s = write_refusal pages (address_in_c s)
 
 -- WROM: the pages with the word in C at the address in C

@@ -12,8 +12,8 @@ use Rattle.h41_ram.specs.RegisterMap.{RegisterMap}
 use Rattle.h41_nut.specs.Arithmetic.{OperatesOn}
 use Rattle.h41_nut.specs.declared.base.Base.TheVariants.{Hexadecimal, Decimal}
 use Rattle.h41_nut.specs.declared.keys.Keys.{Keys}
-use Rattle.h41_nut.specs.declared.refusal.Refusal.{Refusal}
-use Rattle.h41_nut.specs.declared.refusal.Refusal.TheVariants.{WordNotInProfile, Asleep}
+use Rattle.h41_nut.specs.declared.refusal.WordRefusal.{WordRefusal}
+use Rattle.h41_nut.specs.declared.refusal.WordRefusal.TheVariants.{WordNotInProfile, Asleep}
 use Rattle.h41_nut.specs.Arrivals.{next_address, address_after_both, arrival_refusal, at_address, gone_on}
 use Rattle.h41_nut.specs.Jumps as jumps
 use Rattle.h41_nut.specs.MemoryWords as memory
@@ -151,7 +151,7 @@ Effect row s t = t ≡ after row s
 
 -- why a word itself is refused, with its address: no instruction; a bank (7); a peripheral that is selected (10); the
 -- processor goes to sleep (11)
-abbrev pub word_refusal : Row → Nut → Option Refusal
+abbrev pub word_refusal : Row → Nut → Option WordRefusal
 word_refusal (rows.Constant word) s = Some (unheld.constant_refusal word s.processor.pc)
 word_refusal (rows.EnableBank bank) s = Some (WordNotInProfile s.processor.pc)
 word_refusal rows.SelectPeripheral s = unheld.peripheral_refusal s.processor
@@ -159,20 +159,20 @@ word_refusal rows.PowerOff s = Some (Asleep s.processor.pc)
 word_refusal row s = None
 
 -- an instruction of two words fetches the second, whether it needs it or not
-abbrev pub second_refusal : Row → Nut → Option Refusal
+abbrev pub second_refusal : Row → Nut → Option WordRefusal
 second_refusal (rows.LongJump low_byte) s = result_err (fetched s.pages (next_address s.processor))
 second_refusal rows.LoadImmediate s = result_err (fetched s.pages (next_address s.processor))
 second_refusal row s = None
 
 -- a read of the system's pages (8), and a write where none may be (12)
-abbrev pub data_refusal : Row → Nut → Option Refusal
+abbrev pub data_refusal : Row → Nut → Option WordRefusal
 data_refusal rows.FetchWord s = memory.refusal_to_fetch s.processor
 data_refusal rows.WriteRom s = memory.refusal_to_write s.pages s.processor
 data_refusal row s = None
 
 -- the first refusal of a row that was fetched: of the word itself, of the fetch of its second word, of what it reads or
 -- writes, of the arrival
-abbrev pub row_refusal : Row → Nut → Option Refusal
+abbrev pub row_refusal : Row → Nut → Option WordRefusal
 row_refusal row s =
     option_or (word_refusal row s)
     (option_or (second_refusal row s)
@@ -180,7 +180,7 @@ row_refusal row s =
     (arrival_refusal (goes_to row s))))
 
 -- the first refusal of a step, or none: of the fetch of the word, of its row
-abbrev pub refused : Nut → Option Refusal
+abbrev pub refused : Nut → Option WordRefusal
 refused s = option_or (result_err (fetched s.pages s.processor.pc)) (row_refusal (row_of (word_of s)) s)
 
 -- the change that a step makes, which is there only where it is not refused
@@ -189,13 +189,13 @@ pub record Micro (s t : Nut) : Type 0 where
   pub effect : Effect (row_of (word_of s)) s t
 
 -- from s to t with an answer: refused for this reason and then not changed, or with this change
-pub record RefusesOr {T : Type 0} (reason : Option Refusal) (Change : Nut → Nut → Type 0) (result : Result T Refusal) (s t : Nut) : Type 0 where
+pub record RefusesOr {T : Type 0} (reason : Option WordRefusal) (Change : Nut → Nut → Type 0) (result : Result T WordRefusal) (s t : Nut) : Type 0 where
   pub refusal : result_err result ≡ reason
   pub change : OnOk result (Change s t)
   pub stays : OnErr result (t ≡ s)
 
 -- a step was answered: refused as `refused` says and then without a change, or with the change `Micro`; from the processor,
 -- the memory, the pages and the keyboard before it to those after it
-abbrev pub Stepped : {T : Type 0} → Result T Refusal → Processor → RegisterMap → PageMap → Keys → Processor → RegisterMap → PageMap → Keys → Type 0
+abbrev pub Stepped : {T : Type 0} → Result T WordRefusal → Processor → RegisterMap → PageMap → Keys → Processor → RegisterMap → PageMap → Keys → Type 0
 Stepped result cpu ram pages keys cpu' ram' pages' keys' =
     RefusesOr (refused (nut_of cpu ram pages keys)) Micro result (nut_of cpu ram pages keys) (nut_of cpu' ram' pages' keys')

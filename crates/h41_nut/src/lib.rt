@@ -15,4 +15,4 @@ pub use base::Base;
 pub use cpu::Cpu;
 pub use keys::Keys;
 pub use machine::step;
-pub use refusal::Refusal;
+pub use refusal::WordRefusal;

@@ -10,7 +10,7 @@ use crate::keys::Keys;
 use crate::machine::memory::{read_register, write_data, write_register};
 use crate::machine::peripherals::{clear_key_flag, constant_refusal, select_peripheral};
 use crate::machine::rom::{fetch, fetch_word, write_rom};
-use crate::refusal::Refusal;
+use crate::refusal::WordRefusal;
 use h41_pages::Pages;
 use h41_ram::Ram;
 use h41_words::{Row, SecondWord, row};
@@ -27,7 +27,7 @@ pub fn step<const REGS: usize>(
     ram: &mut Ram<REGS>,
     pages: &mut Pages,
     keys: &mut Keys,
-) -> Result<(), Refusal>
+) -> Result<(), WordRefusal>
     ensures { Stepped result cpu.old ram.old pages.old keys.old cpu.new ram.new pages.new keys.new }
 {
     let word = fetch(pages, cpu.pc())?;
@@ -41,7 +41,7 @@ fn execute_row<const REGS: usize>(
     ram: &mut Ram<REGS>,
     pages: &mut Pages,
     keys: &mut Keys,
-) -> Result<(), Refusal>
+) -> Result<(), WordRefusal>
     ensures { Ran row result cpu.old ram.old pages.old keys.old cpu.new ram.new pages.new keys.new }
 {
     match row {
@@ -63,7 +63,7 @@ fn execute_row<const REGS: usize>(
         Row::Constant(word) => Err(constant_refusal(word, cpu.pc())),
         Row::Nop | Row::TestLowBattery => cpu.go_on(),
         Row::WriteRom => write_rom(cpu, pages),
-        Row::EnableBank(_bank) => Err(Refusal::WordNotInProfile(cpu.pc())),
+        Row::EnableBank(_bank) => Err(WordRefusal::WordNotInProfile(cpu.pc())),
         Row::ClearStatusByte => cpu.clear_status_byte(),
         Row::ClearKeyFlag => clear_key_flag(cpu, keys),
         Row::TestKeyFlag => cpu.answer(keys.flag),
@@ -71,7 +71,7 @@ fn execute_row<const REGS: usize>(
         Row::IncrementPointer => cpu.set_pointer(place_above(cpu.pointer())),
         Row::Transfer(transfer) => cpu.transfer(transfer),
         Row::DropReturn => cpu.drop_return(),
-        Row::PowerOff => Err(Refusal::Asleep(cpu.pc())),
+        Row::PowerOff => Err(WordRefusal::Asleep(cpu.pc())),
         Row::SelectPointer(pointer) => cpu.select_pointer(pointer),
         Row::TestPointersEqual => cpu.answer(cpu.p() == cpu.q()),
         Row::ClearRegisters => cpu.clear_registers(),

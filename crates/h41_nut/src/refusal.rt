@@ -8,7 +8,7 @@ use thiserror::Error;
 
 /// Why a step was refused. It changes nothing then.
 #[derive(Clone, Copy, Debug, PartialEq, Eq, Error)]
-pub enum Refusal {
+pub enum WordRefusal {
     /// 6: the word at this address is neither an instruction nor a peripheral's.
     #[error("the word at {0:04X} is undefined")]
     UndefinedWord(u16),
@@ -32,21 +32,21 @@ pub enum Refusal {
     ReadOnly(u16),
 }
 
-impl From<FetchRefusal> for Refusal {
+impl From<FetchRefusal> for WordRefusal {
     ghost from_gives = { λ own refusal. refusal ≡ of_fetch own };
 
     fn from(refusal: FetchRefusal) -> Self {
         match refusal {
-            FetchRefusal::SystemRom(address) => Refusal::SystemRom(address),
-            FetchRefusal::EmptyPage(address) => Refusal::EmptyPage(address),
+            FetchRefusal::SystemRom(address) => WordRefusal::SystemRom(address),
+            FetchRefusal::EmptyPage(address) => WordRefusal::EmptyPage(address),
         }
     }
 }
 
-impl From<ReadOnly> for Refusal {
+impl From<ReadOnly> for WordRefusal {
     ghost from_gives = { λ own refusal. refusal ≡ of_write own };
 
     fn from(refusal: ReadOnly) -> Self {
-        Refusal::ReadOnly(refusal.address)
+        WordRefusal::ReadOnly(refusal.address)
     }
 }

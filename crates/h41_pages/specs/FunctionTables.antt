@@ -1,7 +1,7 @@
 -- The functions of a module, as HP's modules list them: word 0 of a page is its XROM number, word 1 how many entries it
 -- has, and two words an entry follow. A microcode function's name stands before the words of the function. All of it is
 -- read in bank 1. What counts as a name, and what a number or a count out of range means, are this project's choices.
-use Rattle.std.specs.Prelude.{◌≡◌, ℕ, ◌+◌, ◌-◌, ◌*◌, ◌/◌, ◌%◌, ◌^◌, Bool, false, ◌&&◌, List, [], ◌∷◌, ◌++◌, map, find, min, slice_index, nat_lt, nat_le, ◌==◌, bytes_eq, if◌then◌else◌, Option, Some, None, option_map, option_and_then}
+use Rattle.std.specs.Prelude.{ℕ, ◌+◌, ◌-◌, ◌*◌, ◌/◌, ◌%◌, ◌^◌, Bool, false, ◌&&◌, List, [], ◌∷◌, map, find, min, slice_index, nat_lt, nat_le, ◌==◌, bytes_eq, if◌then◌else◌, Option, Some, None, option_map, option_and_then}
 use Rattle.std.specs.Bool.{then_some}
 use Rattle.std.specs.List.{flat_map, range_with_len}
 use Rattle.std.specs.Option.{option_map_or}

@@ -7,7 +7,7 @@ use Rattle.h41_codes.specs.ByteLaws.{OneLine}
 use Rattle.h41_codes.specs.declared.line.Line.{Line}
 use Rattle.h41_ram.specs.RegisterMap.{RegisterMap, is_sound}
 use Rattle.h41_program.specs.declared.listed_line.ListedLine.{ListedLine}
-use Rattle.h41_program.specs.declared.refusal.Refusal.{Refusal}
+use Rattle.h41_program.specs.declared.refusal.ProgramRefusal.{ProgramRefusal}
 use Rattle.h41_program.specs.Edits.{before_end, edit_outcome, load_outcome, loaded_of, ChangeGives, LoadsBehind}
 use Rattle.h41_program.specs.Lines.{is_final_end}
 use Rattle.h41_program.specs.ProgramBytes.{program_bytes, final_position}
@@ -71,7 +71,7 @@ lists_determined one memory at lines others from again = elim (cases_Bool (is_so
   | inr lost ↦ from.lost lost ∙ sym (again.lost lost)
 ]
 
-loads_behind_determined : OneLine → (memory : RegisterMap) (bytes : List ℕ) (before : Option (List ListedLine)) (outcome other : Result (RegisterMap × ℕ) Refusal)
+loads_behind_determined : OneLine → (memory : RegisterMap) (bytes : List ℕ) (before : Option (List ListedLine)) (outcome other : Result (RegisterMap × ℕ) ProgramRefusal)
     → LoadsBehind memory bytes before outcome → LoadsBehind memory bytes before other → outcome ≡ other
 loads_behind_determined one memory bytes None outcome other loads again = loads ∙ sym again
 loads_behind_determined one memory bytes (Some lines) outcome other loads again =
@@ -84,7 +84,7 @@ loads_determined one memory bytes outcome other loads again =
     loads_behind_determined one memory bytes (before_end again.0) outcome other
     (subst (λ (lines : List ListedLine). LoadsBehind memory bytes (before_end lines) outcome) same loads.2) again.2
 
-changes_determined : OneLine → (memory : RegisterMap) (change : ListedLine → List Line) (position : ℕ) (outcome other : Result (RegisterMap × Unit {0}) Refusal)
+changes_determined : OneLine → (memory : RegisterMap) (change : ListedLine → List Line) (position : ℕ) (outcome other : Result (RegisterMap × Unit {0}) ProgramRefusal)
     → ChangeGives memory change position outcome → ChangeGives memory change position other → outcome ≡ other
 changes_determined one memory change position outcome other gives again =
     let same = lists_determined one memory 0 gives.0 again.0 gives.1 again.1 in

@@ -8,13 +8,13 @@ use Rattle.h41_codes.specs.declared.line.Line.{Line}
 use Rattle.h41_ram.specs.RegisterMap.{RegisterMap}
 use Rattle.h41_program.specs.declared.listed_line.ListedLine.{ListedLine}
 use Rattle.h41_program.specs.declared.packer.Packer.{Packer}
-use Rattle.h41_program.specs.declared.refusal.Refusal.{Refusal}
-use Rattle.h41_program.specs.declared.refusal.Refusal.TheVariants.{BrokenProgram}
+use Rattle.h41_program.specs.declared.refusal.ProgramRefusal.{ProgramRefusal}
+use Rattle.h41_program.specs.declared.refusal.ProgramRefusal.TheVariants.{BrokenProgram}
 use Rattle.h41_program.specs.Edits.{before_end, has_line_at, own_line, with_inserted, with_replaced, without_deleted, answered, changed_outcome}
 use Rattle.h41_program.specs.Lines.{is_final_end}
 use Rattle.h41_program.specs.Packers.{Packs}
 use Rattle.h41_program.specs.ProgramLines.{IsFirst, Reads, NoneFrom}
-use Rattle.h41_program.specs.Rewriting.{Gives, written}
+use Rattle.h41_program.specs.Rewriting.{HasOutcome, written}
 use Rattle.h41_program.proofs.Walks.{UpTo, ends_none, ends_final, before_end-none, before_end-final}
 
 or_false : (b : Bool) → (b || false) ≡ b
@@ -105,7 +105,7 @@ pub record Changed (bytes : List ℕ) (final : ℕ) (packer : Packer) (met : Boo
 
 -- the outcome of the test
 by_test : (b : Bool) (packer : Packer) (lines : List Line) → Packs packer lines
-    → MatchBool b (IsOkAnd {E = Refusal} (if b then Ok packer else Err BrokenProgram) (λ held. Packs held lines)) (◌≡◌ {A = Result Packer Refusal} (if b then Ok packer else Err BrokenProgram) (Err BrokenProgram))
+    → MatchBool b (IsOkAnd {E = ProgramRefusal} (if b then Ok packer else Err BrokenProgram) (λ held. Packs held lines)) (◌≡◌ {A = Result Packer ProgramRefusal} (if b then Ok packer else Err BrokenProgram) (Err BrokenProgram))
 by_test true packer lines packs = packs
 by_test false packer lines packs = refl
 
@@ -113,7 +113,7 @@ by_test false packer lines packs = refl
 pub changed_final : (bytes : List ℕ) (final at next : ℕ) (packer : Packer) (met : Bool) (change : ListedLine → List Line) (place : ℕ) (before lines : List ListedLine) (listed : ListedLine)
     → UpTo bytes final 0 before at → IsFirst bytes final at listed next → is_final_end listed.line ≡ true
     → Packs packer (flat_map change (before ++ listed ∷ [])) → met ≡ has_line_at place (before ++ listed ∷ []) → Reads bytes final 0 lines
-    → (result : Result Packer Refusal) → result ≡ (if met then Ok packer else Err BrokenProgram)
+    → (result : Result Packer ProgramRefusal) → result ≡ (if met then Ok packer else Err BrokenProgram)
     → MatchBool (is_some (before_end lines) && has_line_at place lines) (IsOkAnd result (λ held. Packs held (flat_map change lines))) (result ≡ Err BrokenProgram)
 changed_final bytes final at next packer met change place before lines listed upto is last packs found reads result test =
     let all = ends_final bytes final 0 at next before lines listed upto is last reads in
@@ -123,7 +123,7 @@ changed_final bytes final at next packer met change place before lines listed up
 -- no more line is met
 pub changed_none : (bytes : List ℕ) (final at : ℕ) (change : ListedLine → List Line) (place : ℕ) (before lines : List ListedLine)
     → UpTo bytes final 0 before at → NoneFrom bytes final at → Reads bytes final 0 lines
-    → MatchBool (is_some (before_end lines) && has_line_at place lines) (IsOkAnd {E = Refusal} (Err BrokenProgram) (λ held. Packs held (flat_map change lines))) (◌≡◌ {A = Result Packer Refusal} (Err BrokenProgram) (Err BrokenProgram))
+    → MatchBool (is_some (before_end lines) && has_line_at place lines) (IsOkAnd {E = ProgramRefusal} (Err BrokenProgram) (λ held. Packs held (flat_map change lines))) (◌≡◌ {A = Result Packer ProgramRefusal} (Err BrokenProgram) (Err BrokenProgram))
 changed_none bytes final at change place before lines upto none reads =
     let end = ap before_end (ends_none bytes final 0 at before lines upto none reads) ∙ before_end-none bytes final 0 at before upto in
     rw end refl
@@ -132,20 +132,20 @@ changed_none bytes final at change place before lines upto none reads =
 wrong : {A E : Type 0} (r : Result A E) (a : A) (e : E) → r ≡ Ok a → r ≡ Err e → ⊥
 wrong r a e ok err = cc
 
-pub changed_written : (old new : RegisterMap) (change : ListedLine → List Line) (place : ℕ) (lines : List ListedLine) (result : Result Packer Refusal) (packer : Packer) (wrote : Result (Unit {0}) Refusal)
+pub changed_written : (old new : RegisterMap) (change : ListedLine → List Line) (place : ℕ) (lines : List ListedLine) (result : Result Packer ProgramRefusal) (packer : Packer) (wrote : Result (Unit {0}) ProgramRefusal)
     (b : Bool) → MatchBool b (IsOkAnd result (λ held. Packs held (flat_map change lines))) (result ≡ Err BrokenProgram) → result ≡ Ok packer
-    → ((all : List Line) → Packs packer all → Gives old new wrote (answered tt (written old all)))
-    → Gives old new wrote (changed_outcome b old (flat_map change lines))
+    → ((all : List Line) → Packs packer all → HasOutcome old new wrote (answered tt (written old all)))
+    → HasOutcome old new wrote (changed_outcome b old (flat_map change lines))
 changed_written old new change place lines result packer wrote true matches ok writes =
-    writes (flat_map change lines) (subst (λ (r : Result Packer Refusal). IsOkAnd r (λ held. Packs held (flat_map change lines))) ok matches)
+    writes (flat_map change lines) (subst (λ (r : Result Packer ProgramRefusal). IsOkAnd r (λ held. Packs held (flat_map change lines))) ok matches)
 changed_written old new change place lines result packer wrote false matches ok writes = absurd (wrong result packer BrokenProgram ok matches)
 
-pub changed_refused : (old : RegisterMap) (change : ListedLine → List Line) (lines : List ListedLine) (result : Result Packer Refusal) (refusal : Refusal)
+pub changed_refused : (old : RegisterMap) (change : ListedLine → List Line) (lines : List ListedLine) (result : Result Packer ProgramRefusal) (refusal : ProgramRefusal)
     (b : Bool) → MatchBool b (IsOkAnd result (λ held. Packs held (flat_map change lines))) (result ≡ Err BrokenProgram) → result ≡ Err refusal
-    → Gives {A = Unit {0}} old old (Err refusal) (changed_outcome b old (flat_map change lines))
+    → HasOutcome {A = Unit {0}} old old (Err refusal) (changed_outcome b old (flat_map change lines))
 changed_refused old change lines result refusal true matches err =
-    absurd (subst (λ (r : Result Packer Refusal). IsOkAnd r (λ held. Packs held (flat_map change lines))) err matches)
+    absurd (subst (λ (r : Result Packer ProgramRefusal). IsOkAnd r (λ held. Packs held (flat_map change lines))) err matches)
 changed_refused old change lines result refusal false matches err = (same_refusal result refusal err matches, refl)
   where
-    same_refusal : (result : Result Packer Refusal) (refusal : Refusal) → result ≡ Err refusal → result ≡ Err BrokenProgram → ◌≡◌ {A = Result (Unit {0}) Refusal} (Err refusal) (Err BrokenProgram)
-    same_refusal result refusal one other = let e : refusal ≡ BrokenProgram = cc in ap (λ (r : Refusal). Err r) e
+    same_refusal : (result : Result Packer ProgramRefusal) (refusal : ProgramRefusal) → result ≡ Err refusal → result ≡ Err BrokenProgram → ◌≡◌ {A = Result (Unit {0}) ProgramRefusal} (Err refusal) (Err BrokenProgram)
+    same_refusal result refusal one other = let e : refusal ≡ BrokenProgram = cc in ap (λ (r : ProgramRefusal). Err r) e

@@ -6,13 +6,13 @@ use Rattle.h41_codes.specs.declared.line.Line.{Line}
 use Rattle.h41_ram.specs.RegisterMap.{RegisterMap, main_start, curtain_of}
 use Rattle.h41_program.specs.declared.listed_line.ListedLine.{ListedLine}
 use Rattle.h41_program.specs.declared.packer.Packer.{Packer}
-use Rattle.h41_program.specs.declared.refusal.Refusal.{Refusal}
-use Rattle.h41_program.specs.declared.refusal.Refusal.TheVariants.{BrokenProgram, NoRoom}
+use Rattle.h41_program.specs.declared.refusal.ProgramRefusal.{ProgramRefusal}
+use Rattle.h41_program.specs.declared.refusal.ProgramRefusal.TheVariants.{BrokenProgram, NoRoom}
 use Rattle.h41_program.specs.Edits.{lines_of, closed, answered, load_outcome, loaded_of, LoadsBehind}
 use Rattle.h41_program.specs.Packers.{Packs}
 use Rattle.h41_program.specs.Packing.{packed, packing}
 use Rattle.h41_program.specs.ProgramLines.{Reads}
-use Rattle.h41_program.specs.Rewriting.{written, Gives}
+use Rattle.h41_program.specs.Rewriting.{written, HasOutcome}
 use Rattle.h41_program.proofs.Packings.{packed-less, length-packing, no_room}
 use Rattle.h41_program.proofs.Rooms.{written-none}
 
@@ -26,16 +26,16 @@ same_value : {A E : Type 0} (r : Result A E) (a b : A) → r ≡ Ok a → r ≡ 
 same_value r a b one other = cc
 
 -- an answer in the place of another
-gives_ok : {A : Type 0} (old new : RegisterMap) (result : Result (Unit {0}) Refusal) (answer : A) (outcome : Result RegisterMap Refusal) → result ≡ Ok tt
-    → Gives old new result (answered tt outcome) → Gives old new (Ok answer) (answered answer outcome)
+gives_ok : {A : Type 0} (old new : RegisterMap) (result : Result (Unit {0}) ProgramRefusal) (answer : A) (outcome : Result RegisterMap ProgramRefusal) → result ≡ Ok tt
+    → HasOutcome old new result (answered tt outcome) → HasOutcome old new (Ok answer) (answered answer outcome)
 gives_ok old new result answer (Ok memory) ok gives = (refl, gives.1)
 gives_ok old new result answer (Err refusal) ok gives = absurd (not_both result tt refusal ok gives.0)
 
-gives_err : {A : Type 0} (old new : RegisterMap) (result : Result (Unit {0}) Refusal) (refusal : Refusal) (given : Result A Refusal) (answer : A) (outcome : Result RegisterMap Refusal)
-    → result ≡ Err refusal → given ≡ Err refusal → Gives old new result (answered tt outcome) → Gives old new given (answered answer outcome)
+gives_err : {A : Type 0} (old new : RegisterMap) (result : Result (Unit {0}) ProgramRefusal) (refusal : ProgramRefusal) (given : Result A ProgramRefusal) (answer : A) (outcome : Result RegisterMap ProgramRefusal)
+    → result ≡ Err refusal → given ≡ Err refusal → HasOutcome old new result (answered tt outcome) → HasOutcome old new given (answered answer outcome)
 gives_err old new result refusal given answer (Ok memory) err same gives = absurd (not_both result tt refusal gives.0 err)
 gives_err old new result refusal given answer (Err other) err same gives =
-    (same ∙ ap (λ (e : Refusal). Err e) (same_error result refusal other err gives.0), gives.1)
+    (same ∙ ap (λ (e : ProgramRefusal). Err e) (same_error result refusal other err gives.0), gives.1)
 
 -- lines of which the first ones are too many are refused
 too_many : (memory : RegisterMap) (lines more : List Line) → curtain_of memory ≤ main_start + 320 → 2237 < length (packed lines) → written memory (lines ++ more) ≡ Err NoRoom
@@ -53,19 +53,19 @@ begins_there memory packer lines more after start small packs is done = elim (ca
 ]
 
 -- lines that are written
-was_written : (old new : RegisterMap) (result : Result (Unit {0}) Refusal) (outcome : Result RegisterMap Refusal) → result ≡ Ok tt
-    → Gives old new result (answered tt outcome) → (after : RegisterMap) × (outcome ≡ Ok after)
+was_written : (old new : RegisterMap) (result : Result (Unit {0}) ProgramRefusal) (outcome : Result RegisterMap ProgramRefusal) → result ≡ Ok tt
+    → HasOutcome old new result (answered tt outcome) → (after : RegisterMap) × (outcome ≡ Ok after)
 was_written old new result (Ok memory) ok gives = (memory, refl)
 was_written old new result (Err refusal) ok gives = absurd (not_both result tt refusal ok gives.0)
 
-gives_start : (old new : RegisterMap) (result : Result (Unit {0}) Refusal) (start place : ℕ) (outcome : Result RegisterMap Refusal) → result ≡ Ok tt
+gives_start : (old new : RegisterMap) (result : Result (Unit {0}) ProgramRefusal) (start place : ℕ) (outcome : Result RegisterMap ProgramRefusal) → result ≡ Ok tt
     → ((after : RegisterMap) → outcome ≡ Ok after → start ≡ place)
-    → Gives old new result (answered tt outcome) → Gives old new (Ok start) (answered place outcome)
+    → HasOutcome old new result (answered tt outcome) → HasOutcome old new (Ok start) (answered place outcome)
 gives_start old new result start place (Ok memory) ok same gives = (ap (λ (n : ℕ). Ok n) (same memory refl), gives.1)
 gives_start old new result start place (Err refusal) ok same gives = absurd (not_both result tt refusal ok gives.0)
 
 -- what a load gives by the lines before .END. and those of the bytes
-abbrev pub outcome_of : RegisterMap → Option (List ListedLine) → Option (List Line) → Result (RegisterMap × ℕ) Refusal
+abbrev pub outcome_of : RegisterMap → Option (List ListedLine) → Option (List Line) → Result (RegisterMap × ℕ) ProgramRefusal
 outcome_of memory None loaded = Err BrokenProgram
 outcome_of memory (Some lines) loaded = load_outcome memory lines loaded
 
@@ -75,40 +75,40 @@ loads_behind memory bytes None given reads = refl
 loads_behind memory bytes (Some lines) given reads = (given, reads, refl)
 
 -- the list of memory does not reach .END.
-pub load_broken : (memory : RegisterMap) (bytes : List ℕ) (first : Result Packer Refusal) (before : Option (List ListedLine)) (refusal : Refusal) (answer : Result ℕ Refusal)
+pub load_broken : (memory : RegisterMap) (bytes : List ℕ) (first : Result Packer ProgramRefusal) (before : Option (List ListedLine)) (refusal : ProgramRefusal) (answer : Result ℕ ProgramRefusal)
     → MatchOption before (first ≡ Err BrokenProgram) (λ listed. IsOkAnd first (λ held. Packs held (lines_of listed))) → first ≡ Err refusal → answer ≡ Err refusal
     → LoadsBehind memory bytes before (Err BrokenProgram) × (answer ≡ Err BrokenProgram)
-load_broken memory bytes first None refusal answer is err same = (refl, same ∙ ap (λ (e : Refusal). Err e) (same_error first refusal BrokenProgram err is))
+load_broken memory bytes first None refusal answer is err same = (refl, same ∙ ap (λ (e : ProgramRefusal). Err e) (same_error first refusal BrokenProgram err is))
 load_broken memory bytes first (Some listed) refusal answer is err same =
-    absurd (subst (λ (r : Result Packer Refusal). IsOkAnd r (λ held. Packs held (lines_of listed))) err is)
+    absurd (subst (λ (r : Result Packer ProgramRefusal). IsOkAnd r (λ held. Packs held (lines_of listed))) err is)
 
 -- what is known of a load when the lines of memory were packed
-pub record Loading (before : Option (List ListedLine)) (loaded : Option (List Line)) (first : Result Packer Refusal) (packer closed_packer new : Packer) (put : Result (Unit {0}) Refusal) : Type 0 where
+pub record Loading (before : Option (List ListedLine)) (loaded : Option (List Line)) (first : Result Packer ProgramRefusal) (packer closed_packer new : Packer) (put : Result (Unit {0}) ProgramRefusal) : Type 0 where
   pub program : MatchOption before (first ≡ Err BrokenProgram) (λ listed. IsOkAnd first (λ held. Packs held (lines_of listed)))
   pub begun : first ≡ Ok packer
   pub closes : (lines : List Line) → Packs packer lines → Packs closed_packer (closed lines)
   pub puts : (front : List Line) → Packs closed_packer front → MatchOption loaded (put ≡ Err BrokenProgram) (λ lines. (put ≡ Ok tt) × Packs new (front ++ lines))
 
-module _ (memory after : RegisterMap) (first : Result Packer Refusal) (packer closed_packer new : Packer) (put : Result (Unit {0}) Refusal) where
+module _ (memory after : RegisterMap) (first : Result Packer ProgramRefusal) (packer closed_packer new : Packer) (put : Result (Unit {0}) ProgramRefusal) where
   packs_closed : (listed : List ListedLine) (loaded : Option (List Line)) → Loading (Some listed) loaded first packer closed_packer new put → Packs closed_packer (closed (lines_of listed))
   packs_closed listed loaded is =
-      let ok : IsOkAnd {E = Refusal} (Ok packer) (λ held. Packs held (lines_of listed)) =
-      subst (λ (r : Result Packer Refusal). IsOkAnd r (λ held. Packs held (lines_of listed))) is.begun is.program in
+      let ok : IsOkAnd {E = ProgramRefusal} (Ok packer) (λ held. Packs held (lines_of listed)) =
+      subst (λ (r : Result Packer ProgramRefusal). IsOkAnd r (λ held. Packs held (lines_of listed))) is.begun is.program in
       is.closes (lines_of listed) ok
 
   -- given bytes are refused
-  pub load_refused : (before : Option (List ListedLine)) (loaded : Option (List Line)) (refusal : Refusal) (answer : Result ℕ Refusal) → Loading before loaded first packer closed_packer new put
-      → put ≡ Err refusal → answer ≡ Err refusal → Gives memory memory answer (outcome_of memory before loaded)
+  pub load_refused : (before : Option (List ListedLine)) (loaded : Option (List Line)) (refusal : ProgramRefusal) (answer : Result ℕ ProgramRefusal) → Loading before loaded first packer closed_packer new put
+      → put ≡ Err refusal → answer ≡ Err refusal → HasOutcome memory memory answer (outcome_of memory before loaded)
   load_refused None loaded refusal answer is err same = absurd (not_both first packer BrokenProgram is.begun is.program)
   load_refused (Some listed) None refusal answer is err same =
-      (same ∙ ap (λ (e : Refusal). Err e) (same_error put refusal BrokenProgram err (is.puts (closed (lines_of listed)) (packs_closed listed None is))), refl)
+      (same ∙ ap (λ (e : ProgramRefusal). Err e) (same_error put refusal BrokenProgram err (is.puts (closed (lines_of listed)) (packs_closed listed None is))), refl)
   load_refused (Some listed) (Some lines) refusal answer is err same =
       absurd (not_both put tt refusal (is.puts (closed (lines_of listed)) (packs_closed listed (Some lines) is)).0 err)
 
   -- the lines have no room
-  pub load_unwritten : (before : Option (List ListedLine)) (loaded : Option (List Line)) (wrote : Result (Unit {0}) Refusal) (refusal : Refusal) (answer : Result ℕ Refusal)
+  pub load_unwritten : (before : Option (List ListedLine)) (loaded : Option (List Line)) (wrote : Result (Unit {0}) ProgramRefusal) (refusal : ProgramRefusal) (answer : Result ℕ ProgramRefusal)
       → Loading before loaded first packer closed_packer new put → put ≡ Ok tt → wrote ≡ Err refusal → answer ≡ Err refusal
-      → ((lines : List Line) → Packs new lines → Gives memory after wrote (answered tt (written memory lines))) → Gives memory after answer (outcome_of memory before loaded)
+      → ((lines : List Line) → Packs new lines → HasOutcome memory after wrote (answered tt (written memory lines))) → HasOutcome memory after answer (outcome_of memory before loaded)
   load_unwritten None loaded wrote refusal answer is ok err same writes = absurd (not_both first packer BrokenProgram is.begun is.program)
   load_unwritten (Some listed) None wrote refusal answer is ok err same writes =
       absurd (not_both put tt BrokenProgram ok (is.puts (closed (lines_of listed)) (packs_closed listed None is)))
@@ -118,9 +118,9 @@ module _ (memory after : RegisterMap) (first : Result Packer Refusal) (packer cl
       (writes (all ++ lines) (is.puts all (packs_closed listed (Some lines) is)).1)
 
   -- the lines were written
-  pub load_written : (before : Option (List ListedLine)) (loaded : Option (List Line)) (wrote : Result (Unit {0}) Refusal) (start : ℕ)
+  pub load_written : (before : Option (List ListedLine)) (loaded : Option (List Line)) (wrote : Result (Unit {0}) ProgramRefusal) (start : ℕ)
       → Loading before loaded first packer closed_packer new put → put ≡ Ok tt → wrote ≡ Ok tt → start ≡ length closed_packer.bytes.items → curtain_of memory ≤ main_start + 320
-      → ((lines : List Line) → Packs new lines → Gives memory after wrote (answered tt (written memory lines))) → Gives memory after (Ok start) (outcome_of memory before loaded)
+      → ((lines : List Line) → Packs new lines → HasOutcome memory after wrote (answered tt (written memory lines))) → HasOutcome memory after (Ok start) (outcome_of memory before loaded)
   load_written None loaded wrote start is ok done same small writes = absurd (not_both first packer BrokenProgram is.begun is.program)
   load_written (Some listed) None wrote start is ok done same small writes =
       absurd (not_both put tt BrokenProgram ok (is.puts (closed (lines_of listed)) (packs_closed listed None is)))
@@ -130,9 +130,9 @@ module _ (memory after : RegisterMap) (first : Result Packer Refusal) (packer cl
       (λ memory_after room. begins_there memory closed_packer all lines memory_after start small (packs_closed listed (Some lines) is) same room)
       (writes (all ++ lines) (is.puts all (packs_closed listed (Some lines) is)).1)
 
-  pub load_bound : (before : Option (List ListedLine)) (loaded : Option (List Line)) (wrote : Result (Unit {0}) Refusal) (start : ℕ)
+  pub load_bound : (before : Option (List ListedLine)) (loaded : Option (List Line)) (wrote : Result (Unit {0}) ProgramRefusal) (start : ℕ)
       → Loading before loaded first packer closed_packer new put → put ≡ Ok tt → wrote ≡ Ok tt → start ≡ length closed_packer.bytes.items → curtain_of memory ≤ main_start + 320
-      → ((lines : List Line) → Packs new lines → Gives memory after wrote (answered tt (written memory lines))) → start ≤ 2237
+      → ((lines : List Line) → Packs new lines → HasOutcome memory after wrote (answered tt (written memory lines))) → start ≤ 2237
   load_bound None loaded wrote start is ok done same small writes = absurd (not_both first packer BrokenProgram is.begun is.program)
   load_bound (Some listed) None wrote start is ok done same small writes =
       absurd (not_both put tt BrokenProgram ok (is.puts (closed (lines_of listed)) (packs_closed listed None is)))

@@ -3,8 +3,8 @@ use Rattle.std.proofs.Common.{◌≡◌, ℕ, ◌≤◌, Bool, true, false, List
 use Rattle.std.specs.Prelude.{◌||◌, ◌==◌, if◌then◌else◌, MatchOption, IsOkAnd}
 use Rattle.std.specs.List.{list_all}
 use Rattle.h41_program.specs.declared.given.Taken.{Taken}
-use Rattle.h41_program.specs.declared.refusal.Refusal.{Refusal}
-use Rattle.h41_program.specs.declared.refusal.Refusal.TheVariants.{BrokenProgram}
+use Rattle.h41_program.specs.declared.refusal.ProgramRefusal.{ProgramRefusal}
+use Rattle.h41_program.specs.declared.refusal.ProgramRefusal.TheVariants.{BrokenProgram}
 use Rattle.h41_program.specs.Reading.{BytesHaveFirst}
 use Rattle.h41_codes.specs.ByteGrammar.{IsLine}
 use Rattle.h41_codes.specs.declared.line.Line.{Line}
@@ -76,10 +76,10 @@ pub record Loaded (bytes : List ℕ) (old new : Packer) (pending : Option Line) 
 -- the lines of memory are packed where .END. is met
 pub packed_lines : (bytes : List ℕ) (final at : ℕ) (before : List ListedLine) (listed : ListedLine) (packer : Packer) → UpTo bytes final 0 before at
     → is_final_end listed.line ≡ true → Packs packer (lines_of before)
-    → MatchOption (before_end (before ++ listed ∷ [])) (◌≡◌ {A = Result Packer Refusal} (Ok packer) (Err BrokenProgram)) (λ each. IsOkAnd {E = Refusal} (Ok packer) (λ held. Packs held (lines_of each)))
+    → MatchOption (before_end (before ++ listed ∷ [])) (◌≡◌ {A = Result Packer ProgramRefusal} (Ok packer) (Err BrokenProgram)) (λ each. IsOkAnd {E = ProgramRefusal} (Ok packer) (λ held. Packs held (lines_of each)))
 packed_lines bytes final at before listed packer upto last packs =
     let all = before_end-final bytes final 0 at before listed upto last in
-    subst (λ (o : Option (List ListedLine)). MatchOption o (◌≡◌ {A = Result Packer Refusal} (Ok packer) (Err BrokenProgram)) (λ each. IsOkAnd {E = Refusal} (Ok packer) (λ held. Packs held (lines_of each)))) (sym all) packs
+    subst (λ (o : Option (List ListedLine)). MatchOption o (◌≡◌ {A = Result Packer ProgramRefusal} (Ok packer) (Err BrokenProgram)) (λ each. IsOkAnd {E = ProgramRefusal} (Ok packer) (λ held. Packs held (lines_of each)))) (sym all) packs
 
 -- one more line is taken: the one that was pending is put
 pub loaded_more : (bytes : List ℕ) (old mid new : Packer) (pending : Option Line) (at : ℕ) (before : List ListedLine) (taken : Taken) → Loaded bytes old mid pending at before
@@ -112,8 +112,8 @@ loaded_by bytes at given lines end same =
 
 -- the outcome of such a test
 pub tested : (b : Bool) (lines : List Line) (front : List Line) (new : Packer) → (b ≡ true → Packs new (front ++ lines))
-    → MatchOption (if b then Some lines else None) (◌≡◌ {A = Result (Unit {0}) Refusal} (if b then Ok tt else Err BrokenProgram) (Err BrokenProgram))
-    (λ loaded. (◌≡◌ {A = Result (Unit {0}) Refusal} (if b then Ok tt else Err BrokenProgram) (Ok tt)) × Packs new (front ++ loaded))
+    → MatchOption (if b then Some lines else None) (◌≡◌ {A = Result (Unit {0}) ProgramRefusal} (if b then Ok tt else Err BrokenProgram) (Err BrokenProgram))
+    (λ loaded. (◌≡◌ {A = Result (Unit {0}) ProgramRefusal} (if b then Ok tt else Err BrokenProgram) (Ok tt)) × Packs new (front ++ loaded))
 tested true lines front new packs = (refl, packs refl)
 tested false lines front new packs = refl
 

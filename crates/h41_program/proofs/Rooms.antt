@@ -6,7 +6,7 @@ use Rattle.std.proofs.lemmas.Bool.Decides.{nat_tests}
 use Rattle.h41_codes.specs.declared.line.Line.{Line}
 use Rattle.h41_ram.specs.RegisterMap.{RegisterMap, main_start, curtain_of}
 use Rattle.h41_program.specs.declared.packer.Packer.{Packer}
-use Rattle.h41_program.specs.declared.refusal.Refusal.TheVariants.{NoRoom}
+use Rattle.h41_program.specs.declared.refusal.ProgramRefusal.TheVariants.{NoRoom}
 use Rattle.h41_program.specs.Packing.{packed, filler, packing, written_end}
 use Rattle.h41_program.specs.Packers.{Packs}
 use Rattle.h41_program.specs.Rewriting.{written, rewritten}

@@ -1,18 +1,18 @@
 -- What lines program memory has after a line was inserted or deleted, or bytes were loaded.
-use Rattle.std.specs.Prelude.{◌≡◌, ◌⊎◌, ℕ, Bool, false, not, ◌||◌, is_some, MatchBool, IsOkAnd, ◌&&◌, List, [], ◌∷◌, ◌++◌, map, length, drop, ◌==◌, if◌then◌else◌, Option, Some, None, Result, Ok, Err}
+use Rattle.std.specs.Prelude.{◌≡◌, ◌⊎◌, ℕ, Bool, false, not, ◌||◌, is_some, ◌&&◌, List, [], ◌∷◌, ◌++◌, map, length, drop, ◌==◌, if◌then◌else◌, Option, Some, None, Result, Ok, Err}
 use Rattle.std.specs.List.{list_all, list_any, flat_map}
 use Rattle.std.specs.Option.{option_map, option_map_or}
 use Rattle.h41_codes.specs.declared.line.Line.{Line}
 use Rattle.h41_codes.specs.declared.line.Line.TheVariants.{End}
 use Rattle.h41_ram.specs.RegisterMap.{RegisterMap}
 use Rattle.h41_program.specs.declared.listed_line.ListedLine.{ListedLine}
-use Rattle.h41_program.specs.declared.refusal.Refusal.{Refusal}
-use Rattle.h41_program.specs.declared.refusal.Refusal.TheVariants.{BrokenProgram}
+use Rattle.h41_program.specs.declared.refusal.ProgramRefusal.{ProgramRefusal}
+use Rattle.h41_program.specs.declared.refusal.ProgramRefusal.TheVariants.{BrokenProgram}
 use Rattle.h41_program.specs.Lines.{is_end, is_final_end}
 use Rattle.h41_program.specs.Packing.{last_line, packed}
 use Rattle.h41_program.specs.ProgramBytes.{program_bytes, final_position}
 use Rattle.h41_program.specs.ProgramLines.{FirstFrom, HasNoLine, LinesFrom, Reads, behind}
-use Rattle.h41_program.specs.Rewriting.{written, Gives}
+use Rattle.h41_program.specs.Rewriting.{written, HasOutcome}
 
 -- the lines alone, without their positions
 abbrev pub lines_of : List ListedLine → List Line
@@ -50,32 +50,32 @@ loaded_of bytes given =
     if list_all (λ byte. byte == 0x00) (drop (end_of_lines given) bytes) then Some (without_end (lines_of given)) else None
 
 -- memory with these lines, and an answer, or the refusal
-abbrev pub answered : {A : Type 0} → A → Result RegisterMap Refusal → Result (RegisterMap × A) Refusal
+abbrev pub answered : {A : Type 0} → A → Result RegisterMap ProgramRefusal → Result (RegisterMap × A) ProgramRefusal
 answered answer (Ok memory) = Ok (memory, answer)
 answered answer (Err refusal) = Err refusal
 
 -- lines loaded behind others: the answer is where the first of them begins
-abbrev pub joined : RegisterMap → List Line → List Line → Result (RegisterMap × ℕ) Refusal
+abbrev pub joined : RegisterMap → List Line → List Line → Result (RegisterMap × ℕ) ProgramRefusal
 joined memory lines loaded = answered (length (packed (closed lines))) (written memory (closed lines ++ loaded))
 
 -- the same where the bytes have lines to be loaded
-abbrev pub load_outcome : RegisterMap → List ListedLine → Option (List Line) → Result (RegisterMap × ℕ) Refusal
+abbrev pub load_outcome : RegisterMap → List ListedLine → Option (List Line) → Result (RegisterMap × ℕ) ProgramRefusal
 load_outcome memory lines None = Err BrokenProgram
 load_outcome memory lines (Some loaded) = joined memory (lines_of lines) loaded
 
 -- what loading bytes behind the lines before .END. gives: the bytes are looked at where the list reaches it
-abbrev pub LoadsBehind : RegisterMap → List ℕ → Option (List ListedLine) → Result (RegisterMap × ℕ) Refusal → Type 0
+abbrev pub LoadsBehind : RegisterMap → List ℕ → Option (List ListedLine) → Result (RegisterMap × ℕ) ProgramRefusal → Type 0
 LoadsBehind memory bytes None outcome = outcome ≡ Err BrokenProgram
 LoadsBehind memory bytes (Some lines) outcome =
     (given : List ListedLine) × Reads bytes (length bytes) 0 given × (outcome ≡ load_outcome memory lines (loaded_of bytes given))
 
 -- what loading bytes gives: memory with their lines behind its own and where the first of them begins, or the refusal
-abbrev pub LoadGives : RegisterMap → List ℕ → Result (RegisterMap × ℕ) Refusal → Type 0
+abbrev pub LoadGives : RegisterMap → List ℕ → Result (RegisterMap × ℕ) ProgramRefusal → Type 0
 LoadGives memory bytes outcome = (lines : List ListedLine) × LinesFrom memory 0 lines × LoadsBehind memory bytes (before_end lines) outcome
 
 -- bytes are loaded into memory
-abbrev pub Loads : RegisterMap → RegisterMap → List ℕ → Result ℕ Refusal → Type 0
-Loads old new bytes result = (outcome : Result (RegisterMap × ℕ) Refusal) × LoadGives old bytes outcome × Gives old new result outcome
+abbrev pub Loads : RegisterMap → RegisterMap → List ℕ → Result ℕ ProgramRefusal → Type 0
+Loads old new bytes result = (outcome : Result (RegisterMap × ℕ) ProgramRefusal) × LoadGives old bytes outcome × HasOutcome old new result outcome
 
 -- whether a line stands at a position in the list
 abbrev pub has_line_at : ℕ → List ListedLine → Bool
@@ -96,24 +96,24 @@ abbrev pub without_deleted : ℕ → ListedLine → List Line
 without_deleted position listed = if listed.position == position then [] else own_line listed
 
 -- memory with each line changed, where the list reaches .END. and has a line at the position
-abbrev pub changed_outcome : Bool → RegisterMap → List Line → Result (RegisterMap × Unit {0}) Refusal
+abbrev pub changed_outcome : Bool → RegisterMap → List Line → Result (RegisterMap × Unit {0}) ProgramRefusal
 changed_outcome changed memory lines = if changed then answered tt (written memory lines) else Err BrokenProgram
 
-abbrev pub edit_outcome : RegisterMap → (ListedLine → List Line) → ℕ → List ListedLine → Result (RegisterMap × Unit {0}) Refusal
+abbrev pub edit_outcome : RegisterMap → (ListedLine → List Line) → ℕ → List ListedLine → Result (RegisterMap × Unit {0}) ProgramRefusal
 edit_outcome memory change position lines =
     changed_outcome (is_some (before_end lines) && has_line_at position lines) memory (flat_map change lines)
 
 -- what a change at a line's own position gives
-abbrev pub ChangeGives : RegisterMap → (ListedLine → List Line) → ℕ → Result (RegisterMap × Unit {0}) Refusal → Type 0
+abbrev pub ChangeGives : RegisterMap → (ListedLine → List Line) → ℕ → Result (RegisterMap × Unit {0}) ProgramRefusal → Type 0
 ChangeGives memory change position outcome =
     (lines : List ListedLine) × LinesFrom memory 0 lines × (outcome ≡ edit_outcome memory change position lines)
 
 -- what a change at the line that a position stands for gives: the refusal where there is no such line
-abbrev pub EditGives : RegisterMap → (ℕ → ListedLine → List Line) → ℕ → Result (RegisterMap × Unit {0}) Refusal → Type 0
+abbrev pub EditGives : RegisterMap → (ℕ → ListedLine → List Line) → ℕ → Result (RegisterMap × Unit {0}) ProgramRefusal → Type 0
 EditGives memory change at outcome =
     ((first : ListedLine) × FirstFrom (program_bytes memory) (final_position memory) at first × ChangeGives memory (change first.position) first.position outcome)
     ⊎ (HasNoLine memory at × (outcome ≡ Err BrokenProgram))
 
 -- the list is changed at the line that a position stands for
-abbrev pub Edits : RegisterMap → RegisterMap → (ℕ → ListedLine → List Line) → ℕ → Result (Unit {0}) Refusal → Type 0
-Edits old new change at result = (outcome : Result (RegisterMap × Unit {0}) Refusal) × EditGives old change at outcome × Gives old new result outcome
+abbrev pub Edits : RegisterMap → RegisterMap → (ℕ → ListedLine → List Line) → ℕ → Result (Unit {0}) ProgramRefusal → Type 0
+Edits old new change at result = (outcome : Result (RegisterMap × Unit {0}) ProgramRefusal) × EditGives old change at outcome × HasOutcome old new result outcome

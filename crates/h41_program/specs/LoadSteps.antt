@@ -6,20 +6,20 @@ use Rattle.h41_codes.specs.declared.line.Line.{Line}
 use Rattle.h41_ram.specs.RegisterMap.{RegisterMap}
 use Rattle.h41_program.specs.declared.listed_line.ListedLine.{ListedLine}
 use Rattle.h41_program.specs.declared.packer.Packer.{Packer}
-use Rattle.h41_program.specs.declared.refusal.Refusal.{Refusal}
-use Rattle.h41_program.specs.declared.refusal.Refusal.TheVariants.{BrokenProgram}
+use Rattle.h41_program.specs.declared.refusal.ProgramRefusal.{ProgramRefusal}
+use Rattle.h41_program.specs.declared.refusal.ProgramRefusal.TheVariants.{BrokenProgram}
 use Rattle.h41_program.specs.Edits.{lines_of, before_end, loaded_of}
 use Rattle.h41_program.specs.Packers.{Packs}
 use Rattle.h41_program.specs.ProgramLines.{LinesFrom, Reads}
 
 -- a packer has the lines of memory before .END., or the list has none
-abbrev pub PacksProgram : RegisterMap → Result Packer Refusal → Type 0
+abbrev pub PacksProgram : RegisterMap → Result Packer ProgramRefusal → Type 0
 PacksProgram memory result =
     (lines : List ListedLine) × LinesFrom memory 0 lines
     × MatchOption (before_end lines) (result ≡ Err BrokenProgram) (λ listed. IsOkAnd result (λ packer. Packs packer (lines_of listed)))
 
 -- the lines to be loaded that bytes have were put behind others, or there are none
-abbrev pub PutsLoaded : Packer → Packer → List ℕ → Result (Unit {0}) Refusal → Type 0
+abbrev pub PutsLoaded : Packer → Packer → List ℕ → Result (Unit {0}) ProgramRefusal → Type 0
 PutsLoaded old new bytes result =
     (given : List ListedLine) × Reads bytes (length bytes) 0 given
     × ((front : List Line) → Packs old front
@@ -35,5 +35,5 @@ kept_option None = []
 kept_option (Some line) = if is_end line then [] else line ∷ []
 
 -- whether bytes are nulls
-abbrev pub checked_nulls : List ℕ → Result (Unit {0}) Refusal
+abbrev pub checked_nulls : List ℕ → Result (Unit {0}) ProgramRefusal
 checked_nulls bytes = if list_all (λ byte. byte == 0x00) bytes then Ok tt else Err BrokenProgram

@@ -6,7 +6,7 @@ use Rattle.h41_codes.specs.declared.line.Line.TheVariants.{Null, FinalEnd}
 use Rattle.h41_ram.specs.RegisterMap.{RegisterMap}
 use Rattle.h41_program.specs.declared.listed_line.ListedLine.{ListedLine}
 use Rattle.h41_program.specs.Edits.{lines_of, EditGives, LoadGives}
-use Rattle.h41_program.specs.declared.refusal.Refusal.{Refusal}
+use Rattle.h41_program.specs.declared.refusal.ProgramRefusal.{ProgramRefusal}
 use Rattle.h41_program.specs.Lines.{is_final_end}
 use Rattle.h41_program.specs.Packing.{packing}
 use Rattle.h41_program.specs.ProgramLines.{FirstFrom, LinesFrom, Reads}
@@ -51,13 +51,13 @@ ListsAreDetermined =
 -- no load gives two outcomes
 abbrev pub LoadsAreDetermined : Type 0
 LoadsAreDetermined =
-    (memory : RegisterMap) (bytes : List ℕ) (outcome other : Result (RegisterMap × ℕ) Refusal)
+    (memory : RegisterMap) (bytes : List ℕ) (outcome other : Result (RegisterMap × ℕ) ProgramRefusal)
     → LoadGives memory bytes outcome → LoadGives memory bytes other → outcome ≡ other
 
 -- no change of the list gives two outcomes
 abbrev pub EditsAreDetermined : Type 0
 EditsAreDetermined =
-    (memory : RegisterMap) (change : ℕ → ListedLine → List Line) (at : ℕ) (outcome other : Result (RegisterMap × Unit {0}) Refusal)
+    (memory : RegisterMap) (change : ℕ → ListedLine → List Line) (at : ℕ) (outcome other : Result (RegisterMap × Unit {0}) ProgramRefusal)
     → EditGives memory change at outcome → EditGives memory change at other → outcome ≡ other
 
 -- a position stands for its line: the list from the line's own position on is the same

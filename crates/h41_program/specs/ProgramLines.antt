@@ -6,8 +6,8 @@ use Rattle.h41_codes.specs.declared.line.Line.TheVariants.{Null}
 use Rattle.h41_ram.specs.RegisterMap.{RegisterMap, is_sound}
 use Rattle.h41_program.specs.declared.listed_line.ListedLine.{ListedLine}
 use Rattle.h41_program.specs.declared.reading.Found.{Found}
-use Rattle.h41_program.specs.declared.refusal.Refusal.{Refusal}
-use Rattle.h41_program.specs.declared.refusal.Refusal.TheVariants.{BrokenProgram}
+use Rattle.h41_program.specs.declared.refusal.ProgramRefusal.{ProgramRefusal}
+use Rattle.h41_program.specs.declared.refusal.ProgramRefusal.TheVariants.{BrokenProgram}
 use Rattle.h41_program.specs.Lines.{is_final_end}
 use Rattle.h41_program.specs.ProgramBytes.{program_bytes, final_position}
 
@@ -61,18 +61,18 @@ pub record LinesFrom (memory : RegisterMap) (at : ℕ) (lines : List ListedLine)
   pub lost : IsFalse (is_sound memory) → lines ≡ []
 
 -- the first of the lines from a position on
-abbrev pub line_of : List ListedLine → Result ListedLine Refusal
+abbrev pub line_of : List ListedLine → Result ListedLine ProgramRefusal
 line_of [] = Err BrokenProgram
 line_of (first ∷ rest) = Ok first
 
 -- the position of the second, else the byte behind the first; .END. is behind itself
-abbrev pub next_of : List ListedLine → Result ℕ Refusal
+abbrev pub next_of : List ListedLine → Result ℕ ProgramRefusal
 next_of [] = Err BrokenProgram
 next_of (first ∷ []) = Ok (if is_final_end first.line then first.position else behind first)
 next_of (first ∷ second ∷ rest) = Ok second.position
 
 -- an answer is the first line from a position on, or a refusal where there is none
-abbrev pub AnswersFirst : RegisterMap → ℕ → Result ListedLine Refusal → Type 0
+abbrev pub AnswersFirst : RegisterMap → ℕ → Result ListedLine ProgramRefusal → Type 0
 AnswersFirst memory at (Ok first) = FirstFrom (program_bytes memory) (final_position memory) at first
 AnswersFirst memory at (Err refusal) = (refusal ≡ BrokenProgram) × HasNoLine memory at
 
@@ -87,7 +87,7 @@ abbrev pub PositionBehind : RegisterMap → ListedLine → ℕ → Type 0
 PositionBehind memory first position = MatchBool (is_final_end first.line) (position ≡ first.position) (PositionFrom memory (behind first) position)
 
 -- an answer is the position behind the first line from a position on, or a refusal where there is none
-abbrev pub AnswersNext : RegisterMap → ℕ → Result ℕ Refusal → Type 0
+abbrev pub AnswersNext : RegisterMap → ℕ → Result ℕ ProgramRefusal → Type 0
 AnswersNext memory at (Ok position) =
     (first : ListedLine) × FirstFrom (program_bytes memory) (final_position memory) at first × PositionBehind memory first position
 AnswersNext memory at (Err refusal) = (refusal ≡ BrokenProgram) × HasNoLine memory at

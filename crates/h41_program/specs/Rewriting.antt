@@ -1,11 +1,11 @@
 -- Memory with another program in it: the registers below the curtain hold the new bytes, and c the new end. Registers that leave the
 -- program become zero (this project's choice), all others are as they were.
-use Rattle.std.specs.Prelude.{◌≡◌, ℕ, ◌≤◌, ◌+◌, ◌-◌, ◌*◌, ◌/◌, List, map, length, slice_set, nat_lt, if◌then◌else◌, Result, Ok, Err}
+use Rattle.std.specs.Prelude.{◌≡◌, ℕ, ◌+◌, ◌-◌, ◌*◌, ◌/◌, List, map, length, slice_set, nat_lt, if◌then◌else◌, Result, Ok, Err}
 use Rattle.std.specs.List.{range_with_len}
 use Rattle.h41_codes.specs.declared.line.Line.{Line}
-use Rattle.h41_ram.specs.RegisterMap.{RegisterMap, main_start, top_of, c_address, zeros, register_at, c_of, curtain_of, end_of, digits_from, seven_from, with_three_places}
-use Rattle.h41_program.specs.declared.refusal.Refusal.{Refusal}
-use Rattle.h41_program.specs.declared.refusal.Refusal.TheVariants.{NoRoom}
+use Rattle.h41_ram.specs.RegisterMap.{RegisterMap, main_start, c_address, zeros, register_at, c_of, curtain_of, end_of, digits_from, seven_from, with_three_places}
+use Rattle.h41_program.specs.declared.refusal.ProgramRefusal.{ProgramRefusal}
+use Rattle.h41_program.specs.declared.refusal.ProgramRefusal.TheVariants.{NoRoom}
 use Rattle.h41_program.specs.Packing.{packing}
 
 -- the addresses of main memory
@@ -39,12 +39,12 @@ rewritten memory bytes = record {
 }
 
 -- the memory with these lines for its program, where they do not pass below main memory
-abbrev pub written : RegisterMap → List Line → Result RegisterMap Refusal
+abbrev pub written : RegisterMap → List Line → Result RegisterMap ProgramRefusal
 written memory lines =
     if nat_lt (curtain_of memory) (main_start + length (packing lines) / 7) then Err NoRoom
     else Ok (rewritten memory (packing lines))
 
 -- a call gives the memory and the answer of an outcome; a refusal leaves memory as it was
-abbrev pub Gives : {A : Type 0} → RegisterMap → RegisterMap → Result A Refusal → Result (RegisterMap × A) Refusal → Type 0
-Gives old new result (Ok outcome) = (result ≡ Ok outcome.1) × (new ≡ outcome.0)
-Gives old new result (Err refusal) = (result ≡ Err refusal) × (new ≡ old)
+abbrev pub HasOutcome : {A : Type 0} → RegisterMap → RegisterMap → Result A ProgramRefusal → Result (RegisterMap × A) ProgramRefusal → Type 0
+HasOutcome old new result (Ok outcome) = (result ≡ Ok outcome.1) × (new ≡ outcome.0)
+HasOutcome old new result (Err refusal) = (result ≡ Err refusal) × (new ≡ old)

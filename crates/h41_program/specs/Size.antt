@@ -1,8 +1,8 @@
 -- Memory with another number of data registers: the curtain moves, and with it the program and the statistics registers.
-use Rattle.std.specs.Prelude.{◌≡◌, ℕ, ◌<◌, ◌≤◌, ◌+◌, ◌-◌, ◌%◌, List, map, length, slice_set, nat_lt, if◌then◌else◌, Result, Ok, Err}
+use Rattle.std.specs.Prelude.{ℕ, ◌+◌, ◌-◌, ◌%◌, List, map, length, slice_set, nat_lt, if◌then◌else◌, Result, Ok, Err}
 use Rattle.h41_ram.specs.RegisterMap.{RegisterMap, main_start, top_of, c_address, zeros, register_at, c_of, curtain_of, end_of, three_digits, with_three_places}
-use Rattle.h41_program.specs.declared.refusal.Refusal.{Refusal}
-use Rattle.h41_program.specs.declared.refusal.Refusal.TheVariants.{NoRoom, SizeTooLarge}
+use Rattle.h41_program.specs.declared.refusal.ProgramRefusal.{ProgramRefusal}
+use Rattle.h41_program.specs.declared.refusal.ProgramRefusal.TheVariants.{NoRoom, SizeTooLarge}
 use Rattle.h41_program.specs.Rewriting.{addresses, free_register}
 
 -- the address of the first statistics register
@@ -44,7 +44,7 @@ resized memory size = record {
 }
 
 -- one data register fewer than main memory has registers is the most; the program must not pass below main memory
-abbrev pub size_outcome : RegisterMap → ℕ → Result (RegisterMap × Unit {0}) Refusal
+abbrev pub size_outcome : RegisterMap → ℕ → Result (RegisterMap × Unit {0}) ProgramRefusal
 size_outcome memory size =
     if nat_lt size (length memory.main) then
     (if nat_lt (moved_curtain memory size + end_of memory) (main_start + curtain_of memory) then Err NoRoom

@@ -5,14 +5,14 @@ ghost use Rattle.h41_ram.specs.RegisterMap.{is_sound};
 ghost use Rattle.h41_program.specs.Edits.{Edits, with_inserted, with_replaced, without_deleted};
 ghost use Rattle.h41_program.specs.EditSteps.{EditsAt, PacksChanged};
 ghost use Rattle.h41_program.specs.Packers.{Puts, line_if};
-ghost use Rattle.h41_program.specs.declared.refusal.Refusal.TheVariants.{BrokenProgram};
+ghost use Rattle.h41_program.specs.declared.refusal.ProgramRefusal.TheVariants.{BrokenProgram};
 
 use crate::kinds::is_final_end;
 use crate::listed_line::ListedLine;
 use crate::packer::Packer;
 use crate::ranges::know_ranges;
 use crate::reading::{Found, first_from, line_at};
-use crate::refusal::Refusal;
+use crate::refusal::ProgramRefusal;
 use h41_codes::Line;
 use h41_ram::Ram;
 
@@ -22,7 +22,7 @@ pub fn insert<const REGS: usize>(
     ram: &mut Ram<REGS>,
     before: u16,
     line: Line,
-) -> Result<(), Refusal>
+) -> Result<(), ProgramRefusal>
     requires { IsTrue (is_sound ram.old) }
     ensures { Edits ram.old ram.new (with_inserted line) before result }
 {
@@ -35,7 +35,7 @@ pub fn insert<const REGS: usize>(
 
 /// Deletes the line that a position stands for; `.END.` stays. 14 where the list has no such line or does not reach `.END.`, 16
 /// where the program would pass below main memory.
-pub fn delete<const REGS: usize>(ram: &mut Ram<REGS>, at: u16) -> Result<(), Refusal>
+pub fn delete<const REGS: usize>(ram: &mut Ram<REGS>, at: u16) -> Result<(), ProgramRefusal>
     requires { IsTrue (is_sound ram.old) }
     ensures { Edits ram.old ram.new without_deleted at result }
 {
@@ -48,7 +48,11 @@ pub fn delete<const REGS: usize>(ram: &mut Ram<REGS>, at: u16) -> Result<(), Ref
 /// Puts a line, which is neither a null nor `.END.`, in the place of the one that a position stands for; at `.END.` it becomes
 /// the last. This is one change: 16 is judged on the new lines alone. 14 where the list has no such line or does not reach
 /// `.END.`, 16 where the program would pass below main memory.
-pub fn replace<const REGS: usize>(ram: &mut Ram<REGS>, at: u16, line: Line) -> Result<(), Refusal>
+pub fn replace<const REGS: usize>(
+    ram: &mut Ram<REGS>,
+    at: u16,
+    line: Line,
+) -> Result<(), ProgramRefusal>
     requires { IsTrue (is_sound ram.old) }
     ensures { Edits ram.old ram.new (with_replaced line) at result }
 {
@@ -60,7 +64,11 @@ pub fn replace<const REGS: usize>(ram: &mut Ram<REGS>, at: u16, line: Line) -> R
 }
 
 /// Inserts a line before the one at its own position.
-fn insert_at<const REGS: usize>(ram: &mut Ram<REGS>, place: u16, line: &Line) -> Result<(), Refusal>
+fn insert_at<const REGS: usize>(
+    ram: &mut Ram<REGS>,
+    place: u16,
+    line: &Line,
+) -> Result<(), ProgramRefusal>
     requires sound { IsTrue (is_sound ram.old) }
     requires line { IsLine line.now }
     ensures { EditsAt ram.old ram.new (with_inserted line.now place) place result }
@@ -72,7 +80,7 @@ fn insert_at<const REGS: usize>(ram: &mut Ram<REGS>, place: u16, line: &Line) ->
 }
 
 /// Deletes the line at its own position.
-fn delete_at<const REGS: usize>(ram: &mut Ram<REGS>, place: u16) -> Result<(), Refusal>
+fn delete_at<const REGS: usize>(ram: &mut Ram<REGS>, place: u16) -> Result<(), ProgramRefusal>
     requires { IsTrue (is_sound ram.old) }
     ensures { EditsAt ram.old ram.new (without_deleted place) place result }
 {
@@ -87,7 +95,7 @@ fn replace_at<const REGS: usize>(
     ram: &mut Ram<REGS>,
     place: u16,
     line: &Line,
-) -> Result<(), Refusal>
+) -> Result<(), ProgramRefusal>
     requires sound { IsTrue (is_sound ram.old) }
     requires line { IsLine line.now }
     ensures { EditsAt ram.old ram.new (with_replaced line.now place) place result }
@@ -103,7 +111,7 @@ fn packed_with<const REGS: usize>(
     ram: &Ram<REGS>,
     place: u16,
     line: &Line,
-) -> Result<Packer, Refusal>
+) -> Result<Packer, ProgramRefusal>
     requires sound { IsTrue (is_sound ram.now) }
     requires line { IsLine line.now }
     ensures { PacksChanged ram.now (with_inserted line.now place) place result }
@@ -122,11 +130,11 @@ fn packed_with<const REGS: usize>(
         packer.put(listed.line);
         at = behind;
     }
-    Err(Refusal::BrokenProgram)
+    Err(ProgramRefusal::BrokenProgram)
 }
 
 /// The lines of memory before `.END.` without the line at a position.
-fn packed_without<const REGS: usize>(ram: &Ram<REGS>, place: u16) -> Result<Packer, Refusal>
+fn packed_without<const REGS: usize>(ram: &Ram<REGS>, place: u16) -> Result<Packer, ProgramRefusal>
     requires { IsTrue (is_sound ram.now) }
     ensures { PacksChanged ram.now (without_deleted place) place result }
 {
@@ -143,7 +151,7 @@ fn packed_without<const REGS: usize>(ram: &Ram<REGS>, place: u16) -> Result<Pack
         put_if(&mut packer, &listed.line, !here);
         at = behind;
     }
-    Err(Refusal::BrokenProgram)
+    Err(ProgramRefusal::BrokenProgram)
 }
 
 /// The lines of memory before `.END.` with another in the place of the line at a position.
@@ -151,7 +159,7 @@ fn packed_replaced<const REGS: usize>(
     ram: &Ram<REGS>,
     place: u16,
     line: &Line,
-) -> Result<Packer, Refusal>
+) -> Result<Packer, ProgramRefusal>
     requires sound { IsTrue (is_sound ram.now) }
     requires line { IsLine line.now }
     ensures { PacksChanged ram.now (with_replaced line.now place) place result }
@@ -170,7 +178,7 @@ fn packed_replaced<const REGS: usize>(
         put_if(&mut packer, &listed.line, !there);
         at = behind;
     }
-    Err(Refusal::BrokenProgram)
+    Err(ProgramRefusal::BrokenProgram)
 }
 
 /// Whether a line stands at a position.
@@ -198,12 +206,12 @@ fn put_if(packer: &mut Packer, line: &Line, wanted: bool)
 }
 
 /// The lines, where the one to be changed was among them.
-fn where_met(packer: Packer, met: bool) -> Result<Packer, Refusal>
+fn where_met(packer: Packer, met: bool) -> Result<Packer, ProgramRefusal>
     ensures { result ≡ (if met then Ok packer else Err BrokenProgram) }
 {
     if met {
         Ok(packer)
     } else {
-        Err(Refusal::BrokenProgram)
+        Err(ProgramRefusal::BrokenProgram)
     }
 }

@@ -22,6 +22,6 @@ pub use kinds::{is_final_end, is_number};
 pub use listed_line::ListedLine;
 pub use loading::load;
 pub use reading::{Found, first_from, line_at, next};
-pub use refusal::Refusal;
+pub use refusal::ProgramRefusal;
 pub use searches::{global, local, start_of};
 pub use size::set_size;

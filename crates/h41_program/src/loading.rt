@@ -11,7 +11,7 @@ use crate::given::{are_nulls, line_in};
 use crate::kinds::{is_end, is_final_end};
 use crate::packer::Packer;
 use crate::reading::{Found, first_from};
-use crate::refusal::Refusal;
+use crate::refusal::ProgramRefusal;
 use h41_codes::Line;
 use h41_ram::Ram;
 
@@ -19,7 +19,7 @@ use h41_ram::Ram;
 /// behind the last program in memory where it has lines and no END; a final END or `.END.` of the bytes is dropped, nulls are
 /// passed over (this project's choice). 14 where bytes of memory or given bytes are no line, or an `.END.` stands elsewhere
 /// than at the end of those given; 16 where the program would pass below main memory.
-pub fn load<const REGS: usize>(ram: &mut Ram<REGS>, bytes: &[u8]) -> Result<u16, Refusal>
+pub fn load<const REGS: usize>(ram: &mut Ram<REGS>, bytes: &[u8]) -> Result<u16, ProgramRefusal>
     requires { IsTrue (is_sound ram.old) }
     ensures lines { Loads ram.old ram.new bytes.now result }
     ensures bound { IfOk result (λ start. start ≤ 2237) }
@@ -33,7 +33,7 @@ pub fn load<const REGS: usize>(ram: &mut Ram<REGS>, bytes: &[u8]) -> Result<u16,
 }
 
 /// The lines of memory before `.END.`.
-pub fn packed_program<const REGS: usize>(ram: &Ram<REGS>) -> Result<Packer, Refusal>
+pub fn packed_program<const REGS: usize>(ram: &Ram<REGS>) -> Result<Packer, ProgramRefusal>
     requires { IsTrue (is_sound ram.now) }
     ensures { PacksProgram ram.now result }
 {
@@ -47,11 +47,11 @@ pub fn packed_program<const REGS: usize>(ram: &Ram<REGS>) -> Result<Packer, Refu
         packer.put(listed.line);
         at = behind;
     }
-    Err(Refusal::BrokenProgram)
+    Err(ProgramRefusal::BrokenProgram)
 }
 
 /// Puts the lines of bytes behind others, but for a final END or `.END.`.
-fn put_loaded(packer: &mut Packer, bytes: &[u8]) -> Result<(), Refusal>
+fn put_loaded(packer: &mut Packer, bytes: &[u8]) -> Result<(), ProgramRefusal>
     ensures { PutsLoaded packer.old packer.new bytes.now result }
 {
     let mut pending: Option<Line> = None;
@@ -65,7 +65,7 @@ fn put_loaded(packer: &mut Packer, bytes: &[u8]) -> Result<(), Refusal>
         pending = Some(taken.line);
     }
     if !are_nulls(bytes, at) {
-        return Err(Refusal::BrokenProgram);
+        return Err(ProgramRefusal::BrokenProgram);
     }
     put_last(packer, pending);
     Ok(())
@@ -94,13 +94,13 @@ fn put_last(packer: &mut Packer, pending: Option<Line>)
 }
 
 /// 14 where bytes from a position on are not all nulls.
-fn nulls_from(bytes: &[u8], at: usize) -> Result<(), Refusal>
+fn nulls_from(bytes: &[u8], at: usize) -> Result<(), ProgramRefusal>
     requires { at ≤ length bytes.now }
     ensures { result ≡ checked_nulls (drop at bytes.now) }
 {
     if are_nulls(bytes, at) {
         Ok(())
     } else {
-        Err(Refusal::BrokenProgram)
+        Err(ProgramRefusal::BrokenProgram)
     }
 }

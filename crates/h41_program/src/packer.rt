@@ -11,7 +11,7 @@ ghost use Rattle.h41_program.specs.Packers.{Packs, Pushes, Puts, parting};
 ghost use Rattle.h41_program.specs.Packing.{filled_up};
 
 use crate::kinds::{is_end, is_number};
-use crate::refusal::Refusal;
+use crate::refusal::ProgramRefusal;
 use crate::rewriting::rewrite;
 use arrayvec::ArrayVec;
 use h41_codes::{EndMarks, Line, Link, encode};
@@ -75,7 +75,7 @@ impl Packer {
     }
 
     /// Writes the lines into program memory. 16 where they would pass below main memory.
-    pub fn write<const REGS: usize>(self, ram: &mut Ram<REGS>) -> Result<(), Refusal>
+    pub fn write<const REGS: usize>(self, ram: &mut Ram<REGS>) -> Result<(), ProgramRefusal>
         requires { IsTrue (is_sound ram.old) }
         ensures lines { Writes self ram.old ram.new result }
         ensures small { curtain_of ram.old ≤ main_start + 320 }
@@ -84,7 +84,7 @@ impl Packer {
         let curtain = ram.curtain();
         let room = usize::from(curtain) - MAIN_START;
         if full || bytes.len() + 3 > 7 * room {
-            return Err(Refusal::NoRoom);
+            return Err(ProgramRefusal::NoRoom);
         }
         let program = filled(bytes);
         let registers = program.len() / 7;

@@ -9,7 +9,7 @@ ghost use Rattle.h41_program.specs.Reading.{program_register, FollowsAt, FoundBe
 
 use crate::kinds::is_final_end;
 use crate::listed_line::ListedLine;
-use crate::refusal::Refusal;
+use crate::refusal::ProgramRefusal;
 use arrayvec::ArrayVec;
 use h41_codes::decode;
 use h41_codes::laws::byte_round_trip;
@@ -142,27 +142,27 @@ pub fn first_from<const REGS: usize>(ram: &Ram<REGS>, at: u16) -> Option<Found>
 }
 
 /// The line that a position stands for: the first from there on, nulls passed over. 14 where there is none.
-pub fn line_at<const REGS: usize>(ram: &Ram<REGS>, at: u16) -> Result<ListedLine, Refusal>
+pub fn line_at<const REGS: usize>(ram: &Ram<REGS>, at: u16) -> Result<ListedLine, ProgramRefusal>
     requires { IsTrue (is_sound ram.now) }
     ensures lines { AnswersFrom line_of ram.now at result }
     ensures first { AnswersFirst ram.now at result }
 {
     match first_from(ram, at) {
         Some(found) => Ok(found.listed),
-        None => Err(Refusal::BrokenProgram),
+        None => Err(ProgramRefusal::BrokenProgram),
     }
 }
 
 /// The position of the line behind the one that a position stands for, or the byte behind that one where no line follows;
 /// of `.END.` its own. 14 where there is no line.
-pub fn next<const REGS: usize>(ram: &Ram<REGS>, at: u16) -> Result<u16, Refusal>
+pub fn next<const REGS: usize>(ram: &Ram<REGS>, at: u16) -> Result<u16, ProgramRefusal>
     requires { IsTrue (is_sound ram.now) }
     ensures lines { AnswersFrom next_of ram.now at result }
     ensures first { AnswersNext ram.now at result }
 {
     match first_from(ram, at) {
         Some(first) => Ok(position_behind(ram, first)),
-        None => Err(Refusal::BrokenProgram),
+        None => Err(ProgramRefusal::BrokenProgram),
     }
 }
 

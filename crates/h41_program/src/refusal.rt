@@ -3,7 +3,7 @@ use thiserror::Error;
 
 /// Why a call was refused.
 #[derive(Clone, Copy, Debug, PartialEq, Eq, Error)]
-pub enum Refusal {
+pub enum ProgramRefusal {
     /// 14: bytes are no line, or no line of the list stands there.
     #[error("these bytes are no line")]
     BrokenProgram,

@@ -2,11 +2,11 @@
 ghost use Rattle.std.specs.Prelude.{◌≡◌, ◌+◌, ◌-◌, ◌<◌, ◌≤◌, IsTrue};
 ghost use Rattle.h41_ram.specs.RegisterMap.{IsMemory, is_sound, curtain_of, top_of};
 ghost use Rattle.h41_program.specs.ProgramPlaces.{IsMove};
-ghost use Rattle.h41_program.specs.Rewriting.{Gives};
+ghost use Rattle.h41_program.specs.Rewriting.{HasOutcome};
 ghost use Rattle.h41_program.specs.Size as place;
 ghost use Rattle.h41_program.specs.Size.{resized, resized_c, resized_register, size_outcome};
 
-use crate::refusal::Refusal;
+use crate::refusal::ProgramRefusal;
 use crate::registers::{
     ADDRESSES, C, CURTAIN_PLACE, END_PLACE, STATISTICS_PLACE, address_at, with_address,
 };
@@ -17,18 +17,18 @@ use h41_ram::{MAIN_START, Ram};
 /// Makes memory have so many data registers. The program and the statistics registers move with the curtain, the data registers
 /// that there were and are keep their values, new ones are zero, and so are registers that the program leaves (this project's
 /// choice). 17 where there are not more registers than that, 16 where the program would pass below main memory.
-pub fn set_size<const REGS: usize>(ram: &mut Ram<REGS>, size: u16) -> Result<(), Refusal>
+pub fn set_size<const REGS: usize>(ram: &mut Ram<REGS>, size: u16) -> Result<(), ProgramRefusal>
     requires { IsTrue (is_sound ram.old) }
-    ensures { Gives ram.old ram.new result (size_outcome ram.old size) }
+    ensures { HasOutcome ram.old ram.new result (size_outcome ram.old size) }
 {
     let curtain = ram.curtain();
     let end = ram.end_register();
     if usize::from(size) >= REGS {
-        return Err(Refusal::SizeTooLarge);
+        return Err(ProgramRefusal::SizeTooLarge);
     }
     let new_curtain = MAIN_START as u16 + REGS as u16 - size;
     if new_curtain + end < MAIN_START as u16 + curtain {
-        return Err(Refusal::NoRoom);
+        return Err(ProgramRefusal::NoRoom);
     }
     resize(ram, new_curtain, new_curtain + end - curtain);
     Ok(())

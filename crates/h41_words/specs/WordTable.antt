@@ -1,6 +1,6 @@
 -- The table of the words: which row each of the 1,024 words has, and how many words an instruction takes. Numbers of words
 -- are those of the instruction set of HP's Nut processor.
-use Rattle.std.specs.Prelude.{◌≡◌, ℕ, ◌+◌, ◌-◌, ◌*◌, ◌%◌, ◌<◌, ◌≤◌, ℤ, pos, negsuc, ◌≤ℤ◌, Bool, false, ◌||◌, ◌⊎◌, ◌↔◌, List, [], ◌∷◌, map, Contains, Option, Some, None, ◌==◌, if◌then◌else◌}
+use Rattle.std.specs.Prelude.{◌≡◌, ℕ, ◌+◌, ◌-◌, ◌*◌, ◌%◌, ◌<◌, ◌≤◌, ℤ, pos, negsuc, ◌≤ℤ◌, Bool, false, ◌||◌, ◌↔◌, List, [], ◌∷◌, map, Contains, Option, Some, None, ◌==◌, if◌then◌else◌}
 use Rattle.std.specs.List.{position_or_len}
 use Rattle.h41_fields.specs.declared.field.Field.{Field}
 use Rattle.h41_fields.specs.declared.field.Field.TheVariants.{AtPointer, SignAndExponent, ToPointer, All, PToQ, ExponentSign, Mantissa, MantissaSign}

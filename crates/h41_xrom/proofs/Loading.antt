@@ -1,9 +1,9 @@
 -- What loading leaves, by the answer of program memory.
 use Rattle.std.proofs.Common.{◌≡◌, ℕ, true, List, [], Some, None, Result, Ok, Err, refl, sym, ap, subst, ◌∙◌}
-use Rattle.h41_program.specs.declared.refusal.Refusal as program
+use Rattle.h41_program.specs.declared.refusal.ProgramRefusal as program
 use Rattle.h41_program.specs.Edits as edits
 use Rattle.h41_program.specs.Edits.{LoadGives}
-use Rattle.h41_program.specs.Rewriting.{Gives}
+use Rattle.h41_program.specs.Rewriting.{HasOutcome}
 use Rattle.h41_ram.specs.RegisterMap.{RegisterMap}
 use Rattle.h41_xrom.specs.declared.refusal.CalculatorRefusal.{CalculatorRefusal}
 use Rattle.h41_xrom.specs.declared.refusal.CalculatorRefusal.TheVariants.{Program}
@@ -20,8 +20,8 @@ pub load_refused : (bytes : List ℕ) (s : CalculatorState) (why : CalculatorRef
 load_refused bytes s why e = (Err why, rw (sym e) refl, (refl, refl))
 
 -- one that program memory refuses
-failed_by : (bytes : List ℕ) (from s : CalculatorState) (memory : RegisterMap) (why : program.Refusal) (outcome : Result (RegisterMap × ℕ) program.Refusal)
-    → from ≡ s → None ≡ change_refusal s → LoadGives from.nut.ram bytes outcome → Gives from.nut.ram memory (Err why) outcome
+failed_by : (bytes : List ℕ) (from s : CalculatorState) (memory : RegisterMap) (why : program.ProgramRefusal) (outcome : Result (RegisterMap × ℕ) program.ProgramRefusal)
+    → from ≡ s → None ≡ change_refusal s → LoadGives from.nut.ram bytes outcome → HasOutcome from.nut.ram memory (Err why) outcome
     → Loads bytes s (with_memory memory from) (Some (Program why))
 failed_by bytes from s memory why (Ok made) is accepted given gives = let never : Err why ≡ Ok made.1 = gives.0 in cc
 failed_by bytes from s memory why (Err other) is accepted given gives =
@@ -29,16 +29,16 @@ failed_by bytes from s memory why (Err other) is accepted given gives =
     let same : why ≡ other = cc in (
       Err (Program other),
       rw (sym accepted) (Err other, subst (λ (of : CalculatorState). LoadGives of.nut.ram bytes (Err other)) is given, refl),
-      (ap (λ (of : RegisterMap). with_memory of from) gives.1 ∙ is, ap (λ (of : program.Refusal). Some (Program of)) same),
+      (ap (λ (of : RegisterMap). with_memory of from) gives.1 ∙ is, ap (λ (of : program.ProgramRefusal). Some (Program of)) same),
     )
 
-pub load_failed : (bytes : List ℕ) (from s : CalculatorState) (memory : RegisterMap) (why : program.Refusal) → from ≡ s → None ≡ change_refusal s
+pub load_failed : (bytes : List ℕ) (from s : CalculatorState) (memory : RegisterMap) (why : program.ProgramRefusal) → from ≡ s → None ≡ change_refusal s
     → edits.Loads from.nut.ram memory bytes (Err why) → Loads bytes s (with_memory memory from) (Some (Program why))
 load_failed bytes from s memory why is accepted loads = failed_by bytes from s memory why loads.0 is accepted loads.1 loads.2
 
 -- and one that is done
-done_by : (bytes : List ℕ) (from s : CalculatorState) (memory : RegisterMap) (position : ℕ) (returns : List ℕ) (outcome : Result (RegisterMap × ℕ) program.Refusal)
-    → from ≡ s → returns ≡ [] → None ≡ change_refusal s → LoadGives from.nut.ram bytes outcome → Gives from.nut.ram memory (Ok position) outcome
+done_by : (bytes : List ℕ) (from s : CalculatorState) (memory : RegisterMap) (position : ℕ) (returns : List ℕ) (outcome : Result (RegisterMap × ℕ) program.ProgramRefusal)
+    → from ≡ s → returns ≡ [] → None ≡ change_refusal s → LoadGives from.nut.ram bytes outcome → HasOutcome from.nut.ram memory (Ok position) outcome
     → Loads bytes s (with_place memory position returns from) None
 done_by bytes from s memory position returns (Ok made) is none accepted given gives =
     let done : Ok position ≡ Ok made.1 = gives.0 in

@@ -3,7 +3,7 @@ use Rattle.std.proofs.Common.{◌≡◌, ℕ, Bool, true, false, List, Option, S
 use Rattle.std.specs.Prelude.{MatchBool, MatchOption}
 use Rattle.std.specs.Result.{result_err, result_unwrap_or}
 use Rattle.h41_nut.specs.ProcessorLaws.{MicroIsDetermined}
-use Rattle.h41_program.specs.declared.refusal.Refusal as program
+use Rattle.h41_program.specs.declared.refusal.ProgramRefusal as program
 use Rattle.h41_program.specs.Edits.{LoadGives}
 use Rattle.h41_program.specs.ProgramLaws.{LoadsAreDetermined}
 use Rattle.h41_ram.specs.RegisterMap.{RegisterMap, is_sound}
@@ -47,8 +47,8 @@ module _ (same_micro : MicroIsDetermined) where
 -- what a load makes
 module _ (same_load : LoadsAreDetermined) where
   same_made_by : (why : Option CalculatorRefusal) (s : CalculatorState) (bytes : List ℕ) (a b : Result CalculatorState CalculatorRefusal)
-      → MatchOption why ((outcome : Result (RegisterMap × ℕ) program.Refusal) × LoadGives s.nut.ram bytes outcome × (a ≡ loaded s outcome)) (λ why. a ≡ Err why)
-      → MatchOption why ((outcome : Result (RegisterMap × ℕ) program.Refusal) × LoadGives s.nut.ram bytes outcome × (b ≡ loaded s outcome)) (λ why. b ≡ Err why) → a ≡ b
+      → MatchOption why ((outcome : Result (RegisterMap × ℕ) program.ProgramRefusal) × LoadGives s.nut.ram bytes outcome × (a ≡ loaded s outcome)) (λ why. a ≡ Err why)
+      → MatchOption why ((outcome : Result (RegisterMap × ℕ) program.ProgramRefusal) × LoadGives s.nut.ram bytes outcome × (b ≡ loaded s outcome)) (λ why. b ≡ Err why) → a ≡ b
   same_made_by None s bytes a b p q = p.2 ∙ ap (loaded s) (same_load s.nut.ram bytes p.0 q.0 p.1 q.1) ∙ sym q.2
   same_made_by (Some why) s bytes a b p q = p ∙ sym q
 

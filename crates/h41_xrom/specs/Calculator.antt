@@ -3,7 +3,7 @@
 use Rattle.std.specs.Prelude.{◌≡◌, ℕ, Bool, true, false, not, nat_lt, ◌==◌, IsTrue, MatchBool, if◌then◌else◌, Option, Some, None, List, [], ◌∷◌, option_map}
 use Rattle.std.specs.Bool.{then_some}
 use Rattle.std.specs.Option.{option_or}
-use Rattle.h41_nut.specs.declared.refusal.Refusal.TheVariants as words
+use Rattle.h41_nut.specs.declared.refusal.WordRefusal.TheVariants as words
 use Rattle.h41_pages.specs.declared.refusal.PlugRefusal.{PlugRefusal}
 use Rattle.h41_program.specs.declared.listed_line.ListedLine.{ListedLine}
 use Rattle.h41_program.specs.Lines.{is_final_end}

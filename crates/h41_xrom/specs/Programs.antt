@@ -3,7 +3,7 @@ use Rattle.std.specs.Prelude.{◌≡◌, ℕ, not, List, Option, Some, None, Mat
 use Rattle.std.specs.Bool.{then_some}
 use Rattle.std.specs.Option.{option_or}
 use Rattle.std.specs.Result.{result_err, result_unwrap_or}
-use Rattle.h41_program.specs.declared.refusal.Refusal as program
+use Rattle.h41_program.specs.declared.refusal.ProgramRefusal as program
 use Rattle.h41_program.specs.Edits.{LoadGives}
 use Rattle.h41_program.specs.Size.{size_outcome}
 use Rattle.h41_ram.specs.RegisterMap.{RegisterMap, is_sound}
@@ -24,11 +24,11 @@ abbrev pub with_program : RegisterMap → ℕ → CalculatorState → Calculator
 with_program memory position s = record s { nut = record s.nut { ram = memory }; focal = at_program position }
 
 -- what a change of program memory makes of the calculator, or why it is refused
-abbrev pub loaded : CalculatorState → Result (RegisterMap × ℕ) program.Refusal → Result CalculatorState CalculatorRefusal
+abbrev pub loaded : CalculatorState → Result (RegisterMap × ℕ) program.ProgramRefusal → Result CalculatorState CalculatorRefusal
 loaded s (Ok outcome) = Ok (with_program outcome.0 outcome.1 s)
 loaded s (Err why) = Err (Program why)
 
-abbrev pub resized : CalculatorState → Result (RegisterMap × Unit {0}) program.Refusal → Result CalculatorState CalculatorRefusal
+abbrev pub resized : CalculatorState → Result (RegisterMap × Unit {0}) program.ProgramRefusal → Result CalculatorState CalculatorRefusal
 resized s (Ok outcome) = Ok (with_memory outcome.0 s)
 resized s (Err why) = Err (Program why)
 
@@ -36,7 +36,7 @@ resized s (Err why) = Err (Program why)
 abbrev pub LoadMakes : CalculatorState → List ℕ → Result CalculatorState CalculatorRefusal → Type 0
 LoadMakes s bytes made =
     MatchOption (change_refusal s)
-    ((outcome : Result (RegisterMap × ℕ) program.Refusal) × LoadGives s.nut.ram bytes outcome × (made ≡ loaded s outcome))
+    ((outcome : Result (RegisterMap × ℕ) program.ProgramRefusal) × LoadGives s.nut.ram bytes outcome × (made ≡ loaded s outcome))
     (λ why. made ≡ Err why)
 
 -- what is made, unless there is a refusal

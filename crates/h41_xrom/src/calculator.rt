@@ -10,7 +10,7 @@ ghost use Rattle.h41_xrom.specs.Programs.{Becomes, Loads, change_refusal, size_m
 
 use crate::refusal::CalculatorRefusal;
 use arrayvec::ArrayVec;
-use h41_nut::{Cpu, END_OF_FUNCTION, Keys, Refusal as WordRefusal, step};
+use h41_nut::{Cpu, END_OF_FUNCTION, Keys, WordRefusal, step};
 use h41_pages::{FIRST_ADDRESS, Pages, PlugRefusal, UnplugRefusal};
 use h41_program::{first_from, is_final_end, load, set_size};
 use h41_ram::Ram;

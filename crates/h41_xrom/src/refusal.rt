@@ -2,8 +2,8 @@
 
 ghost use Rattle.std.specs.Prelude.{◌≡◌};
 
-use h41_nut::Refusal as WordRefusal;
-use h41_program::Refusal as ProgramRefusal;
+use h41_nut::WordRefusal;
+use h41_program::ProgramRefusal;
 use thiserror::Error;
 
 /// Why a call was refused. It changes nothing then.

@@ -4,10 +4,10 @@ ghost use Rattle.std.specs.Prelude.{◌≡◌, ◌≤◌, length};
 ghost use Rattle.h41_deck.specs.Refusals as spec;
 
 use crate::refusal::Refusal;
-use h41_asm::Fault as SourceFault;
+use h41_asm::SourceFault;
 use h41_commands::LineRefusal;
-use h41_nut::Refusal as WordRefusal;
-use h41_program::Refusal as ProgramRefusal;
+use h41_nut::WordRefusal;
+use h41_program::ProgramRefusal;
 use h41_xrom::CalculatorRefusal;
 
 impl Refusal {

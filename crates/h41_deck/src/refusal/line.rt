@@ -8,7 +8,7 @@ use crate::refusal::Refusal;
 use arrayvec::ArrayString;
 use h41_commands::LineRefusal;
 use h41_lines::characters::address_digits;
-use h41_nut::Refusal as WordRefusal;
+use h41_nut::WordRefusal;
 use h41_xrom::CalculatorRefusal;
 use itoa::Buffer;
 

@@ -9,7 +9,7 @@ ghost use Rattle.h41_nut.specs.Arrivals.{arrival_refusal, next_address, gone_on}
 use crate::base::Base;
 use crate::cpu::Cpu;
 use crate::cpu::jumps::arrival;
-use crate::refusal::Refusal;
+use crate::refusal::WordRefusal;
 use h41_arith::{
     add, copy, dec, differs, exchange, inc, less, neg, neg1, nonzero, shift_left, shift_right, sub,
 };
@@ -19,7 +19,11 @@ use h41_words::Operation;
 
 impl Cpu {
     /// `OPERATION FIELD`: works on a field in the base that is set.
-    pub(crate) fn arithmetic(&mut self, operation: Operation, field: Field) -> Result<(), Refusal>
+    pub(crate) fn arithmetic(
+        &mut self,
+        operation: Operation,
+        field: Field,
+    ) -> Result<(), WordRefusal>
         ensures refusal { result_err result ≡ arrival_refusal (next_address self.old) }
         ensures operates { OnOk result (OperatesOn operation field (gone_on self.old) self.new) }
         ensures stays { OnErr result (self.new ≡ self.old) }

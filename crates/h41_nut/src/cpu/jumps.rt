@@ -10,7 +10,7 @@ ghost use Rattle.h41_nut.specs.RegisterWords.{with_address_pushed, with_address_
 
 use crate::addresses::END_OF_FUNCTION;
 use crate::cpu::Cpu;
-use crate::refusal::Refusal;
+use crate::refusal::WordRefusal;
 use h41_pages::FIRST_ADDRESS;
 use h41_words::{Condition, Displacement, LongJumpKind, SecondWord};
 
@@ -31,7 +31,7 @@ impl Cpu {
     }
 
     /// Goes to an address, with no carry.
-    pub(crate) fn go_to(&mut self, address: u16) -> Result<(), Refusal>
+    pub(crate) fn go_to(&mut self, address: u16) -> Result<(), WordRefusal>
         ensures { GoesTo (λ _. address) (λ s. s) self.old self.new result }
     {
         let next = arrival(address)?;
@@ -40,14 +40,14 @@ impl Cpu {
     }
 
     /// Goes on after the word, with no carry.
-    pub(crate) fn go_on(&mut self) -> Result<(), Refusal>
+    pub(crate) fn go_on(&mut self) -> Result<(), WordRefusal>
         ensures { GoesOn (λ s. s) self.old self.new result }
     {
         self.go_to(self.next_address())
     }
 
     /// Goes on after the word, with the answer of a test as the carry.
-    pub(crate) fn answer(&mut self, test: bool) -> Result<(), Refusal>
+    pub(crate) fn answer(&mut self, test: bool) -> Result<(), WordRefusal>
         ensures { GoesOnTelling test self.old self.new result }
     {
         let next = arrival(self.next_address())?;
@@ -57,7 +57,7 @@ impl Cpu {
 
     /// `?NC XQ` and the like: goes to the address of both words, where the carry is as the second word says. `XQ` keeps the
     /// address after both words.
-    pub(crate) fn long_jump(&mut self, low_byte: u8, second: SecondWord) -> Result<(), Refusal>
+    pub(crate) fn long_jump(&mut self, low_byte: u8, second: SecondWord) -> Result<(), WordRefusal>
         ensures { JumpsLong low_byte second self.old self.new result }
     {
         let after_both = self.pc.wrapping_add(2);
@@ -77,7 +77,7 @@ impl Cpu {
         &mut self,
         condition: Condition,
         displacement: Displacement,
-    ) -> Result<(), Refusal>
+    ) -> Result<(), WordRefusal>
         ensures { JumpsShort condition displacement self.old self.new result }
     {
         if is_taken(condition, self.carry) {
@@ -88,7 +88,7 @@ impl Cpu {
     }
 
     /// `RTN`: goes to the newest return address, which is taken off.
-    pub(crate) fn return_to_newest(&mut self) -> Result<(), Refusal>
+    pub(crate) fn return_to_newest(&mut self) -> Result<(), WordRefusal>
         ensures { GoesTo spec.newest_return spec.popped self.old self.new result }
     {
         let next = arrival(self.newest_return())?;
@@ -98,7 +98,7 @@ impl Cpu {
     }
 
     /// `?C RTN` and `?NC RTN`: returns where the carry is as the condition says.
-    pub(crate) fn return_if(&mut self, condition: Condition) -> Result<(), Refusal>
+    pub(crate) fn return_if(&mut self, condition: Condition) -> Result<(), WordRefusal>
         ensures { ReturnsIf condition self.old self.new result }
     {
         if is_taken(condition, self.carry) {
@@ -109,7 +109,7 @@ impl Cpu {
     }
 
     /// `XQ->GO`: drops the newest return address.
-    pub(crate) fn drop_return(&mut self) -> Result<(), Refusal>
+    pub(crate) fn drop_return(&mut self) -> Result<(), WordRefusal>
         ensures { GoesOn spec.popped self.old self.new result }
     {
         let next = arrival(self.next_address())?;
@@ -119,7 +119,7 @@ impl Cpu {
     }
 
     /// `PUSH ADR`: the address in C becomes the newest return address.
-    pub(crate) fn push_address(&mut self) -> Result<(), Refusal>
+    pub(crate) fn push_address(&mut self) -> Result<(), WordRefusal>
         ensures { GoesOn with_address_pushed self.old self.new result }
     {
         let next = arrival(self.next_address())?;
@@ -129,7 +129,7 @@ impl Cpu {
     }
 
     /// `POP ADR`: the newest return address goes to C, and is taken off.
-    pub(crate) fn pop_address(&mut self) -> Result<(), Refusal>
+    pub(crate) fn pop_address(&mut self) -> Result<(), WordRefusal>
         ensures { GoesOn with_address_popped self.old self.new result }
     {
         let next = arrival(self.next_address())?;
@@ -146,7 +146,7 @@ impl Cpu {
     }
 
     /// `GOTO KEY`: goes to the next address with the key's code as its low byte.
-    pub(crate) fn go_to_key(&mut self, key: u8) -> Result<(), Refusal>
+    pub(crate) fn go_to_key(&mut self, key: u8) -> Result<(), WordRefusal>
         ensures { GoesTo (spec.key_target key) (λ s. s) self.old self.new result }
     {
         self.go_to(self.next_address() / 256 * 256 + u16::from(key))
@@ -199,12 +199,12 @@ fn displaced(address: u16, displacement: Displacement) -> u16
 }
 
 /// The address, unless no step may arrive there.
-pub(crate) fn arrival(address: u16) -> Result<u16, Refusal>
+pub(crate) fn arrival(address: u16) -> Result<u16, WordRefusal>
     ensures refusal { result_err result ≡ arrivals.arrival_refusal address }
     ensures address { IfOk result (λ arrived. arrived ≡ address) }
 {
     if address < FIRST_ADDRESS && address != END_OF_FUNCTION {
-        Err(Refusal::SystemRom(address))
+        Err(WordRefusal::SystemRom(address))
     } else {
         Ok(address)
     }

@@ -6,7 +6,7 @@ ghost use Rattle.h41_nut.specs.Pointers as spec;
 
 use crate::cpu::Cpu;
 use crate::cpu::jumps::arrival;
-use crate::refusal::Refusal;
+use crate::refusal::WordRefusal;
 use h41_digits::PLACES;
 use h41_fields::Pointer;
 
@@ -23,7 +23,7 @@ impl Cpu {
     }
 
     /// `R= n`, `R=R+1` and `R=R-1`: puts the active pointer at a place.
-    pub(crate) fn set_pointer(&mut self, place: usize) -> Result<(), Refusal>
+    pub(crate) fn set_pointer(&mut self, place: usize) -> Result<(), WordRefusal>
         requires { place < 14 }
         ensures { GoesOn (spec.with_pointer place) self.old self.new result }
     {
@@ -45,7 +45,7 @@ impl Cpu {
     }
 
     /// `SLCT P` and `SLCT Q`: makes a pointer the active one.
-    pub(crate) fn select_pointer(&mut self, pointer: Pointer) -> Result<(), Refusal>
+    pub(crate) fn select_pointer(&mut self, pointer: Pointer) -> Result<(), WordRefusal>
         ensures { GoesOn (spec.with_active pointer) self.old self.new result }
     {
         let next = arrival(self.next_address())?;

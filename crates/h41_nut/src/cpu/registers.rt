@@ -11,7 +11,7 @@ use crate::base::Base;
 use crate::cpu::Cpu;
 use crate::cpu::jumps::arrival;
 use crate::cpu::pointers::{place_above, place_below};
-use crate::refusal::Refusal;
+use crate::refusal::WordRefusal;
 use h41_digits::{PLACES, Reg};
 use h41_words::{Digit, Place, RegisterTransfer, Word};
 
@@ -48,7 +48,7 @@ impl Cpu {
     }
 
     /// `LDI`: the second word goes to C; the processor goes on after it.
-    pub(crate) fn load_immediate(&mut self, second: Word) -> Result<(), Refusal>
+    pub(crate) fn load_immediate(&mut self, second: Word) -> Result<(), WordRefusal>
         ensures { GoesTo address_after_both (spec.with_word_in_c second) self.old self.new result }
     {
         let next = arrival(self.pc.wrapping_add(2))?;
@@ -58,7 +58,7 @@ impl Cpu {
     }
 
     /// `FETCH S&X`: a word goes to C.
-    pub(crate) fn load_word(&mut self, word: Word) -> Result<(), Refusal>
+    pub(crate) fn load_word(&mut self, word: Word) -> Result<(), WordRefusal>
         ensures { GoesOn (spec.with_word_in_c word) self.old self.new result }
     {
         let next = arrival(self.next_address())?;
@@ -68,7 +68,7 @@ impl Cpu {
     }
 
     /// `LD@R n`: a digit goes to C at the active pointer, which goes down.
-    pub(crate) fn load_digit(&mut self, digit: Digit) -> Result<(), Refusal>
+    pub(crate) fn load_digit(&mut self, digit: Digit) -> Result<(), WordRefusal>
         ensures { GoesOn (spec.with_digit_loaded digit) self.old self.new result }
     {
         let next = arrival(self.next_address())?;
@@ -80,7 +80,7 @@ impl Cpu {
     }
 
     /// `C=KEY`: the key's code goes to C's digits 4 and 3.
-    pub(crate) fn load_key(&mut self, key: u8) -> Result<(), Refusal>
+    pub(crate) fn load_key(&mut self, key: u8) -> Result<(), WordRefusal>
         ensures { GoesOn (spec.with_key_in_c key) self.old self.new result }
     {
         let next = arrival(self.next_address())?;
@@ -90,7 +90,7 @@ impl Cpu {
     }
 
     /// `READ DATA`: a register of the memory goes to C.
-    pub(crate) fn load_register(&mut self, register: Reg) -> Result<(), Refusal>
+    pub(crate) fn load_register(&mut self, register: Reg) -> Result<(), WordRefusal>
         ensures { GoesOn (spec.with_c register) self.old self.new result }
     {
         let next = arrival(self.next_address())?;
@@ -100,7 +100,7 @@ impl Cpu {
     }
 
     /// `RCR n`: rotates C right by so many digits.
-    pub(crate) fn rotate_right(&mut self, digits: Place) -> Result<(), Refusal>
+    pub(crate) fn rotate_right(&mut self, digits: Place) -> Result<(), WordRefusal>
         ensures { GoesOn (spec.with_c_rotated digits) self.old self.new result }
     {
         let next = arrival(self.next_address())?;
@@ -110,7 +110,7 @@ impl Cpu {
     }
 
     /// `C=C OR A`: C keeps its bits and takes those of A.
-    pub(crate) fn or_with_a(&mut self) -> Result<(), Refusal>
+    pub(crate) fn or_with_a(&mut self) -> Result<(), WordRefusal>
         ensures { GoesOn spec.with_c_or_a self.old self.new result }
     {
         let next = arrival(self.next_address())?;
@@ -120,7 +120,7 @@ impl Cpu {
     }
 
     /// `C=C AND A`: C keeps the bits that A has too.
-    pub(crate) fn and_with_a(&mut self) -> Result<(), Refusal>
+    pub(crate) fn and_with_a(&mut self) -> Result<(), WordRefusal>
         ensures { GoesOn spec.with_c_and_a self.old self.new result }
     {
         let next = arrival(self.next_address())?;
@@ -130,7 +130,7 @@ impl Cpu {
     }
 
     /// `CLRABC`: clears A, B and C.
-    pub(crate) fn clear_registers(&mut self) -> Result<(), Refusal>
+    pub(crate) fn clear_registers(&mut self) -> Result<(), WordRefusal>
         ensures { GoesOn spec.with_abc_clear self.old self.new result }
     {
         let next = arrival(self.next_address())?;
@@ -142,7 +142,7 @@ impl Cpu {
     }
 
     /// `RAM SLCT`, `WRIT n`: selects an address of the memory.
-    pub(crate) fn select(&mut self, address: u16) -> Result<(), Refusal>
+    pub(crate) fn select(&mut self, address: u16) -> Result<(), WordRefusal>
         requires { address < word_count }
         ensures { GoesOn (selecting address) self.old self.new result }
     {
@@ -153,7 +153,7 @@ impl Cpu {
     }
 
     /// `READ n`: selects an address of the memory, whose register goes to C.
-    pub(crate) fn select_and_load(&mut self, address: u16, register: Reg) -> Result<(), Refusal>
+    pub(crate) fn select_and_load(&mut self, address: u16, register: Reg) -> Result<(), WordRefusal>
         requires { address < word_count }
         ensures { GoesOn (selecting_and_loading address register) self.old self.new result }
     {
@@ -165,7 +165,7 @@ impl Cpu {
     }
 
     /// `SETHEX` and `SETDEC`: the base that arithmetic counts in from here on.
-    pub(crate) fn set_base(&mut self, base: Base) -> Result<(), Refusal>
+    pub(crate) fn set_base(&mut self, base: Base) -> Result<(), WordRefusal>
         ensures { GoesOn (spec.with_base base) self.old self.new result }
     {
         let next = arrival(self.next_address())?;
@@ -175,7 +175,7 @@ impl Cpu {
     }
 
     /// `DISOFF` and `DISTOG`: turns the display on or off.
-    pub(crate) fn set_display(&mut self, on: bool) -> Result<(), Refusal>
+    pub(crate) fn set_display(&mut self, on: bool) -> Result<(), WordRefusal>
         ensures { GoesOn (spec.with_display on) self.old self.new result }
     {
         let next = arrival(self.next_address())?;
@@ -185,7 +185,7 @@ impl Cpu {
     }
 
     /// `G=C`, `C=M`, `ST<>T` and the like: copies a register, or exchanges two.
-    pub(crate) fn transfer(&mut self, transfer: RegisterTransfer) -> Result<(), Refusal>
+    pub(crate) fn transfer(&mut self, transfer: RegisterTransfer) -> Result<(), WordRefusal>
         ensures { GoesOn (spec.transferred transfer) self.old self.new result }
     {
         let next = arrival(self.next_address())?;

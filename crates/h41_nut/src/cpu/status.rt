@@ -6,7 +6,7 @@ ghost use Rattle.h41_nut.specs.Pointers as spec;
 
 use crate::cpu::Cpu;
 use crate::cpu::jumps::arrival;
-use crate::refusal::Refusal;
+use crate::refusal::WordRefusal;
 use crate::status_bits::{StatusBits, named};
 use bitflags::Flags;
 use h41_words::StatusBit;
@@ -20,7 +20,7 @@ impl Cpu {
     }
 
     /// `SETF n` and `CLRF n`: sets or clears a status bit.
-    pub(crate) fn set_status(&mut self, bit: StatusBit, on: bool) -> Result<(), Refusal>
+    pub(crate) fn set_status(&mut self, bit: StatusBit, on: bool) -> Result<(), WordRefusal>
         ensures { GoesOn (spec.with_status bit on) self.old self.new result }
     {
         let next = arrival(self.next_address())?;
@@ -37,7 +37,7 @@ impl Cpu {
     }
 
     /// `ST=0`: clears S0 to S7.
-    pub(crate) fn clear_status_byte(&mut self) -> Result<(), Refusal>
+    pub(crate) fn clear_status_byte(&mut self) -> Result<(), WordRefusal>
         ensures { GoesOn (spec.with_status_byte 0) self.old self.new result }
     {
         let next = arrival(self.next_address())?;

@@ -5,7 +5,7 @@ ghost use Rattle.h41_nut.specs.ProcessorSteps.{GoesOn};
 ghost use Rattle.h41_nut.specs.MemoryWords as spec;
 
 use crate::cpu::Cpu;
-use crate::refusal::Refusal;
+use crate::refusal::WordRefusal;
 use h41_ram::Ram;
 use h41_words::{BlockRegister, ReadRegister};
 
@@ -14,7 +14,7 @@ pub fn write_register<const REGS: usize>(
     cpu: &mut Cpu,
     ram: &mut Ram<REGS>,
     register: BlockRegister,
-) -> Result<(), Refusal>
+) -> Result<(), WordRefusal>
     ensures processor { GoesOn (spec.selecting_in_block register) cpu.old cpu.new result }
     ensures written { OnOk result (ram.new ≡ spec.with_c_in_block ram.old register cpu.old) }
     ensures kept { OnErr result (ram.new ≡ ram.old) }
@@ -30,7 +30,7 @@ pub fn read_register<const REGS: usize>(
     cpu: &mut Cpu,
     ram: &Ram<REGS>,
     register: ReadRegister,
-) -> Result<(), Refusal>
+) -> Result<(), WordRefusal>
     ensures { GoesOn (spec.with_register_in_c ram.now register) cpu.old cpu.new result }
 {
     let address = cpu.block_address(register.number());
@@ -38,7 +38,7 @@ pub fn read_register<const REGS: usize>(
 }
 
 /// `WRIT DATA`: C goes to the selected register.
-pub fn write_data<const REGS: usize>(cpu: &mut Cpu, ram: &mut Ram<REGS>) -> Result<(), Refusal>
+pub fn write_data<const REGS: usize>(cpu: &mut Cpu, ram: &mut Ram<REGS>) -> Result<(), WordRefusal>
     ensures processor { GoesOn (λ s. s) cpu.old cpu.new result }
     ensures written { OnOk result (ram.new ≡ spec.with_c_at ram.old cpu.old.selected cpu.old) }
     ensures kept { OnErr result (ram.new ≡ ram.old) }

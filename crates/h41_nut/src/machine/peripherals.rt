@@ -6,11 +6,11 @@ ghost use Rattle.h41_nut.specs.Unheld as spec;
 
 use crate::cpu::Cpu;
 use crate::keys::Keys;
-use crate::refusal::Refusal;
+use crate::refusal::WordRefusal;
 use h41_words::UnassignedWord;
 
 /// `CLRKEY`: clears the key flag.
-pub fn clear_key_flag(cpu: &mut Cpu, keys: &mut Keys) -> Result<(), Refusal>
+pub fn clear_key_flag(cpu: &mut Cpu, keys: &mut Keys) -> Result<(), WordRefusal>
     ensures processor { GoesOn (λ s. s) cpu.old cpu.new result }
     ensures flag { OnOk result (keys.new ≡ record keys.old { flag = false }) }
     ensures kept { OnErr result (keys.new ≡ keys.old) }
@@ -21,26 +21,26 @@ pub fn clear_key_flag(cpu: &mut Cpu, keys: &mut Keys) -> Result<(), Refusal>
 }
 
 /// `PRPH SLCT`: does nothing where C's digits 1 and 0 are zero, and is refused as 10 else.
-pub fn select_peripheral(cpu: &mut Cpu) -> Result<(), Refusal>
+pub fn select_peripheral(cpu: &mut Cpu) -> Result<(), WordRefusal>
     ensures { GoesOnUnless (spec.peripheral_refusal cpu.old) (λ s. s) cpu.old cpu.new result }
 {
     if cpu.c().byte(0) != 0 {
-        return Err(Refusal::PeripheralNotHeld(cpu.pc()));
+        return Err(WordRefusal::PeripheralNotHeld(cpu.pc()));
     }
     cpu.go_on()
 }
 
 /// Why a word that stands for no instruction is refused: 3FC as 7, peripherals' words as 10, each other as 6.
-pub fn constant_refusal(word: UnassignedWord, address: u16) -> Refusal
+pub fn constant_refusal(word: UnassignedWord, address: u16) -> WordRefusal
     ensures { result ≡ spec.constant_refusal word address }
 {
     let number = word.word().number();
     if number == 0x3FC {
-        Refusal::WordNotInProfile(address)
+        WordRefusal::WordNotInProfile(address)
     } else if is_peripheral(number) {
-        Refusal::PeripheralNotHeld(address)
+        WordRefusal::PeripheralNotHeld(address)
     } else {
-        Refusal::UndefinedWord(address)
+        WordRefusal::UndefinedWord(address)
     }
 }
 

@@ -7,12 +7,12 @@ ghost use Rattle.h41_nut.specs.MemoryWords as spec;
 ghost use Rattle.h41_nut.specs.ProcessorSteps.{FetchesWord, WritesWord};
 
 use crate::cpu::Cpu;
-use crate::refusal::Refusal;
+use crate::refusal::WordRefusal;
 use h41_pages::{FetchRefusal, Pages};
 use h41_words::Word;
 
 /// The word at an address. Refused as 8 in pages 0 to 3, as 9 where the chosen bank of its page is not plugged.
-pub fn fetch(pages: &Pages, address: u16) -> Result<Word, Refusal>
+pub fn fetch(pages: &Pages, address: u16) -> Result<Word, WordRefusal>
     ensures { result ≡ fetched pages.now address }
 {
     Ok(pages.fetch(address)?)
@@ -20,7 +20,7 @@ pub fn fetch(pages: &Pages, address: u16) -> Result<Word, Refusal>
 
 /// The word at an address, and 000 where nothing is plugged (this project's choice). Refused as 8 in pages 0 to 3.
 #[tactic(auto, unfolding(h41_pages::specs::PageMap::fetched))]
-fn fetch_or_zero(pages: &Pages, address: u16) -> Result<Word, Refusal>
+fn fetch_or_zero(pages: &Pages, address: u16) -> Result<Word, WordRefusal>
     ensures refusal { result_err result ≡ system_refusal address }
     ensures word { IfOk result (λ word. word ≡ word_or_zero (fetched pages.now address)) }
 {
@@ -32,7 +32,7 @@ fn fetch_or_zero(pages: &Pages, address: u16) -> Result<Word, Refusal>
 }
 
 /// `WROM`: the word in C is written at the address in C. Refused as 12 before all else where its page is not writable.
-pub fn write_rom(cpu: &mut Cpu, pages: &mut Pages) -> Result<(), Refusal>
+pub fn write_rom(cpu: &mut Cpu, pages: &mut Pages) -> Result<(), WordRefusal>
     ensures processor { WritesWord pages.old cpu.old cpu.new result }
     ensures written { OnOk result (pages.new ≡ spec.with_word_written pages.old cpu.old) }
     ensures kept { OnErr result (pages.new ≡ pages.old) }
@@ -47,7 +47,7 @@ pub fn write_rom(cpu: &mut Cpu, pages: &mut Pages) -> Result<(), Refusal>
 
 /// `FETCH S&X`: the word at the address in C goes to C; 000 where no page is plugged there. Refused as 8 before all else in
 /// the system's pages.
-pub fn fetch_word(cpu: &mut Cpu, pages: &Pages) -> Result<(), Refusal>
+pub fn fetch_word(cpu: &mut Cpu, pages: &Pages) -> Result<(), WordRefusal>
     ensures { FetchesWord pages.now cpu.old cpu.new result }
 {
     let word = fetch_or_zero(pages, cpu.address_in_c())?;

@@ -3,14 +3,14 @@
 //! range, remainders of each pair of signs, and operands at random.
 
 use crate::judge::wants;
-use h41_decimal::{Fault, Places, Ten};
+use h41_decimal::{DecimalFault, Places, Ten};
 use h41_digits::Reg;
 use std::cmp::Ordering;
 use std::process::Abort;
 use std::test::Fail;
 
 /// Two operands and an answer.
-type Row = (u64, u64, Result<u64, Fault>);
+type Row = (u64, u64, Result<u64, DecimalFault>);
 
 static ADD: [Row; 60] = [
     (0x01234567890000, 0x05000000000990, Ok(0x01234567891000)),
@@ -58,9 +58,9 @@ static ADD: [Row; 60] = [
     (0x01000000000050, 0x91000000000951, Ok(0x01000000000050)),
     (0x09999999999050, 0x09999999999951, Ok(0x09999999999050)),
     (0x91000000000003, 0x09999999999002, Ok(0x91000000000993)),
-    (0x09999999999099, 0x05000000000089, Err(Fault::Range)),
+    (0x09999999999099, 0x05000000000089, Err(DecimalFault::Range)),
     (0x09999999999099, 0x04999999999089, Ok(0x09999999999099)),
-    (0x99999999999099, 0x91000000000099, Err(Fault::Range)),
+    (0x99999999999099, 0x91000000000099, Err(DecimalFault::Range)),
     (0x92200000000016, 0x97670339664995, Ok(0x92200000000016)),
     (0x02200000000019, 0x05600000000993, Ok(0x02200000000019)),
     (0x09400000000988, 0x01531577712983, Ok(0x09400015316988)),
@@ -122,7 +122,7 @@ static SUB: [Row; 59] = [
     (0x01234567891905, 0x01234567890905, Ok(0x00000000000000)),
     (0x01000000000901, 0x01000000001901, Ok(0x00000000000000)),
     (0x01000000000000, 0x01000000000000, Ok(0x00000000000000)),
-    (0x99999999999099, 0x09000000000099, Err(Fault::Range)),
+    (0x99999999999099, 0x09000000000099, Err(DecimalFault::Range)),
     (0x96597311629986, 0x93000000000991, Ok(0x02999934027991)),
     (0x93200000000010, 0x99823225990020, Ok(0x09823225990020)),
     (0x07436292237007, 0x07900000000989, Ok(0x07436292237007)),
@@ -138,10 +138,10 @@ static SUB: [Row; 59] = [
 ];
 
 static MUL: [Row; 30] = [
-    (0x09999999999099, 0x01000000000001, Err(Fault::Range)),
+    (0x09999999999099, 0x01000000000001, Err(DecimalFault::Range)),
     (0x01000000000901, 0x01000000000901, Ok(0x00000000000000)),
     (0x01000000000099, 0x09999999999000, Ok(0x09999999999099)),
-    (0x01000000000050, 0x01000000000050, Err(Fault::Range)),
+    (0x01000000000050, 0x01000000000050, Err(DecimalFault::Range)),
     (0x91000000000050, 0x09999999999049, Ok(0x99999999999099)),
     (0x01000000000950, 0x01000000000950, Ok(0x00000000000000)),
     (0x01000000000950, 0x01000000000951, Ok(0x01000000000901)),
@@ -174,13 +174,13 @@ static DIV: [Row; 27] = [
     (0x02000000000000, 0x03000000000000, Ok(0x06666666667999)),
     (0x01000000000000, 0x03000000000000, Ok(0x03333333333999)),
     (0x01000000000901, 0x01000000000099, Ok(0x00000000000000)),
-    (0x01000000000000, 0x00000000000000, Err(Fault::Data)),
-    (0x00000000000000, 0x00000000000000, Err(Fault::Data)),
+    (0x01000000000000, 0x00000000000000, Err(DecimalFault::Data)),
+    (0x00000000000000, 0x00000000000000, Err(DecimalFault::Data)),
     (0x00000000000000, 0x95000000000000, Ok(0x00000000000000)),
     (0x01000000000901, 0x02000000000000, Ok(0x00000000000000)),
     (0x01000000000901, 0x91000000000000, Ok(0x91000000000901)),
     (0x01000000000099, 0x09999999999999, Ok(0x01000000000099)),
-    (0x09999999999099, 0x01000000000999, Err(Fault::Range)),
+    (0x09999999999099, 0x01000000000999, Err(DecimalFault::Range)),
     (0x01000000001000, 0x08000000000000, Ok(0x01250000001999)),
     (0x01000000003000, 0x08000000000000, Ok(0x01250000004999)),
     (0x03333333333000, 0x08000000000000, Ok(0x04166666666999)),
@@ -196,7 +196,7 @@ static DIV: [Row; 27] = [
     (0x09195487387998, 0x95271350137007, Ok(0x91744427357991)),
     (0x92600000000981, 0x98552067450996, Ok(0x03040200531984)),
     (0x06236255649030, 0x03070525027939, Ok(0x02031006292091)),
-    (0x93748679874065, 0x03900000000914, Err(Fault::Range)),
+    (0x93748679874065, 0x03900000000914, Err(DecimalFault::Range)),
     (0x08224646188039, 0x96000000000089, Ok(0x91370774365950)),
 ];
 
@@ -207,7 +207,7 @@ static PERCENT: [Row; 22] = [
     (0x06666666667000, 0x95000000000999, Ok(0x93333333334998)),
     (0x01414213563000, 0x95000000000999, Ok(0x97071067815997)),
     (0x01500000000001, 0x02000000000002, Ok(0x03000000000001)),
-    (0x01000000000099, 0x01000000000003, Err(Fault::Range)),
+    (0x01000000000099, 0x01000000000003, Err(DecimalFault::Range)),
     (0x01000000000099, 0x01000000000002, Ok(0x01000000000099)),
     (0x01000000000901, 0x09900000000001, Ok(0x00000000000000)),
     (0x00000000000000, 0x03000000000000, Ok(0x00000000000000)),
@@ -285,11 +285,11 @@ static MODULO: [Row; 57] = [
     (0x98900000000915, 0x04200000000060, Ok(0x04200000000060)),
 ];
 
-static ROOTS: [(u64, Result<u64, Fault>); 30] = [
+static ROOTS: [(u64, Result<u64, DecimalFault>); 30] = [
     (0x02000000000000, Ok(0x01414213562000)),
     (0x04000000000000, Ok(0x02000000000000)),
     (0x00000000000000, Ok(0x00000000000000)),
-    (0x92000000000000, Err(Fault::Data)),
+    (0x92000000000000, Err(DecimalFault::Data)),
     (0x03000000000000, Ok(0x01732050808000)),
     (0x01000000000001, Ok(0x03162277660000)),
     (0x01000000000901, Ok(0x03162277660950)),
@@ -300,7 +300,7 @@ static ROOTS: [(u64, Result<u64, Fault>); 30] = [
     (0x01000000001001, Ok(0x03162277662000)),
     (0x02250000000950, Ok(0x01500000000975)),
     (0x09999999999901, Ok(0x09999999999950)),
-    (0x91000000000901, Err(Fault::Data)),
+    (0x91000000000901, Err(DecimalFault::Data)),
     (0x03700000000953, Ok(0x06082762530976)),
     (0x05700000000930, Ok(0x02387467277965)),
     (0x06900000000948, Ok(0x02626785107974)),
@@ -325,7 +325,7 @@ fn operand(register: u64) -> Result<Ten, Fail> {
 }
 
 /// An answer as a register.
-fn answer(outcome: Result<Ten, Fault>) -> Result<u64, Fault> {
+fn answer(outcome: Result<Ten, DecimalFault>) -> Result<u64, DecimalFault> {
     match outcome {
         Ok(number) => Ok(number.to_reg().to_u64()),
         Err(fault) => Err(fault),
@@ -344,7 +344,7 @@ enum Operation {
 }
 
 /// Its answer.
-fn carry_out(operation: Operation, x: Ten, y: Ten) -> Result<Ten, Fault> {
+fn carry_out(operation: Operation, x: Ten, y: Ten) -> Result<Ten, DecimalFault> {
     match operation {
         Operation::Add => x.add(y),
         Operation::Sub => x.sub(y),
@@ -398,7 +398,11 @@ fn rounded_and_compared(rt: HostRuntime) -> Result<(), Fail> {
     }
     let large = operand(0x0_9999999999_099)?;
     let rounded = answer(large.round_to(Places::Digits(3)));
-    wants(&rt, "the largest rounded", rounded == Err(Fault::Range));
+    wants(
+        &rt,
+        "the largest rounded",
+        rounded == Err(DecimalFault::Range),
+    );
     let order = large.cmp(large.negated());
     wants(&rt, "above its negative", order == Ordering::Greater);
     for register in [

@@ -1,4 +1,3 @@
-use Rattle.std.proofs.Common.{arith}
 use Rattle.h41_arith.proofs.Borrows.{complement_borrows}
 use Rattle.h41_arith.proofs.sums.neg1.Goals as goal
 

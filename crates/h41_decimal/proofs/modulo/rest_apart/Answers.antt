@@ -13,7 +13,7 @@ pub returns-then-y-x : goal.returns-then-y-x
 returns-then-y-x c =
     let x = c.args.x in
     let y = c.args.y in
-    let less = lower_exponent y.mantissa.digits x.mantissa.digits y.exponent.above_least x.exponent.above_least y.mantissa.below x.mantissa.at_least c.if-y-x.true in
+    let less = lower_exponent y.mantissa.digits x.mantissa.digits y.exponent.biased x.exponent.biased y.mantissa.below x.mantissa.at_least c.if-y-x.true in
     rest_of_apart c.args.sign (size y) (size x) 0 (size y) _ (omega arith) (size_pos y) less
     (nearest_along (signed c.args.sign (size x - size y)) _ 1 _ (sym (signed-sub c.args.sign (size x) (size y) (size x - size y) (omega arith))) c.subtract.ensures)
 
@@ -23,8 +23,8 @@ returns-then-rest-eq0 c =
     let y = c.args.y in
     let m = x.mantissa.digits in
     let n = y.mantissa.digits in
-    let s = x.exponent.above_least in
-    let t = y.exponent.above_least in
+    let s = x.exponent.biased in
+    let t = y.exponent.biased in
     let m_size : 10 ^ 9 ≤ m = x.mantissa.at_least in
     let r : c.remainder-rest.result ≡ n * 10 ^ (t - s) % m = cc in
     let d = sizes_divide n m t s c.remainder-rest.result (omega arith) (omega arith) r in
@@ -42,8 +42,8 @@ returns c =
     let y = c.args.y in
     let m = x.mantissa.digits in
     let n = y.mantissa.digits in
-    let s = x.exponent.above_least in
-    let t = y.exponent.above_least in
+    let s = x.exponent.biased in
+    let t = y.exponent.biased in
     let m_size : 10 ^ 9 ≤ m = x.mantissa.at_least in
     let r : c.remainder-rest.result ≡ n * 10 ^ (t - s) % m = cc in
     let d = sizes_divide n m t s c.remainder-rest.result (omega arith) (omega arith) r in

@@ -13,7 +13,7 @@ returns-then-y-x c =
     let x = c.args.x in
     let y = c.args.y in
     rest_of_same c.args.sign (size y) (size x) 0 (size y) _ (omega arith)
-    (lower_exponent y.mantissa.digits x.mantissa.digits y.exponent.above_least x.exponent.above_least y.mantissa.below x.mantissa.at_least c.if-y-x.true)
+    (lower_exponent y.mantissa.digits x.mantissa.digits y.exponent.biased x.exponent.biased y.mantissa.below x.mantissa.at_least c.if-y-x.true)
     (own_nearest (Nonzero c.args.sign y))
 
 pub returns-then-rest-eq0 : goal.returns-then-rest-eq0
@@ -22,8 +22,8 @@ returns-then-rest-eq0 c =
     let y = c.args.y in
     let m = x.mantissa.digits in
     let n = y.mantissa.digits in
-    let s = x.exponent.above_least in
-    let t = y.exponent.above_least in
+    let s = x.exponent.biased in
+    let t = y.exponent.biased in
     let m_size : 10 ^ 9 ≤ m = x.mantissa.at_least in
     let r : c.remainder-rest.result ≡ n * 10 ^ (t - s) % m = cc in
     let d = sizes_divide n m t s c.remainder-rest.result (omega arith) (omega arith) r in
@@ -38,8 +38,8 @@ returns c =
     let y = c.args.y in
     let m = x.mantissa.digits in
     let n = y.mantissa.digits in
-    let s = x.exponent.above_least in
-    let t = y.exponent.above_least in
+    let s = x.exponent.biased in
+    let t = y.exponent.biased in
     let m_size : 10 ^ 9 ≤ m = x.mantissa.at_least in
     let r : c.remainder-rest.result ≡ n * 10 ^ (t - s) % m = cc in
     let d = sizes_divide n m t s c.remainder-rest.result (omega arith) (omega arith) r in

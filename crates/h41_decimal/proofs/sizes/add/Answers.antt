@@ -8,10 +8,10 @@ returns-then-apart-lt-FAR_APART c =
     let x = c.args.x in
     let y = c.args.y in
     let w : c.digits.result * c.power_of_ten.result + c.digits-then-apart-lt-FAR_APART.result
-    ≡ x.mantissa.digits * 10 ^ (x.exponent.above_least - y.exponent.above_least) + y.mantissa.digits = cc in
+    ≡ x.mantissa.digits * 10 ^ (x.exponent.biased - y.exponent.biased) + y.mantissa.digits = cc in
     c.round_whole.ensures _
     (same_cut _ _ _ _ _ w (omega arith)
-    (cut_sum x.mantissa.digits y.mantissa.digits x.exponent.above_least y.exponent.above_least (x.exponent.above_least - y.exponent.above_least) (omega arith)))
+    (cut_sum x.mantissa.digits y.mantissa.digits x.exponent.biased y.exponent.biased (x.exponent.biased - y.exponent.biased) (omega arith)))
 
 pub returns-else-apart-lt-FAR_APART : goal.returns-else-apart-lt-FAR_APART
 returns-else-apart-lt-FAR_APART c =
@@ -21,4 +21,4 @@ returns-else-apart-lt-FAR_APART c =
     let n_size : y.mantissa.digits < 10 ^ 10 = y.mantissa.below in
     c.round_whole-else-apart-lt-FAR_APART.ensures _
     (same_cut _ _ _ _ _ (omega arith) refl
-    (cut_far_sum x.mantissa.digits y.mantissa.digits x.exponent.above_least y.exponent.above_least _ m_size n_size (omega arith) (omega arith)))
+    (cut_far_sum x.mantissa.digits y.mantissa.digits x.exponent.biased y.exponent.biased _ m_size n_size (omega arith) (omega arith)))

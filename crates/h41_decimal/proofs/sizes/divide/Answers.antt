@@ -11,6 +11,6 @@ returns c =
     let m_size : 10 ^ 9 ≤ x.mantissa.digits = x.mantissa.at_least in
     let n_size : y.mantissa.digits < 10 ^ 10 = y.mantissa.below in
     let n_least : 10 ^ 9 ≤ y.mantissa.digits = y.mantissa.at_least in
-    let low : y.exponent.above_least ≤ 198 = y.exponent.in_range in
+    let low : y.exponent.biased ≤ 198 = y.exponent.in_range in
     c.round_whole.ensures _
-    (cut_quotient x.mantissa.digits y.mantissa.digits x.exponent.above_least y.exponent.above_least _ _ m_size (omega arith) n_size q (omega arith))
+    (cut_quotient x.mantissa.digits y.mantissa.digits x.exponent.biased y.exponent.biased _ _ m_size (omega arith) n_size q (omega arith))

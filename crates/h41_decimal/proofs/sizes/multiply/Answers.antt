@@ -9,4 +9,4 @@ returns c =
     let y = c.args.y in
     let w : c.digits.result * c.digits-2.result ≡ x.mantissa.digits * y.mantissa.digits = cc in
     c.round_whole.ensures _
-    (same_cut _ _ _ _ _ w (omega arith) (cut_product x.mantissa.digits y.mantissa.digits x.exponent.above_least y.exponent.above_least))
+    (same_cut _ _ _ _ _ w (omega arith) (cut_product x.mantissa.digits y.mantissa.digits x.exponent.biased y.exponent.biased))

@@ -32,6 +32,6 @@ returns c =
     let w_size = root_is_long c.isqrt-root.result (c.digits.result * c.power_of_ten.result) big c.isqrt-root.ensures.next_square_gt in
     let n : c.digits.result * c.power_of_ten.result ≡ x.mantissa.digits * 10 ^ (12 - c.steps-steps.result % 2) = cc in
     c.round_whole.ensures _
-    (cut_root x.mantissa.digits x.exponent.above_least (12 - c.steps-steps.result % 2) c.isqrt-root.result
+    (cut_root x.mantissa.digits x.exponent.biased (12 - c.steps-steps.result % 2) c.isqrt-root.result
     (128 + (c.steps-steps.result + 108 - (12 - c.steps-steps.result % 2)) / 2) (c.digits.result * c.power_of_ten.result)
     n c.isqrt-root.ensures.square_le c.isqrt-root.ensures.next_square_gt w_size (omega arith))

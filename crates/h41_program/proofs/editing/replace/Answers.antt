@@ -1,6 +1,6 @@
 use Rattle.std.proofs.Common.{Err, ap, inl, inr, refl, subst}
 use Rattle.h41_program.specs.ProgramLines.{AnswersFirst}
-use Rattle.h41_program.specs.declared.refusal.Refusal.TheVariants.{BrokenProgram}
+use Rattle.h41_program.specs.declared.refusal.ProgramRefusal.TheVariants.{BrokenProgram}
 use Rattle.h41_program.proofs.editing.replace.Goals as goal
 
 pub returns-in-Ok : goal.returns-in-Ok

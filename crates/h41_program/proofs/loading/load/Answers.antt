@@ -2,7 +2,7 @@ use Rattle.std.proofs.Common.{refl}
 use Rattle.std.proofs.lemmas.Result.{err_from_is_err_and}
 use Rattle.std.specs.Prelude.{Err}
 use Rattle.h41_program.specs.Edits.{before_end, loaded_of}
-use Rattle.h41_program.specs.declared.refusal.Refusal.TheVariants.{BrokenProgram}
+use Rattle.h41_program.specs.declared.refusal.ProgramRefusal.TheVariants.{BrokenProgram}
 use Rattle.h41_program.proofs.LoadSteps.{Loading, outcome_of, loads_behind, load_broken, load_refused, load_unwritten, load_written, load_bound}
 use Rattle.h41_program.proofs.loading.load.Goals as goal
 

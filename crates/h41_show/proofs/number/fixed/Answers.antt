@@ -6,13 +6,13 @@ use Rattle.h41_show.proofs.number.fixed.Goals as goal
 pub returns-then-above_least-clause-fixed : goal.returns-then-above_least-clause-fixed
 returns-then-above_least-clause-fixed c =
     let d = c.args.x.mantissa.digits in
-    let s = c.args.x.exponent.above_least in
+    let s = c.args.x.exponent.biased in
     sym (is_fixed-large c.args.digits (d * 10 ^ s) (size_above d s c.args.x.mantissa.at_least c.args.x.mantissa.below (omega arith)))
 
 pub returns-then-dropped-gt-DIGITS-clause-fixed : goal.returns-then-dropped-gt-DIGITS-clause-fixed
 returns-then-dropped-gt-DIGITS-clause-fixed c =
     let d = c.args.x.mantissa.digits in
-    let s = c.args.x.exponent.above_least in
+    let s = c.args.x.exponent.biased in
     let low = c.args.x.mantissa.at_least in
     let high = c.args.x.mantissa.below in
     let most : s ≤ 108 = omega arith in
@@ -23,7 +23,7 @@ returns-then-dropped-gt-DIGITS-clause-fixed c =
 pub returns-in-0-clause-fixed : goal.returns-in-0-clause-fixed
 returns-in-0-clause-fixed c =
     let d = c.args.x.mantissa.digits in
-    let s = c.args.x.exponent.above_least in
+    let s = c.args.x.exponent.biased in
     let low = c.args.x.mantissa.at_least in
     let high = c.args.x.mantissa.below in
     let most : s ≤ 108 = omega arith in
@@ -34,7 +34,7 @@ returns-in-0-clause-fixed c =
 pub returns-in_default-clause-fixed : goal.returns-in_default-clause-fixed
 returns-in_default-clause-fixed c =
     let d = c.args.x.mantissa.digits in
-    let s = c.args.x.exponent.above_least in
+    let s = c.args.x.exponent.biased in
     let low = c.args.x.mantissa.at_least in
     let high = c.args.x.mantissa.below in
     let most : s ≤ 108 = omega arith in
@@ -46,13 +46,13 @@ returns-in_default-clause-fixed c =
 pub returns-in_default-clause-decimals : goal.returns-in_default-clause-decimals
 returns-in_default-clause-decimals c =
     let d = c.args.x.mantissa.digits in
-    let s = c.args.x.exponent.above_least in
+    let s = c.args.x.exponent.biased in
     c.fixed_decimals-decimals.ensures ∙ ap (λ w. min c.args.digits (9 - w)) (c.saturating_sub.ensures ∙ ap (λ t. t - 99) c.steps-above_least.ensures)
     ∙ fixed_decimals-size d s c.args.x.mantissa.at_least c.args.x.mantissa.below c.args.digits (omega arith)
 
 pub returns-in_default-clause-count : goal.returns-in_default-clause-count
 returns-in_default-clause-count c =
     let d = c.args.x.mantissa.digits in
-    let s = c.args.x.exponent.above_least in
+    let s = c.args.x.exponent.biased in
     c.without_last.ensures
     ∙ fixed_count-code d s c.args.x.mantissa.at_least c.args.x.mantissa.below c.args.digits _ _ _ (omega arith) c.steps-above_least.ensures c.saturating_sub.ensures c.fixed_decimals-decimals.ensures

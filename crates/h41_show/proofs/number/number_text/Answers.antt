@@ -16,7 +16,7 @@ pub returns-in-Nonzero : goal.returns-in-Nonzero
 returns-in-Nonzero c =
     let format = c.args.format in
     let x = c.in-Nonzero.x in
-    let some = size_positive x.mantissa.digits x.exponent.above_least x.mantissa.at_least x.mantissa.below in
+    let some = size_positive x.mantissa.digits x.exponent.biased x.mantissa.at_least x.mantissa.below in
     let number = ap (λ n. number_text format (units n)) (sym c.in-Nonzero.is) in
     let sign = c.push_sign.ensures.bytes ∙ ap (λ b. b ++ sign_text c.in-Nonzero.sign) c.new-text.ensures in
     c.push_size.ensures ∙ ap (λ b. b ++ notation_text format.notation format (size x)) sign

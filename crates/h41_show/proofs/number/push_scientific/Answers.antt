@@ -14,7 +14,7 @@ returns c =
     let t = c.round-digits.result.above_least in
     let extra = c.extra_digits-extra.result in
     let filled : c.power_of_ten.result ≡ 10 ^ (extra - m) = c.power_of_ten.ensures ∙ ap (λ k. 10 ^ k) c.saturating_sub.ensures in
-    let some : 0 < size x = size_positive x.mantissa.digits x.exponent.above_least x.mantissa.at_least x.mantissa.below in
+    let some : 0 < size x = size_positive x.mantissa.digits x.exponent.biased x.mantissa.at_least x.mantissa.below in
     let text =
     scientific_text-shown digits t m c.mantissa_decimals-decimals.ensures.most c.round-digits.ensures.exponent c.round-digits.ensures.least c.round-digits.ensures.most
     c.args.format (size x) extra some c.mantissa_decimals-decimals.ensures.value c.round-digits.ensures.value c.extra_digits-extra.ensures.value

@@ -4,7 +4,7 @@ use Rattle.h41_decimal.specs.Signs.{signed}
 use Rattle.h41_decimal.specs.Units.{size, units}
 use Rattle.h41_decimal.specs.NearestDecimal.{NearestRoot}
 use Rattle.h41_decimal.proofs.Tens.{root_nearest, root_of_negative}
-use Rattle.h41_decimal.specs.declared.fault.Fault.TheVariants.{Data}
+use Rattle.h41_decimal.specs.declared.fault.DecimalFault.TheVariants.{Data}
 use Rattle.h41_decimal.specs.declared.sign.Sign.TheVariants.{Plus, Minus}
 use Rattle.h41_decimal.proofs.ten.Ten.sqrt.Goals as goal
 

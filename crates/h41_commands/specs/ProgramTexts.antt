@@ -1,4 +1,4 @@
--- What the code that reads a program's text holds, in the words of a deck.
+-- What the code that reads a program's text holds, in the words of a deck. It only connects the code with the other definitions.
 use Rattle.std.specs.Prelude.{◌≡◌, ℕ, Bool, false, ◌&&◌, if◌then◌else◌, List, [], ◌∷◌, ◌++◌}
 use Rattle.std.specs.Option.{option_map_or}
 use Rattle.h41_codes.specs.declared.line.Line.{Line}

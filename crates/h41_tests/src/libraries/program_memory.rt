@@ -6,19 +6,19 @@ ghost use Rattle.h41_ram.specs.RegisterMap.{is_sound};
 use h41_codes::{Line, RegisterFunction, ShortRegister, decode};
 use h41_digits::Reg;
 use h41_program::{
-    ListedLine, Refusal, delete, first_from, global, insert, line_at, load, next, replace,
+    ListedLine, ProgramRefusal, delete, first_from, global, insert, line_at, load, next, replace,
     set_size, start_of,
 };
 use h41_ram::Ram;
 
 /// A call on memory with its answer, where a line is given by its bytes; or a register with its digits.
 enum Step {
-    Load(&'static [u8], Result<u16, Refusal>),
-    Insert(u16, &'static [u8], Result<(), Refusal>),
-    Replace(u16, &'static [u8], Result<(), Refusal>),
-    Delete(u16, Result<(), Refusal>),
-    SetSize(u16, Result<(), Refusal>),
-    Next(u16, Result<u16, Refusal>),
+    Load(&'static [u8], Result<u16, ProgramRefusal>),
+    Insert(u16, &'static [u8], Result<(), ProgramRefusal>),
+    Replace(u16, &'static [u8], Result<(), ProgramRefusal>),
+    Delete(u16, Result<(), ProgramRefusal>),
+    SetSize(u16, Result<(), ProgramRefusal>),
+    Next(u16, Result<u16, ProgramRefusal>),
     StartOf(u16, u16),
     Global(&'static [u8], Option<u16>),
     /// From a position on, the first line is `RCL 05` in its short form, at a position, with another behind it.
@@ -112,8 +112,8 @@ static ROWS: [(&str, &[Step]); 9] = [
             Step::Register(0x19A, 0x13_4300_00C0_0020),
             Step::Global(b"T", Some(0)),
             Step::Next(8, Ok(11)),
-            Step::SetSize(319, Err(Refusal::NoRoom)),
-            Step::SetSize(320, Err(Refusal::SizeTooLarge)),
+            Step::SetSize(319, Err(ProgramRefusal::NoRoom)),
+            Step::SetSize(320, Err(ProgramRefusal::SizeTooLarge)),
             Step::SetSize(99, Ok(())),
             Step::Register(0x19A, 0),
         ],
@@ -145,8 +145,8 @@ static ROWS: [(&str, &[Step]); 9] = [
         "positions without a line",
         &[
             Step::Load(&[0x90, 0x05, 0x25], Ok(0)),
-            Step::Insert(1, &[0x83], Err(Refusal::BrokenProgram)),
-            Step::Delete(5, Err(Refusal::BrokenProgram)),
+            Step::Insert(1, &[0x83], Err(ProgramRefusal::BrokenProgram)),
+            Step::Delete(5, Err(ProgramRefusal::BrokenProgram)),
             Step::Register(0x19B, 0x90_0525_00C0_0020),
         ],
     ),
@@ -156,7 +156,7 @@ static ROWS: [(&str, &[Step]); 9] = [
             Step::Load(&[0x25; 8], Ok(0)),
             Step::Write(0x19B, 0x25_0000_AF25_2525),
             Step::Next(0, Ok(1)),
-            Step::Insert(0, &[0x83], Err(Refusal::BrokenProgram)),
+            Step::Insert(0, &[0x83], Err(ProgramRefusal::BrokenProgram)),
             Step::Register(0x19B, 0x25_0000_AF25_2525),
         ],
     ),
@@ -175,7 +175,7 @@ static ROWS: [(&str, &[Step]); 9] = [
         &[
             Step::SetSize(319, Ok(())),
             Step::Load(&[0x25; 4], Ok(0)),
-            Step::Insert(0, &[0x26], Err(Refusal::NoRoom)),
+            Step::Insert(0, &[0x26], Err(ProgramRefusal::NoRoom)),
             Step::Replace(0, &[0x26], Ok(())),
             Step::Register(0x0C0, 0x26_2525_25C0_0020),
         ],

@@ -24,7 +24,8 @@ pub fn insert<const REGS: usize>(
     line: Line,
 ) -> Result<(), ProgramRefusal>
     requires { IsTrue (is_sound ram.old) }
-    ensures { Edits ram.old ram.new (with_inserted line) before result }
+    ensures lines { Edits ram.old ram.new (with_inserted line) before result }
+    ensures sound { IsTrue (is_sound ram.new) }
 {
     know_ranges(&line);
     match line_at(ram, before) {
@@ -37,7 +38,8 @@ pub fn insert<const REGS: usize>(
 /// where the program would pass below main memory.
 pub fn delete<const REGS: usize>(ram: &mut Ram<REGS>, at: u16) -> Result<(), ProgramRefusal>
     requires { IsTrue (is_sound ram.old) }
-    ensures { Edits ram.old ram.new without_deleted at result }
+    ensures lines { Edits ram.old ram.new without_deleted at result }
+    ensures sound { IsTrue (is_sound ram.new) }
 {
     match line_at(ram, at) {
         Ok(listed) => delete_at(ram, listed.position),
@@ -54,7 +56,8 @@ pub fn replace<const REGS: usize>(
     line: Line,
 ) -> Result<(), ProgramRefusal>
     requires { IsTrue (is_sound ram.old) }
-    ensures { Edits ram.old ram.new (with_replaced line) at result }
+    ensures lines { Edits ram.old ram.new (with_replaced line) at result }
+    ensures sound { IsTrue (is_sound ram.new) }
 {
     know_ranges(&line);
     match line_at(ram, at) {

@@ -1,5 +1,5 @@
 //! Laws of program memory: each is the contract of a function whose result is not looked at.
-ghost use Rattle.h41_program.specs.ProgramLaws.{EditsAreDetermined, FirstIsDetermined, GoesOnFromNext, HasOneList, ListsAreDetermined, LoadsAreDetermined, PackingRoundTrip, ReadIsDetermined, StandsForItsLine};
+ghost use Rattle.h41_program.specs.ProgramLaws.{EditsAreDetermined, FirstIsDetermined, GoesOnFromNext, HasOneList, ListsAreDetermined, LoadIsRead, LoadsAreDetermined, PackingRoundTrip, ReadIsDetermined, SizeKeepsLines, StandsForItsLine, WrittenIsRead};
 
 use crate::kinds::is_final_end;
 use crate::reading::{Found, first_from};
@@ -12,6 +12,26 @@ pub fn packing_round_trip()
 {
     byte_round_trip();
 }
+
+/// What is written is read again: the list from 0 over memory after its lines were written is these lines and `.END.`.
+pub fn written_is_read()
+    ensures { WrittenIsRead }
+{
+    byte_round_trip();
+}
+
+/// After a load the list from 0 is memory's lines, closed, those of the bytes, and `.END.`; from the position that was answered
+/// on it is those of the bytes and `.END.`.
+pub fn load_is_read()
+    ensures { LoadIsRead }
+{
+    byte_round_trip();
+}
+
+/// With another number of data registers memory has the same lists of lines.
+pub fn size_keeps_lines()
+    ensures { SizeKeepsLines }
+{}
 
 /// Memory has one list of lines from each position on, and no other.
 pub fn one_list<const REGS: usize>(ram: &Ram<REGS>, at: u16)

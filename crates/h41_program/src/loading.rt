@@ -23,6 +23,7 @@ pub fn load<const REGS: usize>(ram: &mut Ram<REGS>, bytes: &[u8]) -> Result<u16,
     requires { IsTrue (is_sound ram.old) }
     ensures lines { Loads ram.old ram.new bytes.now result }
     ensures bound { IfOk result (λ start. start ≤ 2237) }
+    ensures sound { IsTrue (is_sound ram.new) }
 {
     let mut packer = packed_program(ram)?;
     packer.close();

@@ -1,8 +1,11 @@
 pub mod Addresses
+pub mod Depends
 pub mod Determined
 pub mod EditSteps
+pub mod Exists
 pub mod FirstBytes
 pub mod FirstLines
+pub mod FoundOnce
 pub mod Givens
 pub mod Inner
 pub mod LineLengths

@@ -1,5 +1,5 @@
 -- Lines that were written into memory: it is sound, and they are read again.
-use Rattle.std.proofs.Common.{◌≡◌, ℕ, ◌+◌, ◌-◌, ◌*◌, ◌/◌, ◌≤◌, true, List, ◌++◌, length, get_or, replicate, sym, ◌∙◌, ap, subst, arith, inl, inr, All, Result, Ok, Err, length-append, get_or-append-add}
+use Rattle.std.proofs.Common.{refl, ◌≡◌, ℕ, ◌+◌, ◌-◌, ◌*◌, ◌/◌, ◌≤◌, true, List, ◌++◌, length, get_or, replicate, sym, ◌∙◌, ap, subst, arith, inl, inr, All, Result, Ok, Err, length-append, get_or-append-add}
 use Rattle.std.proofs.lemmas.Bool.{cases_lt}
 use Rattle.h41_codes.specs.ByteLaws.{ByteRoundTrip}
 use Rattle.h41_codes.specs.declared.line.Line.{Line}
@@ -9,7 +9,7 @@ use Rattle.h41_program.specs.declared.refusal.ProgramRefusal.{ProgramRefusal}
 use Rattle.h41_program.specs.declared.refusal.ProgramRefusal.TheVariants.{NoRoom}
 use Rattle.h41_program.specs.Packing.{packed, filler, packing, written_end}
 use Rattle.h41_program.specs.ProgramBytes.{program_bytes, final_position}
-use Rattle.h41_program.specs.ProgramLaws.{IsInner, HasLines, WrittenIsRead}
+use Rattle.h41_program.specs.ProgramLaws.{IsInner, HasLines, PackingFills, PackingHasFewNulls, WrittenIsRead}
 use Rattle.h41_program.specs.ProgramLines.{Reads}
 use Rattle.h41_program.specs.Rewriting.{rewritten, written}
 use Rattle.h41_program.proofs.Packings.{length-packing}
@@ -31,6 +31,12 @@ registers_filled lines = omega (arith, length-packing lines)
 
 some_registers : (lines : List Line) → 1 ≤ length (packing lines) / 7
 some_registers lines = omega (arith, length-packing lines)
+
+pub fills : PackingFills
+fills lines = (length (packing lines) / 7, registers_filled lines)
+
+pub few_nulls : PackingHasFewNulls
+few_nulls lines = (filler (length (packed lines)), omega arith, refl)
 
 refused_is_not_done : (new : RegisterMap) → ◌≡◌ {A = Result RegisterMap ProgramRefusal} (Err NoRoom) (Ok new) → ⊥
 refused_is_not_done new same = cc

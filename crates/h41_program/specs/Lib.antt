@@ -1,5 +1,6 @@
-pub mod Edits
+pub mod Dependence
 pub mod EditSteps
+pub mod Edits
 pub mod Lines
 pub mod LoadSteps
 pub mod Packers
@@ -10,5 +11,6 @@ pub mod ProgramLines
 pub mod ProgramPlaces
 pub mod Reading
 pub mod Rewriting
+pub mod SearchLaws
 pub mod Searches
 pub mod Size

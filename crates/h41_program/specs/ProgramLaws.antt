@@ -1,5 +1,5 @@
 -- Laws of lists of lines.
-use Rattle.std.specs.Prelude.{◌≡◌, ◌≢◌, ℕ, ◌-◌, All, IsTrue, false, List, [], ◌∷◌, ◌++◌, length, Some, Result, Ok}
+use Rattle.std.specs.Prelude.{◌≡◌, ◌≢◌, ℕ, ◌-◌, ◌*◌, ◌≤◌, All, IsTrue, false, List, [], ◌∷◌, ◌++◌, length, replicate, Some, Result, Ok}
 use Rattle.h41_codes.specs.ByteGrammar.{IsLine}
 use Rattle.h41_codes.specs.declared.line.Line.{Line}
 use Rattle.h41_codes.specs.declared.line.Line.TheVariants.{Null, FinalEnd}
@@ -8,7 +8,7 @@ use Rattle.h41_program.specs.declared.listed_line.ListedLine.{ListedLine}
 use Rattle.h41_program.specs.Edits.{lines_of, before_end, closed, loaded_of, EditGives, LoadGives}
 use Rattle.h41_program.specs.declared.refusal.ProgramRefusal.{ProgramRefusal}
 use Rattle.h41_program.specs.Lines.{is_final_end}
-use Rattle.h41_program.specs.Packing.{packing}
+use Rattle.h41_program.specs.Packing.{packed, packing, written_end}
 use Rattle.h41_program.specs.ProgramLines.{FirstFrom, LinesFrom, Reads}
 use Rattle.h41_program.specs.Rewriting.{written}
 use Rattle.h41_program.specs.Size.{size_outcome}
@@ -26,6 +26,14 @@ ReadsAgain lines listed =
 
 abbrev pub PackingRoundTrip : Type 0
 PackingRoundTrip = (lines : List Line) → All IsInner lines → (listed : List ListedLine) × ReadsAgain lines listed
+
+-- a packing fills whole registers, with at most six nulls between its lines and .END.
+abbrev pub PackingFills : Type 0
+PackingFills = (lines : List Line) → (registers : ℕ) × (length (packing lines) ≡ 7 * registers)
+
+abbrev pub PackingHasFewNulls : Type 0
+PackingHasFewNulls =
+    (lines : List Line) → (nulls : ℕ) × (nulls ≤ 6) × (packing lines ≡ packed lines ++ replicate nulls 0x00 ++ written_end)
 
 -- memory has these lines from a position on, and .END. behind them
 abbrev pub HasLines : RegisterMap → ℕ → List Line → Type 0
@@ -66,6 +74,9 @@ pub record HasOneList (memory : RegisterMap) (at : ℕ) : Type 0 where
   pub lines : List ListedLine
   pub from : LinesFrom memory at lines
   pub one : (others : List ListedLine) → LinesFrom memory at others → others ≡ lines
+
+abbrev pub OneList : Type 0
+OneList = (memory : RegisterMap) (at : ℕ) → HasOneList memory at
 
 -- no bytes have two first lines from a position on
 abbrev pub FirstIsDetermined : Type 0

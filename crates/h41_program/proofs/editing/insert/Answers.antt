@@ -7,13 +7,13 @@ use Rattle.h41_program.proofs.editing.insert.Goals as goal
 
 pub returns-in-Ok-clause-lines : goal.returns-in-Ok-clause-lines
 returns-in-Ok-clause-lines g c =
-    let first = subst (λ r. AnswersFirst c.args.ram.now c.args.before r) c.in-Ok.is c.line_at.ensures.first in
+    let first = subst (λ r. AnswersFirst c.args.ram.now c.args.before r) c.in-Ok.is c.line_at.ensures in
     let edits = c.insert_at.ensures in
     (edits.0, inl (c.in-Ok.listed, first, edits.1), edits.2)
 
 pub returns-in-Err-clause-lines : goal.returns-in-Err-clause-lines
 returns-in-Err-clause-lines g c =
-    let none = subst (λ r. AnswersFirst c.args.ram.now c.args.before r) c.in-Err.is c.line_at.ensures.first in
+    let none = subst (λ r. AnswersFirst c.args.ram.now c.args.before r) c.in-Err.is c.line_at.ensures in
     (Err BrokenProgram, inr (none.1, refl), (ap (λ r. Err r) none.0, refl))
 
 pub returns-in-Ok-clause-sound : goal.returns-in-Ok-clause-sound

@@ -1,14 +1,17 @@
 -- Lines that programs can have.
-use Rattle.std.proofs.Common.{◌≡◌, ℕ, Bool, true, false, List, [], ◌∷◌, ◌++◌, refl, sym, ◌∙◌, subst, arith, inl, inr, All, Option, Some, None}
+use Rattle.std.proofs.Common.{◌≢◌, ◌≡◌, ℕ, Bool, true, false, List, [], ◌∷◌, ◌++◌, refl, sym, ◌∙◌, subst, arith, inl, inr, All, Option, Some, None}
 use Rattle.std.specs.Prelude.{◌||◌, if◌then◌else◌}
 use Rattle.std.specs.Option.{option_map}
 use Rattle.std.proofs.lemmas.Bool.{cases_Bool}
 use Rattle.std.proofs.lemmas.List.Elements.{All-nil, All-cons, All-append}
+use Rattle.std.specs.Prelude.{◌==◌}
+use Rattle.std.specs.List.{flat_map}
+use Rattle.h41_codes.specs.ByteGrammar.{IsLine}
 use Rattle.h41_codes.specs.declared.line.Line.{Line}
-use Rattle.h41_codes.specs.declared.line.Line.TheVariants.{End}
+use Rattle.h41_codes.specs.declared.line.Line.TheVariants.{End, FinalEnd, Null}
 use Rattle.h41_program.specs.declared.listed_line.ListedLine.{ListedLine}
-use Rattle.h41_program.specs.Edits.{lines_of, before_end, closed, is_open, without_end}
-use Rattle.h41_program.specs.Lines.{is_end, is_final_end}
+use Rattle.h41_program.specs.Edits.{own_line, with_inserted, with_replaced, without_deleted, lines_of, before_end, closed, is_open, without_end}
+use Rattle.h41_program.specs.Lines.{is_end, is_final_end, is_inner}
 use Rattle.h41_program.specs.ProgramLaws.{IsInner}
 use Rattle.h41_program.specs.ProgramLines.{FirstFrom, Reads, behind}
 use Rattle.h41_program.proofs.Walks.{more_rest, last_rest}
@@ -75,3 +78,50 @@ closed_inner lines inner = chosen (is_open lines)
     chosen : (b : Bool) → All IsInner (if b then lines ++ End 0 0 ∷ [] else lines)
     chosen true = All-append IsInner lines (End 0 0 ∷ []) inner (All-cons IsInner (End 0 0) [] end_inner (All-nil IsInner))
     chosen false = inner
+
+-- lines by their test
+pub inner_line : (line : Line) → is_inner line ≡ true → IsLine line → IsInner line
+inner_line Null is valid = cc
+inner_line (FinalEnd link marks) is valid = cc
+inner_line line is valid = record { valid = valid; some = λ same. cc; inner = refl }
+
+-- a change of a list makes inner lines of its lines
+abbrev pub KeepsInner : (ListedLine → List Line) → Type 0
+KeepsInner change = (listed : ListedLine) → IsLine listed.line → listed.line ≢ Null → All IsInner (change listed)
+
+own_inner : (listed : ListedLine) → IsLine listed.line → listed.line ≢ Null → All IsInner (own_line listed)
+own_inner listed valid some = elim (cases_Bool (is_final_end listed.line)) [
+  | inl last ↦ rw last (All-nil IsInner)
+  | inr other ↦ rw other (All-cons IsInner listed.line [] (record { valid = valid; some = some; inner = other }) (All-nil IsInner))
+]
+
+chosen_inner : (b : Bool) (line : Line) (others : List Line) → IsInner line → All IsInner others → All IsInner (if b then line ∷ [] else others)
+chosen_inner true line others inner all = All-cons IsInner line [] inner (All-nil IsInner)
+chosen_inner false line others inner all = all
+
+left_inner : (b : Bool) (others : List Line) → All IsInner others → All IsInner (if b then [] else others)
+left_inner true others all = All-nil IsInner
+left_inner false others all = all
+
+pub inserted_inner : (line : Line) (position : ℕ) → IsInner line → KeepsInner (with_inserted line position)
+inserted_inner line position inner listed valid some =
+    All-append IsInner (if listed.position == position then line ∷ [] else []) (own_line listed)
+    (chosen_inner (listed.position == position) line [] inner (All-nil IsInner)) (own_inner listed valid some)
+
+pub replaced_inner : (line : Line) (position : ℕ) → IsInner line → KeepsInner (with_replaced line position)
+replaced_inner line position inner listed valid some = chosen_inner (listed.position == position) line (own_line listed) inner (own_inner listed valid some)
+
+pub deleted_inner : (position : ℕ) → KeepsInner (without_deleted position)
+deleted_inner position listed valid some = left_inner (listed.position == position) (own_line listed) (own_inner listed valid some)
+
+pub changed_inner : (bytes : List ℕ) (final : ℕ) (change : ListedLine → List Line) → KeepsInner change → (at : ℕ) (lines : List ListedLine) → Reads bytes final at lines
+    → All IsInner (flat_map change lines)
+changed_inner bytes final change keeps at [] reads = All-nil IsInner
+changed_inner bytes final change keeps at (first ∷ rest) reads =
+    All-append IsInner (change first) (flat_map change rest) (keeps first reads.0.begins.spells.valid reads.0.not_null)
+    (elim (cases_Bool (is_final_end first.line)) [
+      | inl last ↦
+          let none = last_rest bytes final (behind first) (is_final_end first.line) rest last reads.1 in
+          subst (λ (l : List ListedLine). All IsInner (flat_map change l)) (sym none) (All-nil IsInner)
+      | inr other ↦ changed_inner bytes final change keeps (behind first) rest (more_rest bytes final (behind first) (is_final_end first.line) rest other reads.1)
+    ])

@@ -1,6 +1,6 @@
 -- What calls leave is sound, and is read again.
-use Rattle.std.proofs.Common.{◌≡◌, ℕ, Bool, true, false, List, [], ◌++◌, length, drop, All, refl, sym, ap, subst, inl, inr, Option, Some, None, Result, Ok, Err}
-use Rattle.std.specs.Prelude.{◌==◌, ◌&&◌, is_some, if◌then◌else◌}
+use Rattle.std.proofs.Common.{◌∙◌, ◌≡◌, ℕ, Bool, true, false, List, [], ◌++◌, length, drop, All, refl, sym, ap, subst, inl, inr, Option, Some, None, Result, Ok, Err}
+use Rattle.std.specs.Prelude.{◌==◌, ◌&&◌, is_some, OnOk, if◌then◌else◌}
 use Rattle.std.specs.List.{flat_map, list_all}
 use Rattle.std.proofs.lemmas.Bool.{cases_Bool}
 use Rattle.std.proofs.lemmas.List.Elements.{All-append}
@@ -10,13 +10,13 @@ use Rattle.h41_ram.specs.RegisterMap.{RegisterMap, is_sound}
 use Rattle.h41_program.specs.declared.listed_line.ListedLine.{ListedLine}
 use Rattle.h41_program.specs.declared.refusal.ProgramRefusal.{ProgramRefusal}
 use Rattle.h41_program.specs.declared.refusal.ProgramRefusal.TheVariants.{BrokenProgram}
-use Rattle.h41_program.specs.Edits.{lines_of, before_end, closed, answered, changed_outcome, edit_outcome, end_of_lines, has_line_at, load_outcome, loaded_of, without_end, Edits, Loads, LoadsBehind}
+use Rattle.h41_program.specs.Edits.{lines_of, before_end, closed, answered, changed_outcome, edit_outcome, end_of_lines, has_line_at, LeavesChanged, load_outcome, loaded_of, without_end, Edits, Loads, LoadsBehind}
 use Rattle.h41_program.specs.Packing.{packed}
 use Rattle.h41_program.specs.ProgramBytes.{program_bytes, final_position}
 use Rattle.h41_program.specs.ProgramLaws.{IsInner, HasLines, LeavesLoaded, LoadIsRead}
-use Rattle.h41_program.specs.ProgramLines.{LinesFrom, Reads}
+use Rattle.h41_program.specs.ProgramLines.{FirstFrom, LinesFrom, Reads}
 use Rattle.h41_program.specs.Rewriting.{written, HasOutcome}
-use Rattle.h41_program.proofs.Inner.{before_inner, closed_inner, loaded_inner}
+use Rattle.h41_program.proofs.Inner.{KeepsInner, before_inner, changed_inner, closed_inner, loaded_inner}
 use Rattle.h41_program.proofs.Written.{written_behind, written_read, written_sound}
 
 -- an outcome is sound where the memory that was written is
@@ -137,4 +137,40 @@ load_read again memory new bytes start loads = elim (cases_Bool (is_sound memory
       let refused : Ok (new, start) ≡ Err BrokenProgram =
       subst (λ (before : Option (List ListedLine)). LoadsBehind memory bytes before (Ok (new, start))) (lost_end loads.0 (loads.1.lost lost)) loads.2 in
       absurd (refused_is_not_done new start BrokenProgram refused)
+]
+
+-- what an edit leaves
+written_reads : ByteRoundTrip → (old left : RegisterMap) (result : Result (Unit {0}) ProgramRefusal) (lines : List Line) (outcome : Result RegisterMap ProgramRefusal)
+    → is_sound old ≡ true → All IsInner lines → written old lines ≡ outcome → HasOutcome old left result (answered tt outcome) → OnOk result (HasLines left 0 lines)
+written_reads again old left result lines (Ok memory) sound inner is has =
+    rw has.0 (written_read again old left lines sound inner (is ∙ ap (λ (m : RegisterMap). Ok m) (sym has.1)))
+written_reads again old left result lines (Err refusal) sound inner is has = rw has.0 tt
+
+changed_reads : ByteRoundTrip → (b : Bool) (old left : RegisterMap) (result : Result (Unit {0}) ProgramRefusal) (lines : List Line) → is_sound old ≡ true → All IsInner lines
+    → HasOutcome old left result (changed_outcome b old lines) → OnOk result (HasLines left 0 lines)
+changed_reads again true old left result lines sound inner has = written_reads again old left result lines (written old lines) sound inner refl has
+changed_reads again false old left result lines sound inner has = rw has.0 tt
+
+leaves : (old left : RegisterMap) (change : ℕ → ListedLine → List Line) (at : ℕ) (result : Result (Unit {0}) ProgramRefusal) (first : ListedLine) (lines : List ListedLine)
+    → FirstFrom (program_bytes old) (final_position old) at first → LinesFrom old 0 lines → OnOk result (HasLines left 0 (flat_map (change first.position) lines))
+    → OnOk result (LeavesChanged old change at left)
+leaves old left change at (Ok done) first lines stands from has =
+    record { first = first; lines = lines; listed = has.0; stands = stands; from = from; read = has.1; same = has.2 }
+leaves old left change at (Err refusal) first lines stands from has = tt
+
+pub edit_read : ByteRoundTrip → (old left : RegisterMap) (change : ℕ → ListedLine → List Line) (at : ℕ) (result : Result (Unit {0}) ProgramRefusal) → is_sound old ≡ true
+    → ((position : ℕ) → KeepsInner (change position)) → Edits old left change at result → OnOk result (LeavesChanged old change at left)
+edit_read again old left change at result sound keeps edits = elim edits.1 [
+  | inl edit ↦
+      let own = change edit.0.position in
+      let lines = edit.2.0 in
+      let has : HasOutcome old left result (edit_outcome old own edit.0.position lines) =
+      subst (λ (outcome : Result (RegisterMap × Unit {0}) ProgramRefusal). HasOutcome old left result outcome) edit.2.2 edits.2 in
+      let inner = changed_inner (program_bytes old) (final_position old) own (keeps edit.0.position) 0 lines (edit.2.1.sound sound) in
+      leaves old left change at result edit.0 lines edit.1 edit.2.1
+      (changed_reads again (is_some (before_end lines) && has_line_at edit.0.position lines) old left result (flat_map own lines) sound inner has)
+  | inr none ↦
+      let has : HasOutcome old left result (Err BrokenProgram) =
+      subst (λ (outcome : Result (RegisterMap × Unit {0}) ProgramRefusal). HasOutcome old left result outcome) none.1 edits.2 in
+      rw has.0 tt
 ]

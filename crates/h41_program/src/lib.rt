@@ -18,7 +18,7 @@ mod searches;
 mod size;
 
 pub use editing::{delete, insert, replace};
-pub use kinds::{is_final_end, is_number};
+pub use kinds::{is_end, is_final_end, is_inner, is_label, is_named, is_number};
 pub use listed_line::ListedLine;
 pub use loading::load;
 pub use reading::{Found, first_from, line_at, next};

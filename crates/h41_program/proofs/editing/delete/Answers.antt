@@ -2,7 +2,8 @@ use Rattle.std.proofs.Common.{Err, ap, inl, inr, refl, subst}
 use Rattle.h41_program.specs.Edits.{without_deleted}
 use Rattle.h41_program.specs.ProgramLines.{AnswersFirst}
 use Rattle.h41_program.specs.declared.refusal.ProgramRefusal.TheVariants.{BrokenProgram}
-use Rattle.h41_program.proofs.Outcomes.{edit_sound}
+use Rattle.h41_program.proofs.Inner.{deleted_inner}
+use Rattle.h41_program.proofs.Outcomes.{edit_read, edit_sound}
 use Rattle.h41_program.proofs.editing.delete.Goals as goal
 
 pub returns-in-Ok-clause-lines : goal.returns-in-Ok-clause-lines
@@ -18,3 +19,8 @@ returns-in-Err-clause-lines g c =
 
 pub returns-in-Ok-clause-sound : goal.returns-in-Ok-clause-sound
 returns-in-Ok-clause-sound g c = edit_sound c.args.ram.now c.delete_at.new.ram without_deleted c.args.at c.delete_at.result c.requires (returns-in-Ok-clause-lines g c)
+
+pub returns-in-Ok-clause-read : goal.returns-in-Ok-clause-read
+returns-in-Ok-clause-read g c =
+    edit_read c.byte_round_trip.ensures.again c.args.ram.now c.delete_at.new.ram without_deleted c.args.at c.delete_at.result c.requires
+    deleted_inner (returns-in-Ok-clause-lines g c)

@@ -1,4 +1,5 @@
 pub mod Addresses
+pub mod Closings
 pub mod Depends
 pub mod Determined
 pub mod EditSteps
@@ -14,6 +15,7 @@ pub mod LoadSteps
 pub mod Loads
 pub mod Mains
 pub mod Memory
+pub mod Numbers
 pub mod Outcomes
 pub mod Packings
 pub mod Resized

@@ -29,7 +29,7 @@ answered_sound : {A : Type 0} (old new : RegisterMap) (result : Result A Program
 answered_sound old new result answer (Ok memory) sound each has = subst (λ (m : RegisterMap). is_sound m ≡ true) (sym has.1) (each memory refl)
 answered_sound old new result answer (Err refusal) sound each has = refused_sound old new result refusal sound has
 
-written_outcome : {A : Type 0} (old new : RegisterMap) (result : Result A ProgramRefusal) (answer : A) (lines : List Line) → is_sound old ≡ true
+pub written_outcome : {A : Type 0} (old new : RegisterMap) (result : Result A ProgramRefusal) (answer : A) (lines : List Line) → is_sound old ≡ true
     → HasOutcome old new result (answered answer (written old lines)) → is_sound new ≡ true
 written_outcome old new result answer lines sound has =
     answered_sound old new result answer (written old lines) sound (λ m done. written_sound old m lines sound done) has

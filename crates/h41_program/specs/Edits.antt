@@ -77,6 +77,18 @@ LoadGives memory bytes outcome = (lines : List ListedLine) × LinesFrom memory 0
 abbrev pub Loads : RegisterMap → RegisterMap → List ℕ → Result ℕ ProgramRefusal → Type 0
 Loads old new bytes result = (outcome : Result (RegisterMap × ℕ) ProgramRefusal) × LoadGives old bytes outcome × HasOutcome old new result outcome
 
+-- what closing the last program gives: an END behind it where it has lines and none, else memory as it is
+abbrev pub close_outcome : RegisterMap → List Line → Result (RegisterMap × Unit {0}) ProgramRefusal
+close_outcome memory lines = if is_open lines then answered tt (written memory (closed lines)) else Ok (memory, tt)
+
+abbrev pub close_behind : RegisterMap → Option (List ListedLine) → Result (RegisterMap × Unit {0}) ProgramRefusal
+close_behind memory None = Err BrokenProgram
+close_behind memory (Some lines) = close_outcome memory (lines_of lines)
+
+-- the last program in memory is closed
+abbrev pub Closes : RegisterMap → RegisterMap → Result (Unit {0}) ProgramRefusal → Type 0
+Closes old new result = (lines : List ListedLine) × LinesFrom old 0 lines × HasOutcome old new result (close_behind old (before_end lines))
+
 -- whether a line stands at a position in the list
 abbrev pub has_line_at : ℕ → List ListedLine → Bool
 has_line_at position lines = list_any (λ listed. listed.position == position) lines

@@ -3,6 +3,7 @@ pub mod EditSteps
 pub mod Edits
 pub mod Lines
 pub mod LoadSteps
+pub mod Numbering
 pub mod Packers
 pub mod Packing
 pub mod ProgramBytes

@@ -1,5 +1,5 @@
 -- The last program closed.
-use Rattle.std.proofs.Common.{◌≡◌, ℕ, Bool, true, false, List, length, refl, sym, ◌∙◌, ap, subst, Option, Some, None, Result, Ok, Err}
+use Rattle.std.proofs.Common.{◌≡◌, Bool, true, false, List, refl, sym, ◌∙◌, ap, subst, Option, Some, None, Result, Ok, Err}
 use Rattle.std.specs.Prelude.{MatchOption, IsOkAnd, not, if◌then◌else◌}
 use Rattle.std.specs.Option.{option_map_or}
 use Rattle.h41_codes.specs.declared.line.Line.{Line}

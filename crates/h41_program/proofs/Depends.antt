@@ -1,16 +1,15 @@
 -- Memories that agree on their programs.
-use Rattle.std.proofs.Common.{◌≡◌, ℕ, ◌-◌, ◌*◌, ◌/◌, ◌%◌, ◌<◌, Bool, true, false, List, length, get_or, refl, sym, ◌∙◌, ap, subst, arith, inl, inr, Ok, Err}
+use Rattle.std.proofs.Common.{◌≡◌, ℕ, ◌-◌, ◌/◌, ◌%◌, ◌<◌, Bool, true, false, List, refl, sym, ◌∙◌, ap, subst, arith, Ok, Err}
 use Rattle.std.specs.Prelude.{◌⊎◌, MatchBool}
-use Rattle.std.proofs.lemmas.Bool.{cases_Bool, true≢false}
 use Rattle.std.proofs.lemmas.List.{ext_get_or}
 use Rattle.std.proofs.lemmas.List.FromFn.{get_or-map-range_with_len, length-map-range_with_len}
 use Rattle.h41_digits.specs.Register.{byte_at}
-use Rattle.h41_ram.specs.RegisterMap.{RegisterMap, top_of, register_at, c_of, curtain_of, end_of, constant_of, is_sound, is_final_end, three_digits}
+use Rattle.h41_ram.specs.RegisterMap.{RegisterMap, register_at, curtain_of, end_of, constant_of, is_sound, is_final_end, three_digits}
 use Rattle.h41_program.specs.declared.listed_line.ListedLine.{ListedLine}
 use Rattle.h41_program.specs.Dependence.{AgreeOnProgram, SoundnessDepends, ListsDepend, FirstsDepend, NonesDepend, LineDepends, NextDepends, StartDepends, LocalDepends, GlobalDepends}
 use Rattle.h41_program.specs.Lines.{is_final_end as ends_list}
 use Rattle.h41_program.specs.ProgramBytes.{byte_count, program_byte, program_bytes, final_position}
-use Rattle.h41_program.specs.ProgramLines.{behind, FirstFrom, IsFirst, NoneFrom, Reads, LinesFrom}
+use Rattle.h41_program.specs.ProgramLines.{behind, FirstFrom, IsFirst, NoneFrom, Reads}
 use Rattle.h41_program.specs.Searches.{start_in}
 use Rattle.h41_program.proofs.Addresses.{sound_by}
 use Rattle.h41_program.proofs.Sound.{bounds, constant, ends}
@@ -62,9 +61,9 @@ module _ (memory other : RegisterMap) (agree : AgreeOnProgram memory other) wher
       let all = length-map-range_with_len (program_byte other) 0 (byte_count other) in
       ext_get_or 0 (program_bytes memory) (program_bytes other) (own ∙ same_count ∙ sym all)
       (λ p inside.
-          get_or-map-range_with_len (program_byte memory) 0 (byte_count memory) p p 0 (omega (arith, own, inside)) (omega arith)
-          ∙ same_byte p (omega (arith, own, inside))
-          ∙ sym (get_or-map-range_with_len (program_byte other) 0 (byte_count other) p p 0 (omega (arith, own, inside, same_count)) (omega arith)))
+      get_or-map-range_with_len (program_byte memory) 0 (byte_count memory) p p 0 (omega (arith, own, inside)) (omega arith)
+      ∙ same_byte p (omega (arith, own, inside))
+      ∙ sym (get_or-map-range_with_len (program_byte other) 0 (byte_count other) p p 0 (omega (arith, own, inside, same_count)) (omega arith)))
 
   -- what holds of the bytes of one holds of those of the other
   carried : (P : List ℕ → ℕ → Type 0) → P (program_bytes memory) (final_position memory) → P (program_bytes other) (final_position other)

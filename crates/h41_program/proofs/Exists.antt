@@ -1,16 +1,16 @@
 -- There is a list of lines from each position on.
-use Rattle.std.proofs.Common.{◌≡◌, ◌⊎◌, ℕ, zero, suc, ◌+◌, ◌-◌, ◌<◌, ◌≤◌, Bool, true, false, List, [], ◌∷◌, length, take, drop, get_or, refl, sym, ◌∙◌, ap, subst, arith, inl, inr, length-take, length-drop, get_or-take}
+use Rattle.std.proofs.Common.{◌≡◌, ◌⊎◌, ℕ, zero, suc, ◌+◌, ◌-◌, ◌<◌, ◌≤◌, Bool, List, [], ◌∷◌, length, take, drop, get_or, refl, sym, ◌∙◌, ap, subst, arith, inl, inr, length-take, length-drop, get_or-take}
 use Rattle.std.specs.Prelude.{MatchBool}
 use Rattle.std.proofs.lemmas.Bool.{cases_lt, cases_Bool, true≢false}
 use Rattle.h41_codes.specs.ByteGrammar.{spelling, Begins}
 use Rattle.h41_codes.specs.ByteLaws.{LineOrNone, OneLine}
 use Rattle.h41_codes.specs.declared.line.Line.{Line}
 use Rattle.h41_codes.specs.declared.line.Line.TheVariants.{Null}
-use Rattle.h41_ram.specs.RegisterMap.{RegisterMap, is_sound}
+use Rattle.h41_ram.specs.RegisterMap.{is_sound}
 use Rattle.h41_program.specs.declared.listed_line.ListedLine.{ListedLine}
 use Rattle.h41_program.specs.Lines.{is_final_end}
 use Rattle.h41_program.specs.ProgramBytes.{program_bytes, final_position}
-use Rattle.h41_program.specs.ProgramLaws.{HasOneList, OneList}
+use Rattle.h41_program.specs.ProgramLaws.{OneList}
 use Rattle.h41_program.specs.ProgramLines.{line_bytes, FirstFrom, NoneFrom, ReadsTo, LinesFrom, behind}
 use Rattle.h41_program.proofs.Determined.{lists_determined}
 use Rattle.h41_program.proofs.FirstLines.{line_bytes-at, line_bytes-below, first_inside, first_byte, null_begins}
@@ -141,10 +141,13 @@ module _ (one : OneLine) (tells : LineOrNone) (bytes : List ℕ) (final : ℕ) w
 
   -- the lines from a position on
   pub reads_some : (ends : Line → Bool) (n at : ℕ) → final < at + n → (lines : List ListedLine) × ReadsTo ends bytes final at lines
-  reads_some ends zero at past = ([], λ first is.
-      let inside = first_inside bytes final at first is in
-      let from = is.from in
-      omega (arith, past, inside, from))
+  reads_some ends zero at past = (
+    [],
+    λ first is.
+        let inside = first_inside bytes final at first is in
+        let from = is.from in
+        omega (arith, past, inside, from),
+  )
   reads_some ends (suc n) at past = elim (first_or_none (suc n) at past) [
     | inr none ↦ ([], none)
     | inl first ↦ elim (cases_Bool (ends first.0.line)) [

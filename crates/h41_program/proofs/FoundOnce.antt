@@ -1,5 +1,5 @@
 -- What is found is determined, and is that of the list.
-use Rattle.std.proofs.Common.{◌≡◌, ℕ, true, false, List, [], ◌∷◌, refl, sym, ◌∙◌, ap, subst, inl, inr, Option, Result, Ok, Err}
+use Rattle.std.proofs.Common.{◌≡◌, ℕ, true, false, List, [], ◌∷◌, sym, ◌∙◌, ap, subst, inl, inr, Ok, Err}
 use Rattle.std.specs.Prelude.{MatchBool}
 use Rattle.std.specs.Option.{option_or}
 use Rattle.std.proofs.lemmas.Bool.{cases_Bool}
@@ -7,10 +7,9 @@ use Rattle.h41_codes.specs.ByteLaws.{OneLine}
 use Rattle.h41_ram.specs.RegisterMap.{RegisterMap}
 use Rattle.h41_program.specs.declared.listed_line.ListedLine.{ListedLine}
 use Rattle.h41_program.specs.declared.refusal.ProgramRefusal.{ProgramRefusal}
-use Rattle.h41_program.specs.declared.refusal.ProgramRefusal.TheVariants.{BrokenProgram}
 use Rattle.h41_program.specs.Lines.{is_final_end}
 use Rattle.h41_program.specs.ProgramBytes.{program_bytes, final_position}
-use Rattle.h41_program.specs.ProgramLines.{FirstFrom, LinesFrom, NoneFrom, PositionBehind, PositionFrom, Reads, behind, line_of, next_of}
+use Rattle.h41_program.specs.ProgramLines.{FirstFrom, LinesFrom, PositionBehind, PositionFrom, Reads, behind, line_of, next_of}
 use Rattle.h41_program.specs.SearchLaws.{StartIsDetermined, LocalIsDetermined, GlobalIsDetermined, LineIsOfList, NextIsOfList}
 use Rattle.h41_program.specs.Searches.{label_in, named_in, position_of, start_in}
 use Rattle.h41_program.proofs.Determined.{first_determined, lists_determined}

@@ -1,9 +1,9 @@
 -- The lines of sound memory.
-use Rattle.std.proofs.Common.{◌≡◌, ◌≢◌, ℕ, ◌+◌, ◌-◌, ◌<◌, ◌≤◌, Bool, true, false, List, [], ◌∷◌, map, min, length, take, drop, get_or, refl, sym, ◌∙◌, ap, subst, arith, inl, inr, Result, Ok, Err}
-use Rattle.std.specs.Prelude.{slice_range, MatchBool}
+use Rattle.std.proofs.Common.{◌≡◌, ◌≢◌, ℕ, ◌+◌, ◌-◌, ◌<◌, ◌≤◌, true, List, map, min, length, take, drop, get_or, sym, ◌∙◌, ap, subst, arith, inl, inr, Result, Ok, Err}
+use Rattle.std.specs.Prelude.{slice_range}
 use Rattle.std.specs.List.{range_with_len}
 use Rattle.std.proofs.lemmas.List.FromFn.{get_or-map-range_with_len, length-map-range_with_len, take-map-range_with_len}
-use Rattle.std.proofs.lemmas.Bool.{cases_lt, cases_Bool}
+use Rattle.std.proofs.lemmas.Bool.{cases_lt}
 use Rattle.std.proofs.lemmas.List.{length-take, length-drop}
 use Rattle.h41_codes.specs.ByteGrammar.{spelling, Begins, AnswersLine}
 use Rattle.h41_codes.specs.ByteLaws.{OneLine}
@@ -11,8 +11,6 @@ use Rattle.h41_codes.specs.declared.line.Line.{Line}
 use Rattle.h41_ram.specs.RegisterMap.{RegisterMap, is_sound}
 use Rattle.h41_program.specs.declared.listed_line.ListedLine.{ListedLine}
 use Rattle.h41_program.specs.ProgramBytes.{byte_count, program_byte, program_bytes, final_position}
-use Rattle.h41_program.specs.declared.reading.Found.{Found}
-use Rattle.h41_program.specs.Lines.{is_final_end}
 use Rattle.h41_program.specs.ProgramLines.{line_bytes, FirstFrom, HasFirst, HasNoLine}
 use Rattle.h41_program.proofs.FirstLines.{line_bytes-below, line_bytes-at, Passed, stands_there, found_first}
 use Rattle.h41_program.proofs.Sound.{final_byte}

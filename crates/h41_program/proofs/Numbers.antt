@@ -1,6 +1,6 @@
 -- Lines counted.
-use Rattle.std.proofs.Common.{◌≡◌, ℕ, suc, ◌+◌, ◌-◌, Bool, true, false, List, [], ◌∷◌, ◌++◌, length, refl, sym, ◌∙◌, ap, subst, arith, inl, inr, append_assoc, length-append, Option, Some, None}
-use Rattle.std.specs.Prelude.{◌==◌, if◌then◌else◌}
+use Rattle.std.proofs.Common.{◌≡◌, ℕ, suc, ◌+◌, ◌-◌, true, false, List, [], ◌∷◌, ◌++◌, length, refl, sym, ◌∙◌, ap, subst, arith, inl, inr, append_assoc, length-append, Option, Some, None}
+use Rattle.std.specs.Prelude.{◌==◌}
 use Rattle.std.specs.Option.{option_map}
 use Rattle.std.proofs.lemmas.Bool.{cases_Bool}
 use Rattle.std.proofs.lemmas.Bool.Decides.{nat_tests}
@@ -12,7 +12,6 @@ use Rattle.h41_program.specs.Numbering.{AnswersProgram, number_in, numbered_in, 
 use Rattle.h41_program.specs.ProgramLaws.{OneList}
 use Rattle.h41_program.specs.ProgramLines.{AnswersFrom, AnswersOf, LinesFrom}
 use Rattle.h41_program.specs.Searches.{start_in}
-use Rattle.h41_program.proofs.Determined.{lists_determined}
 
 pub same_test : (a b : ℕ) → a ≡ b → (a == b) ≡ true
 same_test a b same = grind (arith, nat_tests)

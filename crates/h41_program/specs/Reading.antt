@@ -1,12 +1,10 @@
 -- What the functions that read program memory promise one another. No public contract needs this file.
-use Rattle.std.specs.Prelude.{◌≡◌, ℕ, ◌-◌, ◌/◌, IsTrue, IsFalse, MatchBool, List, length}
+use Rattle.std.specs.Prelude.{◌≡◌, ℕ, ◌-◌, ◌/◌, MatchBool, List, length}
 use Rattle.h41_ram.specs.RegisterMap.{RegisterMap, curtain_of, register_at}
-use Rattle.h41_program.specs.declared.listed_line.ListedLine.{ListedLine}
 use Rattle.h41_program.specs.declared.given.Taken.{Taken}
 use Rattle.h41_program.specs.declared.reading.Found.{Found}
 use Rattle.h41_program.specs.Lines.{is_final_end}
-use Rattle.h41_program.specs.ProgramBytes.{program_bytes, final_position}
-use Rattle.h41_program.specs.ProgramLines.{FirstFrom, NoneFrom, IsFirst, HasNoLine, PositionFrom}
+use Rattle.h41_program.specs.ProgramLines.{NoneFrom, IsFirst, PositionFrom}
 
 -- the position of the line behind a line, or the byte behind it where no line follows; that of .END. is its own
 abbrev pub FoundBehind : RegisterMap → Found → ℕ → Type 0

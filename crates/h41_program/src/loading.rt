@@ -47,7 +47,10 @@ pub fn close_last<const REGS: usize>(ram: &mut Ram<REGS>) -> Result<(), ProgramR
 }
 
 /// Writes lines with an END behind them where there are some and the last is none; else nothing changes.
-fn write_closed<const REGS: usize>(packer: Packer, ram: &mut Ram<REGS>) -> Result<(), ProgramRefusal>
+fn write_closed<const REGS: usize>(
+    packer: Packer,
+    ram: &mut Ram<REGS>,
+) -> Result<(), ProgramRefusal>
     requires { IsTrue (is_sound ram.old) }
     ensures { WritesClosed packer ram.old ram.new result }
 {

@@ -1,4 +1,3 @@
-use Rattle.std.proofs.Common.{Err}
 use Rattle.h41_program.specs.Edits.{before_end}
 use Rattle.h41_program.proofs.Closings.{close_err, close_ok, close_sound}
 use Rattle.h41_program.proofs.loading.close_last.Goals as goal

@@ -1,4 +1,4 @@
-use Rattle.std.proofs.Common.{◌≡◌, ◌+◌, List, ◌++◌, ◌∷◌, [], refl, sym, ◌∙◌, ap, arith, append-nil, length-append, ℕ, Option, Some}
+use Rattle.std.proofs.Common.{◌+◌, List, ◌++◌, ◌∷◌, [], refl, sym, ◌∙◌, ap, arith, append-nil, length-append, ℕ, Some}
 use Rattle.h41_program.specs.declared.listed_line.ListedLine.{ListedLine}
 use Rattle.h41_program.specs.ProgramBytes.{program_bytes, final_position}
 use Rattle.h41_program.proofs.Numbers.{counted_none, counted_more, counted_here, counted_end, number_of, other_test, same_test, up_to_end-end, up_to_end-last}

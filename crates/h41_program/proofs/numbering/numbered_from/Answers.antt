@@ -1,4 +1,4 @@
-use Rattle.std.proofs.Common.{◌≡◌, ◌-◌, subst, ◌+◌, List, ◌++◌, ◌∷◌, [], refl, sym, ◌∙◌, ap, arith, append-nil, length-append, ℕ, Option, Some}
+use Rattle.std.proofs.Common.{◌≡◌, ◌-◌, subst, List, ◌++◌, ◌∷◌, [], refl, sym, ◌∙◌, ap, arith, append-nil, ℕ}
 use Rattle.h41_program.specs.declared.listed_line.ListedLine.{ListedLine}
 use Rattle.h41_program.specs.ProgramBytes.{program_bytes, final_position}
 use Rattle.h41_program.proofs.Numbers.{Left, left_more, left_here, left_end, other_test, place_of, same_test, up_to_end-end, up_to_end-last}

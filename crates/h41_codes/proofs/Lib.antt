@@ -1,5 +1,6 @@
 pub mod Beginnings
 pub mod Broken
+pub mod Deciding
 pub mod Filling
 pub mod Intervals
 pub mod LineLengths

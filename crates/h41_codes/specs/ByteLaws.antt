@@ -1,5 +1,5 @@
 -- Laws of the byte grammar, and of the shortest spelling.
-use Rattle.std.specs.Prelude.{◌≡◌, ℕ, ◌≤◌, List, [], ◌++◌, length}
+use Rattle.std.specs.Prelude.{◌≡◌, ℕ, ◌≤◌, ◌⊎◌, List, [], ◌++◌, length}
 use Rattle.h41_codes.specs.declared.line.Line.{Line}
 use Rattle.h41_codes.specs.declared.line.Line.TheVariants.{Number}
 use Rattle.h41_codes.specs.ByteGrammar.{spelling, IsLine, IsWhole, Begins}
@@ -12,6 +12,12 @@ ByteRoundTrip = (line : Line) (rest : List ℕ) → IsLine line → IsWhole line
 -- bytes begin with one line at most
 abbrev pub OneLine : Type 0
 OneLine = (bytes : List ℕ) (line other : Line) (count size : ℕ) → Begins bytes line count → Begins bytes other size → (line ≡ other) × (count ≡ size)
+
+-- bytes begin with a line, or with none
+abbrev pub LineOrNone : Type 0
+LineOrNone =
+    (bytes : List ℕ)
+    → ((line : Line) × (count : ℕ) × Begins bytes line count) ⊎ ((line : Line) (count : ℕ) → Begins bytes line count → ⊥)
 
 -- numbers, of which one can begin another
 abbrev pub IsNumber : Line → Type 0

@@ -1,12 +1,17 @@
 //! Laws of lines and their bytes: each is the contract of a function with nothing to do.
 
-ghost use Rattle.h41_codes.specs.ByteLaws.{ByteRoundTrip, OneLine, NoPrefix, CanonicalIsLine, CanonicalIsShortest, CanonicalOnce, LineHasBytes};
+ghost use Rattle.h41_codes.specs.ByteLaws.{ByteRoundTrip, LineOrNone, OneLine, NoPrefix, CanonicalIsLine, CanonicalIsShortest, CanonicalOnce, LineHasBytes};
 
 /// The byte round trip: the bytes of a line begin with that line, whatever follows them, and with no other. A number of
 /// fewer than 16 characters is read again where no character of a number follows.
 pub fn byte_round_trip()
     ensures again { ByteRoundTrip }
     ensures one { OneLine }
+{}
+
+/// Bytes begin with a line or with none, whatever they are: it need not be tried.
+pub fn line_or_none()
+    ensures { LineOrNone }
 {}
 
 /// No line's bytes begin with those of another, but for two numbers.

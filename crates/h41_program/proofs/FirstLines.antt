@@ -67,7 +67,7 @@ some_byte bytes final position below inside =
     (omega (arith, length-take (final - position) (drop position bytes), length-drop position bytes))
 
 -- a null begins with a null
-null_begins : (bytes : List ℕ) → 1 ≤ length bytes → get_or bytes 0 0 ≡ 0 → Begins bytes Null 1
+pub null_begins : (bytes : List ℕ) → 1 ≤ length bytes → get_or bytes 0 0 ≡ 0 → Begins bytes Null 1
 null_begins [] some null = absurd (omega arith)
 null_begins (byte ∷ bytes) some null = record {
   inside = some;

@@ -1,9 +1,9 @@
 -- The lines of sound memory.
-use Rattle.std.proofs.Common.{◌≡◌, ◌≢◌, ℕ, ◌+◌, ◌-◌, ◌<◌, ◌≤◌, Bool, true, false, List, [], ◌∷◌, map, min, length, take, drop, get_or, refl, sym, ◌∙◌, ap, subst, arith, inl, inr, Result, Ok, Err}
-use Rattle.std.specs.Prelude.{slice_range, MatchBool}
+use Rattle.std.proofs.Common.{◌≡◌, ◌≢◌, ℕ, ◌+◌, ◌-◌, ◌<◌, ◌≤◌, true, List, map, min, length, take, drop, get_or, sym, ◌∙◌, ap, subst, arith, inl, inr, Result, Ok, Err}
+use Rattle.std.specs.Prelude.{slice_range}
 use Rattle.std.specs.List.{range_with_len}
 use Rattle.std.proofs.lemmas.List.FromFn.{get_or-map-range_with_len, length-map-range_with_len, take-map-range_with_len}
-use Rattle.std.proofs.lemmas.Bool.{cases_lt, cases_Bool}
+use Rattle.std.proofs.lemmas.Bool.{cases_lt}
 use Rattle.std.proofs.lemmas.List.{length-take, length-drop}
 use Rattle.h41_codes.specs.ByteGrammar.{spelling, Begins, AnswersLine}
 use Rattle.h41_codes.specs.ByteLaws.{OneLine}
@@ -11,10 +11,7 @@ use Rattle.h41_codes.specs.declared.line.Line.{Line}
 use Rattle.h41_ram.specs.RegisterMap.{RegisterMap, is_sound}
 use Rattle.h41_program.specs.declared.listed_line.ListedLine.{ListedLine}
 use Rattle.h41_program.specs.ProgramBytes.{byte_count, program_byte, program_bytes, final_position}
-use Rattle.h41_program.specs.declared.reading.Found.{Found}
-use Rattle.h41_program.specs.Lines.{is_final_end}
-use Rattle.h41_program.specs.ProgramLines.{line_bytes, FirstFrom, HasFirst, HasNoLine, Reads, behind, next_of}
-use Rattle.h41_program.specs.Reading.{FollowsAt}
+use Rattle.h41_program.specs.ProgramLines.{line_bytes, FirstFrom, HasFirst, HasNoLine}
 use Rattle.h41_program.proofs.FirstLines.{line_bytes-below, line_bytes-at, Passed, stands_there, found_first}
 use Rattle.h41_program.proofs.Sound.{final_byte}
 use Rattle.h41_program.proofs.Windows.{drop-map-range, take-window, begins_count, begins_least, begins_in, begins_out}
@@ -168,45 +165,3 @@ module _ {E : Type 0} (one : OneLine) (memory : RegisterMap) (sound : is_sound m
 
   pub looked_none : (error : E) → result ≡ Err error → HasNoLine memory at
   looked_none = none_first one memory sound count at p passed (stops_there memory p sound count inside stops) window same result answer
-
--- the list of lines from a position on, by its first one
-pub rest_of : (memory : RegisterMap) (at : ℕ) (found : Found) (lines : List ListedLine) → HasFirst memory at found
-    → Reads (program_bytes memory) (final_position memory) at lines
-    → (rest : List ListedLine) × (lines ≡ found.listed ∷ rest)
-    × MatchBool (is_final_end found.listed.line) (rest ≡ []) (Reads (program_bytes memory) (final_position memory) found.behind rest)
-rest_of memory at found [] is reads = absurd (reads found.listed is.first)
-rest_of memory at found (first ∷ rest) is reads =
-    let same = is.one first reads.0 in (
-      rest,
-      ap (λ (l : ListedLine). l ∷ rest) same,
-      subst (λ (n : ℕ). MatchBool (is_final_end found.listed.line) (rest ≡ []) (Reads (program_bytes memory) (final_position memory) n rest)) (sym is.behind)
-          (subst (λ (l : ListedLine). MatchBool (is_final_end l.line) (rest ≡ []) (Reads (program_bytes memory) (final_position memory) (behind l) rest)) same reads.1),
-    )
-
-pub no_lines : (memory : RegisterMap) (at : ℕ) (lines : List ListedLine) → HasNoLine memory at
-    → Reads (program_bytes memory) (final_position memory) at lines → lines ≡ []
-no_lines memory at [] none reads = refl
-no_lines memory at (first ∷ rest) none reads = absurd (none first reads.0)
-
--- the position behind a line is that of the next
-next_final : (memory : RegisterMap) (found : Found) (position : ℕ) (rest : List ListedLine) → FollowsAt memory found position
-    → is_final_end found.listed.line ≡ true → rest ≡ [] → Ok position ≡ next_of (found.listed ∷ rest)
-next_final memory found position rest follows final none =
-    rw (none, final) (ap (λ n. Ok n) (follows.final final))
-
-next_other : (memory : RegisterMap) (found : Found) (position : ℕ) (rest : List ListedLine) → found.behind ≡ behind found.listed → FollowsAt memory found position
-    → is_final_end found.listed.line ≡ false → Reads (program_bytes memory) (final_position memory) found.behind rest → Ok position ≡ next_of (found.listed ∷ rest)
-next_other memory found position [] next follows other none = rw other (ap (λ n. Ok n) (follows.none other none ∙ next))
-next_other memory found position (second ∷ rest) next follows other reads = ap (λ n. Ok n) (follows.second other second reads.0)
-
-pub next_is : (memory : RegisterMap) (found : Found) (position : ℕ) (rest : List ListedLine) → found.behind ≡ behind found.listed → FollowsAt memory found position
-    → MatchBool (is_final_end found.listed.line) (rest ≡ []) (Reads (program_bytes memory) (final_position memory) found.behind rest)
-    → Ok position ≡ next_of (found.listed ∷ rest)
-next_is memory found position rest next follows reads = elim (cases_Bool (is_final_end found.listed.line)) [
-  | inl final ↦
-      next_final memory found position rest follows final
-      (subst (λ (b : Bool). MatchBool b (rest ≡ []) (Reads (program_bytes memory) (final_position memory) found.behind rest)) final reads)
-  | inr other ↦
-      next_other memory found position rest next follows other
-      (subst (λ (b : Bool). MatchBool b (rest ≡ []) (Reads (program_bytes memory) (final_position memory) found.behind rest)) other reads)
-]

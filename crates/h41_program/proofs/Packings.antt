@@ -22,6 +22,15 @@ packed-more (one ∷ next ∷ lines) line =
     ap (λ (rest : List ℕ). spelling one ++ gap one (next ∷ lines) ++ rest) (packed-more (next ∷ lines) line)
     ∙ simp append_assoc
 
+-- lines behind others are parted from the last of them
+pub packed-join : (lines : List Line) (line : Line) (rest : List Line)
+    → packed (lines ++ line ∷ rest) ≡ packed lines ++ parting (is_number line) (last_line lines) ++ packed (line ∷ rest)
+packed-join [] line rest = refl
+packed-join (one ∷ []) line rest = simp (append-nil, append_assoc)
+packed-join (one ∷ next ∷ lines) line rest =
+    ap (λ (all : List ℕ). spelling one ++ gap one (next ∷ lines) ++ all) (packed-join (next ∷ lines) line rest)
+    ∙ simp append_assoc
+
 -- lines that are not followed have no more bytes
 pub packed-less : (lines others : List Line) → length (packed lines) ≤ length (packed (lines ++ others))
 packed-less [] others = omega arith

@@ -1,6 +1,7 @@
 -- Packed lines are read again.
-use Rattle.std.proofs.Common.{◌≡◌, ℕ, suc, zero, ◌+◌, ◌-◌, ◌<◌, ◌≤◌, Bool, true, false, List, [], ◌∷◌, ◌++◌, length, take, drop, get_or, replicate, refl, sym, ◌∙◌, ap, subst, arith, inl, inr, append_assoc, length-append, All}
+use Rattle.std.proofs.Common.{◌≡◌, ℕ, suc, zero, ◌+◌, ◌-◌, ◌<◌, ◌≤◌, Bool, true, false, List, [], ◌∷◌, ◌++◌, length, take, drop, get_or, replicate, refl, sym, ◌∙◌, ap, subst, arith, inl, inr, append_assoc, append-nil, length-append, All}
 use Rattle.std.specs.Prelude.{MatchBool, ◌&&◌, if◌then◌else◌}
+use Rattle.std.specs.Option.{option_map_or}
 use Rattle.std.proofs.lemmas.Bool.{cases_lt, cases_Bool}
 use Rattle.std.proofs.lemmas.List.{length-replicate, get_or_append_left, get_or-append-add, get_or-replicate}
 use Rattle.std.proofs.Math.ListN.{get_or-eq_default}
@@ -12,13 +13,14 @@ use Rattle.h41_codes.specs.declared.line.Line.TheVariants.{Number, FinalEnd}
 use Rattle.h41_program.specs.declared.listed_line.ListedLine.{ListedLine}
 use Rattle.h41_program.specs.Edits.{lines_of}
 use Rattle.h41_program.specs.Lines.{is_number}
-use Rattle.h41_program.specs.Packing.{gap, packed, filler, packing, written_end}
+use Rattle.h41_program.specs.Packing.{gap, last_line, packed, filler, packing, written_end}
+use Rattle.h41_program.specs.Packers.{parting}
 use Rattle.h41_program.specs.ProgramLaws.{IsInner, PackingRoundTrip}
 use Rattle.h41_program.specs.ProgramLines.{line_bytes, FirstFrom, Reads, behind}
 use Rattle.h41_program.proofs.FirstBytes.{stops}
 use Rattle.h41_program.proofs.FirstLines.{line_bytes-below, line_bytes-at}
 use Rattle.h41_program.proofs.LineLengths.{spelling_least}
-use Rattle.h41_program.proofs.Packings.{length-packing}
+use Rattle.h41_program.proofs.Packings.{length-packing, packed-join}
 
 -- nulls that follow part a number from what is behind them
 nulls_stop : (n : ℕ) → GoesOn (replicate n 0) → ⊥
@@ -149,6 +151,33 @@ module _ (again : ByteRoundTrip) where
         (is_first, subst (λ (b : Bool). MatchBool b (rest.0 ≡ []) (Reads ((front ++ middle) ++ written_end) (length (front ++ middle)) (behind first) rest.0)) (sym this.inner) reads),
         ap (λ (l : List Line). line ∷ l) rest.2,
       )
+
+  -- the lines behind others, from the byte behind these on
+  pub reads_behind : (lines rest : List Line) → All IsInner rest → (listed : List ListedLine)
+      × Reads (packing (lines ++ rest)) (length (packing (lines ++ rest)) - 3) (length (packed lines)) listed
+      × (lines_of listed ≡ rest ++ FinalEnd 0 0 ∷ [])
+  reads_behind lines [] inner =
+      let count = filler (length (packed lines)) in
+      let found = trip [] (packed lines) (length (packed lines)) count inner (omega arith) (λ k low high. absurd (omega (arith, low, high))) in
+      let none : lines ++ [] ≡ lines = append-nil lines in
+      let size : length (packed lines ++ replicate count 0) ≡ length (packing lines) - 3 =
+      omega (arith, length-packing lines, length-append (packed lines) (replicate count 0), length-replicate {A = ℕ} count 0) in
+      let read = subst (λ (n : ℕ). Reads (packing lines) n (length (packed lines)) found.0) size found.1 in
+      (found.0, subst (λ (all : List Line). Reads (packing all) (length (packing all) - 3) (length (packed lines)) found.0) (sym none) read, found.2)
+  reads_behind lines (line ∷ rest) inner =
+      let all = lines ++ line ∷ rest in
+      let count = filler (length (packed all)) in
+      let middle = parting (is_number line) (last_line lines) in
+      let front = packed lines ++ middle in
+      let ahead : length front ≡ length (packed lines) + length middle = length-append (packed lines) middle in
+      let found = trip (line ∷ rest) front (length (packed lines)) count inner (omega (arith, ahead))
+      (λ k low high. after_front (packed lines) middle k low ∙ chosen_null (option_map_or is_number (last_line lines) false && is_number line) (k - length (packed lines))) in
+      let body : front ++ (packed (line ∷ rest) ++ replicate count 0) ≡ packed all ++ replicate count 0 =
+      sym (append_assoc front (packed (line ∷ rest)) (replicate count 0)) ∙ ap (λ (bytes : List ℕ). bytes ++ replicate count 0) (sym (packed-join lines line rest)) in
+      let size : length (packed all ++ replicate count 0) ≡ length (packing all) - 3 =
+      omega (arith, length-packing all, length-append (packed all) (replicate count 0), length-replicate {A = ℕ} count 0) in
+      let read = subst (λ (bytes : List ℕ). Reads (bytes ++ written_end) (length bytes) (length (packed lines)) found.0) body found.1 in
+      (found.0, subst (λ (n : ℕ). Reads (packing all) n (length (packed lines)) found.0) size read, found.2)
 
 pub reads_packing : ByteRoundTrip → PackingRoundTrip
 reads_packing again lines inner =

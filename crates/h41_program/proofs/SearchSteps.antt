@@ -1,5 +1,5 @@
 -- Searches, line after line.
-use Rattle.std.proofs.Common.{◌≡◌, ℕ, Bool, true, false, List, [], ◌∷◌, ◌++◌, refl, ◌∙◌, ap, Option, Some, None}
+use Rattle.std.proofs.Common.{◌≡◌, ℕ, Bool, true, false, List, [], ◌∷◌, ◌++◌, refl, sym, ◌∙◌, ap, Option, Some, None}
 use Rattle.std.specs.Prelude.{◌&&◌, not, nat_lt, reverse, find, if◌then◌else◌}
 use Rattle.std.specs.List.{take_while}
 use Rattle.std.specs.Option.{option_map_or, option_or}
@@ -82,6 +82,11 @@ label_in-final n listed final = label_in-other n listed [] (final_no_end listed.
 
 some_is_not_none : (n : ℕ) → ◌≡◌ {A = Option ℕ} (Some n) None → ⊥
 some_is_not_none n same = cc
+
+-- a search that found a line needs no other
+pub some_or : (first second : Option ListedLine) (position : ℕ) → position_of first ≡ Some position → Some position ≡ position_of (option_or first second)
+some_or None second position found = absurd (some_is_not_none position (sym found))
+some_or (Some listed) second position found = sym found
 
 -- a search that found nothing gives way to another
 pub none_or : (first second : Option ListedLine) (result : Option ℕ) → position_of first ≡ None → result ≡ position_of second → result ≡ position_of (option_or first second)

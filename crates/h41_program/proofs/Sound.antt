@@ -27,6 +27,9 @@ le_holds a b h = grind (arith, nat_tests)
 lt_holds : (a b : ℕ) → nat_lt a b ≡ true → a < b
 lt_holds a b h = grind (arith, nat_tests)
 
+eq_holds : (a b : ℕ) → (a == b) ≡ true → a ≡ b
+eq_holds a b h = grind (arith, nat_tests)
+
 -- the parts of a test of five
 module _ (a b c d e : Bool) (h : (a && (b && c && d) && e) ≡ true) where
   first_holds : b ≡ true
@@ -63,6 +66,14 @@ module _ (memory : RegisterMap) (sound : is_sound memory ≡ true) where
     order = lt_holds (end_of memory) (curtain_of memory) (second_holds constant_test low_test order_test high_test end_test sound);
     high = le_holds (curtain_of memory) (top_of memory) (third_holds constant_test low_test order_test high_test end_test sound);
   }
+
+  pub constant : constant_of memory ≡ 0x169
+  constant =
+      let test : constant_test ≡ true = and_first constant_test (low_test && order_test && high_test) (and_first (constant_test && (low_test && order_test && high_test)) end_test sound) in
+      eq_holds (constant_of memory) sound_constant test
+
+  pub ends : is_final_end (register_at memory (end_of memory)) ≡ true
+  ends = last_holds constant_test low_test order_test high_test end_test sound
 
   abbrev final : List ℕ
   final = register_at memory (end_of memory)

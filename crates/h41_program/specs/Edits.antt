@@ -3,7 +3,7 @@ use Rattle.std.specs.Prelude.{◌≡◌, ◌⊎◌, ℕ, Bool, false, not, ◌||
 use Rattle.std.specs.List.{list_all, list_any, flat_map}
 use Rattle.std.specs.Option.{option_map, option_map_or}
 use Rattle.h41_codes.specs.declared.line.Line.{Line}
-use Rattle.h41_codes.specs.declared.line.Line.TheVariants.{End}
+use Rattle.h41_codes.specs.declared.line.Line.TheVariants.{End, FinalEnd}
 use Rattle.h41_ram.specs.RegisterMap.{RegisterMap}
 use Rattle.h41_program.specs.declared.listed_line.ListedLine.{ListedLine}
 use Rattle.h41_program.specs.declared.refusal.ProgramRefusal.{ProgramRefusal}
@@ -77,6 +77,18 @@ LoadGives memory bytes outcome = (lines : List ListedLine) × LinesFrom memory 0
 abbrev pub Loads : RegisterMap → RegisterMap → List ℕ → Result ℕ ProgramRefusal → Type 0
 Loads old new bytes result = (outcome : Result (RegisterMap × ℕ) ProgramRefusal) × LoadGives old bytes outcome × HasOutcome old new result outcome
 
+-- what closing the last program gives: an END behind it where it has lines and none, else memory as it is
+abbrev pub close_outcome : RegisterMap → List Line → Result (RegisterMap × Unit {0}) ProgramRefusal
+close_outcome memory lines = if is_open lines then answered tt (written memory (closed lines)) else Ok (memory, tt)
+
+abbrev pub close_behind : RegisterMap → Option (List ListedLine) → Result (RegisterMap × Unit {0}) ProgramRefusal
+close_behind memory None = Err BrokenProgram
+close_behind memory (Some lines) = close_outcome memory (lines_of lines)
+
+-- the last program in memory is closed
+abbrev pub Closes : RegisterMap → RegisterMap → Result (Unit {0}) ProgramRefusal → Type 0
+Closes old new result = (lines : List ListedLine) × LinesFrom old 0 lines × HasOutcome old new result (close_behind old (before_end lines))
+
 -- whether a line stands at a position in the list
 abbrev pub has_line_at : ℕ → List ListedLine → Bool
 has_line_at position lines = list_any (λ listed. listed.position == position) lines
@@ -113,6 +125,16 @@ abbrev pub EditGives : RegisterMap → (ℕ → ListedLine → List Line) → �
 EditGives memory change at outcome =
     ((first : ListedLine) × FirstFrom (program_bytes memory) (final_position memory) at first × ChangeGives memory (change first.position) first.position outcome)
     ⊎ (HasNoLine memory at × (outcome ≡ Err BrokenProgram))
+
+-- what a change leaves is read as the changed list: these lines from 0 on, and .END.
+pub record LeavesChanged (memory : RegisterMap) (change : ℕ → ListedLine → List Line) (at : ℕ) (new : RegisterMap) : Type 0 where
+  pub first : ListedLine
+  pub lines : List ListedLine
+  pub listed : List ListedLine
+  pub stands : FirstFrom (program_bytes memory) (final_position memory) at first
+  pub from : LinesFrom memory 0 lines
+  pub read : LinesFrom new 0 listed
+  pub same : lines_of listed ≡ flat_map (change first.position) lines ++ FinalEnd 0 0 ∷ []
 
 -- the list is changed at the line that a position stands for
 abbrev pub Edits : RegisterMap → RegisterMap → (ℕ → ListedLine → List Line) → ℕ → Result (Unit {0}) ProgramRefusal → Type 0

@@ -1,7 +1,9 @@
-pub mod Edits
+pub mod Dependence
 pub mod EditSteps
+pub mod Edits
 pub mod Lines
 pub mod LoadSteps
+pub mod Numbering
 pub mod Packers
 pub mod Packing
 pub mod ProgramBytes
@@ -10,5 +12,6 @@ pub mod ProgramLines
 pub mod ProgramPlaces
 pub mod Reading
 pub mod Rewriting
+pub mod SearchLaws
 pub mod Searches
 pub mod Size

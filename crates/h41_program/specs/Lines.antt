@@ -2,7 +2,7 @@
 use Rattle.std.specs.Prelude.{ℕ, Bool, true, false, List, ◌==◌}
 use Rattle.std.specs.Str.{bytes_eq}
 use Rattle.h41_codes.specs.declared.line.Line.{Line}
-use Rattle.h41_codes.specs.declared.line.Line.TheVariants.{LocalLabel, Number, WithOperand, GlobalLabel, End, FinalEnd}
+use Rattle.h41_codes.specs.declared.line.Line.TheVariants.{Null, LocalLabel, Number, WithOperand, GlobalLabel, End, FinalEnd}
 use Rattle.h41_codes.specs.declared.functions.ParameterFunction.TheVariants.{Label}
 use Rattle.h41_codes.specs.declared.line.Operand.TheVariants.{Direct}
 
@@ -10,6 +10,12 @@ use Rattle.h41_codes.specs.declared.line.Operand.TheVariants.{Direct}
 abbrev pub is_final_end : Line → Bool
 is_final_end (FinalEnd link marks) = true
 is_final_end line = false
+
+-- a line that programs can have: neither a null nor .END.
+abbrev pub is_inner : Line → Bool
+is_inner Null = false
+is_inner (FinalEnd link marks) = false
+is_inner line = true
 
 -- END, the last line of a program. .END. is none
 abbrev pub is_end : Line → Bool

@@ -8,9 +8,10 @@ use Rattle.h41_program.specs.declared.listed_line.ListedLine.{ListedLine}
 use Rattle.h41_program.specs.declared.packer.Packer.{Packer}
 use Rattle.h41_program.specs.declared.refusal.ProgramRefusal.{ProgramRefusal}
 use Rattle.h41_program.specs.declared.refusal.ProgramRefusal.TheVariants.{BrokenProgram}
-use Rattle.h41_program.specs.Edits.{lines_of, before_end, loaded_of}
+use Rattle.h41_program.specs.Edits.{lines_of, before_end, close_outcome, loaded_of}
 use Rattle.h41_program.specs.Packers.{Packs}
 use Rattle.h41_program.specs.ProgramLines.{LinesFrom, Reads}
+use Rattle.h41_program.specs.Rewriting.{HasOutcome}
 
 -- a packer has the lines of memory before .END., or the list has none
 abbrev pub PacksProgram : RegisterMap → Result Packer ProgramRefusal → Type 0
@@ -24,6 +25,10 @@ PutsLoaded old new bytes result =
     (given : List ListedLine) × Reads bytes (length bytes) 0 given
     × ((front : List Line) → Packs old front
     → MatchOption (loaded_of bytes given) (result ≡ Err BrokenProgram) (λ loaded. (result ≡ Ok tt) × Packs new (front ++ loaded)))
+
+-- the lines of a packer are written, closed, where they want an END
+abbrev pub WritesClosed : Packer → RegisterMap → RegisterMap → Result (Unit {0}) ProgramRefusal → Type 0
+WritesClosed packer old new result = (lines : List Line) → Packs packer lines → HasOutcome old new result (close_outcome old lines)
 
 -- a line that may be there, and whether it is kept as the last
 abbrev pub listed_option : Option Line → List Line

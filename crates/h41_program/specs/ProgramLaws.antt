@@ -1,15 +1,17 @@
 -- Laws of lists of lines.
-use Rattle.std.specs.Prelude.{◌≡◌, ◌≢◌, ℕ, ◌-◌, All, false, List, [], ◌∷◌, ◌++◌, length, Result}
+use Rattle.std.specs.Prelude.{◌≡◌, ◌≢◌, ℕ, ◌-◌, ◌*◌, ◌≤◌, All, IsTrue, false, List, [], ◌∷◌, ◌++◌, length, replicate, Some, Result, Ok}
 use Rattle.h41_codes.specs.ByteGrammar.{IsLine}
 use Rattle.h41_codes.specs.declared.line.Line.{Line}
 use Rattle.h41_codes.specs.declared.line.Line.TheVariants.{Null, FinalEnd}
-use Rattle.h41_ram.specs.RegisterMap.{RegisterMap}
+use Rattle.h41_ram.specs.RegisterMap.{RegisterMap, is_sound}
 use Rattle.h41_program.specs.declared.listed_line.ListedLine.{ListedLine}
-use Rattle.h41_program.specs.Edits.{lines_of, EditGives, LoadGives}
+use Rattle.h41_program.specs.Edits.{lines_of, before_end, closed, loaded_of, EditGives, LoadGives}
 use Rattle.h41_program.specs.declared.refusal.ProgramRefusal.{ProgramRefusal}
 use Rattle.h41_program.specs.Lines.{is_final_end}
-use Rattle.h41_program.specs.Packing.{packing}
+use Rattle.h41_program.specs.Packing.{packed, packing, written_end}
 use Rattle.h41_program.specs.ProgramLines.{FirstFrom, LinesFrom, Reads}
+use Rattle.h41_program.specs.Rewriting.{written}
+use Rattle.h41_program.specs.Size.{size_outcome}
 
 -- a line that programs can have: neither a null nor .END.
 pub record IsInner (line : Line) : Type 0 where
@@ -25,11 +27,56 @@ ReadsAgain lines listed =
 abbrev pub PackingRoundTrip : Type 0
 PackingRoundTrip = (lines : List Line) → All IsInner lines → (listed : List ListedLine) × ReadsAgain lines listed
 
+-- a packing fills whole registers, with at most six nulls between its lines and .END.
+abbrev pub PackingFills : Type 0
+PackingFills = (lines : List Line) → (registers : ℕ) × (length (packing lines) ≡ 7 * registers)
+
+abbrev pub PackingHasFewNulls : Type 0
+PackingHasFewNulls =
+    (lines : List Line) → (nulls : ℕ) × (nulls ≤ 6) × (packing lines ≡ packed lines ++ replicate nulls 0x00 ++ written_end)
+
+-- memory has these lines from a position on, and .END. behind them
+abbrev pub HasLines : RegisterMap → ℕ → List Line → Type 0
+HasLines memory at lines = (listed : List ListedLine) × LinesFrom memory at listed × (lines_of listed ≡ lines ++ FinalEnd 0 0 ∷ [])
+
+-- lines that were written are read again
+abbrev pub WrittenIsRead : Type 0
+WrittenIsRead =
+    (memory new : RegisterMap) (lines : List Line) → IsTrue (is_sound memory) → All IsInner lines → written memory lines ≡ Ok new
+    → HasLines new 0 lines
+
+-- bytes that were loaded are read again: memory's lines, closed, and behind them those of the bytes, from the position on that
+-- is answered
+pub record LeavesLoaded (memory : RegisterMap) (bytes : List ℕ) (new : RegisterMap) (start : ℕ) : Type 0 where
+  pub lines : List ListedLine
+  pub before : List ListedLine
+  pub given : List ListedLine
+  pub loaded : List Line
+  pub from : LinesFrom memory 0 lines
+  pub own : before_end lines ≡ Some before
+  pub read : Reads bytes (length bytes) 0 given
+  pub taken : loaded_of bytes given ≡ Some loaded
+  pub all : HasLines new 0 (closed (lines_of before) ++ loaded)
+  pub last : HasLines new start loaded
+
+abbrev pub LoadIsRead : Type 0
+LoadIsRead =
+    (memory new : RegisterMap) (bytes : List ℕ) (start : ℕ) → LoadGives memory bytes (Ok (new, start)) → LeavesLoaded memory bytes new start
+
+-- with another number of data registers memory has the same lines
+abbrev pub SizeKeepsLines : Type 0
+SizeKeepsLines =
+    (memory new : RegisterMap) (size at : ℕ) (lines : List ListedLine) → IsTrue (is_sound memory) → size_outcome memory size ≡ Ok (new, tt)
+    → LinesFrom memory at lines → LinesFrom new at lines
+
 -- memory has one list of lines from each position on
 pub record HasOneList (memory : RegisterMap) (at : ℕ) : Type 0 where
   pub lines : List ListedLine
   pub from : LinesFrom memory at lines
   pub one : (others : List ListedLine) → LinesFrom memory at others → others ≡ lines
+
+abbrev pub OneList : Type 0
+OneList = (memory : RegisterMap) (at : ℕ) → HasOneList memory at
 
 -- no bytes have two first lines from a position on
 abbrev pub FirstIsDetermined : Type 0

@@ -1,7 +1,8 @@
 -- Program memory as a list of lines, each with its position: they are read from a position on, nulls passed over, up to the
 -- first .END. and with it, or up to bytes that are no line. The form of memory is HP's; what is no line is this project's choice.
-use Rattle.std.specs.Prelude.{◌≡◌, ◌≢◌, ◌⊎◌, ℕ, ◌+◌, ◌<◌, ◌≤◌, IsTrue, IsFalse, MatchBool, List, [], ◌∷◌, length, drop, slice_index, slice_range, nat_lt, ◌==◌, if◌then◌else◌, Result, Ok, Err}
+use Rattle.std.specs.Prelude.{◌≡◌, ◌≢◌, ◌⊎◌, ℕ, ◌+◌, ◌<◌, ◌≤◌, IsTrue, IsFalse, Bool, MatchBool, List, [], ◌∷◌, length, drop, slice_index, slice_range, nat_lt, ◌==◌, if◌then◌else◌, Result, Ok, Err}
 use Rattle.h41_codes.specs.ByteGrammar.{spelling, Begins}
+use Rattle.h41_codes.specs.declared.line.Line.{Line}
 use Rattle.h41_codes.specs.declared.line.Line.TheVariants.{Null}
 use Rattle.h41_ram.specs.RegisterMap.{RegisterMap, is_sound}
 use Rattle.h41_program.specs.declared.listed_line.ListedLine.{ListedLine}
@@ -49,11 +50,16 @@ HasFirst memory at found = IsFirst (program_bytes memory) (final_position memory
 abbrev pub HasNoLine : RegisterMap → ℕ → Type 0
 HasNoLine memory at = NoneFrom (program_bytes memory) (final_position memory) at
 
--- these are the lines from a position on: none, or the first, and behind it those from there on where it is not .END.
+-- these are the lines from a position on, where some lines end a list: none, or the first, and behind it those from there on
+-- where it ends none
+abbrev pub ReadsTo : (Line → Bool) → List ℕ → ℕ → ℕ → List ListedLine → Type 0
+ReadsTo ends bytes final at [] = NoneFrom bytes final at
+ReadsTo ends bytes final at (first ∷ rest) =
+    FirstFrom bytes final at first × MatchBool (ends first.line) (rest ≡ []) (ReadsTo ends bytes final (behind first) rest)
+
+-- the same where .END. ends it
 abbrev pub Reads : List ℕ → ℕ → ℕ → List ListedLine → Type 0
-Reads bytes final at [] = NoneFrom bytes final at
-Reads bytes final at (first ∷ rest) =
-    FirstFrom bytes final at first × MatchBool (is_final_end first.line) (rest ≡ []) (Reads bytes final (behind first) rest)
+Reads bytes final at lines = ReadsTo is_final_end bytes final at lines
 
 -- the lines of memory from a position on; memory that is not sound has none
 pub record LinesFrom (memory : RegisterMap) (at : ℕ) (lines : List ListedLine) : Type 0 where

@@ -1,20 +1,12 @@
 -- What the functions that read program memory promise one another. No public contract needs this file.
-use Rattle.std.specs.Prelude.{◌≡◌, ℕ, ◌-◌, ◌/◌, IsTrue, IsFalse, MatchBool, List, length}
+use Rattle.std.specs.Prelude.{◌≡◌, ℕ, ◌-◌, ◌/◌, MatchBool, List, length}
 use Rattle.h41_ram.specs.RegisterMap.{RegisterMap, curtain_of, register_at}
-use Rattle.h41_program.specs.declared.listed_line.ListedLine.{ListedLine}
 use Rattle.h41_program.specs.declared.given.Taken.{Taken}
 use Rattle.h41_program.specs.declared.reading.Found.{Found}
 use Rattle.h41_program.specs.Lines.{is_final_end}
-use Rattle.h41_program.specs.ProgramBytes.{program_bytes, final_position}
-use Rattle.h41_program.specs.ProgramLines.{FirstFrom, NoneFrom, IsFirst, HasNoLine, PositionFrom}
+use Rattle.h41_program.specs.ProgramLines.{NoneFrom, IsFirst, PositionFrom}
 
--- the position of the line behind a line; that of .END. is its own, and where no line follows it is the byte behind
-pub record FollowsAt (memory : RegisterMap) (first : Found) (position : ℕ) : Type 0 where
-  pub final : IsTrue (is_final_end first.listed.line) → position ≡ first.listed.position
-  pub second : IsFalse (is_final_end first.listed.line) → (second : ListedLine) → FirstFrom (program_bytes memory) (final_position memory) first.behind second → position ≡ second.position
-  pub none : IsFalse (is_final_end first.listed.line) → HasNoLine memory first.behind → position ≡ first.behind
-
--- the same by the line that follows, where one does
+-- the position of the line behind a line, or the byte behind it where no line follows; that of .END. is its own
 abbrev pub FoundBehind : RegisterMap → Found → ℕ → Type 0
 FoundBehind memory first position =
     MatchBool (is_final_end first.listed.line) (position ≡ first.listed.position) (PositionFrom memory first.behind position)

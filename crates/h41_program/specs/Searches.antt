@@ -27,8 +27,11 @@ abbrev pub position_of : Option ListedLine → Option ℕ
 position_of found = option_map (λ listed. listed.position) found
 
 -- where LBL n stands that a position finds: the first from there to the END, else the first of its program
-abbrev pub AnswersLocal : RegisterMap → ℕ → ℕ → Option ℕ → Type 0
-AnswersLocal memory at n result =
-    (lines onward own : List ListedLine) → LinesFrom memory 0 lines → LinesFrom memory at onward
-    → LinesFrom memory (start_in at lines) own
-    → result ≡ position_of (option_or (label_in n onward) (label_in n own))
+pub record AnswersLocal (memory : RegisterMap) (at n : ℕ) (result : Option ℕ) : Type 0 where
+  pub lines : List ListedLine
+  pub onward : List ListedLine
+  pub own : List ListedLine
+  pub all : LinesFrom memory 0 lines
+  pub from : LinesFrom memory at onward
+  pub program : LinesFrom memory (start_in at lines) own
+  pub is : result ≡ position_of (option_or (label_in n onward) (label_in n own))

@@ -1,9 +1,10 @@
 //! Lines inserted and deleted.
-ghost use Rattle.std.specs.Prelude.{◌≡◌, ◌==◌, ◌||◌, if◌then◌else◌, IsTrue, Ok, Err};
+ghost use Rattle.std.specs.Prelude.{◌≡◌, ◌==◌, ◌||◌, if◌then◌else◌, IsTrue, OnOk, Ok, Err};
 ghost use Rattle.h41_codes.specs.ByteGrammar.{IsLine};
 ghost use Rattle.h41_ram.specs.RegisterMap.{is_sound};
-ghost use Rattle.h41_program.specs.Edits.{Edits, with_inserted, with_replaced, without_deleted};
+ghost use Rattle.h41_program.specs.Edits.{Edits, LeavesChanged, with_inserted, with_replaced, without_deleted};
 ghost use Rattle.h41_program.specs.EditSteps.{EditsAt, PacksChanged};
+ghost use Rattle.h41_program.specs.Lines.{is_inner};
 ghost use Rattle.h41_program.specs.Packers.{Puts, line_if};
 ghost use Rattle.h41_program.specs.declared.refusal.ProgramRefusal.TheVariants.{BrokenProgram};
 
@@ -14,6 +15,7 @@ use crate::ranges::know_ranges;
 use crate::reading::{Found, first_from, line_at};
 use crate::refusal::ProgramRefusal;
 use h41_codes::Line;
+use h41_codes::laws::byte_round_trip;
 use h41_ram::Ram;
 
 /// Inserts a line, which is neither a null nor `.END.`, before the one that a position stands for; at `.END.` it becomes the
@@ -23,9 +25,13 @@ pub fn insert<const REGS: usize>(
     before: u16,
     line: Line,
 ) -> Result<(), ProgramRefusal>
-    requires { IsTrue (is_sound ram.old) }
-    ensures { Edits ram.old ram.new (with_inserted line) before result }
+    requires sound { IsTrue (is_sound ram.old) }
+    requires inner { IsTrue (is_inner line) }
+    ensures lines { Edits ram.old ram.new (with_inserted line) before result }
+    ensures sound { IsTrue (is_sound ram.new) }
+    ensures read { OnOk result (LeavesChanged ram.old (with_inserted line) before ram.new) }
 {
+    byte_round_trip();
     know_ranges(&line);
     match line_at(ram, before) {
         Ok(listed) => insert_at(ram, listed.position, &line),
@@ -37,8 +43,11 @@ pub fn insert<const REGS: usize>(
 /// where the program would pass below main memory.
 pub fn delete<const REGS: usize>(ram: &mut Ram<REGS>, at: u16) -> Result<(), ProgramRefusal>
     requires { IsTrue (is_sound ram.old) }
-    ensures { Edits ram.old ram.new without_deleted at result }
+    ensures lines { Edits ram.old ram.new without_deleted at result }
+    ensures sound { IsTrue (is_sound ram.new) }
+    ensures read { OnOk result (LeavesChanged ram.old without_deleted at ram.new) }
 {
+    byte_round_trip();
     match line_at(ram, at) {
         Ok(listed) => delete_at(ram, listed.position),
         Err(refusal) => Err(refusal),
@@ -53,9 +62,13 @@ pub fn replace<const REGS: usize>(
     at: u16,
     line: Line,
 ) -> Result<(), ProgramRefusal>
-    requires { IsTrue (is_sound ram.old) }
-    ensures { Edits ram.old ram.new (with_replaced line) at result }
+    requires sound { IsTrue (is_sound ram.old) }
+    requires inner { IsTrue (is_inner line) }
+    ensures lines { Edits ram.old ram.new (with_replaced line) at result }
+    ensures sound { IsTrue (is_sound ram.new) }
+    ensures read { OnOk result (LeavesChanged ram.old (with_replaced line) at ram.new) }
 {
+    byte_round_trip();
     know_ranges(&line);
     match line_at(ram, at) {
         Ok(listed) => replace_at(ram, listed.position, &line),

@@ -12,6 +12,13 @@ pub fn is_final_end(line: Line) -> bool
     matches!(line, Line::FinalEnd(_, _))
 }
 
+/// Whether a line is one that programs can have: neither a null nor `.END.`.
+pub fn is_inner(line: Line) -> bool
+    ensures { result ≡ spec.is_inner line }
+{
+    !matches!(line, Line::Null | Line::FinalEnd(_, _))
+}
+
 /// Whether a line is `END`; `.END.` is none.
 pub fn is_end(line: &Line) -> bool
     ensures { result ≡ spec.is_end line.now }

@@ -1,10 +1,9 @@
 //! Laws of program memory: each is the contract of a function whose result is not looked at.
-ghost use Rattle.h41_program.specs.ProgramLaws.{EditsAreDetermined, FirstIsDetermined, GoesOnFromNext, HasOneList, ListsAreDetermined, LoadsAreDetermined, PackingRoundTrip, ReadIsDetermined, StandsForItsLine};
+ghost use Rattle.h41_program.specs.Dependence.{FirstsDepend, GlobalDepends, LineDepends, ListsDepend, LocalDepends, NextDepends, NonesDepend, SoundnessDepends, StartDepends};
+ghost use Rattle.h41_program.specs.SearchLaws.{GlobalIsDetermined, LineIsOfList, LocalIsDetermined, NextIsOfList, StartIsDetermined};
+ghost use Rattle.h41_program.specs.ProgramLaws.{EditsAreDetermined, FirstIsDetermined, GoesOnFromNext, ListsAreDetermined, LoadIsRead, LoadsAreDetermined, OneList, PackingFills, PackingHasFewNulls, PackingRoundTrip, ReadIsDetermined, SizeKeepsLines, StandsForItsLine, WrittenIsRead};
 
-use crate::kinds::is_final_end;
-use crate::reading::{Found, first_from};
-use h41_codes::laws::byte_round_trip;
-use h41_ram::Ram;
+use h41_codes::laws::{byte_round_trip, line_or_none};
 
 /// The packing round trip: the bytes of packed lines, none of them a null or `.END.`, are read as these lines and `.END.`.
 pub fn packing_round_trip()
@@ -13,21 +12,38 @@ pub fn packing_round_trip()
     byte_round_trip();
 }
 
-/// Memory has one list of lines from each position on, and no other.
-pub fn one_list<const REGS: usize>(ram: &Ram<REGS>, at: u16)
-    ensures { HasOneList ram.now at }
+/// A packing fills whole registers, with at most six nulls before `.END.`.
+pub fn packing_fills_registers()
+    ensures registers { PackingFills }
+    ensures nulls { PackingHasFewNulls }
+{}
+
+/// What is written is read again: the list from 0 over memory after its lines were written is these lines and `.END.`.
+pub fn written_is_read()
+    ensures { WrittenIsRead }
 {
-    if !ram.is_sound() {
-        return;
-    }
-    let mut position = at;
-    while let Some(found) = first_from(ram, position) {
-        let Found { listed, behind } = found;
-        if is_final_end(listed.line) {
-            return;
-        }
-        position = behind;
-    }
+    byte_round_trip();
+}
+
+/// After a load the list from 0 is memory's lines, closed, those of the bytes, and `.END.`; from the position that was answered
+/// on it is those of the bytes and `.END.`.
+pub fn load_is_read()
+    ensures { LoadIsRead }
+{
+    byte_round_trip();
+}
+
+/// With another number of data registers memory has the same lists of lines.
+pub fn size_keeps_lines()
+    ensures { SizeKeepsLines }
+{}
+
+/// Any memory has one list of lines from each position on, and no other.
+pub fn one_list()
+    ensures { OneList }
+{
+    byte_round_trip();
+    line_or_none();
 }
 
 /// No memory has two lists of lines from a position on, whether a `Ram` holds it or not: no bytes are read as two lists, since
@@ -39,6 +55,37 @@ pub fn lists_are_determined()
 {
     byte_round_trip();
 }
+
+/// Each search has one answer, over any memory.
+pub fn searches_are_determined()
+    ensures start { StartIsDetermined }
+    ensures local { LocalIsDetermined }
+    ensures global { GlobalIsDetermined }
+{
+    byte_round_trip();
+}
+
+/// `line_at` answers the first of the list from the position on, `next` the position of the second.
+pub fn lines_are_of_lists()
+    ensures line { LineIsOfList }
+    ensures next { NextIsOfList }
+{
+    byte_round_trip();
+}
+
+/// Lists and searches depend on register c and the registers from that of `.END.` to below the curtain alone: two memories of
+/// one size that agree there have the same lists and the same answers.
+pub fn programs_depend_on_their_registers()
+    ensures sound { SoundnessDepends }
+    ensures lists { ListsDepend }
+    ensures first { FirstsDepend }
+    ensures none { NonesDepend }
+    ensures line { LineDepends }
+    ensures next { NextDepends }
+    ensures start { StartDepends }
+    ensures local { LocalDepends }
+    ensures global { GlobalDepends }
+{}
 
 /// No bytes have two outcomes when they are loaded into a memory: the relation by which `load` promises leaves nothing open.
 pub fn loads_are_determined()

@@ -3,8 +3,8 @@ ghost use Rattle.std.specs.Prelude.{◌≡◌, ◌≤◌, drop, length, IsTrue, 
 ghost use Rattle.std.specs.Option.{ForSome};
 ghost use Rattle.h41_codes.specs.ByteGrammar.{IsLine};
 ghost use Rattle.h41_ram.specs.RegisterMap.{is_sound};
-ghost use Rattle.h41_program.specs.Edits.{Loads};
-ghost use Rattle.h41_program.specs.LoadSteps.{PacksProgram, PutsLoaded, listed_option, kept_option, checked_nulls};
+ghost use Rattle.h41_program.specs.Edits.{Closes, Loads};
+ghost use Rattle.h41_program.specs.LoadSteps.{PacksProgram, WritesClosed, PutsLoaded, listed_option, kept_option, checked_nulls};
 ghost use Rattle.h41_program.specs.Packers.{Puts};
 
 use crate::given::{are_nulls, line_in};
@@ -23,6 +23,7 @@ pub fn load<const REGS: usize>(ram: &mut Ram<REGS>, bytes: &[u8]) -> Result<u16,
     requires { IsTrue (is_sound ram.old) }
     ensures lines { Loads ram.old ram.new bytes.now result }
     ensures bound { IfOk result (λ start. start ≤ 2237) }
+    ensures sound { IsTrue (is_sound ram.new) }
 {
     let mut packer = packed_program(ram)?;
     packer.close();
@@ -30,6 +31,35 @@ pub fn load<const REGS: usize>(ram: &mut Ram<REGS>, bytes: &[u8]) -> Result<u16,
     put_loaded(&mut packer, bytes)?;
     packer.write(ram)?;
     Ok(start)
+}
+
+/// Puts an END behind the last program in memory where it has lines and no END; else nothing changes, nor is anything packed
+/// anew. 14 where the list does not reach `.END.`, 16 where the program would pass below main memory.
+pub fn close_last<const REGS: usize>(ram: &mut Ram<REGS>) -> Result<(), ProgramRefusal>
+    requires { IsTrue (is_sound ram.old) }
+    ensures lines { Closes ram.old ram.new result }
+    ensures sound { IsTrue (is_sound ram.new) }
+{
+    match packed_program(ram) {
+        Ok(packer) => write_closed(packer, ram),
+        Err(refusal) => Err(refusal),
+    }
+}
+
+/// Writes lines with an END behind them where there are some and the last is none; else nothing changes.
+fn write_closed<const REGS: usize>(
+    packer: Packer,
+    ram: &mut Ram<REGS>,
+) -> Result<(), ProgramRefusal>
+    requires { IsTrue (is_sound ram.old) }
+    ensures { WritesClosed packer ram.old ram.new result }
+{
+    let mut packer = packer;
+    if !packer.is_open() {
+        return Ok(());
+    }
+    packer.close();
+    packer.write(ram)
 }
 
 /// The lines of memory before `.END.`.

@@ -103,7 +103,7 @@ impl Packer {
     }
 
     /// Whether there are lines and the last is no END.
-    fn is_open(&self) -> bool
+    pub fn is_open(&self) -> bool
         ensures { result ≡ option_map_or (λ line. not (is_end line)) self.now.last false }
     {
         match &self.last {

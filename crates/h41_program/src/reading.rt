@@ -4,8 +4,8 @@ ghost use Rattle.std.specs.List.{range_with_len};
 ghost use Rattle.h41_ram.specs.RegisterMap.{is_sound};
 ghost use Rattle.h41_program.specs.ProgramBytes.{byte_count, program_byte, program_bytes};
 ghost use Rattle.h41_program.specs.ProgramBytes as spec;
-ghost use Rattle.h41_program.specs.ProgramLines.{line_of, next_of, AnswersFirst, AnswersFrom, AnswersNext, HasFirst, HasNoLine};
-ghost use Rattle.h41_program.specs.Reading.{program_register, FollowsAt, FoundBehind};
+ghost use Rattle.h41_program.specs.ProgramLines.{AnswersFirst, AnswersNext, HasFirst, HasNoLine};
+ghost use Rattle.h41_program.specs.Reading.{program_register, FoundBehind};
 
 use crate::kinds::is_final_end;
 use crate::listed_line::ListedLine;
@@ -144,8 +144,7 @@ pub fn first_from<const REGS: usize>(ram: &Ram<REGS>, at: u16) -> Option<Found>
 /// The line that a position stands for: the first from there on, nulls passed over. 14 where there is none.
 pub fn line_at<const REGS: usize>(ram: &Ram<REGS>, at: u16) -> Result<ListedLine, ProgramRefusal>
     requires { IsTrue (is_sound ram.now) }
-    ensures lines { AnswersFrom line_of ram.now at result }
-    ensures first { AnswersFirst ram.now at result }
+    ensures { AnswersFirst ram.now at result }
 {
     match first_from(ram, at) {
         Some(found) => Ok(found.listed),
@@ -157,8 +156,7 @@ pub fn line_at<const REGS: usize>(ram: &Ram<REGS>, at: u16) -> Result<ListedLine
 /// of `.END.` its own. 14 where there is no line.
 pub fn next<const REGS: usize>(ram: &Ram<REGS>, at: u16) -> Result<u16, ProgramRefusal>
     requires { IsTrue (is_sound ram.now) }
-    ensures lines { AnswersFrom next_of ram.now at result }
-    ensures first { AnswersNext ram.now at result }
+    ensures { AnswersNext ram.now at result }
 {
     match first_from(ram, at) {
         Some(first) => Ok(position_behind(ram, first)),
@@ -169,8 +167,7 @@ pub fn next<const REGS: usize>(ram: &Ram<REGS>, at: u16) -> Result<u16, ProgramR
 /// The position of the line behind one, or the byte behind it where no line follows; of `.END.` its own.
 fn position_behind<const REGS: usize>(ram: &Ram<REGS>, first: Found) -> u16
     requires { IsTrue (is_sound ram.now) }
-    ensures follows { FollowsAt ram.now first result }
-    ensures found { FoundBehind ram.now first result }
+    ensures { FoundBehind ram.now first result }
 {
     let Found { listed, behind } = first;
     if is_final_end(listed.line) {

@@ -6,6 +6,7 @@ ghost use Rattle.h41_program.specs.ProgramLines.{AnswersFrom, AnswersOf};
 ghost use Rattle.h41_program.specs.Searches.{AnswersLocal, label_in, named_in, position_of, start_in};
 
 use crate::kinds::{is_end, is_final_end, is_label, is_named};
+use crate::laws::one_list;
 use crate::listed_line::ListedLine;
 use crate::reading::{Found, first_from};
 use h41_codes::Parameter;
@@ -46,6 +47,7 @@ pub fn local<const REGS: usize>(ram: &Ram<REGS>, at: u16, label: Parameter) -> O
     ensures { AnswersLocal ram.now at label result }
 {
     byte_round_trip();
+    one_list();
     match label_from(ram, at, label) {
         Some(position) => Some(position),
         None => label_from(ram, start_of(ram, at), label),

@@ -19,7 +19,8 @@ use h41_ram::{MAIN_START, Ram};
 /// choice). 17 where there are not more registers than that, 16 where the program would pass below main memory.
 pub fn set_size<const REGS: usize>(ram: &mut Ram<REGS>, size: u16) -> Result<(), ProgramRefusal>
     requires { IsTrue (is_sound ram.old) }
-    ensures { HasOutcome ram.old ram.new result (size_outcome ram.old size) }
+    ensures size { HasOutcome ram.old ram.new result (size_outcome ram.old size) }
+    ensures sound { IsTrue (is_sound ram.new) }
 {
     let curtain = ram.curtain();
     let end = ram.end_register();

@@ -6,8 +6,8 @@ ghost use Rattle.h41_ram.specs.RegisterMap.{is_sound};
 use h41_codes::{Line, RegisterFunction, ShortRegister, decode};
 use h41_digits::Reg;
 use h41_program::{
-    ListedLine, ProgramRefusal, delete, first_from, global, insert, line_at, load, next, replace,
-    set_size, start_of,
+    ListedLine, ProgramRefusal, close_last, delete, first_from, global, insert, is_inner, line_at,
+    line_before, line_number, line_numbered, load, next, replace, set_size, start_of,
 };
 use h41_ram::Ram;
 
@@ -21,6 +21,11 @@ enum Step {
     Next(u16, Result<u16, ProgramRefusal>),
     StartOf(u16, u16),
     Global(&'static [u8], Option<u16>),
+    /// The number of the line at a position, where the line of a number stands in a position's program, and the line before one.
+    Number(u16, Option<u16>),
+    Numbered(u16, u16, Option<u16>),
+    Before(u16, Option<u16>),
+    Close(Result<(), ProgramRefusal>),
     /// From a position on, the first line is `RCL 05` in its short form, at a position, with another behind it.
     Recall(u16, u16, u16),
     /// The same line stands at two positions.
@@ -58,19 +63,45 @@ fn finds_recall(ram: &Ram<320>, at: u16, position: u16, behind: u16) -> bool
     }
 }
 
+/// Inserts a line that programs can have, and says whether the answer is the one that is wanted.
+fn inserts(ram: &mut Ram<320>, before: u16, line: Line, answer: Result<(), ProgramRefusal>) -> bool
+    requires { IsTrue (is_sound ram.old) }
+{
+    if is_inner(line) {
+        insert(ram, before, line) == answer
+    } else {
+        false
+    }
+}
+
+/// Puts such a line in the place of another, and says the same.
+fn replaces(ram: &mut Ram<320>, at: u16, line: Line, answer: Result<(), ProgramRefusal>) -> bool
+    requires { IsTrue (is_sound ram.old) }
+{
+    if is_inner(line) {
+        replace(ram, at, line) == answer
+    } else {
+        false
+    }
+}
+
 /// Makes the step, and says whether its answer is the one that is wanted.
 fn makes(ram: &mut Ram<320>, step: &Step) -> bool
     requires { IsTrue (is_sound ram.old) }
 {
     match step {
         Step::Load(bytes, answer) => load(ram, bytes) == *answer,
-        Step::Insert(before, bytes, answer) => insert(ram, *before, line(bytes)) == *answer,
-        Step::Replace(at, bytes, answer) => replace(ram, *at, line(bytes)) == *answer,
+        Step::Insert(before, bytes, answer) => inserts(ram, *before, line(bytes), *answer),
+        Step::Replace(at, bytes, answer) => replaces(ram, *at, line(bytes), *answer),
         Step::Delete(at, answer) => delete(ram, *at) == *answer,
         Step::SetSize(size, answer) => set_size(ram, *size) == *answer,
         Step::Next(at, answer) => next(ram, *at) == *answer,
         Step::StartOf(at, answer) => start_of(ram, *at) == *answer,
         Step::Global(name, answer) => global(ram, name) == *answer,
+        Step::Number(position, answer) => line_number(ram, *position) == *answer,
+        Step::Numbered(at, number, answer) => line_numbered(ram, *at, *number) == *answer,
+        Step::Before(position, answer) => line_before(ram, *position) == *answer,
+        Step::Close(answer) => close_last(ram) == *answer,
         Step::Recall(at, position, behind) => finds_recall(ram, *at, *position, *behind),
         Step::SameLine(at, other) => line_at(ram, *at) == line_at(ram, *other),
         Step::Write(address, digits) => match Reg::from_u64(*digits) {
@@ -85,7 +116,7 @@ fn makes(ram: &mut Ram<320>, step: &Step) -> bool
 }
 
 /// Rows of steps, each from an empty memory on.
-static ROWS: [(&str, &[Step]); 9] = [
+static ROWS: [(&str, &[Step]); 11] = [
     (
         "two recalls",
         &[
@@ -139,6 +170,37 @@ static ROWS: [(&str, &[Step]); 9] = [
             Step::StartOf(1, 0),
             Step::StartOf(2, 4),
             Step::StartOf(4, 4),
+        ],
+    ),
+    (
+        "lines by their numbers",
+        &[
+            Step::Load(&[0x25, 0xC0, 0x00, 0x00, 0x26, 0x27], Ok(0)),
+            Step::Number(0, Some(1)),
+            Step::Number(1, Some(2)),
+            Step::Number(2, None),
+            Step::Number(4, Some(1)),
+            Step::Number(11, Some(3)),
+            Step::Numbered(0, 2, Some(1)),
+            Step::Numbered(0, 3, None),
+            Step::Numbered(5, 0, None),
+            Step::Numbered(5, 3, Some(11)),
+            Step::Before(4, None),
+            Step::Before(5, Some(4)),
+            Step::Before(6, None),
+        ],
+    ),
+    (
+        "the last program is closed once, and not packed anew",
+        &[
+            Step::Load(&[0x25, 0x26], Ok(0)),
+            Step::Write(0x19B, 0x25_2600_00C0_002D),
+            Step::Close(Ok(())),
+            Step::Register(0x19B, 0x25_26C0_0000_0000),
+            Step::Register(0x19A, 0x00_0000_00C0_0020),
+            Step::Write(0x19A, 0x00_0000_00C0_002D),
+            Step::Close(Ok(())),
+            Step::Register(0x19A, 0x00_0000_00C0_002D),
         ],
     ),
     (

@@ -1,9 +1,10 @@
 use Rattle.std.proofs.Common.{refl}
 use Rattle.std.proofs.lemmas.Result.{err_from_is_err_and}
-use Rattle.std.specs.Prelude.{Err}
+use Rattle.std.specs.Prelude.{Ok, Err}
 use Rattle.h41_program.specs.Edits.{before_end, loaded_of}
 use Rattle.h41_program.specs.declared.refusal.ProgramRefusal.TheVariants.{BrokenProgram}
 use Rattle.h41_program.proofs.LoadSteps.{Loading, outcome_of, loads_behind, load_broken, load_refused, load_unwritten, load_written, load_bound}
+use Rattle.h41_program.proofs.Outcomes.{load_sound}
 use Rattle.h41_program.proofs.loading.load.Goals as goal
 
 pub returns-in_err-packer-clause-lines : goal.returns-in_err-packer-clause-lines
@@ -75,3 +76,10 @@ returns-clause-bound g c =
     } in
     load_bound c.args.ram.now c.write.new.ram c.packed_program.result c.in_ok-packer.packer c.close.new.self c.put_loaded.new.packer c.put_loaded.result
     (before_end program.0) (loaded_of c.args.bytes.now given.0) c.write.result c.len-start.result loading c.in_ok-put_loaded.was c.in_ok-write.was c.len-start.ensures.value c.write.ensures.small c.write.ensures.lines
+
+pub returns-in_err-write-clause-sound : goal.returns-in_err-write-clause-sound
+returns-in_err-write-clause-sound g c =
+    load_sound c.args.ram.now c.write.new.ram c.args.bytes.now c.from_residual-in_err-write.result c.requires (returns-in_err-write-clause-lines g c)
+
+pub returns-clause-sound : goal.returns-clause-sound
+returns-clause-sound g c = load_sound c.args.ram.now c.write.new.ram c.args.bytes.now (Ok c.len-start.result) c.requires (returns-clause-lines g c)

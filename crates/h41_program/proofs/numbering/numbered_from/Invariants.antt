@@ -1,13 +1,14 @@
 use Rattle.std.proofs.Common.{List, length, ◌-◌}
 use Rattle.h41_program.specs.declared.listed_line.ListedLine.{ListedLine}
 use Rattle.h41_program.specs.ProgramBytes.{program_bytes, final_position}
+use Rattle.h41_program.proofs.Numbers.{Left}
 use Rattle.h41_program.proofs.Walks.{UpTo}
-use Rattle.h41_program.proofs.laws.one_list.Given as goal
+use Rattle.h41_program.proofs.numbering.numbered_from.Given as goal
 
 -- the lines so far
 abbrev pub invariant-loop-found : goal.invariant-loop-found
-invariant-loop-found g l = (before : List ListedLine) × UpTo (program_bytes l.ram) (final_position l.ram) l.at before l.position
+invariant-loop-found g l = (before : List ListedLine) × UpTo (program_bytes l.ram) (final_position l.ram) l.from before l.at × Left l.number l.left before
 
 -- the bytes that are left
 abbrev pub decreases-loop-found : goal.decreases-loop-found
-decreases-loop-found g l = length (program_bytes l.ram) - l.position
+decreases-loop-found g l = length (program_bytes l.ram) - l.at

@@ -1,0 +1,127 @@
+-- Memories that agree on their programs.
+use Rattle.std.proofs.Common.{◌≡◌, ℕ, ◌-◌, ◌/◌, ◌%◌, ◌<◌, Bool, true, false, List, refl, sym, ◌∙◌, ap, subst, arith, Ok, Err}
+use Rattle.std.specs.Prelude.{◌⊎◌, MatchBool}
+use Rattle.std.proofs.lemmas.List.{ext_get_or}
+use Rattle.std.proofs.lemmas.List.FromFn.{get_or-map-range_with_len, length-map-range_with_len}
+use Rattle.h41_digits.specs.Register.{byte_at}
+use Rattle.h41_ram.specs.RegisterMap.{RegisterMap, register_at, curtain_of, end_of, constant_of, is_sound, is_final_end, three_digits}
+use Rattle.h41_program.specs.declared.listed_line.ListedLine.{ListedLine}
+use Rattle.h41_program.specs.Dependence.{AgreeOnProgram, SoundnessDepends, ListsDepend, FirstsDepend, NonesDepend, LineDepends, NextDepends, StartDepends, LocalDepends, GlobalDepends}
+use Rattle.h41_program.specs.Lines.{is_final_end as ends_list}
+use Rattle.h41_program.specs.ProgramBytes.{byte_count, program_byte, program_bytes, final_position}
+use Rattle.h41_program.specs.ProgramLines.{behind, FirstFrom, IsFirst, NoneFrom, Reads}
+use Rattle.h41_program.specs.Searches.{start_in}
+use Rattle.h41_program.proofs.Addresses.{sound_by}
+use Rattle.h41_program.proofs.Sound.{bounds, constant, ends}
+
+module _ (memory other : RegisterMap) (agree : AgreeOnProgram memory other) where
+  same_end : end_of memory ≡ end_of other
+  same_end = ap (λ (c : List ℕ). three_digits c 0) agree.c
+
+  same_curtain : curtain_of memory ≡ curtain_of other
+  same_curtain = ap (λ (c : List ℕ). three_digits c 3) agree.c
+
+  same_constant : constant_of memory ≡ constant_of other
+  same_constant = ap (λ (c : List ℕ). three_digits c 6) agree.c
+
+  pub agrees_back : AgreeOnProgram other memory
+  agrees_back = record {
+    size = sym agree.size;
+    c = sym agree.c;
+    program = λ address from below. sym (agree.program address (omega (arith, from, same_end)) (omega (arith, below, same_curtain)));
+  }
+
+  pub sound_too : is_sound memory ≡ true → is_sound other ≡ true
+  sound_too sound =
+      let known = bounds memory sound in
+      let low = known.low in
+      let order = known.order in
+      let high = known.high in
+      let size = agree.size in
+      let last : register_at memory (end_of memory) ≡ register_at other (end_of other) =
+      agree.program (end_of memory) (omega arith) order ∙ ap (register_at other) same_end in
+      sound_by other (sym same_constant ∙ constant memory sound) (omega (arith, low, same_end)) (omega (arith, order, same_end, same_curtain)) (omega (arith, high, size, same_curtain))
+      (ap is_final_end (sym last) ∙ ends memory sound)
+
+  same_count : byte_count memory ≡ byte_count other
+  same_count = omega (arith, same_end, same_curtain)
+
+  pub same_final : final_position memory ≡ final_position other
+  same_final = ap (λ n. n - 3) same_count
+
+  same_byte : (p : ℕ) → p < byte_count memory → program_byte memory p ≡ program_byte other p
+  same_byte p inside =
+      ap (λ (register : List ℕ). byte_at register (6 - p % 7))
+      (agree.program (curtain_of memory - 1 - p / 7) (omega (arith, inside)) (omega (arith, inside))
+      ∙ ap (λ (curtain : ℕ). register_at other (curtain - 1 - p / 7)) same_curtain)
+
+  pub same_bytes : program_bytes memory ≡ program_bytes other
+  same_bytes =
+      let own = length-map-range_with_len (program_byte memory) 0 (byte_count memory) in
+      let all = length-map-range_with_len (program_byte other) 0 (byte_count other) in
+      ext_get_or 0 (program_bytes memory) (program_bytes other) (own ∙ same_count ∙ sym all)
+      (λ p inside.
+      get_or-map-range_with_len (program_byte memory) 0 (byte_count memory) p p 0 (omega (arith, own, inside)) (omega arith)
+      ∙ same_byte p (omega (arith, own, inside))
+      ∙ sym (get_or-map-range_with_len (program_byte other) 0 (byte_count other) p p 0 (omega (arith, own, inside, same_count)) (omega arith)))
+
+  -- what holds of the bytes of one holds of those of the other
+  carried : (P : List ℕ → ℕ → Type 0) → P (program_bytes memory) (final_position memory) → P (program_bytes other) (final_position other)
+  carried P holds = subst (λ (n : ℕ). P (program_bytes other) n) same_final (subst (λ (bytes : List ℕ). P bytes (final_position memory)) same_bytes holds)
+
+same_test : (b c : Bool) → (b ≡ true → c ≡ true) → (c ≡ true → b ≡ true) → b ≡ c
+same_test true c there back = sym (there refl)
+same_test false true there back = back refl
+same_test false false there back = refl
+
+pub soundness : SoundnessDepends
+soundness memory other agree =
+    same_test (is_sound memory) (is_sound other) (sound_too memory other agree) (sound_too other memory (agrees_back memory other agree))
+
+pub lists : ListsDepend
+lists memory other at lines agree from = record {
+  sound = λ sound.
+      carried memory other agree (λ bytes final. Reads bytes final at lines) (from.sound (soundness memory other agree ∙ sound));
+  lost = λ lost. from.lost (soundness memory other agree ∙ lost);
+}
+
+pub firsts : FirstsDepend
+firsts memory other at found agree is = carried memory other agree (λ bytes final. IsFirst bytes final at found.listed found.behind) is
+
+pub nones : NonesDepend
+nones memory other at agree none = carried memory other agree (λ bytes final. NoneFrom bytes final at) none
+
+pub line : LineDepends
+line memory other at (Ok first) agree answers = carried memory other agree (λ bytes final. FirstFrom bytes final at first) answers
+line memory other at (Err refusal) agree answers = (answers.0, nones memory other at agree answers.1)
+
+-- the position behind a line, by bytes
+abbrev BehindIn : List ℕ → ℕ → ListedLine → ℕ → Type 0
+BehindIn bytes final first position =
+    MatchBool (ends_list first.line) (position ≡ first.position)
+    (((second : ListedLine) × FirstFrom bytes final (behind first) second × (position ≡ second.position)) ⊎ (NoneFrom bytes final (behind first) × (position ≡ behind first)))
+
+pub next : NextDepends
+next memory other at (Ok position) agree answers = (
+  answers.0,
+  carried memory other agree (λ bytes final. FirstFrom bytes final at answers.0) answers.1,
+  carried memory other agree (λ bytes final. BehindIn bytes final answers.0 position) answers.2,
+)
+next memory other at (Err refusal) agree answers = (answers.0, nones memory other at agree answers.1)
+
+pub start : StartDepends
+start memory other answer result agree answers = (answers.0, lists memory other 0 answers.0 agree answers.1, answers.2)
+
+pub global : GlobalDepends
+global memory other answer result agree answers = (answers.0, lists memory other 0 answers.0 agree answers.1, answers.2)
+
+pub local : LocalDepends
+local memory other at n result agree answers = record {
+  lines = answers.lines;
+  onward = answers.onward;
+  own = answers.own;
+  all = lists memory other 0 answers.lines agree answers.all;
+  from = lists memory other at answers.onward agree answers.from;
+  program = lists memory other (start_in at answers.lines) answers.own agree answers.program;
+  is = answers.is;
+}

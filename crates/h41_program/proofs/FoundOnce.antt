@@ -1,0 +1,88 @@
+-- What is found is determined, and is that of the list.
+use Rattle.std.proofs.Common.{◌≡◌, ℕ, true, false, List, [], ◌∷◌, sym, ◌∙◌, ap, subst, inl, inr, Ok, Err}
+use Rattle.std.specs.Prelude.{MatchBool}
+use Rattle.std.specs.Option.{option_or}
+use Rattle.std.proofs.lemmas.Bool.{cases_Bool}
+use Rattle.h41_codes.specs.ByteLaws.{OneLine}
+use Rattle.h41_ram.specs.RegisterMap.{RegisterMap}
+use Rattle.h41_program.specs.declared.listed_line.ListedLine.{ListedLine}
+use Rattle.h41_program.specs.declared.refusal.ProgramRefusal.{ProgramRefusal}
+use Rattle.h41_program.specs.Lines.{is_final_end}
+use Rattle.h41_program.specs.ProgramBytes.{program_bytes, final_position}
+use Rattle.h41_program.specs.ProgramLines.{FirstFrom, LinesFrom, PositionBehind, PositionFrom, Reads, behind, line_of, next_of}
+use Rattle.h41_program.specs.SearchLaws.{StartIsDetermined, LocalIsDetermined, GlobalIsDetermined, LineIsOfList, NextIsOfList}
+use Rattle.h41_program.specs.Searches.{label_in, named_in, position_of, start_in}
+use Rattle.h41_program.proofs.Determined.{first_determined, lists_determined}
+use Rattle.h41_program.proofs.Walks.{last_rest, more_rest, no_rest}
+
+pub start : OneLine → StartIsDetermined
+start one memory at begin other is again =
+    is.2 ∙ ap (start_in at) (lists_determined one memory 0 is.0 again.0 is.1 again.1) ∙ sym again.2
+
+pub global : OneLine → GlobalIsDetermined
+global one memory name found other is again =
+    is.2 ∙ ap (λ (lines : List ListedLine). position_of (named_in name lines)) (lists_determined one memory 0 is.0 again.0 is.1 again.1) ∙ sym again.2
+
+pub local : OneLine → LocalIsDetermined
+local one memory at n found other is again =
+    let lines = lists_determined one memory 0 is.lines again.lines is.all again.all in
+    let onward = lists_determined one memory at is.onward again.onward is.from again.from in
+    let begin = subst (λ (all : List ListedLine). LinesFrom memory (start_in at all) is.own) lines is.program in
+    let own = lists_determined one memory (start_in at again.lines) is.own again.own begin again.program in
+    is.is ∙ ap (λ (l : List ListedLine). position_of (option_or (label_in n l) (label_in n is.own))) onward
+    ∙ ap (λ (l : List ListedLine). position_of (option_or (label_in n again.onward) (label_in n l))) own ∙ sym again.is
+
+-- the line at a position
+module _ (one : OneLine) (memory : RegisterMap) (at : ℕ) where
+  abbrev bytes : List ℕ
+  bytes = program_bytes memory
+
+  abbrev final : ℕ
+  final = final_position memory
+
+  ok_line : (first : ListedLine) (lines : List ListedLine) → FirstFrom bytes final at first → Reads bytes final at lines → Ok first ≡ line_of lines
+  ok_line first [] is reads = absurd (reads first is)
+  ok_line first (other ∷ rest) is reads = ap (λ (l : ListedLine). Ok l) (first_determined one bytes final at first other is reads.0)
+
+  -- and the position behind it
+  behind_final : (first : ListedLine) (rest : List ListedLine) (position : ℕ) → is_final_end first.line ≡ true → rest ≡ [] → position ≡ first.position
+      → Ok position ≡ next_of (first ∷ rest)
+  behind_final first rest position last none same = rw (none, last) (ap (λ (n : ℕ). Ok n) same)
+
+  behind_other : (first : ListedLine) (rest : List ListedLine) (position : ℕ) → is_final_end first.line ≡ false → Reads bytes final (behind first) rest
+      → PositionFrom memory (behind first) position → Ok position ≡ next_of (first ∷ rest)
+  behind_other first [] position other reads from = elim from [
+    | inl second ↦ absurd (reads second.0 second.1)
+    | inr none ↦ rw other (ap (λ (n : ℕ). Ok n) none.1)
+  ]
+  behind_other first (next ∷ rest) position other reads from = elim from [
+    | inl second ↦
+        let same = first_determined one bytes final (behind first) second.0 next second.1 reads.0 in
+        ap (λ (n : ℕ). Ok n) (second.2 ∙ ap (λ (l : ListedLine). l.position) same)
+    | inr none ↦ absurd (none.0 next reads.0)
+  ]
+
+  ok_next : (first : ListedLine) (position : ℕ) (lines : List ListedLine) → FirstFrom bytes final at first → PositionBehind memory first position → Reads bytes final at lines
+      → Ok position ≡ next_of lines
+  ok_next first position [] is follows reads = absurd (reads first is)
+  ok_next first position (other ∷ rest) is follows reads =
+      let same = first_determined one bytes final at first other is reads.0 in
+      let own = subst (λ (l : ListedLine). PositionBehind memory l position) same follows in
+      elim (cases_Bool (is_final_end other.line)) [
+        | inl last ↦
+            behind_final other rest position last (last_rest bytes final (behind other) (is_final_end other.line) rest last reads.1)
+            (subst (λ b. MatchBool b (position ≡ other.position) (PositionFrom memory (behind other) position)) last own)
+        | inr running ↦
+            behind_other other rest position running (more_rest bytes final (behind other) (is_final_end other.line) rest running reads.1)
+            (subst (λ b. MatchBool b (position ≡ other.position) (PositionFrom memory (behind other) position)) running own)
+      ]
+
+pub line : OneLine → LineIsOfList
+line one memory at (Ok first) lines sound answers from = ok_line one memory at first lines answers (from.sound sound)
+line one memory at (Err refusal) lines sound answers from =
+    ap (λ (why : ProgramRefusal). Err why) answers.0 ∙ sym (ap line_of (no_rest (program_bytes memory) (final_position memory) at lines answers.1 (from.sound sound)))
+
+pub next : OneLine → NextIsOfList
+next one memory at (Ok position) lines sound answers from = ok_next one memory at answers.0 position lines answers.1 answers.2 (from.sound sound)
+next one memory at (Err refusal) lines sound answers from =
+    ap (λ (why : ProgramRefusal). Err why) answers.0 ∙ sym (ap next_of (no_rest (program_bytes memory) (final_position memory) at lines answers.1 (from.sound sound)))

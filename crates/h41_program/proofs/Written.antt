@@ -1,0 +1,98 @@
+-- Lines that were written into memory: it is sound, and they are read again.
+use Rattle.std.proofs.Common.{refl, ◌≡◌, ℕ, ◌+◌, ◌-◌, ◌*◌, ◌/◌, ◌≤◌, true, List, ◌++◌, length, get_or, replicate, sym, ◌∙◌, ap, subst, arith, inl, inr, All, Result, Ok, Err, length-append, get_or-append-add}
+use Rattle.std.proofs.lemmas.Bool.{cases_lt}
+use Rattle.h41_codes.specs.ByteLaws.{ByteRoundTrip}
+use Rattle.h41_codes.specs.declared.line.Line.{Line}
+use Rattle.h41_ram.specs.RegisterMap.{RegisterMap, main_start, curtain_of, is_sound}
+use Rattle.h41_program.specs.declared.listed_line.ListedLine.{ListedLine}
+use Rattle.h41_program.specs.declared.refusal.ProgramRefusal.{ProgramRefusal}
+use Rattle.h41_program.specs.declared.refusal.ProgramRefusal.TheVariants.{NoRoom}
+use Rattle.h41_program.specs.Packing.{packed, filler, packing, written_end}
+use Rattle.h41_program.specs.ProgramBytes.{program_bytes, final_position}
+use Rattle.h41_program.specs.ProgramLaws.{IsInner, HasLines, PackingFills, PackingHasFewNulls, WrittenIsRead}
+use Rattle.h41_program.specs.ProgramLines.{Reads}
+use Rattle.h41_program.specs.Rewriting.{rewritten, written}
+use Rattle.h41_program.proofs.Packings.{length-packing}
+use Rattle.h41_program.proofs.Rewritten.{program_new, final_new, sound_new}
+use Rattle.h41_program.proofs.Rooms.{written-none, written-some}
+use Rattle.h41_program.proofs.RoundTrips.{reads_behind, reads_packing}
+use Rattle.h41_program.proofs.Walks.{from_reads}
+
+-- .END. ends a packing
+final_bytes : (lines : List Line) (k : ℕ) → get_or (packing lines) (length (packing lines) - 3 + k) 0 ≡ get_or written_end k 0
+final_bytes lines k =
+    let body = packed lines ++ replicate (filler (length (packed lines))) 0 in
+    let size : length (packing lines) - 3 ≡ length body = omega (arith, length-append body written_end) in
+    ap (λ n. get_or (packing lines) (n + k) 0) size ∙ get_or-append-add body written_end k 0
+
+-- a packing fills registers
+pub registers_filled : (lines : List Line) → length (packing lines) ≡ 7 * (length (packing lines) / 7)
+registers_filled lines = omega (arith, length-packing lines)
+
+some_registers : (lines : List Line) → 1 ≤ length (packing lines) / 7
+some_registers lines = omega (arith, length-packing lines)
+
+pub fills : PackingFills
+fills lines = (length (packing lines) / 7, registers_filled lines)
+
+pub few_nulls : PackingHasFewNulls
+few_nulls lines = (filler (length (packed lines)), omega arith, refl)
+
+refused_is_not_done : (new : RegisterMap) → ◌≡◌ {A = Result RegisterMap ProgramRefusal} (Err NoRoom) (Ok new) → ⊥
+refused_is_not_done new same = cc
+
+same_memory : (one other : RegisterMap) → ◌≡◌ {A = Result RegisterMap ProgramRefusal} (Ok one) (Ok other) → one ≡ other
+same_memory one other same = cc
+
+-- lines that were written had room
+pub has_room : (memory new : RegisterMap) (lines : List Line) → written memory lines ≡ Ok new → main_start + length (packing lines) / 7 ≤ curtain_of memory
+has_room memory new lines done = elim (cases_lt (curtain_of memory) (main_start + length (packing lines) / 7)) [
+  | inl above ↦ absurd (refused_is_not_done new (sym (written-none memory lines above) ∙ done))
+  | inr inside ↦ inside
+]
+
+pub is_rewritten : (memory new : RegisterMap) (lines : List Line) → written memory lines ≡ Ok new → rewritten memory (packing lines) ≡ new
+is_rewritten memory new lines done =
+    same_memory (rewritten memory (packing lines)) new (sym (written-some memory lines (has_room memory new lines done)) ∙ done)
+
+module _ (memory new : RegisterMap) (lines : List Line) (sound : is_sound memory ≡ true) (done : written memory lines ≡ Ok new) where
+  abbrev count : ℕ
+  count = length (packing lines) / 7
+
+  pub written_sound : is_sound new ≡ true
+  written_sound =
+      let first : get_or (packing lines) (length (packing lines) - 3) 0 ≡ 0xC0 = ap (λ n. get_or (packing lines) n 0) (omega arith) ∙ final_bytes lines 0 in
+      let last : get_or (packing lines) (length (packing lines) - 1) 0 ≡ 0x20 =
+      ap (λ n. get_or (packing lines) n 0) (omega (arith, length-packing lines)) ∙ final_bytes lines 2 in
+      subst (λ (m : RegisterMap). is_sound m ≡ true) (is_rewritten memory new lines done)
+      (sound_new memory sound (packing lines) count (registers_filled lines) (some_registers lines) (has_room memory new lines done) first last)
+
+  pub written_bytes : program_bytes new ≡ packing lines
+  written_bytes =
+      ap program_bytes (sym (is_rewritten memory new lines done))
+      ∙ program_new memory sound (packing lines) count (registers_filled lines) (some_registers lines) (has_room memory new lines done)
+
+  pub written_final : final_position new ≡ length (packing lines) - 3
+  written_final =
+      ap final_position (sym (is_rewritten memory new lines done))
+      ∙ final_new memory sound (packing lines) count (registers_filled lines) (some_registers lines) (has_room memory new lines done)
+
+  pub written_reads : (at : ℕ) (listed : List ListedLine) → Reads (packing lines) (length (packing lines) - 3) at listed
+      → Reads (program_bytes new) (final_position new) at listed
+  written_reads at listed reads =
+      subst (λ (n : ℕ). Reads (program_bytes new) n at listed) (sym written_final)
+      (subst (λ (bytes : List ℕ). Reads bytes (length (packing lines) - 3) at listed) (sym written_bytes) reads)
+
+-- lines behind others, from the byte behind these on
+pub written_behind : ByteRoundTrip → (memory new : RegisterMap) (lines rest : List Line) → is_sound memory ≡ true → All IsInner rest → written memory (lines ++ rest) ≡ Ok new
+    → HasLines new (length (packed lines)) rest
+written_behind again memory new lines rest sound inner done =
+    let found = reads_behind again lines rest inner in
+    let read = written_reads memory new (lines ++ rest) sound done (length (packed lines)) found.0 found.1 in
+    (found.0, from_reads new (length (packed lines)) found.0 (written_sound memory new (lines ++ rest) sound done) read, found.2)
+
+pub written_read : ByteRoundTrip → WrittenIsRead
+written_read again memory new lines sound inner done =
+    let found = reads_packing again lines inner in
+    let read = written_reads memory new lines sound done 0 found.0 found.1.0 in
+    (found.0, from_reads new 0 found.0 (written_sound memory new lines sound done) read, found.1.1)

@@ -1,0 +1,29 @@
+use Rattle.h41_program.proofs.Depends
+use Rattle.h41_program.proofs.laws.programs_depend_on_their_registers.Goals as goal
+
+pub returns-clause-sound : goal.returns-clause-sound
+returns-clause-sound c = Depends.soundness
+
+pub returns-clause-lists : goal.returns-clause-lists
+returns-clause-lists c = Depends.lists
+
+pub returns-clause-first : goal.returns-clause-first
+returns-clause-first c = Depends.firsts
+
+pub returns-clause-none : goal.returns-clause-none
+returns-clause-none c = Depends.nones
+
+pub returns-clause-line : goal.returns-clause-line
+returns-clause-line c = Depends.line
+
+pub returns-clause-next : goal.returns-clause-next
+returns-clause-next c = Depends.next
+
+pub returns-clause-start : goal.returns-clause-start
+returns-clause-start c = Depends.start
+
+pub returns-clause-local : goal.returns-clause-local
+returns-clause-local c = Depends.local
+
+pub returns-clause-global : goal.returns-clause-global
+returns-clause-global c = Depends.global

@@ -1,0 +1,13 @@
+use Rattle.std.proofs.Common.{sym, ◌∙◌}
+use Rattle.h41_program.specs.Edits.{closed}
+use Rattle.h41_program.proofs.Closings.{closed_none, closed_some, open_test}
+use Rattle.h41_program.proofs.loading.write_closed.Goals as goal
+
+pub returns-then-not-is_open : goal.returns-then-not-is_open
+returns-then-not-is_open g c lines packs =
+    closed_none c.args.ram.now lines (sym (open_test c.args.packer lines c.is_open.result packs c.is_open.ensures) ∙ c.if-not-is_open.true)
+
+pub returns : goal.returns
+returns g c lines packs =
+    closed_some c.args.ram.now c.write.new.ram c.write.result lines (sym (open_test c.args.packer lines c.is_open.result packs c.is_open.ensures) ∙ c.if-not-is_open.false)
+    (c.write.ensures.lines (closed lines) (c.close.ensures lines packs))

@@ -1,0 +1,14 @@
+use Rattle.std.proofs.Common.{◌≡◌, ◌≤◌, List, length, ◌-◌}
+use Rattle.h41_program.specs.declared.listed_line.ListedLine.{ListedLine}
+use Rattle.h41_program.specs.ProgramBytes.{program_bytes, final_position}
+use Rattle.h41_program.proofs.Numbers.{Counted}
+use Rattle.h41_program.proofs.Walks.{UpTo}
+use Rattle.h41_program.proofs.numbering.number_from.Given as goal
+
+-- the lines so far
+abbrev pub invariant-loop-found : goal.invariant-loop-found
+invariant-loop-found g l = (before : List ListedLine) × UpTo (program_bytes l.ram) (final_position l.ram) l.from before l.at × (l.count ≡ length before) × (l.count ≤ l.at) × Counted l.position before
+
+-- the bytes that are left
+abbrev pub decreases-loop-found : goal.decreases-loop-found
+decreases-loop-found g l = length (program_bytes l.ram) - l.at

@@ -1,0 +1,59 @@
+-- What lists of lines and searches depend on: register c and the registers from .END. to below the curtain, and no others.
+use Rattle.std.specs.Prelude.{◌≡◌, ℕ, ◌<◌, ◌≤◌, List, length, Option, Result}
+use Rattle.h41_ram.specs.RegisterMap.{RegisterMap, register_at, c_of, curtain_of, end_of, is_sound}
+use Rattle.h41_program.specs.declared.listed_line.ListedLine.{ListedLine}
+use Rattle.h41_program.specs.declared.reading.Found.{Found}
+use Rattle.h41_program.specs.declared.refusal.ProgramRefusal.{ProgramRefusal}
+use Rattle.h41_program.specs.ProgramLines.{AnswersFirst, AnswersNext, AnswersOf, HasFirst, HasNoLine, LinesFrom}
+use Rattle.h41_program.specs.Searches.{AnswersLocal}
+
+-- two memories of one size agree in register c, and from the register of .END. to below the curtain
+pub record AgreeOnProgram (memory other : RegisterMap) : Type 0 where
+  pub size : length memory.main ≡ length other.main
+  pub c : c_of memory ≡ c_of other
+  pub program : (address : ℕ) → end_of memory ≤ address → address < curtain_of memory → register_at memory address ≡ register_at other address
+
+-- such memories are both sound, or neither is
+abbrev pub SoundnessDepends : Type 0
+SoundnessDepends = (memory other : RegisterMap) → AgreeOnProgram memory other → is_sound memory ≡ is_sound other
+
+-- they have the same lists
+abbrev pub ListsDepend : Type 0
+ListsDepend =
+    (memory other : RegisterMap) (at : ℕ) (lines : List ListedLine) → AgreeOnProgram memory other
+    → LinesFrom memory at lines → LinesFrom other at lines
+
+-- the same first lines, and none in the same places
+abbrev pub FirstsDepend : Type 0
+FirstsDepend =
+    (memory other : RegisterMap) (at : ℕ) (found : Found) → AgreeOnProgram memory other → HasFirst memory at found → HasFirst other at found
+
+abbrev pub NonesDepend : Type 0
+NonesDepend = (memory other : RegisterMap) (at : ℕ) → AgreeOnProgram memory other → HasNoLine memory at → HasNoLine other at
+
+-- the same answers of the line at a position, and of the next
+abbrev pub LineDepends : Type 0
+LineDepends =
+    (memory other : RegisterMap) (at : ℕ) (result : Result ListedLine ProgramRefusal) → AgreeOnProgram memory other
+    → AnswersFirst memory at result → AnswersFirst other at result
+
+abbrev pub NextDepends : Type 0
+NextDepends =
+    (memory other : RegisterMap) (at : ℕ) (result : Result ℕ ProgramRefusal) → AgreeOnProgram memory other
+    → AnswersNext memory at result → AnswersNext other at result
+
+-- the same answers of searches: where programs begin, local labels, global labels
+abbrev pub StartDepends : Type 0
+StartDepends =
+    (memory other : RegisterMap) (answer : List ListedLine → ℕ) (result : ℕ) → AgreeOnProgram memory other
+    → AnswersOf answer memory 0 result → AnswersOf answer other 0 result
+
+abbrev pub GlobalDepends : Type 0
+GlobalDepends =
+    (memory other : RegisterMap) (answer : List ListedLine → Option ℕ) (result : Option ℕ) → AgreeOnProgram memory other
+    → AnswersOf answer memory 0 result → AnswersOf answer other 0 result
+
+abbrev pub LocalDepends : Type 0
+LocalDepends =
+    (memory other : RegisterMap) (at n : ℕ) (result : Option ℕ) → AgreeOnProgram memory other
+    → AnswersLocal memory at n result → AnswersLocal other at n result

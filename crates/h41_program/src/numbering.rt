@@ -1,0 +1,97 @@
+//! The lines of a program by their numbers.
+ghost use Rattle.std.specs.Prelude.{IsTrue, IfSome, ◌≤◌};
+ghost use Rattle.h41_ram.specs.RegisterMap.{is_sound};
+ghost use Rattle.h41_program.specs.Numbering.{AnswersProgram, before_in, number_in, numbered_in, up_to_end};
+ghost use Rattle.h41_program.specs.ProgramLines.{AnswersFrom};
+
+use crate::kinds::{is_end, is_final_end};
+use crate::laws::one_list;
+use crate::reading::{Found, first_from};
+use crate::searches::start_of;
+use h41_codes::laws::byte_round_trip;
+use h41_ram::Ram;
+
+/// The number of the line at its own position in its program, where the first has number 1. `None` where the list from the
+/// program's start to its END has no line at the position.
+pub fn line_number<const REGS: usize>(ram: &Ram<REGS>, position: u16) -> Option<u16>
+    requires { IsTrue (is_sound ram.now) }
+    ensures { AnswersProgram (number_in position) ram.now position result }
+{
+    byte_round_trip();
+    one_list();
+    number_from(ram, start_of(ram, position), position)
+}
+
+/// Where the line of a number stands in the program of a position. `None` where the program has not as many lines.
+pub fn line_numbered<const REGS: usize>(ram: &Ram<REGS>, at: u16, number: u16) -> Option<u16>
+    requires { IsTrue (is_sound ram.now) }
+    ensures { AnswersProgram (numbered_in number) ram.now at result }
+{
+    byte_round_trip();
+    one_list();
+    numbered_from(ram, start_of(ram, at), number)
+}
+
+/// Where the line before the one at a position stands in its program. `None` where the list has no line at the position, or it
+/// is the first.
+pub fn line_before<const REGS: usize>(ram: &Ram<REGS>, position: u16) -> Option<u16>
+    requires { IsTrue (is_sound ram.now) }
+    ensures { AnswersProgram (before_in position) ram.now position result }
+{
+    byte_round_trip();
+    one_list();
+    let start = start_of(ram, position);
+    match number_from(ram, start, position) {
+        Some(number) => numbered_from(ram, start, number - 1),
+        None => None,
+    }
+}
+
+/// The number of the line at a position, counted from another position to the END.
+fn number_from<const REGS: usize>(ram: &Ram<REGS>, from: u16, position: u16) -> Option<u16>
+    requires { IsTrue (is_sound ram.now) }
+    ensures number { AnswersFrom (λ lines. number_in position (up_to_end lines)) ram.now from result }
+    ensures some { IfSome result (λ number. 1 ≤ number) }
+{
+    let mut count = 0;
+    let mut at = from;
+    while let Some(found) = first_from(ram, at) {
+        let Found { listed, behind } = found;
+        count += 1;
+        if listed.position == position {
+            return Some(count);
+        }
+        if is_end(&listed.line) {
+            return None;
+        }
+        if is_final_end(listed.line) {
+            return None;
+        }
+        at = behind;
+    }
+    None
+}
+
+/// Where the line of a number stands, counted from a position to the END.
+fn numbered_from<const REGS: usize>(ram: &Ram<REGS>, from: u16, number: u16) -> Option<u16>
+    requires { IsTrue (is_sound ram.now) }
+    ensures { AnswersFrom (λ lines. numbered_in number (up_to_end lines)) ram.now from result }
+{
+    let mut left = number;
+    let mut at = from;
+    while let Some(found) = first_from(ram, at) {
+        let Found { listed, behind } = found;
+        if left == 1 {
+            return Some(listed.position);
+        }
+        if is_end(&listed.line) {
+            return None;
+        }
+        if is_final_end(listed.line) {
+            return None;
+        }
+        left = left.saturating_sub(1);
+        at = behind;
+    }
+    None
+}

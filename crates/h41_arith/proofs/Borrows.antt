@@ -9,8 +9,8 @@ use Rattle.std.proofs.Math.ListN.{get_or-eq_default}
 use Rattle.std.proofs.lemmas.Bool.{cases_lt}
 use Rattle.h41_digits.specs.Register.{IsRegister}
 use Rattle.h41_fields.specs.Field.{from_to}
-use Rattle.h41_arith.specs.DigitRule.{DifferenceDigit, HasCarries, Difference, DifferenceInto, carry_digit, zeros, span_value, is_less}
-use Rattle.h41_arith.specs.DigitRuleLaws.{BorrowTellsLess}
+use Rattle.h41_arith.specs.DigitRule.{DifferenceDigit, HasCarries, Difference, carry_digit, zeros, span_value, is_less}
+use Rattle.h41_arith.specs.DigitRuleLaws.{BorrowTellsLess, ComplementBorrows}
 
 -- a sum over a row of numbers, with the last of them
 sum_more : (f : ℕ → ℕ) (first count : ℕ) → sum_by f (range_with_len first (suc count)) ≡ sum_by f (range_with_len first count) + f (first + count)
@@ -123,6 +123,6 @@ module _ (base lo hi : ℕ) (x z : List ℕ) (out : ℕ) (d : Difference base ze
       sym d.last ∙ sym (ap (slice_index d.carries) at) ∙ borrow_goes_on (hi + 1 - lo) (omega arith)
 
 -- 0 - x with a borrow in has a borrow out
-pub complement_borrows : (base lo hi : ℕ) (into x z : List ℕ) (borrow : Bool) → lo ≤ hi → DifferenceInto base into zeros x true lo hi z borrow → borrow ≡ true
+pub complement_borrows : ComplementBorrows
 complement_borrows base lo hi into x z true ordered d = refl
 complement_borrows base lo hi into x z false ordered d = absurd (omega (arith, borrow_stays base lo hi x z 0 d.digits ordered))

@@ -1,7 +1,7 @@
 -- What follows from the digit rule alone.
-use Rattle.std.specs.Prelude.{◌≡◌, ◌≢◌, ℕ, ◌<◌, ◌≤◌, ◌↔◌, Bool, false, IsTrue, List, length, slice_index}
+use Rattle.std.specs.Prelude.{◌≡◌, ◌≢◌, ℕ, ◌<◌, ◌≤◌, ◌↔◌, Bool, true, false, IsTrue, List, length, slice_index}
 use Rattle.h41_digits.specs.Register.{IsRegister}
-use Rattle.h41_arith.specs.DigitRule.{Sum, Difference, HasResult, DifferenceInto, KeepsOutside, replaced, is_less, is_different}
+use Rattle.h41_arith.specs.DigitRule.{Sum, Difference, HasResult, DifferenceInto, KeepsOutside, replaced, zeros, is_less, is_different}
 
 -- a rule gives one register and one carry
 abbrev pub IsDetermined : (List ℕ → List ℕ → ℕ → ℕ → ℕ → List ℕ → ℕ → Type 0) → Type 0
@@ -20,6 +20,11 @@ DifferenceIsDetermined = (base : ℕ) → IsDetermined (Difference base)
 abbrev pub BorrowTellsLess : Type 0
 BorrowTellsLess = (base lo hi : ℕ) (into x y z : List ℕ) (borrow : Bool) → lo ≤ hi → hi < 14 → IsRegister 14 x → IsRegister 14 y
     → DifferenceInto base into x y false lo hi z borrow → borrow ≡ is_less x y lo hi
+
+-- 0 - x - 1 always borrows
+abbrev pub ComplementBorrows : Type 0
+ComplementBorrows = (base lo hi : ℕ) (into x z : List ℕ) (borrow : Bool) → lo ≤ hi → DifferenceInto base into zeros x true lo hi z borrow
+    → borrow ≡ true
 
 -- z has these digits at the places from lo to hi, and elsewhere those of `into`
 pub record HasDigits (into : List ℕ) (lo hi : ℕ) (digit : ℕ → ℕ) (z : List ℕ) : Type 0 where

@@ -1,6 +1,6 @@
 //! Laws of the digit rule: each is the contract of a function with nothing to do.
 
-ghost use Rattle.h41_arith.specs.DigitRuleLaws.{SumIsDetermined, DifferenceIsDetermined, BorrowTellsLess, ReplacedIsDetermined, DifferentAtAPlace};
+ghost use Rattle.h41_arith.specs.DigitRuleLaws.{SumIsDetermined, DifferenceIsDetermined, BorrowTellsLess, ComplementBorrows, ReplacedIsDetermined, DifferentAtAPlace};
 
 /// The register and the carry of a sum are determined.
 pub fn sum_is_determined()
@@ -15,6 +15,11 @@ pub fn difference_is_determined()
 /// In any base, the borrow of a difference tells whether the first register is below the second.
 pub fn borrow_tells_less()
     ensures { BorrowTellsLess }
+{}
+
+/// 0 - x - 1 always borrows.
+pub fn complement_borrows()
+    ensures { ComplementBorrows }
 {}
 
 /// The register of a copy or a shift is the one with the digits of its definition at each place.

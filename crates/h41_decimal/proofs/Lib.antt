@@ -9,3 +9,5 @@ pub mod Registers
 pub mod Determined
 pub mod Floors
 pub mod Same
+pub mod Wholes
+pub mod Entries

@@ -2,7 +2,11 @@
 use Rattle.std.specs.Prelude.{◌≡◌, ℕ, Ok, Result, ℤ}
 use Rattle.h41_decimal.specs.Units.{units}
 use Rattle.h41_decimal.specs.NearestDecimal.{Nearest, NearestRoot}
+use Rattle.h41_decimal.specs.NumberEntry.{IsTyped}
+use Rattle.h41_decimal.specs.WholeParts.{HasOnes, IsIntegerPart, IsFraction}
 use Rattle.h41_decimal.specs.declared.fault.DecimalFault.{DecimalFault}
+use Rattle.h41_decimal.specs.declared.parts.Exponent.{Exponent}
+use Rattle.h41_decimal.specs.declared.sign.Sign.{Sign}
 use Rattle.h41_decimal.specs.declared.ten.Ten.{Ten}
 
 -- two decimals that are worth the same are the same
@@ -22,3 +26,19 @@ NearestRootIsDetermined =
 -- a value that is a decimal already is answered as it is
 abbrev pub DecimalIsItsNearest : Type 0
 DecimalIsItsNearest = (number : Ten) → Nearest (units number) 1 (Ok number)
+
+-- the whole ones of a size are determined, and so are a number's integer part and its fraction
+abbrev pub OnesAreDetermined : Type 0
+OnesAreDetermined = (size x y : ℕ) → HasOnes size x → HasOnes size y → x ≡ y
+
+abbrev pub IntegerPartIsDetermined : Type 0
+IntegerPartIsDetermined = (number x y : ℤ) → IsIntegerPart number x → IsIntegerPart number y → x ≡ y
+
+abbrev pub FractionIsDetermined : Type 0
+FractionIsDetermined = (number x y : ℤ) → IsFraction number x → IsFraction number y → x ≡ y
+
+-- and so is the number that is typed
+abbrev pub TypedIsDetermined : Type 0
+TypedIsDetermined =
+    (sign : Sign) (digits places : ℕ) (exponent : Exponent) (x y : Ten) → IsTyped sign digits places exponent x
+    → IsTyped sign digits places exponent y → x ≡ y

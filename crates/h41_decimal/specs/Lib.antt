@@ -2,6 +2,8 @@ pub mod Signs
 pub mod Units
 pub mod NearestDecimal
 pub mod Operations
+pub mod WholeParts
+pub mod NumberEntry
 pub mod Holding
 pub mod Laws
 pub mod Cut

@@ -1,7 +1,7 @@
 //! Laws of decimals: each is the contract of a function with next to nothing to do.
 
 ghost use Rattle.std.specs.Prelude.{◌≡◌, Some};
-ghost use Rattle.h41_decimal.specs.Laws.{UnitsAreInjective, NearestIsDetermined, NearestRootIsDetermined, DecimalIsItsNearest};
+ghost use Rattle.h41_decimal.specs.Laws.{UnitsAreInjective, NearestIsDetermined, NearestRootIsDetermined, DecimalIsItsNearest, OnesAreDetermined, IntegerPartIsDetermined, FractionIsDetermined, TypedIsDetermined};
 
 use crate::ten::Ten;
 
@@ -23,6 +23,18 @@ pub fn nearest_root_is_determined()
 /// A value that is a decimal already is answered as it is.
 pub fn decimal_is_its_nearest()
     ensures { DecimalIsItsNearest }
+{}
+
+/// The whole ones of a size are determined, and so are the integer part and the fraction of a number.
+pub fn parts_are_determined()
+    ensures ones { OnesAreDetermined }
+    ensures integer { IntegerPartIsDetermined }
+    ensures fraction { FractionIsDetermined }
+{}
+
+/// The number that is typed is determined.
+pub fn typed_is_determined()
+    ensures { TypedIsDetermined }
 {}
 
 /// A decimal that is written to a register is read again.

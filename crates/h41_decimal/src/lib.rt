@@ -1,6 +1,7 @@
 //! Ten-digit decimals of the HP-41, whose results are the exact ones rounded to ten digits, halves away from zero.
 #![tactic(auto)]
 
+mod entry;
 pub mod fault;
 pub mod laws;
 mod modulo;
@@ -11,6 +12,7 @@ mod rounding;
 pub mod sign;
 mod sizes;
 pub mod ten;
+mod whole;
 
 pub use fault::DecimalFault;
 pub use parts::{Exponent, Mantissa, Size};

@@ -65,7 +65,7 @@ pub fn power_of_ten(power: u32) -> u128
 }
 
 /// How many decimal digits a number has.
-fn digit_count(number: u128) -> u32
+pub fn digit_count(number: u128) -> u32
     requires { 0 < number }
     ensures least { 10 ^ result ≤ 10 * number }
     ensures next { number < 10 ^ result }

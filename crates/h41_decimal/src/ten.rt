@@ -1,19 +1,21 @@
 //! Decimals, and what is computed with them.
 
-ghost use Rattle.std.specs.Prelude.{◌≡◌, ◌*◌, ◌≤◌, pos, ◌+ℤ◌, ◌-ℤ◌, ◌*ℤ◌, neg_ℤ};
+ghost use Rattle.std.specs.Prelude.{◌≡◌, ◌*◌, ◌^◌, ◌<◌, ◌≤◌, pos, ◌+ℤ◌, ◌-ℤ◌, ◌*ℤ◌, neg_ℤ, unsigned_abs, IfSome, IfNone};
 ghost use Rattle.std.specs.Ordering.{int_cmp, nat_cmp};
-ghost use Rattle.h41_decimal.specs.Signs.{signed};
+ghost use Rattle.h41_decimal.specs.Signs.{signed, sign_of};
 ghost use Rattle.h41_decimal.specs.Units.{one, size, units};
 ghost use Rattle.std.specs.Option.{option_map};
 ghost use Rattle.h41_decimal.specs.Holding.{holding_of, worth, Number};
 ghost use Rattle.h41_decimal.specs.NearestDecimal.{Nearest, NearestRoot};
+ghost use Rattle.h41_decimal.specs.NumberEntry.{IsTyped, greatest};
+ghost use Rattle.h41_decimal.specs.WholeParts.{HasOnes, IsIntegerPart, IsFraction};
 ghost use Rattle.h41_decimal.specs.Operations.{NearestQuotient, NearestModulo, RoundsTo, step_of};
 
 use crate::fault::DecimalFault;
-use crate::parts::Size;
+use crate::parts::{Exponent, Mantissa, Size};
 use crate::places::Places;
 use crate::sign::Sign;
-use crate::{modulo, register, sizes};
+use crate::{entry, modulo, register, sizes, whole};
 use h41_digits::Reg;
 use std::cmp::Ordering;
 
@@ -34,6 +36,85 @@ impl Ten {
         match self {
             Ten::Zero => Ten::Zero,
             Ten::Nonzero(sign, x) => Ten::Nonzero(sign.opposite(), x),
+        }
+    }
+
+    /// The size as a number.
+    pub fn abs(self) -> Self
+        ensures { units result ≡ pos (unsigned_abs (units self)) }
+    {
+        match self {
+            Ten::Zero => Ten::Zero,
+            Ten::Nonzero(_, x) => Ten::Nonzero(Sign::Plus, x),
+        }
+    }
+
+    /// The sign; zero's is plus.
+    pub fn sign(self) -> Sign
+        ensures { result ≡ sign_of (units self) }
+    {
+        match self {
+            Ten::Zero => Sign::Plus,
+            Ten::Nonzero(sign, _) => sign,
+        }
+    }
+
+    /// 1 or -1: 1 with the sign, so that zero's is 1.
+    pub fn signum(self) -> Self
+        ensures { units result ≡ signed (sign_of (units self)) one }
+    {
+        let mantissa = Mantissa {
+            digits: 1_000_000_000,
+        };
+        let exponent = Exponent { biased: 99 };
+        Ten::Nonzero(self.sign(), Size { mantissa, exponent })
+    }
+
+    /// The greatest number with a sign, 9.999999999E99.
+    pub fn greatest(sign: Sign) -> Self
+        ensures { units result ≡ signed sign greatest }
+    {
+        entry::greatest(sign)
+    }
+
+    /// The number of these digits, so many of them behind the point, with an exponent and a sign, as it is typed. Above
+    /// exponent 99 it is the greatest number, below -99 zero (this project's choice).
+    pub fn typed(sign: Sign, digits: u64, places: u8, exponent: Exponent) -> Self
+        requires { places ≤ 20 }
+        ensures { IsTyped sign digits places exponent result }
+    {
+        entry::typed(sign, digits, places, exponent)
+    }
+
+    /// The integer part: what stands before the radix mark, with the sign.
+    pub fn integer_part(self) -> Self
+        ensures { IsIntegerPart (units self) (units result) }
+    {
+        match self {
+            Ten::Zero => Ten::Zero,
+            Ten::Nonzero(sign, x) => whole::integer_part(sign, x),
+        }
+    }
+
+    /// The fraction: what stands behind the radix mark, with the sign.
+    pub fn fraction(self) -> Self
+        ensures { IsFraction (units self) (units result) }
+    {
+        match self {
+            Ten::Zero => Ten::Zero,
+            Ten::Nonzero(sign, x) => whole::fraction(sign, x),
+        }
+    }
+
+    /// The whole ones of the size, as a number, or nothing where they are 10^10 or more.
+    pub fn ones(self) -> Option<u64>
+        ensures ones { IfSome result (HasOnes (unsigned_abs (units self))) }
+        ensures few { IfSome result (λ ones. ones < 10 ^ 10) }
+        ensures many { IfNone result (10 ^ 10 * one ≤ unsigned_abs (units self)) }
+    {
+        match self {
+            Ten::Zero => Some(0),
+            Ten::Nonzero(_, x) => whole::ones(x),
         }
     }
 
@@ -149,6 +230,16 @@ impl Ten {
                     sizes::round_at(sign, x, x.steps() + 10u32.saturating_sub(u32::from(count)))
                 }
             },
+        }
+    }
+
+    /// Whether the number is below zero, zero, or above it.
+    pub fn cmp_zero(self) -> Ordering
+        ensures { result ≡ int_cmp (units self) (pos 0) }
+    {
+        match self {
+            Ten::Zero => Ordering::Equal,
+            Ten::Nonzero(sign, x) => against_zero(sign, x),
         }
     }
 

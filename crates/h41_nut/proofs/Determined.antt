@@ -1,8 +1,8 @@
 -- Why the change that a step makes is determined, where the digits and the carry of a sum and of a difference are.
-use Rattle.std.proofs.Common.{◌≡◌, ℕ, ◌≤◌, Bool, true, false, List, sym, ◌∙◌}
+use Rattle.std.proofs.Common.{◌≡◌, ℕ, ◌≤◌, Bool, true, false, List, sym, subst, ◌∙◌}
 use Rattle.h41_fields.specs.FieldLaws.{PlacesAreOrdered}
 use Rattle.h41_arith.specs.DigitRule.{SumInto, DifferenceInto, zeros}
-use Rattle.h41_arith.specs.DigitRuleLaws.{SumIsDetermined, DifferenceIsDetermined}
+use Rattle.h41_arith.specs.DigitRuleLaws.{SumIsDetermined, DifferenceIsDetermined, ComplementBorrows}
 use Rattle.h41_words.specs.declared.operation.Operation.{Operation}
 use Rattle.h41_words.specs.declared.operation.Operation.TheVariants.{AddBToA, AddCToA, IncrementA, SubtractBFromA, DecrementA, SubtractCFromA, DoubleC, AddAToC, IncrementC, SubtractCFromAToC, DecrementC, NegateC, ComplementC}
 use Rattle.h41_words.specs.declared.rows.Row.{Row}
@@ -10,7 +10,7 @@ use Rattle.h41_words.specs.declared.rows.Row.TheVariants.{Arithmetic}
 use Rattle.h41_words.specs.WordTable.{row_of}
 use Rattle.h41_nut.specs.Arithmetic.{IntoA, IntoC, Operates}
 use Rattle.h41_nut.specs.Processor.{Processor}
-use Rattle.h41_nut.specs.ProcessorLaws.{MicroIsDetermined}
+use Rattle.h41_nut.specs.ProcessorLaws.{MicroIsDetermined, ComplementSetsCarry}
 use Rattle.h41_nut.specs.WordStep.{Nut, Effect, word_of}
 
 -- a rule that gives one register and one carry
@@ -59,3 +59,9 @@ module _ (ordered : PlacesAreOrdered) (sums : SumIsDetermined) (differences : Di
 
   pub same_micro : MicroIsDetermined
   same_micro s t u p q = same_effect (row_of (word_of s)) s t u p.effect q.effect
+
+-- C=-C-1 borrows
+pub complement_carries : PlacesAreOrdered → ComplementBorrows → ComplementSetsCarry
+complement_carries ordered borrows s t field row micro =
+    let effect = subst (λ r. Effect r s t) row micro.effect in
+    borrows _ _ _ _ _ _ t.processor.carry (ordered field s.processor.p s.processor.q s.processor.active) effect.0.0

@@ -1,3 +1,4 @@
 pub mod Determined
 pub mod Digits
 pub mod StatusNumbers
+pub mod StatusBits

@@ -1,9 +1,9 @@
 -- What follows from the definitions of pages and images alone.
-use Rattle.std.specs.Prelude.{◌≡◌, ◌≢◌, ℕ, ◌+◌, ◌*◌, ◌<◌, ◌≤◌, Bool, true, List, length, slice_index, None, Ok, Err}
+use Rattle.std.specs.Prelude.{◌≡◌, ◌≢◌, ℕ, ◌+◌, ◌*◌, ◌<◌, ◌≤◌, Bool, true, List, slice_index, IfSome, None, Ok, Err}
 use Rattle.h41_words.specs.declared.rows.Bank.{Bank}
-use Rattle.h41_pages.specs.Addresses.{page_count, page_size, first_page, last_page, page_of}
-use Rattle.h41_pages.specs.PageMap.{PageMap, banks_at, chosen_at, bank_numbered, is_image, plugged, unplugged, with_chosen, fetched, written}
-use Rattle.h41_pages.specs.Images.{image_bytes, words_in, read_refusal}
+use Rattle.h41_pages.specs.Addresses.{page_size, first_page, last_page, page_of}
+use Rattle.h41_pages.specs.PageMap.{PageMap, IsPageMap, image_at, chosen_at, bank_numbered, is_image, plugged, unplugged, with_chosen, fetched, write_refusal, written}
+use Rattle.h41_pages.specs.Images.{image_bytes, words_in, read_refusal, IsImageAt}
 use Rattle.h41_pages.specs.declared.refusal.FetchRefusal.TheVariants.{EmptyPage}
 
 -- the image round trip: an image that is written is read as the same words, and its bytes are never refused
@@ -13,11 +13,11 @@ ImageRoundTrip = (words : List ℕ) → is_image words ≡ true → words_in (im
 abbrev pub ImageIsRead : Type 0
 ImageIsRead = (words : List ℕ) → is_image words ≡ true → read_refusal (image_bytes words) ≡ None
 
--- what pages are: sixteen, with four banks each
-pub record IsPageMap (pages : PageMap) : Type 0 where
-  pub images : length pages.images ≡ page_count
-  pub banks : (page : ℕ) → page < page_count → length (banks_at pages page) ≡ 4
-  pub chosen : length pages.chosen ≡ page_count
+-- so the bytes of the image at a page's bank are read as the words that are plugged there, and not refused
+abbrev pub PluggedImageIsRead : Type 0
+PluggedImageIsRead =
+    (pages : PageMap) (page number : ℕ) (bytes : List ℕ) → IsPageMap pages → IsImageAt pages page number bytes
+    → IfSome (image_at pages page (bank_numbered number)) (λ image. (read_refusal bytes ≡ None) × (words_in bytes ≡ image.words))
 
 -- the address of an offset in a page
 abbrev pub address_in : ℕ → ℕ → ℕ
@@ -53,7 +53,14 @@ ChoosingKeepsOthers =
     (pages : PageMap) (page : ℕ) (bank : Bank) (address : ℕ) → page_of address ≢ page
     → fetched (with_chosen pages page bank) address ≡ fetched pages address
 
+-- a word that is written is fetched, where the write is not refused
+abbrev pub WrittenIsFetched : Type 0
+WrittenIsFetched =
+    (pages : PageMap) (address word : ℕ) → IsPageMap pages → write_refusal pages address ≡ None
+    → fetched (written pages address word) address ≡ Ok word
+
+-- and every other address stays, in the same page too
 abbrev pub WritingKeepsOthers : Type 0
 WritingKeepsOthers =
-    (pages : PageMap) (written_address word address : ℕ) → page_of address ≢ page_of written_address
+    (pages : PageMap) (written_address word address : ℕ) → IsPageMap pages → address ≢ written_address
     → fetched (written pages written_address word) address ≡ fetched pages address

@@ -1,7 +1,7 @@
 -- The pages of the address space: a finite map from page, bank and offset to words, the banks whose words microcode may
 -- write, and the bank that is chosen at each page; when plugging, unplugging, reading and writing are refused, and what
 -- they change. Which pages and banks are held, and in which order refusals are asked, are this project's choices.
-use Rattle.std.specs.Prelude.{◌≡◌, ◌⊎◌, ℕ, Bool, false, not, ◌&&◌, List, [], length, slice_index, slice_index_or, slice_set, drop, replicate, nat_le, ◌==◌, if◌then◌else◌, is_some, Option, Some, None, Result, Ok, Err, option_map}
+use Rattle.std.specs.Prelude.{◌≡◌, ◌⊎◌, ℕ, ◌+◌, ◌<◌, Bool, true, false, not, ◌&&◌, List, [], length, slice_index, slice_index_or, slice_set, drop, replicate, nat_le, ◌==◌, if◌then◌else◌, is_some, IfSome, Option, Some, None, Result, Ok, Err, option_map}
 use Rattle.std.specs.Bool.{then_some}
 use Rattle.std.specs.List.{list_all, list_any}
 use Rattle.std.specs.Option.{option_or, option_map_or}
@@ -72,6 +72,20 @@ with_image pages page bank image =
 -- the words of an image: 4,096 of them, none above 3FF
 abbrev pub is_image : List ℕ → Bool
 is_image words = length words == page_size && list_all (λ word. nat_le word last_word) words
+
+-- an image at a place among the banks of a page: that page and that bank are held, and it has the words of an image
+pub record IsHeldImage (page place : ℕ) (image : PageImage) : Type 0 where
+  pub held : is_held page (place + 1) ≡ true
+  pub words : is_image image.words ≡ true
+
+-- What pages are, at any time: sixteen, each with four banks, of which one is chosen. What is plugged is an image, at a page
+-- and a bank that are held; and so the first bank is chosen everywhere.
+pub record IsPageMap (pages : PageMap) : Type 0 where
+  pub images : length pages.images ≡ page_count
+  pub banks : (page : ℕ) → page < page_count → length (banks_at pages page) ≡ 4
+  pub chosen : length pages.chosen ≡ page_count
+  pub each : (page place : ℕ) → IfSome (slice_index_or (banks_at pages page) place None) (IsHeldImage page place)
+  pub first : (page : ℕ) → chosen_at pages page ≡ First
 
 -- why words are not plugged: 1 where the page or the bank is not held, 2 where it is plugged, 4 where they are no image
 abbrev pub plug_refusal : PageMap → ℕ → ℕ → List ℕ → Option plug.PlugRefusal

@@ -74,8 +74,10 @@ impl Image {
     /// Writes the word at an offset.
     pub fn write(&mut self, offset: usize, word: Word)
         requires { offset < page_size }
-        ensures { self.new ≡ record self.old { words = slice_set self.old.words offset word } }
+        ensures change { self.new ≡ record self.old { words = slice_set self.old.words offset word } }
+        ensures word { word < word_count }
     {
+        let _number = word.number();
         self.words[offset] = word;
     }
 }

@@ -1,11 +1,23 @@
-//! Laws of pages and images: each is the contract of a function with nothing to do.
+//! Laws of pages and images: each is the contract of a function with next to nothing to do.
 
-ghost use Rattle.h41_pages.specs.PageLaws.{ImageRoundTrip, ImageIsRead, PluggedIsFetched, UnpluggedIsEmpty, PluggingKeepsOthers, UnpluggingKeepsOthers, ChoosingKeepsOthers, WritingKeepsOthers};
+ghost use Rattle.h41_pages.specs.PageMap.{IsPageMap};
+ghost use Rattle.h41_pages.specs.PageLaws.{ImageRoundTrip, ImageIsRead, PluggedImageIsRead, PluggedIsFetched, UnpluggedIsEmpty, PluggingKeepsOthers, UnpluggingKeepsOthers, ChoosingKeepsOthers, WrittenIsFetched, WritingKeepsOthers};
 
-/// The image round trip: an image that is written is read as the same words.
+use crate::pages::Pages;
+
+/// What all pages are, at any time: what is plugged is an image, at a page and a bank that are held. So the laws hold for any
+/// pages that a caller was handed.
+pub fn pages_are_a_map(pages: &Pages)
+    ensures { IsPageMap pages.now }
+{
+    pages.known();
+}
+
+/// The image round trip: an image that is written is read as the same words; so are the bytes of one that is plugged.
 pub fn image_round_trip()
     ensures words { ImageRoundTrip }
     ensures read { ImageIsRead }
+    ensures plugged { PluggedImageIsRead }
 {}
 
 /// What is plugged at the chosen bank of a page is fetched there.
@@ -18,10 +30,15 @@ pub fn unplugged_is_empty()
     ensures { UnpluggedIsEmpty }
 {}
 
+/// A word that is written is fetched, and every other address stays.
+pub fn written_is_fetched()
+    ensures written { WrittenIsFetched }
+    ensures others { WritingKeepsOthers }
+{}
+
 /// A page that a call does not name stays.
 pub fn other_pages_stay()
     ensures plug { PluggingKeepsOthers }
     ensures unplug { UnpluggingKeepsOthers }
     ensures choose { ChoosingKeepsOthers }
-    ensures write { WritingKeepsOthers }
 {}

@@ -26,14 +26,13 @@ pub struct Pages {
 }
 
 impl Model for Pages {
-    ghost use Rattle.std.specs.Prelude.{◌≡◌, vec_len};
-    ghost use Rattle.h41_pages.specs.PageMap.{PageMap};
+    ghost use Rattle.h41_pages.specs.PageMap.{PageMap, IsPageMap};
 
     ghost Value = { PageMap };
 
     ghost view = { λ all. record { images = all.images.items; chosen = all.chosen } };
 
-    ghost invariant = { λ all. vec_len all.images ≡ 16 };
+    ghost invariant = { λ all. IsPageMap (record { images = all.images.items; chosen = all.chosen }) };
 }
 
 impl Pages {
@@ -184,6 +183,13 @@ impl Pages {
             Some(image) if image.is_writable() => Ok(()),
             _ => Err(ReadOnly { address }),
         }
+    }
+
+    /// What all pages are, at any time.
+    pub(crate) fn known(&self)
+        ensures { spec.IsPageMap self.now }
+    {
+        let _images = &self.images;
     }
 
     /// The image at a page's bank.

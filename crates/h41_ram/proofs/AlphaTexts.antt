@@ -1,10 +1,10 @@
 -- ALPHA is read as it was written.
-use Rattle.std.proofs.Common.{◌≡◌, ◌≢◌, ℕ, ◌+◌, ◌*◌, ◌/◌, ◌%◌, ◌<◌, List, length, map, set, get_or, get_or-set_same, get_or-set_other, length-set, sym, arith, ◌∙◌}
+use Rattle.std.proofs.Common.{◌≡◌, ◌≢◌, ◌⊎◌, inl, inr, ap, nat_lt, if◌then◌else◌, ℕ, ◌+◌, ◌-◌, ◌*◌, ◌/◌, ◌%◌, ◌<◌, List, length, map, set, get_or, get_or-set_same, get_or-set_other, length-set, sym, arith, ◌∙◌}
 use Rattle.std.specs.List.{range_with_len}
-use Rattle.std.proofs.lemmas.List.{ext_get_or}
+use Rattle.std.proofs.lemmas.List.{ext_get_or, get_or-drop}
 use Rattle.std.proofs.lemmas.List.FromFn.{get_or-map-range_with_len, length-map-range_with_len}
-use Rattle.h41_ram.specs.RegisterMap.{RegisterMap, zeros, alpha_of, with_alpha}
-use Rattle.h41_ram.specs.RegisterMapLaws.{AlphaIsRead}
+use Rattle.h41_ram.specs.RegisterMap.{zeros}
+use Rattle.h41_ram.specs.RegisterMapLaws.{AlphaIsRead, AlphaKeepsOthers, AlphaKeepsLeftOfP}
 
 -- the four registers behind a write of all of them
 module _ (status : List (List ℕ)) (m n o p : List ℕ) (size : length status ≡ 16) where
@@ -62,3 +62,22 @@ pub alpha_of-with_alpha : AlphaIsRead
 alpha_of-with_alpha memory text size long =
     rw (reads_p memory.status _ _ _ _ size, reads_o memory.status _ _ _ _ size, reads_n memory.status _ _ _ _ size, reads_m memory.status _ _ _ _ size)
     (simp halves (listed text long))
+
+-- no other register changes
+other_status : (status : List (List ℕ)) (m n o p : List ℕ) (address : ℕ) → (address < 5) ⊎ (8 < address)
+    → get_or (set (set (set (set status 5 m) 6 n) 7 o) 8 p) address zeros ≡ get_or status address zeros
+other_status status m n o p address (inl low) =
+    get_or-set_other _ 8 address p zeros (λ equal. absurd (omega (arith, equal))) ∙ get_or-set_other _ 7 address o zeros (λ equal. absurd (omega (arith, equal)))
+    ∙ get_or-set_other _ 6 address n zeros (λ equal. absurd (omega (arith, equal))) ∙ get_or-set_other _ 5 address m zeros (λ equal. absurd (omega (arith, equal)))
+other_status status m n o p address (inr high) =
+    get_or-set_other _ 8 address p zeros (λ equal. absurd (omega (arith, equal))) ∙ get_or-set_other _ 7 address o zeros (λ equal. absurd (omega (arith, equal)))
+    ∙ get_or-set_other _ 6 address n zeros (λ equal. absurd (omega (arith, equal))) ∙ get_or-set_other _ 5 address m zeros (λ equal. absurd (omega (arith, equal)))
+
+pub alpha_keeps_others : AlphaKeepsOthers
+alpha_keeps_others memory text address apart =
+    ap (λ (register : List ℕ). if nat_lt address 16 then register else if nat_lt address 192 then zeros else get_or memory.main (address - 192) zeros)
+    (other_status memory.status _ _ _ _ address apart)
+
+-- and P keeps its left four bytes
+pub alpha_keeps_left_of_p : AlphaKeepsLeftOfP
+alpha_keeps_left_of_p memory text size = rw (reads_p memory.status _ _ _ _ size) (simp get_or-drop)

@@ -2,7 +2,7 @@
 use Rattle.std.proofs.Common.{◌≡◌, ◌≢◌, ℕ, zero, suc, ◌+◌, ◌-◌, ◌*◌, ◌/◌, ◌%◌, ◌^◌, ◌<◌, Bool, true, false, List, length, get_or, get_or-set_same, get_or-set_other, inl, inr, refl, ap, arith, ◌∙◌}
 use Rattle.std.specs.Prelude.{◌==◌}
 use Rattle.std.proofs.lemmas.Bool.{cases_eq}
-use Rattle.h41_ram.specs.RegisterMap.{RegisterMap, digit_with, bit_of, with_bit, d_of, zeros, flag_of, with_flag}
+use Rattle.h41_ram.specs.RegisterMap.{RegisterMap, digit_with, bit_of, with_bit, d_of, zeros, with_flag}
 use Rattle.h41_ram.specs.RegisterMapLaws.{FlagIsRead, OtherFlagsStay}
 
 -- in one digit, a bit that was set is 1

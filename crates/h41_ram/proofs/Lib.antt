@@ -1,3 +1,4 @@
 pub mod AlphaTexts
 pub mod Bits
 pub mod Flags
+pub mod Named

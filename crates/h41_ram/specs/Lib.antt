@@ -1,2 +1,3 @@
 pub mod RegisterMap
+pub mod NamedRegisters
 pub mod RegisterMapLaws

@@ -1,6 +1,8 @@
 -- What holds of every memory, whatever the code does.
-use Rattle.std.specs.Prelude.{◌≡◌, ◌≢◌, ℕ, ◌<◌, ◌≤◌, ◌⊎◌, Bool, List, length, true}
-use Rattle.h41_ram.specs.RegisterMap.{RegisterMap, main_start, status_end, top_of, register_at, with_register, is_sound, start, d_of, flag_of, with_flag, alpha_of, with_alpha}
+use Rattle.std.specs.Prelude.{◌≡◌, ◌≢◌, ℕ, ◌<◌, ◌≤◌, ◌⊎◌, Bool, List, length, take, true, Some}
+use Rattle.h41_ram.specs.RegisterMap.{RegisterMap, main_start, status_end, top_of, register_at, with_register, is_sound, start, d_of, flag_of, with_flag, m_address, p_address, p_of, bytes_of, alpha_of, with_alpha}
+use Rattle.h41_ram.specs.NamedRegisters.{status_of, with_status, size_of, data_of, with_data}
+use Rattle.h41_ram.specs.declared.status.StatusRegister.{StatusRegister}
 
 -- an address exists where a status register or a register of main memory stands
 abbrev pub Exists : RegisterMap → ℕ → Type 0
@@ -46,3 +48,44 @@ abbrev pub AlphaIsRead : Type 0
 AlphaIsRead =
     (memory : RegisterMap) (text : List ℕ) → length memory.status ≡ 16 → length text ≡ 24
     → alpha_of (with_alpha memory text) ≡ text
+
+-- no register but M, N, O and P changes with it
+abbrev pub AlphaKeepsOthers : Type 0
+AlphaKeepsOthers =
+    (memory : RegisterMap) (text : List ℕ) (address : ℕ) → (address < m_address) ⊎ (p_address < address)
+    → register_at (with_alpha memory text) address ≡ register_at memory address
+
+-- and the left four bytes of P stay
+abbrev pub AlphaKeepsLeftOfP : Type 0
+AlphaKeepsLeftOfP =
+    (memory : RegisterMap) (text : List ℕ) → length memory.status ≡ 16
+    → take 4 (bytes_of (p_of (with_alpha memory text))) ≡ take 4 (bytes_of (p_of memory))
+
+-- each status register is read by its name as it was written
+abbrev pub StatusIsRead : Type 0
+StatusIsRead =
+    (memory : RegisterMap) (name : StatusRegister) (register : List ℕ) → length memory.status ≡ 16
+    → status_of (with_status memory name register) name ≡ register
+
+-- and the others stay
+abbrev pub OtherStatusStays : Type 0
+OtherStatusStays =
+    (memory : RegisterMap) (name other : StatusRegister) (register : List ℕ) → other ≢ name
+    → status_of (with_status memory name register) other ≡ status_of memory other
+
+-- each data register is read by its number as it was written, in memory that is sound
+abbrev pub DataIsRead : Type 0
+DataIsRead =
+    (memory : RegisterMap) (n : ℕ) (register : List ℕ) → is_sound memory ≡ true → n < size_of memory
+    → data_of (with_data memory n register) n ≡ Some register
+
+-- and the others stay
+abbrev pub OtherDataStay : Type 0
+OtherDataStay =
+    (memory : RegisterMap) (n other : ℕ) (register : List ℕ) → is_sound memory ≡ true → other ≢ n
+    → data_of (with_data memory n register) other ≡ data_of memory other
+
+-- memory that is sound stays so when a data register is written
+abbrev pub DataKeepSound : Type 0
+DataKeepSound =
+    (memory : RegisterMap) (n : ℕ) (register : List ℕ) → is_sound memory ≡ true → is_sound (with_data memory n register) ≡ true

@@ -5,6 +5,8 @@ mod alpha;
 pub mod laws;
 mod ram;
 mod start;
+mod status;
 
 pub use alpha::ALPHA_LENGTH;
 pub use ram::{MAIN_START, Ram, STATUS_REGISTERS};
+pub use status::StatusRegister;

@@ -2,9 +2,11 @@
 
 ghost use Rattle.std.specs.Prelude.{◌≡◌, ◌<◌, ◌≤◌, ◌^◌, ◌%◌};
 ghost use Rattle.h41_ram.specs.RegisterMap as spec;
+ghost use Rattle.h41_ram.specs.NamedRegisters as named;
 
 use crate::alpha::{self, ALPHA_LENGTH};
 use crate::start::{empty_program, start_c, start_d};
+use crate::status::StatusRegister;
 use h41_digits::Reg;
 use std::marker::Model;
 
@@ -102,6 +104,47 @@ impl<const REGS: usize> Ram<REGS> {
         ensures { result ≡ spec.register_at self.now n }
     {
         self.status[n]
+    }
+
+    /// A status register, by its name.
+    pub fn status_register(&self, name: StatusRegister) -> Reg
+        ensures { result ≡ named.status_of self.now name }
+    {
+        self.read(name.address())
+    }
+
+    /// Writes a status register, by its name.
+    pub fn set_status_register(&mut self, name: StatusRegister, register: Reg)
+        ensures { self.new ≡ named.with_status self.old name register }
+    {
+        self.write(name.address(), register);
+    }
+
+    /// How many data registers there are: those from the curtain up to the top of memory.
+    pub fn size(&self) -> u16
+        ensures value { result ≡ named.size_of self.now }
+        ensures bound { result ≤ 512 }
+    {
+        (MAIN_START + REGS).saturating_sub(usize::from(self.curtain())) as u16
+    }
+
+    /// The data register with a number, from R00 at the curtain on, or nothing where there is none.
+    pub fn data(&self, n: u16) -> Option<Reg>
+        ensures { result ≡ named.data_of self.now n }
+    {
+        if n < self.size() {
+            Some(self.read(self.curtain() + n))
+        } else {
+            None
+        }
+    }
+
+    /// Writes the data register with a number, below `size`.
+    pub fn set_data(&mut self, n: u16, register: Reg)
+        requires { n < named.size_of self.old }
+        ensures { self.new ≡ named.with_data self.old n register }
+    {
+        self.write(self.curtain() + n, register);
     }
 
     /// A flag, 0 to 55: bit 55 - `flag` of register d.

@@ -1,8 +1,9 @@
-use Rattle.std.proofs.Common.{◌≡◌, ℕ, List, length, true, arith, ap, sym, ◌∙◌}
+use Rattle.std.proofs.Common.{◌≡◌, ℕ, List, Option, Some, None, length, true, arith, ap, sym, ◌∙◌}
+use Rattle.std.specs.Prelude.{IfSome}
 use Rattle.std.proofs.lemmas.Grind.{common_steps}
 use Rattle.h41_pages.specs.Addresses.{page_size}
-use Rattle.h41_pages.specs.PageMap.{is_image}
-use Rattle.h41_pages.specs.Images.{image_bytes, first_words, words_in}
+use Rattle.h41_pages.specs.PageMap.{PageImage, IsHeldImage, is_image, bank_numbered, bank_place, image_at}
+use Rattle.h41_pages.specs.Images.{image_bytes, first_words, words_in, read_refusal}
 use Rattle.h41_pages.proofs.RoundTrip.{read_back, bytes_count}
 use Rattle.h41_pages.proofs.laws.image_round_trip.Goals as goal
 
@@ -15,7 +16,22 @@ same_words words whole = ap (first_words (image_bytes words)) (sym whole) ∙ re
 pub returns-clause-words : goal.returns-clause-words
 returns-clause-words c = λ words image. same_words words (is_whole words image)
 
-pub returns-clause-read : goal.returns-clause-read
-returns-clause-read c = λ words image.
+read_again : (words : List ℕ) → is_image words ≡ true → read_refusal (image_bytes words) ≡ None
+read_again words image =
     let whole = is_whole words image in
     grind (arith, common_steps, image, bytes_count words, same_words words whole, whole)
+
+pub returns-clause-read : goal.returns-clause-read
+returns-clause-read c = read_again
+
+-- the bytes of an image that is held, where there is one
+read_of : (page place : ℕ) (image : Option PageImage) (bytes : List ℕ) → IfSome image (IsHeldImage page place)
+    → IfSome image (λ plugged. bytes ≡ image_bytes plugged.words)
+    → IfSome image (λ plugged. (read_refusal bytes ≡ None) × (words_in bytes ≡ plugged.words))
+read_of page place None bytes held are = tt
+read_of page place (Some image) bytes held are =
+    (ap read_refusal are ∙ read_again image.words held.words, ap words_in are ∙ same_words image.words (is_whole image.words held.words))
+
+pub returns-clause-plugged : goal.returns-clause-plugged
+returns-clause-plugged c = λ pages page number bytes is are.
+    read_of page (bank_place (bank_numbered number)) (image_at pages page (bank_numbered number)) bytes (is.each page (bank_place (bank_numbered number))) are

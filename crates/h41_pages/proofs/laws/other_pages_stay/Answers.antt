@@ -1,7 +1,7 @@
 use Rattle.std.proofs.Common.{◌≡◌, ◌≢◌, ℕ, refl, true, false, is_some, if◌then◌else◌, slice_set}
 use Rattle.h41_words.specs.declared.rows.Bank.{Bank}
 use Rattle.h41_pages.specs.Addresses.{page_of}
-use Rattle.h41_pages.specs.PageMap.{PageMap, image_at, plugged, unplugged, written, fetched}
+use Rattle.h41_pages.specs.PageMap.{PageMap, image_at, plugged, unplugged, fetched}
 use Rattle.h41_pages.proofs.OtherPages.{same_fetch, other_banks, other_chosen}
 use Rattle.h41_pages.proofs.laws.other_pages_stay.Goals as goal
 
@@ -13,12 +13,6 @@ pub returns-clause-unplug : goal.returns-clause-unplug
 returns-clause-unplug c = λ pages page address different.
     same_fetch (unplugged pages page) pages address
     (other_banks pages.images _ page (page_of address) different) (other_chosen pages.chosen _ page (page_of address) different)
-
-pub returns-clause-write : goal.returns-clause-write
-unfolding written
-returns-clause-write c = λ pages written_address word address different.
-    same_fetch (written pages written_address word) pages address
-    (other_banks pages.images _ (page_of written_address) (page_of address) different) refl
 
 chosen_elsewhere : (b : _) (pages : PageMap) (page : ℕ) (bank : Bank) (address : ℕ) → page_of address ≢ page
     → fetched (if b then record pages { chosen = slice_set pages.chosen page bank } else pages) address ≡ fetched pages address

@@ -1,0 +1,21 @@
+-- The integer part and the fraction of a number, by whole numbers of units alone.
+use Rattle.std.specs.Prelude.{◌≡◌, ℕ, ◌+◌, ◌*◌, ◌<◌, ◌≤◌, ℤ, ◌-ℤ◌, unsigned_abs}
+use Rattle.h41_decimal.specs.Signs.{signed, sign_of}
+use Rattle.h41_decimal.specs.Units.{one}
+
+-- a size has so many whole ones
+pub record HasOnes (size ones : ℕ) : Type 0 where
+  pub not_above : ones * one ≤ size
+  pub next_above : size < (ones + 1) * one
+
+-- the integer part of a number: its whole ones, with its sign
+pub record IsIntegerPart (number part : ℤ) : Type 0 where
+  pub ones : ℕ
+  pub whole : HasOnes (unsigned_abs number) ones
+  pub value : part ≡ signed (sign_of number) (ones * one)
+
+-- the fraction of a number: what is left of it without its integer part
+pub record IsFraction (number fraction : ℤ) : Type 0 where
+  pub part : ℤ
+  pub integer : IsIntegerPart number part
+  pub rest : fraction ≡ number -ℤ part

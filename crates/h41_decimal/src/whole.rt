@@ -1,0 +1,80 @@
+//! The integer part and the fraction of a size, and decimals from whole numbers.
+
+ghost use Rattle.std.specs.Prelude.{◌≡◌, ◌*◌, ◌^◌, ◌<◌, ◌≤◌, IfSome, IfNone};
+ghost use Rattle.h41_decimal.specs.Signs.{signed};
+ghost use Rattle.h41_decimal.specs.Units.{size, units};
+ghost use Rattle.h41_decimal.specs.WholeParts.{HasOnes, IsIntegerPart, IsFraction};
+
+use crate::parts::{Exponent, Mantissa, Size};
+use crate::rounding::{digit_count, power_of_ten};
+use crate::sign::Sign;
+use crate::ten::Ten;
+
+/// The steps, counted from exponent -99, at which the tenth digit is worth 1.
+const ONES: u32 = 108;
+
+/// The steps below which a size is below 1.
+const LEAST: u32 = 99;
+
+/// The whole ones of a size, or nothing where they are 10^10 or more.
+pub fn ones(x: Size) -> Option<u64>
+    ensures ones { IfSome result (HasOnes (size x)) }
+    ensures few { IfSome result (λ ones. ones < 10 ^ 10) }
+    ensures many { IfNone result (109 ≤ x.exponent.biased) }
+{
+    let steps = x.steps();
+    if steps > ONES {
+        None
+    } else if steps < LEAST {
+        Some(0)
+    } else {
+        Some((x.digits() / power_of_ten(ONES - steps)) as u64)
+    }
+}
+
+/// The integer part of a size with a sign.
+pub fn integer_part(sign: Sign, x: Size) -> Ten
+    ensures { IsIntegerPart (signed sign (size x)) (units result) }
+{
+    match ones(x) {
+        None => Ten::Nonzero(sign, x),
+        Some(0) => Ten::Zero,
+        Some(ones) => decimal(sign, ones, ONES),
+    }
+}
+
+/// The fraction of a size with a sign.
+pub fn fraction(sign: Sign, x: Size) -> Ten
+    ensures { IsFraction (signed sign (size x)) (units result) }
+{
+    let steps = x.steps();
+    if steps >= ONES {
+        return Ten::Zero;
+    }
+    if steps < LEAST {
+        return Ten::Nonzero(sign, x);
+    }
+    let rest = (x.digits() % power_of_ten(ONES - steps)) as u64;
+    if rest == 0 {
+        return Ten::Zero;
+    }
+    decimal(sign, rest, steps)
+}
+
+/// The decimal of a whole number of up to ten digits times ten to a power, in units.
+fn decimal(sign: Sign, number: u64, steps: u32) -> Ten
+    requires some { 0 < number }
+    requires few { number < 10 ^ 10 }
+    requires least { 9 ≤ steps }
+    requires most { steps ≤ 198 }
+    ensures { units result ≡ signed sign (number * 10 ^ steps) }
+{
+    let missing = 10 - digit_count(u128::from(number));
+    let mantissa = Mantissa {
+        digits: (u128::from(number) * power_of_ten(missing)) as u64,
+    };
+    let exponent = Exponent {
+        biased: (steps - missing) as u8,
+    };
+    Ten::Nonzero(sign, Size { mantissa, exponent })
+}

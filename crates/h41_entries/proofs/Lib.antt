@@ -1,0 +1,3 @@
+pub mod Placed
+pub mod Texts
+pub mod Directives

@@ -1,0 +1,211 @@
+-- Each change leaves pages as pages are.
+use Rattle.std.proofs.Common.{◌≡◌, ◌≢◌, ◌⊎◌, ℕ, zero, suc, ◌+◌, ◌<◌, ◌≤◌, Bool, true, false, List, [], ◌∷◌, Option, Some, None, length, replicate, arith, refl, sym, ap, subst, ◌∙◌, inl, inr, get_or-set_other, get_or-set_same, length-set, slice_set, slice_index_or}
+use Rattle.std.specs.Prelude.{IfSome, ◌==◌, is_some, not}
+use Rattle.std.specs.Bool.{then_some}
+use Rattle.std.specs.Option.{option_or}
+use Rattle.std.specs.List.{list_all}
+use Rattle.std.proofs.lemmas.Bool.{and_parts, cases_eq, cases_lt, eqb-true}
+use Rattle.std.proofs.lemmas.List.{get_or-replicate, get_or_default}
+use Rattle.std.proofs.Math.ListN.{get_or-eq_default}
+use Rattle.h41_words.specs.declared.rows.Bank.{Bank}
+use Rattle.h41_words.specs.declared.rows.Bank.TheVariants.{First, Second, Third, Fourth}
+use Rattle.h41_pages.specs.Addresses.{page_size, is_pluggable}
+use Rattle.h41_pages.specs.PageMap.{PageMap, PageImage, IsHeldImage, IsPageMap, no_banks, no_pages, banks_at, image_at, bank_place, bank_numbered, is_held, is_image, plug_refusal}
+use Rattle.h41_pages.specs.declared.refusal.PlugRefusal.TheVariants as plugs
+use Rattle.h41_pages.proofs.OtherPages.{other_banks, own_banks, other_chosen, own_image}
+
+-- each image among the banks of a page is one that is held there
+abbrev pub HoldsImages : ℕ → List (Option PageImage) → Type 0
+HoldsImages page banks = (place : ℕ) → IfSome (slice_index_or banks place None) (IsHeldImage page place)
+
+-- among banks of which one is changed
+other_image : (banks : List (Option PageImage)) (image : Option PageImage) (place other : ℕ) → other ≢ place
+    → slice_index_or (slice_set banks place image) other None ≡ slice_index_or banks other None
+other_image banks image place other different = rw get_or-set_other refl
+
+image_held : (page : ℕ) (banks : List (Option PageImage)) (image : Option PageImage) (place at : ℕ) → place < length banks → HoldsImages page banks
+    → IfSome image (IsHeldImage page place) → (at ≡ place) ⊎ (at ≢ place) → IfSome (slice_index_or (slice_set banks place image) at None) (IsHeldImage page at)
+image_held page banks image place at below each held (inl same) =
+    subst (λ k. IfSome (slice_index_or (slice_set banks place image) k None) (IsHeldImage page k)) (sym same)
+    (subst (λ i. IfSome i (IsHeldImage page place)) (sym (own_image banks image place below)) held)
+image_held page banks image place at below each held (inr apart) =
+    subst (λ i. IfSome i (IsHeldImage page at)) (sym (other_image banks image place at apart)) (each at)
+
+pub bank_changed : (page : ℕ) (banks : List (Option PageImage)) (image : Option PageImage) (place : ℕ) → place < length banks → HoldsImages page banks
+    → IfSome image (IsHeldImage page place) → HoldsImages page (slice_set banks place image)
+bank_changed page banks image place below each held = λ at. image_held page banks image place at below each held (cases_eq at place)
+
+-- among pages of which one has other banks
+banks_sized : (pages : PageMap) (banks : List (Option PageImage)) (page other : ℕ) → IsPageMap pages → page < 16 → length banks ≡ 4 → other < 16
+    → (other ≡ page) ⊎ (other ≢ page) → length (slice_index_or (slice_set pages.images page banks) other []) ≡ 4
+banks_sized pages banks page other is below size inside (inl same) =
+    ap (λ k. length (slice_index_or (slice_set pages.images page banks) k [])) same
+    ∙ ap length (own_banks pages.images banks page (omega (arith, is.images, below))) ∙ size
+banks_sized pages banks page other is below size inside (inr apart) =
+    ap length (other_banks pages.images banks page other apart) ∙ is.banks other inside
+
+banks_held : (pages : PageMap) (banks : List (Option PageImage)) (page other : ℕ) → IsPageMap pages → page < 16 → HoldsImages page banks
+    → (other ≡ page) ⊎ (other ≢ page) → HoldsImages other (slice_index_or (slice_set pages.images page banks) other [])
+banks_held pages banks page other is below each (inl same) =
+    subst (λ k. HoldsImages k (slice_index_or (slice_set pages.images page banks) k [])) (sym same)
+    (subst (HoldsImages page) (sym (own_banks pages.images banks page (omega (arith, is.images, below)))) each)
+banks_held pages banks page other is below each (inr apart) =
+    subst (HoldsImages other) (sym (other_banks pages.images banks page other apart)) (is.each other)
+
+-- pages with other banks at a page
+pub page_changed : (pages : PageMap) (page : ℕ) (banks : List (Option PageImage)) → IsPageMap pages → page < 16 → length banks ≡ 4 → HoldsImages page banks
+    → IsPageMap (record pages { images = slice_set pages.images page banks })
+page_changed pages page banks is below size each = record {
+  images = length-set pages.images page banks ∙ is.images;
+  banks = λ other inside. banks_sized pages banks page other is below size inside (cases_eq other page);
+  chosen = is.chosen;
+  each = λ other. banks_held pages banks page other is below each (cases_eq other page);
+  first = is.first;
+}
+
+-- pages with another image at a page's bank
+pub image_changed : (pages : PageMap) (page place : ℕ) (image : Option PageImage) → IsPageMap pages → page < 16 → place < 4
+    → IfSome image (IsHeldImage page place) → IsPageMap (record pages { images = slice_set pages.images page (slice_set (banks_at pages page) place image) })
+image_changed pages page place image is below inside held =
+    let size : length (banks_at pages page) ≡ 4 = is.banks page below in
+    page_changed pages page (slice_set (banks_at pages page) place image) is below
+    (length-set (banks_at pages page) place image ∙ size)
+    (bank_changed page (banks_at pages page) image place (omega (arith, size, inside)) (is.each page) held)
+
+-- nothing is plugged in empty banks
+pub none_plugged : (place : ℕ) → slice_index_or no_banks place None ≡ None
+none_plugged zero = refl
+none_plugged (suc zero) = refl
+none_plugged (suc (suc zero)) = refl
+none_plugged (suc (suc (suc zero))) = refl
+none_plugged (suc (suc (suc (suc place)))) = refl
+
+pub none_held : (page : ℕ) → HoldsImages page no_banks
+none_held page place = subst (λ i. IfSome i (IsHeldImage page place)) (sym (none_plugged place)) tt
+
+-- pages with the first bank chosen at one of them, and at all
+chosen_first : (chosen : List Bank) (page other : ℕ) → page < length chosen → ((k : ℕ) → slice_index_or chosen k First ≡ First)
+    → (other ≡ page) ⊎ (other ≢ page) → slice_index_or (slice_set chosen page First) other First ≡ First
+chosen_first chosen page other below each (inl same) =
+    ap (λ k. slice_index_or (slice_set chosen page First) k First) same ∙ own_chosen chosen page below
+  where
+    own_chosen : (chosen : List Bank) (page : ℕ) → page < length chosen → slice_index_or (slice_set chosen page First) page First ≡ First
+    own_chosen chosen page below = rw get_or-set_same refl
+chosen_first chosen page other below each (inr apart) = other_chosen chosen First page other apart ∙ each other
+
+pub choice_changed : (pages : PageMap) (page : ℕ) → IsPageMap pages → page < 16 → IsPageMap (record pages { chosen = slice_set pages.chosen page First })
+choice_changed pages page is below = record {
+  images = is.images;
+  banks = is.banks;
+  chosen = length-set pages.chosen page First ∙ is.chosen;
+  each = is.each;
+  first = λ other. chosen_first pages.chosen page other (omega (arith, is.chosen, below)) is.first (cases_eq other page);
+}
+
+first_of_all : (page : ℕ) → (page < 16) ⊎ (16 ≤ page) → slice_index_or (replicate 16 First) page First ≡ First
+first_of_all page (inl below) = get_or-replicate 16 page First First below
+first_of_all page (inr above) = get_or-eq_default (replicate 16 First) First above
+
+pub choices_cleared : (pages : PageMap) → IsPageMap pages → IsPageMap (record pages { chosen = replicate 16 First })
+choices_cleared pages is = record {
+  images = is.images;
+  banks = is.banks;
+  chosen = refl;
+  each = is.each;
+  first = λ page. first_of_all page (cases_lt page 16);
+}
+
+-- a page with nothing plugged, as at the start
+empty_banks : (page : ℕ) → (page < 16) ⊎ (16 ≤ page) → HoldsImages page (slice_index_or (replicate 16 no_banks) page [])
+empty_banks page (inl below) = subst (HoldsImages page) (sym (get_or-replicate 16 page no_banks [] below)) (none_held page)
+empty_banks page (inr above) = subst (HoldsImages page) (sym (get_or-eq_default (replicate 16 no_banks) [] above)) (λ place. tt)
+
+pub none_is_page_map : IsPageMap no_pages
+none_is_page_map = record {
+  images = refl;
+  banks = λ page below. ap length (get_or-replicate 16 page no_banks [] below);
+  chosen = refl;
+  each = λ page. empty_banks page (cases_lt page 16);
+  first = λ page. first_of_all page (cases_lt page 16);
+}
+
+-- a bank that is plugged is the first
+held_place : (page place : ℕ) → is_held page (place + 1) ≡ true → place ≡ 0
+held_place page place held = let one = eqb-true (place + 1) 1 (and_parts (is_pluggable page) (place + 1 == 1) held).1 in omega (arith, one)
+
+first_bank : (bank : Bank) → bank_place bank ≡ 0 → bank ≡ First
+first_bank First e = refl
+first_bank Second e = absurd (omega (arith, e))
+first_bank Third e = absurd (omega (arith, e))
+first_bank Fourth e = absurd (omega (arith, e))
+
+place_of_some : (page place : ℕ) (image : Option PageImage) → IfSome image (IsHeldImage page place) → is_some image ≡ true → place ≡ 0
+place_of_some page place None held some = let no : false ≡ true = some in absurd (cc)
+place_of_some page place (Some image) held some = held_place page place held.held
+
+pub plugged_is_first : (pages : PageMap) (page : ℕ) (bank : Bank) → IsPageMap pages → is_some (image_at pages page bank) ≡ true → bank ≡ First
+plugged_is_first pages page bank is some = first_bank bank (place_of_some page (bank_place bank) (image_at pages page bank) (is.each page (bank_place bank)) some)
+
+-- words of which one is changed are still those of an image
+fits_set : (fits : ℕ → Bool) (words : List ℕ) (offset word : ℕ) → list_all fits words ≡ true → fits word ≡ true → list_all fits (slice_set words offset word) ≡ true
+fits_set fits [] offset word all fit = refl
+fits_set fits (first ∷ words) zero word all fit = rw fit (and_parts (fits first) (list_all fits words) all).1
+fits_set fits (first ∷ words) (suc offset) word all fit =
+    let both = and_parts (fits first) (list_all fits words) all in
+    rw (both.0) (fits_set fits words offset word both.1 fit)
+
+pub image_rewritten : (words : List ℕ) (offset word : ℕ) → is_image words ≡ true → word < 0x400 → is_image (slice_set words offset word) ≡ true
+image_rewritten words offset word image small =
+    let both = and_parts (length words == page_size) (list_all _ words) image in
+    rw (length-set words offset word, both.0) (fits_set _ words offset word both.1 (grind arith))
+
+-- words that are plugged are an image that is held
+none_of_both : {A : Type 0} (first second : Option A) → option_or first second ≡ None → (first ≡ None) × (second ≡ None)
+none_of_both None second none = (refl, none)
+none_of_both (Some value) second none = absurd (cc)
+
+unless : {A : Type 0} (test : Bool) (value : A) → then_some (not test) value ≡ None → test ≡ true
+unless true value none = refl
+unless false value none = cc
+
+one_held : (page number : ℕ) → is_held page number ≡ true → is_held page (bank_place (bank_numbered number) + 1) ≡ true
+one_held page number held =
+    let one : number ≡ 1 = eqb-true number 1 (and_parts (is_pluggable page) (number == 1) held).1 in
+    let P : ℕ → Type 0 = λ n. is_held page (bank_place (bank_numbered n) + 1) ≡ true in
+    subst P (sym one) (subst (λ n. is_held page n ≡ true) one held)
+
+pub plugged_held : (pages : PageMap) (page number : ℕ) (writable : Bool) (words : List ℕ) → plug_refusal pages page number words ≡ None
+    → IsHeldImage page (bank_place (bank_numbered number)) (record { words = words; writable = writable })
+plugged_held pages page number writable words none =
+    let first = none_of_both (then_some (not (is_held page number)) plugs.NoSuchPage) _ none in
+    let second = none_of_both (then_some (is_some (image_at pages page (bank_numbered number))) plugs.Occupied) _ first.1 in
+    record {
+      held = one_held page number (unless (is_held page number) plugs.NoSuchPage first.0);
+      words = unless (is_image words) plugs.BadImage second.1;
+    }
+
+-- a word of an image is changed where it stands, as the code reaches it
+pub image_held_with : (page place : ℕ) (image : PageImage) (offset word : ℕ) → IsHeldImage page place image → word < 0x400
+    → IsHeldImage page place (record image { words = slice_set image.words offset word })
+image_held_with page place image offset word held small = record { held = held.held; words = image_rewritten image.words offset word held.words small }
+
+row_is : (images : List (List (Option PageImage))) (chosen : List Bank) (page : ℕ) (row d : List (Option PageImage))
+    → IsPageMap (record { images = images; chosen = chosen }) → page < 16 → row ≡ slice_index_or images page d → row ≡ slice_index_or images page []
+row_is images chosen page row d is below read = read ∙ get_or_default images page d [] (omega (arith, is.images, below))
+
+pub row_held : (images : List (List (Option PageImage))) (chosen : List Bank) (page place : ℕ) (row d : List (Option PageImage)) (image e : Option PageImage)
+    → IsPageMap (record { images = images; chosen = chosen }) → page < 16 → place < 4 → row ≡ slice_index_or images page d
+    → slice_index_or row place e ≡ image → IfSome image (IsHeldImage page place)
+row_held images chosen page place row d image e is below inside read found =
+    let row_read = row_is images chosen page row d is below read in
+    let size : length row ≡ 4 = ap length row_read ∙ is.banks page below in
+    let same : slice_index_or (slice_index_or images page []) place None ≡ image =
+    ap (λ r. slice_index_or r place None) (sym row_read) ∙ get_or_default row place None e (omega (arith, size, inside)) ∙ found in
+    subst (λ i. IfSome i (IsHeldImage page place)) same (is.each page place)
+
+pub row_changed : (images : List (List (Option PageImage))) (chosen : List Bank) (page place : ℕ) (row d : List (Option PageImage)) (image : Option PageImage)
+    → IsPageMap (record { images = images; chosen = chosen }) → page < 16 → place < 4 → row ≡ slice_index_or images page d
+    → IfSome image (IsHeldImage page place) → IsPageMap (record { images = slice_set images page (slice_set row place image); chosen = chosen })
+row_changed images chosen page place row d image is below inside read held =
+    subst (λ r. IsPageMap (record { images = slice_set images page (slice_set r place image); chosen = chosen })) (sym (row_is images chosen page row d is below read))
+    (image_changed (record { images = images; chosen = chosen }) page place image is below inside held)

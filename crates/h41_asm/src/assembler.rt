@@ -163,7 +163,7 @@ fn push_statement(
         }
         Statement::ShortJumpTo(condition, name) => {
             let target = label_address(labels, name)?;
-            let word = short_jump(*condition, address, target)?;
+            let word = short_jump(*condition, distance(address, target))?;
             words.push(word)?;
         }
         Statement::EntryAt(kind, name) => {
@@ -194,12 +194,18 @@ fn label_address(labels: &Labels<'_>, name: &[u8]) -> Result<u16, SourceFault>
     }
 }
 
-/// The word of a short jump from an address to another.
-fn short_jump(condition: Condition, from: u32, to: u16) -> Result<Word, SourceFault>
+/// How far it is from an address to another.
+fn distance(from: u32, to: u16) -> i32
     requires { from ≤ address_count }
-    ensures { result ≡ jump_word condition (pos to -ℤ pos from) }
+    ensures { result ≡ pos to -ℤ pos from }
 {
-    let displacement = i32::from(to) - from as i32;
+    i32::from(to) - from as i32
+}
+
+/// The word of a short jump by a displacement.
+fn short_jump(condition: Condition, displacement: i32) -> Result<Word, SourceFault>
+    ensures { result ≡ jump_word condition displacement }
+{
     if -64 <= displacement && displacement <= 63 {
         let displacement = Displacement::new(displacement as i8);
         Ok(word(Row::ShortJump(condition, displacement)))

@@ -4,11 +4,12 @@ use Rattle.std.specs.List.{cons_option, list_any}
 use Rattle.std.specs.Cmp.Lexicographic.{nat_list_eq_equiv}
 use Rattle.std.proofs.lemmas.Bool.{cases_Bool}
 use Rattle.h41_asm.specs.Assembly.{address_count}
-use Rattle.h41_asm.specs.Faults.{has_label, label_address, line_length}
+use Rattle.h41_asm.specs.Faults.{has_label, line_length}
 use Rattle.h41_asm.specs.Placing.{Labels}
 use Rattle.h41_asm.specs.LabelTable.{IsReady}
 use Rattle.h41_asm.specs.SourceLines.{SourceLine, labels_of}
 use Rattle.h41_asm.proofs.Faultless.{AreFaultless, IsNew, new_before}
+use Rattle.h41_asm.proofs.Walks.{address_from}
 
 -- the names with an address are those that label a line
 with_name : (name : List ℕ) (label : Option (List ℕ)) (found : Option ℕ) (names : List (List ℕ)) (address : ℕ) → is_some found ≡ list_any (bytes_eq name) names
@@ -17,10 +18,10 @@ with_name name None found names address same = same
 with_name name (Some own) found names address same =
     elim (cases_Bool (bytes_eq name own)) [ inl here ↦ rw here refl | inr other ↦ rw other same ]
 
-pub named : (rest : List SourceLine) (address : ℕ) (name : List ℕ) → is_some (label_address address rest name) ≡ list_any (bytes_eq name) (labels_of rest)
+pub named : (rest : List SourceLine) (address : ℕ) (name : List ℕ) → is_some (address_from address rest name) ≡ list_any (bytes_eq name) (labels_of rest)
 named [] address name = refl
 named (line ∷ rest) address name =
-    with_name name line.label (label_address (address + line_length line) rest name) (labels_of rest) address (named rest (address + line_length line) name)
+    with_name name line.label (address_from (address + line_length line) rest name) (labels_of rest) address (named rest (address + line_length line) name)
 
 -- no label of faultless lines is past the addresses
 low_with : (name : List ℕ) (label : Option (List ℕ)) (found : Option ℕ) (address : ℕ) → IfSome label (λ own. address < address_count)
@@ -30,10 +31,10 @@ low_with name (Some own) found address low others =
     elim (cases_Bool (bytes_eq name own)) [ inl here ↦ rw here low | inr other ↦ rw other others ]
 
 pub labels_low : (rest earlier : List SourceLine) (address : ℕ) (name : List ℕ) → AreFaultless earlier address rest
-    → IfSome (label_address address rest name) (λ a. a < address_count)
+    → IfSome (address_from address rest name) (λ a. a < address_count)
 labels_low [] earlier address name fits = tt
 labels_low (line ∷ rest) earlier address name fits =
-    low_with name line.label (label_address (address + line_length line) rest name) address fits.0.low
+    low_with name line.label (address_from (address + line_length line) rest name) address fits.0.low
     (labels_low rest (earlier ++ line ∷ []) (address + line_length line) name fits.1)
 
 -- a new label is its line's address
@@ -45,10 +46,10 @@ label_here labels others earlier address (Some own) new same = same own new ∙ 
 
 -- faultless lines are ready where their new names have the addresses of their lines
 pub ready : (labels : Labels) (rest earlier : List SourceLine) (address : ℕ) → AreFaultless earlier address rest
-    → ((name : List ℕ) → IsNew earlier name → labels name ≡ label_address address rest name) → IsReady labels address rest
+    → ((name : List ℕ) → IsNew earlier name → labels name ≡ address_from address rest name) → IsReady labels address rest
 ready labels [] earlier address fits same = tt
 ready labels (line ∷ rest) earlier address fits same =
-    let next : Labels = label_address (address + line_length line) rest in
+    let next : Labels = address_from (address + line_length line) rest in
     let behind : (name : List ℕ) → IsNew (earlier ++ line ∷ []) name → labels name ≡ next name =
     λ name new.
     let before = new_before earlier line name new in

@@ -15,7 +15,7 @@ use Rattle.h41_asm.specs.declared.fault.SourceFault.{SourceFault}
 use Rattle.h41_asm.specs.declared.fault.SourceFault.TheVariants.{NoLabel, TooFar}
 use Rattle.h41_asm.specs.Assembly.{Assembles, address_count}
 use Rattle.h41_asm.specs.AssemblyLaws.{HasWordsOrFault, NeverBoth}
-use Rattle.h41_asm.specs.Faults.{assembly_fault, at_line, label_address, line_length, missing_fault, own_faults, reach_fault, read_fault, reference_fault, reference_faults}
+use Rattle.h41_asm.specs.Faults.{assembly_fault, at_line, first_fault, label_address, line_length, missing_fault, numbered_lines, own_fault_at, reach_fault, read_fault, reference_fault, reference_fault_at}
 use Rattle.h41_asm.specs.Placing.{IsDisplacement, Labels, LinesSpell, StatementSpells, SpellsRead, entry_words}
 use Rattle.h41_asm.specs.LabelTable.{IsReady}
 use Rattle.h41_asm.specs.SourceLines.{SourceLine, labels_of, source_lines}
@@ -24,6 +24,7 @@ use Rattle.h41_asm.proofs.Addresses.{labels_low, named, ready}
 use Rattle.h41_asm.proofs.Determined.{labels_agree, length-line, lines_spell_once}
 use Rattle.h41_asm.proofs.Faultless.{AreFaultless, IsNew, at_no_line, faultless, names_behind, names_distinct, no_own_faults}
 use Rattle.h41_asm.proofs.Found.{not_then_some, or_none, unfound}
+use Rattle.h41_asm.proofs.Walks.{address_from, addresses_of, own_faults, own_faults_of, reference_faults, reference_faults_of}
 
 -- what ready lines spell ends within the addresses
 spelled_within : (labels : Labels) (rest : List SourceLine) (address : ℕ) (words : List ℕ) → address ≤ address_count → IsReady labels address rest
@@ -35,8 +36,8 @@ spelled_within labels (line ∷ rest) address words low ready spelled =
     omega (arith, behind, long, ap length spelled.2, length-append spelled.0 spelled.1)
 
 -- the words of faultless lines under their labels are those of the source
-pub assembles : (labels : Labels) (source : List ℕ) (origin : ℕ) (words : List ℕ) → origin ≤ address_count → own_faults 1 origin [] (source_lines source) ≡ None
-    → ((name : List ℕ) → labels name ≡ label_address origin (source_lines source) name) → LinesSpell labels origin (source_lines source) words → Assembles source origin words
+assembles : (labels : Labels) (source : List ℕ) (origin : ℕ) (words : List ℕ) → origin ≤ address_count → own_faults 1 origin [] (source_lines source) ≡ None
+    → ((name : List ℕ) → labels name ≡ address_from origin (source_lines source) name) → LinesSpell labels origin (source_lines source) words → Assembles source origin words
 assembles labels source origin words low none same spelled =
     let all : List SourceLine = source_lines source in
     let fits = faultless 1 origin [] all none in
@@ -57,14 +58,47 @@ assembles labels source origin words low none same spelled =
       );
     }
 
--- the first fault, where no line has one of its own
-pub fault_of_references : (labels : Labels) (source : List ℕ) (origin : ℕ) → own_faults 1 origin [] (source_lines source) ≡ None
-    → ((name : List ℕ) → labels name ≡ label_address origin (source_lines source) name)
+-- the first fault, as the walks find it
+fault_by_walks : (source : List ℕ) (origin : ℕ) → let all = source_lines source in
+    assembly_fault source origin ≡ option_or (own_faults 1 origin [] all) (reference_faults (address_from origin all) 1 origin all)
+fault_by_walks source origin =
+    let all : List SourceLine = source_lines source in
+    let lines = numbered_lines origin all in
+    let these : label_address lines ≡ address_from origin all = fun_ext (addresses_of origin all) in
+    ap (λ own. option_or own (first_fault (reference_fault_at (label_address lines)) lines)) (own_faults_of origin all)
+    ∙ ap (option_or (own_faults 1 origin [] all)) (reference_faults_of (label_address lines) origin all ∙ ap (λ (labels : Labels). reference_faults labels 1 origin all) these)
+
+-- and where no line has one of its own
+fault_of_references : (labels : Labels) (source : List ℕ) (origin : ℕ) → own_faults 1 origin [] (source_lines source) ≡ None
+    → ((name : List ℕ) → labels name ≡ address_from origin (source_lines source) name)
     → assembly_fault source origin ≡ reference_faults labels 1 origin (source_lines source)
 fault_of_references labels source origin none same =
-    let these : label_address origin (source_lines source) ≡ labels = fun_ext (λ name. sym (same name)) in
-    ap (λ own. option_or own (reference_faults (label_address origin (source_lines source)) 1 origin (source_lines source))) none
-    ∙ ap (λ (labels : Labels). reference_faults labels 1 origin (source_lines source)) these
+    let all : List SourceLine = source_lines source in
+    let these : address_from origin all ≡ labels = fun_ext (λ name. sym (same name)) in
+    fault_by_walks source origin ∙ ap (λ own. option_or own (reference_faults (address_from origin all) 1 origin all)) none
+    ∙ ap (λ (labels : Labels). reference_faults labels 1 origin all) these
+
+-- it is the first one of references, where the table has the labels of the lines
+pub fault_by_labels : (labels : Labels) (source : List ℕ) (origin : ℕ) → let lines = numbered_lines origin (source_lines source) in
+    first_fault own_fault_at lines ≡ None → ((name : List ℕ) → labels name ≡ label_address lines name) → assembly_fault source origin ≡ first_fault (reference_fault_at labels) lines
+fault_by_labels labels source origin none same =
+    let lines = numbered_lines origin (source_lines source) in
+    let these : label_address lines ≡ labels = fun_ext (λ name. sym (same name)) in
+    ap (λ own. option_or own (first_fault (reference_fault_at (label_address lines)) lines)) none
+    ∙ ap (λ (labels : Labels). first_fault (reference_fault_at labels) lines) these
+
+-- lines of which none has a fault of its own are ready where the labels are theirs, and what they spell is what the source does
+pub ready_by : (labels : Labels) (source : List ℕ) (origin : ℕ) → let lines = numbered_lines origin (source_lines source) in
+    first_fault own_fault_at lines ≡ None → ((name : List ℕ) → labels name ≡ label_address lines name) → IsReady labels origin (source_lines source)
+ready_by labels source origin none same =
+    let all : List SourceLine = source_lines source in
+    ready labels all [] origin (faultless 1 origin [] all (sym (own_faults_of origin all) ∙ none)) (λ name new. same name ∙ addresses_of origin all name)
+
+pub assembles_by : (labels : Labels) (source : List ℕ) (origin : ℕ) (words : List ℕ) → origin ≤ address_count → let lines = numbered_lines origin (source_lines source) in
+    first_fault own_fault_at lines ≡ None → ((name : List ℕ) → labels name ≡ label_address lines name) → LinesSpell labels origin (source_lines source) words → Assembles source origin words
+assembles_by labels source origin words low none same spelled =
+    let all : List SourceLine = source_lines source in
+    assembles labels source origin words low (sym (own_faults_of origin all) ∙ none) (λ name. same name ∙ addresses_of origin all name) spelled
 
 -- what is spelled has no fault of references
 no_reach_fault : (address target : ℕ) (displacement : ℤ) → IsDisplacement address target displacement → is_in_reach (pos target -ℤ pos address) ≡ true
@@ -180,8 +214,8 @@ spelled_lines labels (line ∷ rest) number address ready none =
 pub some_words : (source : List ℕ) (origin : ℕ) → origin ≤ address_count → assembly_fault source origin ≡ None → (words : List ℕ) × Assembles source origin words
 some_words source origin low none =
     let all : List SourceLine = source_lines source in
-    let labels : Labels = label_address origin all in
-    let parts = or_none (own_faults 1 origin [] all) (reference_faults labels 1 origin all) none in
+    let labels : Labels = address_from origin all in
+    let parts = or_none (own_faults 1 origin [] all) (reference_faults labels 1 origin all) (sym (fault_by_walks source origin) ∙ none) in
     let fits = faultless 1 origin [] all parts.0 in
     let spelled = spelled_lines labels all 1 origin (ready labels all [] origin fits (λ name new. refl)) parts.1 in
     (spelled.0, assembles labels source origin spelled.0 low parts.0 (λ name. refl) spelled.1)
@@ -190,9 +224,9 @@ some_words source origin low none =
 pub one_words : (source : List ℕ) (origin : ℕ) (one other : List ℕ) → Assembles source origin one → Assembles source origin other → one ≡ other
 one_words source origin one other first second =
     let all : List SourceLine = source_lines source in
-    let here : first.placed.0 ≡ label_address origin all = fun_ext (labels_agree first.placed.0 source origin one first.placed.1) in
-    let there : second.placed.0 ≡ label_address origin all = fun_ext (labels_agree second.placed.0 source origin other second.placed.1) in
-    lines_spell_once (label_address origin all) all origin one other (subst (λ (labels : Labels). LinesSpell labels origin all one) here first.placed.1.spelled)
+    let here : first.placed.0 ≡ address_from origin all = fun_ext (labels_agree first.placed.0 source origin one first.placed.1) in
+    let there : second.placed.0 ≡ address_from origin all = fun_ext (labels_agree second.placed.0 source origin other second.placed.1) in
+    lines_spell_once (address_from origin all) all origin one other (subst (λ (labels : Labels). LinesSpell labels origin all one) here first.placed.1.spelled)
     (subst (λ (labels : Labels). LinesSpell labels origin all other) there second.placed.1.spelled)
 
 -- one of the two holds

@@ -11,13 +11,14 @@ use Rattle.h41_words.specs.declared.rows.Row.TheVariants.{ShortJump}
 use Rattle.h41_words.specs.WordTable.{number_of}
 use Rattle.h41_asm.specs.declared.fault.SourceFault.{SourceFault}
 use Rattle.h41_asm.specs.Assembly.{AssemblesBy}
-use Rattle.h41_asm.specs.Faults.{has_label, label_address, line_length, read_length}
+use Rattle.h41_asm.specs.Faults.{has_label, line_length, read_length}
 use Rattle.h41_asm.specs.Placing.{Labels, LinesSpell, StatementSpells, SpellsRead, entry_words}
 use Rattle.h41_asm.specs.SourceLines.{SourceLine, labels_of, source_lines}
 use Rattle.h41_asm.specs.Statements.{Statement, Words, OutOfReach, LongJumpTo, ShortJumpTo, EntryAt, long_jump_words, reading}
 use Rattle.h41_asm.proofs.Addresses.{named}
 use Rattle.h41_asm.proofs.Found.{unfound}
 use Rattle.h41_asm.proofs.Spelling.{length-spelled}
+use Rattle.h41_asm.proofs.Walks.{address_from}
 
 -- a line spells as many words as it takes
 pub length-line : (labels : Labels) (address : ℕ) (read : Result Statement SourceFault) (own : List ℕ) → SpellsRead labels address read own → length own ≡ read_length read
@@ -62,24 +63,24 @@ labelled_here labels address name (Some label) here own = ap labels ((bytes_eq-D
 
 -- what is the address of a label's line is its address
 pub labelled_at : (labels : Labels) (rest : List SourceLine) (address : ℕ) (words name : List ℕ) (found : ℕ) → LinesSpell labels address rest words
-    → label_address address rest name ≡ Some found → labels name ≡ Some found
+    → address_from address rest name ≡ Some found → labels name ≡ Some found
 labelled_at labels [] address words name found spelled at = absurd (none-some found at)
 labelled_at labels (line ∷ rest) address words name found spelled at = elim (cases_Bool (has_label name line.label)) [
   | inl here ↦
       let same : Some address ≡ Some found = rw here at at in
       labelled_here labels address name line.label here spelled.3.label ∙ same
   | inr other ↦
-      let behind : label_address (address + line_length line) rest name ≡ Some found = rw other at at in
+      let behind : address_from (address + line_length line) rest name ≡ Some found = rw other at at in
       let long : length spelled.0 ≡ line_length line = length-line labels address (reading line.code) spelled.0 spelled.3.words in
       labelled_at labels rest (address + line_length line) spelled.1 name found (subst (λ (n : ℕ). LinesSpell labels (address + n) rest spelled.1) long spelled.4) behind
 ]
 
 -- so the labels by which a source is spelled are those of its lines
 pub labels_agree : (labels : Labels) (source : List ℕ) (origin : ℕ) (words : List ℕ) → AssemblesBy labels source origin words
-    → (name : List ℕ) → labels name ≡ label_address origin (source_lines source) name
-labels_agree labels source origin words assembled name = by (label_address origin (source_lines source) name) refl
+    → (name : List ℕ) → labels name ≡ address_from origin (source_lines source) name
+labels_agree labels source origin words assembled name = by (address_from origin (source_lines source) name) refl
   where
-    by : (found : Option ℕ) → label_address origin (source_lines source) name ≡ found → labels name ≡ found
+    by : (found : Option ℕ) → address_from origin (source_lines source) name ≡ found → labels name ≡ found
     by (Some found) at = labelled_at labels (source_lines source) origin words name found assembled.spelled at
     by None at = elim (cases_Bool (is_some (labels name))) [
       | inl some ↦

@@ -1,5 +1,5 @@
 -- Lines without a fault of their own, and the names that label them.
-use Rattle.std.proofs.Common.{◌≡◌, ℕ, suc, ◌+◌, ◌<◌, ◌≤◌, Bool, true, false, ◌||◌, List, [], ◌∷◌, ◌++◌, refl, sym, ap, ◌∙◌, IfSome, Some, None, Option, Ok, Err, Result, IsOk, arith, nat_lt, bytes_eq}
+use Rattle.std.proofs.Common.{◌≡◌, ℕ, suc, ◌+◌, ◌<◌, ◌≤◌, true, false, ◌&&◌, List, [], ◌∷◌, ◌++◌, refl, sym, ◌∙◌, IfSome, Some, None, Option, Ok, Err, Result, IsOk, arith, is_some, nat_le, nat_lt, bytes_eq}
 use Rattle.std.specs.Bool.{then_some}
 use Rattle.std.specs.List.{AllByRecursion, IsDistinct, cons_option, list_any}
 use Rattle.std.proofs.lemmas.Bool.Decides.{nat_tests}
@@ -12,10 +12,11 @@ use Rattle.std.proofs.lemmas.Map.Keys.{IsDistinct-cons, IsDistinct-head, IsDisti
 use Rattle.h41_asm.specs.declared.fault.SourceFault.{SourceFault}
 use Rattle.h41_asm.specs.declared.fault.SourceFault.TheVariants.{LabelTwice, TooLong}
 use Rattle.h41_asm.specs.Assembly.{address_count}
-use Rattle.h41_asm.specs.Faults.{at_line, has_label, labelled_fault, line_length, long_fault, own_fault, own_faults, twice_fault}
+use Rattle.h41_asm.specs.Faults.{at_line, has_label, is_labelled_twice, is_past, line_length, own_fault}
 use Rattle.h41_asm.specs.SourceLines.{SourceLine, labels_of}
 use Rattle.h41_asm.specs.Statements.{Statement, reading}
-use Rattle.h41_asm.proofs.Found.{or_none, not_then_some}
+use Rattle.h41_asm.proofs.Found.{both_false, or_none, not_then_some}
+use Rattle.h41_asm.proofs.Walks.{own_faults}
 
 -- no line of some has this label
 abbrev pub IsNew : List SourceLine → List ℕ → Type 0
@@ -37,26 +38,23 @@ readable_from : (read : Result Statement SourceFault) → result_err read ≡ No
 readable_from (Ok said) none = refl
 readable_from (Err fault) none = let no : Some fault ≡ None = none in cc
 
-new_from : (earlier : List SourceLine) (label : Option (List ℕ)) → twice_fault earlier label ≡ None → IfSome label (IsNew earlier)
+new_from : (earlier : List SourceLine) (label : Option (List ℕ)) → is_labelled_twice earlier label ≡ false → IfSome label (IsNew earlier)
 new_from earlier None none = tt
-new_from earlier (Some name) none = not_then_some (list_any (λ line. has_label name line.label) earlier) LabelTwice none
+new_from earlier (Some name) none = none
 
-low_from : (address : ℕ) (label : Option (List ℕ)) → labelled_fault address label ≡ false → IfSome label (λ name. address < address_count)
+low_from : (address : ℕ) (label : Option (List ℕ)) → (is_some label && nat_le address_count address) ≡ false → IfSome label (λ name. address < address_count)
 low_from address None none = tt
 low_from address (Some name) none = leb-false address_count address none
 
-both_false : (first second : Bool) → (first || second) ≡ false → (first ≡ false) × (second ≡ false)
-both_false true second e = let no : true ≡ false = e in cc
-both_false false second e = (refl, e)
-
-faultless_line : (earlier : List SourceLine) (address : ℕ) (line : SourceLine) → own_fault earlier address line ≡ None → IsFaultless earlier address line
+faultless_line : (earlier : List SourceLine) (address : ℕ) (line : SourceLine) → own_fault (is_labelled_twice earlier line.label) address line ≡ None
+    → IsFaultless earlier address line
 faultless_line earlier address line none =
     let read = or_none (result_err (reading line.code)) _ none in
-    let twice = or_none (twice_fault earlier line.label) (long_fault address line) read.1 in
-    let long = both_false (labelled_fault address line.label) _ (not_then_some _ TooLong twice.1) in
+    let twice = or_none (then_some (is_labelled_twice earlier line.label) LabelTwice) _ read.1 in
+    let long = both_false (is_some line.label && nat_le address_count address) _ (not_then_some (is_past address line.label (line_length line)) TooLong twice.1) in
     record {
       readable = readable_from (reading line.code) read.0;
-      new = new_from earlier line.label twice.0;
+      new = new_from earlier line.label (not_then_some _ LabelTwice twice.0);
       low = low_from address line.label long.0;
       ends = ltb-false address_count (address + line_length line) long.1;
     }
@@ -65,15 +63,16 @@ none_readable : (read : Result Statement SourceFault) → IsOk read → result_e
 none_readable (Ok said) ok = refl
 none_readable (Err fault) ok = let no : false ≡ true = ok in cc
 
-none_new : (earlier : List SourceLine) (label : Option (List ℕ)) → IfSome label (IsNew earlier) → twice_fault earlier label ≡ None
+none_new : (earlier : List SourceLine) (label : Option (List ℕ)) → IfSome label (IsNew earlier) → is_labelled_twice earlier label ≡ false
 none_new earlier None new = refl
-none_new earlier (Some name) new = ap (λ twice. then_some twice LabelTwice) new
+none_new earlier (Some name) new = new
 
-none_low : (address : ℕ) (label : Option (List ℕ)) → IfSome label (λ name. address < address_count) → labelled_fault address label ≡ false
+none_low : (address : ℕ) (label : Option (List ℕ)) → IfSome label (λ name. address < address_count) → (is_some label && nat_le address_count address) ≡ false
 none_low address None low = refl
 none_low address (Some name) low = grind (arith, nat_tests)
 
-none_line : (earlier : List SourceLine) (address : ℕ) (line : SourceLine) → IsFaultless earlier address line → own_fault earlier address line ≡ None
+none_line : (earlier : List SourceLine) (address : ℕ) (line : SourceLine) → IsFaultless earlier address line
+    → own_fault (is_labelled_twice earlier line.label) address line ≡ None
 none_line earlier address line fits =
     let long : nat_lt address_count (address + line_length line) ≡ false = grind (arith, nat_tests, fits.ends) in
     rw (none_readable (reading line.code) fits.readable, none_new earlier line.label fits.new, none_low address line.label fits.low, long) refl
@@ -86,8 +85,9 @@ at_no_line number (Some fault) none = absurd (none-some (fault, number) (sym non
 pub faultless : (number address : ℕ) (earlier rest : List SourceLine) → own_faults number address earlier rest ≡ None → AreFaultless earlier address rest
 faultless number address earlier [] none = tt
 faultless number address earlier (line ∷ rest) none =
-    let parts = or_none (at_line number (own_fault earlier address line)) _ none in (
-      faultless_line earlier address line (at_no_line number (own_fault earlier address line) parts.0),
+    let fault = own_fault (is_labelled_twice earlier line.label) address line in
+    let parts = or_none (at_line number fault) _ none in (
+      faultless_line earlier address line (at_no_line number fault parts.0),
       faultless (suc number) (address + line_length line) (earlier ++ line ∷ []) rest parts.1,
     )
 

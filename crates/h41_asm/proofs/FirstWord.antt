@@ -6,6 +6,7 @@ use Rattle.std.proofs.lemmas.List.{drop_more, drop_all}
 use Rattle.std.proofs.lemmas.List.Sums.{passes_at_first}
 use Rattle.h41_lines.proofs.FirstWord.{on_start-blank, on_start-other}
 use Rattle.h41_lines.proofs.Positions.{position_some, position_none}
+use Rattle.h41_asm.proofs.Found.{both_false}
 use Rattle.h41_asm.specs.SourceLines.{is_blank, part_length, parts_from, quoted_after, words_of}
 
 abbrev is_word : List ℕ → Bool
@@ -55,10 +56,6 @@ parts_end byte rest stop = elim (or_cases (is_blank byte) (byte == 59) stop) [
   ]
   | inr comment ↦ rw (eqb-true byte 59 comment) refl
 ]
-
-both_false : (a b : Bool) → (a || b) ≡ false → (a ≡ false) × (b ≡ false)
-both_false true b e = let no : true ≡ false = e in cc
-both_false false b e = (refl, e)
 
 -- the first part is as long as it says
 parts_from-first : (quoted : Bool) (line : List ℕ) → parts_from quoted line ≡ take (part_length quoted line) line ∷ parts_behind (drop (part_length quoted line) line)

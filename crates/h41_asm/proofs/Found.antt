@@ -1,5 +1,5 @@
--- The first of two that are found, and what a test finds.
-use Rattle.std.proofs.Common.{◌≡◌, Bool, true, false, refl, Some, None, Option, is_some}
+-- The first of two that are found, what a test finds, and two tests of which neither passes.
+use Rattle.std.proofs.Common.{◌≡◌, Bool, true, false, ◌||◌, refl, Some, None, Option, is_some}
 use Rattle.std.specs.Bool.{then_some}
 use Rattle.std.specs.Option.{option_or}
 
@@ -14,6 +14,10 @@ or_nothing (Some found) = refl
 pub not_then_some : {T : Type 0} (test : Bool) (found : T) → then_some test found ≡ None → test ≡ false
 not_then_some true found none = let no : Some found ≡ None = none in cc
 not_then_some false found none = refl
+
+pub both_false : (first second : Bool) → (first || second) ≡ false → (first ≡ false) × (second ≡ false)
+both_false true second e = let no : true ≡ false = e in cc
+both_false false second e = (refl, e)
 
 -- what is not found is none
 pub unfound : {T : Type 0} (found : Option T) → (is_some found ≡ false) → found ≡ None

@@ -5,5 +5,7 @@ pub mod Determined
 pub mod Faultless
 pub mod FirstWord
 pub mod Found
+pub mod Mnemonics
 pub mod Placed
 pub mod Spelling
+pub mod Walks

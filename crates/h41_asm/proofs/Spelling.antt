@@ -3,11 +3,12 @@ use Rattle.std.proofs.Common.{◌≡◌, ℕ, ◌+◌, ◌≤◌, List, ◌∷�
 use Rattle.h41_asm.specs.declared.fault.SourceFault.{SourceFault}
 use Rattle.h41_asm.specs.declared.statement.Statement as code
 use Rattle.h41_asm.specs.CodeStatements.{read_in_code}
-use Rattle.h41_asm.specs.Faults.{line_length, read_length, reference_fault, reference_faults}
+use Rattle.h41_asm.specs.Faults.{line_length, read_length, reference_fault}
 use Rattle.h41_asm.specs.Placing.{Labels, LinesSpell, StatementSpells, SpellsRead}
 use Rattle.h41_asm.specs.LabelTable.{IsReady, SpellsNext}
 use Rattle.h41_asm.specs.SourceLines.{SourceLine}
 use Rattle.h41_asm.specs.Statements.{Statement, Words, OutOfReach, LongJumpTo, ShortJumpTo, EntryAt, reading, statement_length}
+use Rattle.h41_asm.proofs.Walks.{reference_faults}
 
 -- a statement spells as many words as it takes
 pub length-spelled : (labels : Labels) (address : ℕ) (said : Statement) (own : List ℕ) → StatementSpells labels address said own → length own ≡ statement_length said

@@ -1,5 +1,5 @@
 -- What the code's lines and statements say, in the words of a source.
-use Rattle.std.specs.Prelude.{ℕ, ◌%◌, map, reverse, List, [], ◌∷◌, Option, Some, None, Result, Ok, Err}
+use Rattle.std.specs.Prelude.{◌≡◌, ℕ, ◌%◌, map, reverse, bytes_eq, if◌then◌else◌, List, [], ◌∷◌, Option, Some, None, Result, Ok, Err}
 use Rattle.std.specs.Borrow.{Bor}
 use Rattle.std.specs.Option.{option_map}
 use Rattle.h41_words.specs.declared.rows.Row.{Row}
@@ -15,7 +15,7 @@ use Rattle.h41_asm.specs.declared.table.Numbered.TheVariants as numbers
 use Rattle.h41_asm.specs.declared.table.Taking as table
 use Rattle.h41_asm.specs.declared.table.Taking.TheVariants as takings
 use Rattle.h41_asm.specs.SourceLines.{SourceLine, words_of}
-use Rattle.h41_asm.specs.Statements.{Statement, Words, OutOfReach, LongJumpTo, ShortJumpTo, EntryAt, Taking, name_words, takes_field, takes_number, takes_immediate, takes_constant, takes_address, takes_displacement, takes_name, takes_entry, taken, taken_among}
+use Rattle.h41_asm.specs.Statements.{Statement, Words, OutOfReach, LongJumpTo, ShortJumpTo, EntryAt, Taking, name_words, takes_field, takes_number, takes_immediate, takes_constant, takes_address, takes_displacement, takes_name, takes_entry, behind, taken, taken_among}
 use Rattle.h41_words.specs.Counts.{status_bit_count, place_count, digit_count, block_register_count}
 use Rattle.h41_words.specs.declared.rows.Row.TheVariants.{ClearStatus, SetStatus, TestStatus, TestPointer, SetPointer, RotateRight, LoadDigit, Write, Read}
 
@@ -77,17 +77,26 @@ abbrev pub taken_in_code : Option (Result code.Statement SourceFault) → Option
 taken_in_code None = None
 taken_in_code (Some read) = Some (read_in_code read)
 
--- a line of the code
+-- a line of the code, and its label
+abbrev pub in_label : Option (Bor (List ℕ)) → Option (List ℕ)
+in_label label = option_map (λ name. name.now) label
+
 abbrev pub in_line : lines.SourceLine → SourceLine
-in_line line = record { label = option_map (λ name. name.now) line.label; code = words_of line.code.rest.now }
+in_line line = record { label = in_label line.label; code = words_of line.code.rest.now }
 
 -- the words of characters, the last first
 abbrev pub backward_words : List ℕ → List ℕ
 backward_words text = reverse (map (λ byte. byte % 64) text)
 
--- the words that are left of a line, where some are
-abbrev pub words_left : Option rests.LineWords → Option (List (List ℕ))
-words_left left = option_map (λ rest. words_of rest.rest.now) left
+-- the words behind some, where they begin with these, one after the other
+abbrev pub after : List (List ℕ) → List (List ℕ) → Option (List (List ℕ))
+after [] words = Some words
+after (part ∷ parts) [] = None
+after (part ∷ parts) (word ∷ words) = if bytes_eq word part then after parts words else None
+
+-- the words that are left of a line are those behind a mnemonic
+abbrev pub AreBehind : List ℕ → List (List ℕ) → rests.LineWords → Type 0
+AreBehind name words left = words_of left.rest.now ≡ behind name words
 
 -- what words say by the code's table, and by one mnemonic's operand
 abbrev pub taken_by : List (Bor (List ℕ) × table.Taking) → Bor (List ℕ) → Option (Result Statement SourceFault)

@@ -1,8 +1,8 @@
 -- Why a source is refused: its first fault. First come the faults that a line has whatever the labels are, by lines, a line's
 -- in the order 30, 31, 32, 35; then those of references, 33 and 34, by lines.
-use Rattle.std.specs.Prelude.{ℕ, suc, ◌+◌, pos, ◌-ℤ◌, Bool, false, not, ◌||◌, List, [], ◌∷◌, ◌++◌, nat_le, nat_lt, if◌then◌else◌, Option, Some, None, Result, Ok, Err, bytes_eq}
+use Rattle.std.specs.Prelude.{ℕ, ◌+◌, pos, ◌-ℤ◌, Bool, false, not, ◌&&◌, ◌||◌, List, map, take, sum_by, find, filter_map, slice_get, nat_le, nat_lt, is_some, Option, Some, None, option_map, Result, Ok, Err, bytes_eq}
 use Rattle.std.specs.Bool.{then_some}
-use Rattle.std.specs.List.{list_any}
+use Rattle.std.specs.List.{enumerate_from, list_any}
 use Rattle.std.specs.Option.{option_or}
 use Rattle.std.specs.Result.{result_err}
 use Rattle.h41_asm.specs.declared.fault.SourceFault.{SourceFault}
@@ -20,6 +20,23 @@ read_length (Err fault) = 0
 abbrev pub line_length : SourceLine → ℕ
 line_length line = read_length (reading line.code)
 
+-- a line of a source, with its number, counted from 1, its address, and the lines before it
+pub record NumberedLine : Type 0 where
+  pub number : ℕ
+  pub address : ℕ
+  pub earlier : List SourceLine
+  pub line : SourceLine
+
+-- the line at a place, counted from 0, among all: its address is the origin plus the lengths of the lines before it
+abbrev pub numbered : ℕ → List SourceLine → ℕ → SourceLine → NumberedLine
+numbered origin all place line =
+    let earlier = take place all in
+    record { number = place + 1; address = origin + sum_by line_length earlier; earlier = earlier; line = line }
+
+-- the lines of a source
+abbrev pub numbered_lines : ℕ → List SourceLine → List NumberedLine
+numbered_lines origin all = map (λ entry. numbered origin all entry.0 entry.1) (enumerate_from 0 all)
+
 -- a fault of the line with this number
 abbrev pub LineFault : Type 0
 LineFault = Option (SourceFault × ℕ)
@@ -33,37 +50,28 @@ abbrev pub has_label : List ℕ → Option (List ℕ) → Bool
 has_label name None = false
 has_label name (Some label) = bytes_eq name label
 
--- 32: an earlier line has the same label
-abbrev pub twice_fault : List SourceLine → Option (List ℕ) → Option SourceFault
-twice_fault earlier None = None
-twice_fault earlier (Some name) = then_some (list_any (λ line. has_label name line.label) earlier) LabelTwice
+-- 32: whether an earlier line has the same label
+abbrev pub is_labelled_twice : List SourceLine → Option (List ℕ) → Bool
+is_labelled_twice earlier None = false
+is_labelled_twice earlier (Some name) = list_any (λ line. has_label name line.label) earlier
 
--- 35: a label or a word past the last address
-abbrev pub labelled_fault : ℕ → Option (List ℕ) → Bool
-labelled_fault address None = false
-labelled_fault address (Some name) = nat_le address_count address
+-- 35: whether a label at an address, or one of so many words from there on, is past the last address
+abbrev pub is_past : ℕ → Option (List ℕ) → ℕ → Bool
+is_past address label length = (is_some label && nat_le address_count address) || nat_lt address_count (address + length)
 
-abbrev pub long_fault : ℕ → SourceLine → Option SourceFault
-long_fault address line =
-    then_some (labelled_fault address line.label || nat_lt address_count (address + line_length line)) TooLong
+-- the first fault of a line at an address, whatever the labels are, where it is told whether an earlier line has its label:
+-- 30 or 31, 32, 35
+abbrev pub own_fault : Bool → ℕ → SourceLine → Option SourceFault
+own_fault twice address line =
+    option_or (result_err (reading line.code)) (option_or (then_some twice LabelTwice)
+    (then_some (is_past address line.label (line_length line)) TooLong))
 
--- the first fault of a line at an address, whatever the labels are
-abbrev pub own_fault : List SourceLine → ℕ → SourceLine → Option SourceFault
-own_fault earlier address line =
-    option_or (result_err (reading line.code)) (option_or (twice_fault earlier line.label) (long_fault address line))
+abbrev pub own_fault_at : NumberedLine → Option SourceFault
+own_fault_at at = own_fault (is_labelled_twice at.earlier at.line.label) at.address at.line
 
--- the first of these, where the line has this number and these are before it
-abbrev pub own_faults : ℕ → ℕ → List SourceLine → List SourceLine → LineFault
-own_faults number address earlier [] = None
-own_faults number address earlier (line ∷ rest) =
-    option_or (at_line number (own_fault earlier address line))
-    (own_faults (suc number) (address + line_length line) (earlier ++ line ∷ []) rest)
-
--- the address of the line with a label
-abbrev pub label_address : ℕ → List SourceLine → Labels
-label_address address [] name = None
-label_address address (line ∷ rest) name =
-    if has_label name line.label then Some address else label_address (address + line_length line) rest name
+-- the address of the first line with a label
+abbrev pub label_address : List NumberedLine → Labels
+label_address all name = option_map (λ at. at.address) (find (λ at. has_label name at.line.label) all)
 
 -- 33 where no line has the label, 34 where a displacement is out of reach
 abbrev pub reach_fault : ℕ → Option ℕ → Option SourceFault
@@ -85,15 +93,15 @@ abbrev pub read_fault : Labels → ℕ → Result Statement SourceFault → Opti
 read_fault labels address (Ok statement) = reference_fault labels address statement
 read_fault labels address (Err fault) = None
 
--- the first of these
-abbrev pub reference_faults : Labels → ℕ → ℕ → List SourceLine → LineFault
-reference_faults labels number address [] = None
-reference_faults labels number address (line ∷ rest) =
-    option_or (at_line number (read_fault labels address (reading line.code)))
-    (reference_faults labels (suc number) (address + line_length line) rest)
+abbrev pub reference_fault_at : Labels → NumberedLine → Option SourceFault
+reference_fault_at labels at = read_fault labels at.address (reading at.line.code)
 
--- the first fault of a source, and its line's number, counted from 1
+-- the first fault that lines have, and its line's number
+abbrev pub first_fault : (NumberedLine → Option SourceFault) → List NumberedLine → LineFault
+first_fault fault all = slice_get (filter_map (λ at. at_line at.number (fault at)) all) 0
+
+-- the first fault of a source
 abbrev pub assembly_fault : List ℕ → ℕ → LineFault
 assembly_fault source origin =
-    let all = source_lines source in
-    option_or (own_faults 1 origin [] all) (reference_faults (label_address origin all) 1 origin all)
+    let all = numbered_lines origin (source_lines source) in
+    option_or (first_fault own_fault_at all) (first_fault (reference_fault_at (label_address all)) all)

@@ -1,22 +1,19 @@
 -- The code's table of labels: the addresses that it holds, what a name or a line adds to it, and what lines and statements say
 -- by it. It only connects the code with the definitions of assembly.
-use Rattle.std.specs.Prelude.{◌≡◌, Vec, ℕ, ◌+◌, ◌≤◌, ℤ, List, [], ◌∷◌, ◌++◌, IsOk, IfSome, Option, Some, None, Result, Ok, Err, bytes_eq, if◌then◌else◌, is_some, nat_le, nat_lt}
-use Rattle.std.specs.Bool.{then_some}
+use Rattle.std.specs.Prelude.{◌≡◌, Vec, ℕ, ◌+◌, ◌≤◌, ℤ, Bool, false, List, [], ◌∷◌, ◌++◌, IsOk, IfSome, Option, Some, None, Result, Ok, Err, bytes_eq, if◌then◌else◌, is_some}
 use Rattle.std.specs.Borrow.{Bor}
 use Rattle.std.specs.Global.{Global}
-use Rattle.std.specs.Option.{option_or}
-use Rattle.std.specs.Result.{result_err}
 use Rattle.indexmap.specs.IndexMap.{IndexMap, get_by}
 use Rattle.h41_words.specs.declared.rows.Condition.{Condition}
 use Rattle.h41_words.specs.declared.rows.Row.TheVariants.{ShortJump}
 use Rattle.h41_words.specs.WordTable.{number_of}
 use Rattle.h41_asm.specs.declared.fault.SourceFault.{SourceFault}
-use Rattle.h41_asm.specs.declared.fault.SourceFault.TheVariants.{LabelTwice, TooFar, TooLong}
+use Rattle.h41_asm.specs.declared.fault.SourceFault.TheVariants.{TooFar}
 use Rattle.h41_asm.specs.declared.source.SourceLine as code_lines
 use Rattle.h41_asm.specs.declared.statement.Statement as code
 use Rattle.h41_asm.specs.Assembly.{address_count}
-use Rattle.h41_asm.specs.CodeStatements.{in_code, in_line}
-use Rattle.h41_asm.specs.Faults.{LineFault, label_address, line_length, own_faults, reference_fault, reference_faults}
+use Rattle.h41_asm.specs.CodeStatements.{in_code, in_label, in_line}
+use Rattle.h41_asm.specs.Faults.{LineFault, first_fault, label_address, line_length, numbered_lines, own_fault, own_fault_at, reference_fault, reference_fault_at}
 use Rattle.h41_asm.specs.Placing.{Labels, LinesSpell, StatementSpells}
 use Rattle.h41_asm.specs.SourceLines.{SourceLine, source_lines}
 use Rattle.h41_asm.specs.Statements.{Statement, is_in_reach, reading}
@@ -43,7 +40,7 @@ abbrev pub fault_by : {S : Type 0} → Table S → ℕ → code.Statement → Op
 fault_by table address statement = reference_fault (labels_in table) address (in_code statement)
 
 abbrev pub first_fault_by : {S : Type 0} → Table S → ℕ → List ℕ → LineFault
-first_fault_by table origin source = reference_faults (labels_in table) 1 origin (source_lines source)
+first_fault_by table origin source = first_fault (reference_fault_at (labels_in table)) (numbered_lines origin (source_lines source))
 
 -- the words of a source under a table
 abbrev pub SpellsBy : {S : Type 0} → Table S → ℕ → List ℕ → List ℕ → Type 0
@@ -65,29 +62,19 @@ IsReadyBy table origin source = IsReady (labels_in table) origin (source_lines s
 
 -- the first fault of a source's own lines
 abbrev pub first_own_fault : ℕ → List ℕ → LineFault
-first_own_fault origin source = own_faults 1 origin [] (source_lines source)
+first_own_fault origin source = first_fault own_fault_at (numbered_lines origin (source_lines source))
 
--- the fault of a label at an address, where the labels are those of the lines before
-abbrev pub label_fault : Labels → ℕ → List ℕ → Option SourceFault
-label_fault labels address name =
-    option_or (then_some (is_some (labels name)) LabelTwice) (then_some (nat_le address_count address) TooLong)
+-- whether a line's label has an address already
+abbrev pub is_held : Labels → Option (List ℕ) → Bool
+is_held labels None = false
+is_held labels (Some name) = is_some (labels name)
 
-abbrev pub placed_fault : Labels → ℕ → Option (List ℕ) → Option SourceFault
-placed_fault labels address None = None
-placed_fault labels address (Some name) = label_fault labels address name
+abbrev pub is_held_in : {S : Type 0} → Table S → Option (Bor (List ℕ)) → Bool
+is_held_in table label = is_held (labels_in table) (in_label label)
 
--- and that of a line
-abbrev pub placing_fault : Labels → ℕ → SourceLine → Option SourceFault
-placing_fault labels address line =
-    option_or (result_err (reading line.code)) (option_or (placed_fault labels address line.label)
-    (then_some (nat_lt address_count (address + line_length line)) TooLong))
-
--- both by a table
-abbrev pub name_fault_in : {S : Type 0} → Table S → ℕ → List ℕ → Option SourceFault
-name_fault_in table address name = label_fault (labels_in table) address name
-
+-- the fault of a line, where the labels are those of the lines before
 abbrev pub line_fault_in : {S : Type 0} → Table S → ℕ → code_lines.SourceLine → Option SourceFault
-line_fault_in table address line = placing_fault (labels_in table) address (in_line line)
+line_fault_in table address line = own_fault (is_held_in table line.label) address (in_line line)
 
 -- one more name has an address
 abbrev pub with_address : Labels → List ℕ → ℕ → Labels
@@ -106,4 +93,4 @@ AddsLabel old new address line = (name : List ℕ) → labels_in new name ≡ wi
 
 -- a table of the labels of a source
 abbrev pub HoldsLabels : {S : Type 0} → Table S → ℕ → List ℕ → Type 0
-HoldsLabels table origin source = (name : List ℕ) → labels_in table name ≡ label_address origin (source_lines source) name
+HoldsLabels table origin source = (name : List ℕ) → labels_in table name ≡ label_address (numbered_lines origin (source_lines source)) name

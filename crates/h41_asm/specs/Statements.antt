@@ -1,9 +1,9 @@
 -- What a line of a source says behind its label: the words of an instruction or of a directive, some by an address that a
 -- label stands for; or that it cannot be read. Instructions are the mnemonics of HP's VASM listings; the directives CON, NAME,
 -- ENTRY and FOCAL, and which faults there are, are this project's own.
-use Rattle.std.specs.Prelude.{ℕ, ◌+◌, ◌/◌, ◌%◌, ℤ, Bool, false, ◌&&◌, List, [], ◌∷◌, ◌++◌, length, map, filter, reverse, ◌==◌, is_some, is_none, if◌then◌else◌, Option, Some, None, Result, Ok, Err, bytes_eq, codes}
+use Rattle.std.specs.Prelude.{ℕ, ◌+◌, ◌/◌, ◌%◌, ℤ, Bool, ◌&&◌, List, [], ◌∷◌, ◌++◌, length, drop, map, filter, find, reverse, ◌==◌, is_none, if◌then◌else◌, Option, Some, None, option_map, Result, Ok, Err, bytes_eq, codes}
 use Rattle.std.specs.Prelude.{int_le}
-use Rattle.std.specs.List.{list_any}
+use Rattle.std.specs.List.{list_any, starts_with}
 use Rattle.std.specs.Option.{ok_or}
 use Rattle.h41_words.specs.declared.operation.Operation.{Operation}
 use Rattle.h41_words.specs.declared.rows.Condition.{Condition}
@@ -139,27 +139,16 @@ takers =
 unfoldable pub singles : List (List ℕ × Row)
 singles = map (λ row. (mnemonic row, row)) (filter (λ row. is_none (operand row)) single_rows)
 
--- the words behind some, where they begin with these
-abbrev pub after : List (List ℕ) → List (List ℕ) → Option (List (List ℕ))
-after [] words = Some words
-after (part ∷ parts) [] = None
-after (part ∷ parts) (word ∷ words) = if bytes_eq word part then after parts words else None
-
--- the words behind a mnemonic, where they begin with it
-abbrev pub behind : List ℕ → List (List ℕ) → Option (List (List ℕ))
-behind name words = after (words_of name) words
-
--- whether these are none
-abbrev pub is_nothing : Option (List (List ℕ)) → Bool
-is_nothing None = false
-is_nothing (Some words) = length words == 0
-
--- whether words are just a mnemonic, or begin with it
-abbrev pub is_whole : List (List ℕ) → List ℕ → Bool
-is_whole words name = is_nothing (behind name words)
-
+-- whether words begin with a mnemonic, and those behind it
 abbrev pub begins : List (List ℕ) → List ℕ → Bool
-begins words name = is_some (behind name words)
+begins words name = starts_with (λ part word. bytes_eq word part) words (words_of name)
+
+abbrev pub behind : List ℕ → List (List ℕ) → List (List ℕ)
+behind name words = drop (length (words_of name)) words
+
+-- whether words are just a mnemonic
+abbrev pub is_whole : List (List ℕ) → List ℕ → Bool
+is_whole words name = begins words name && length (behind name words) == 0
 
 -- the words behind a mnemonic: its operand is one word, and nothing else stands there
 abbrev pub taken : Taking → List (List ℕ) → Result Statement SourceFault
@@ -167,23 +156,18 @@ taken takes [] = Err BadOperand
 taken takes (word ∷ []) = ok_or (takes word) BadOperand
 taken takes (word ∷ other ∷ others) = Err BadOperand
 
--- the row of the single mnemonic that words are
+-- the row of the first single mnemonic that words are
 abbrev pub single_among : List (List ℕ × Row) → List (List ℕ) → Option Row
-single_among [] words = None
-single_among (single ∷ others) words = if is_whole words single.0 then Some single.1 else single_among others words
+single_among some words = option_map (λ single. single.1) (find (λ single. is_whole words single.0) some)
 
 -- whether words begin with one
 abbrev pub is_begun : List (List ℕ × Row) → List (List ℕ) → Bool
 is_begun some words = list_any (λ single. begins words single.0) some
 
 -- what the words behind the first mnemonic that they begin with say as its operand
-abbrev pub taken_or : Option (List (List ℕ)) → Taking → Option (Result Statement SourceFault) → Option (Result Statement SourceFault)
-taken_or None takes other = other
-taken_or (Some words) takes other = Some (taken takes words)
-
 abbrev pub taken_among : List (List ℕ × Taking) → List (List ℕ) → Option (Result Statement SourceFault)
-taken_among [] words = None
-taken_among (taker ∷ others) words = taken_or (behind taker.0 words) taker.1 (taken_among others words)
+taken_among some words =
+    option_map (λ taker. taken taker.1 (behind taker.0 words)) (find (λ taker. begins words taker.0) some)
 
 -- the fault of words that begin with none of these: a single mnemonic with something behind it, or nothing that is known
 abbrev pub unread_fault : List (List ℕ) → SourceFault

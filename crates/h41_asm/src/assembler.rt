@@ -1,11 +1,11 @@
 //! From lines to words, in two passes: first the addresses of the labels, then the words.
 
-ghost use Rattle.std.specs.Prelude.{◌≡◌, ◌≤◌, ◌++◌, [], ◌∷◌, None, IfOk, IfErr, OnOk};
+ghost use Rattle.std.specs.Prelude.{◌≡◌, ◌-ℤ◌, pos, ◌<◌, ◌≤◌, ◌++◌, [], ◌∷◌, None, IfOk, IfErr, OnOk};
 ghost use Rattle.std.specs.Option.{ok_or};
 ghost use Rattle.h41_asm.specs.Assembly.{Assembles, address_count};
-ghost use Rattle.h41_asm.specs.CodeStatements.{in_line};
-ghost use Rattle.h41_asm.specs.Faults.{assembly_fault, line_length};
-ghost use Rattle.h41_asm.specs.LabelTable.{AddsLabel, AddsName, AddsOwn, HoldsLabels, IsReadyBy, SpellsBy, fault_by, first_fault_by, first_own_fault, jump_word, labels_in, line_fault_in, name_fault_in};
+ghost use Rattle.h41_asm.specs.CodeStatements.{in_label, in_line};
+ghost use Rattle.h41_asm.specs.Faults.{assembly_fault, is_past, line_length};
+ghost use Rattle.h41_asm.specs.LabelTable.{AddsLabel, AddsName, AddsOwn, HoldsLabels, IsReadyBy, SpellsBy, fault_by, first_fault_by, first_own_fault, is_held_in, jump_word, labels_in, line_fault_in};
 ghost use Rattle.h41_asm.specs.Refusals.{IsFault, IsRefusal};
 
 use crate::emit::{entry_words, push_name};
@@ -71,29 +71,43 @@ fn place_line<'a>(
         Ok(statement) => statement.length(),
         Err(fault) => return Err(SpellError::Fault(fault)),
     };
+    if is_held(labels, line.label) {
+        return Err(SpellError::Fault(SourceFault::LabelTwice));
+    }
+    if is_too_long(address, line.label, length) {
+        return Err(SpellError::Fault(SourceFault::TooLong));
+    }
     if let Some(name) = line.label {
         note(labels, name, address)?;
-    }
-    if length > (ADDRESSES - address) as usize {
-        return Err(SpellError::Fault(SourceFault::TooLong));
     }
     Ok(length as u32)
 }
 
 /// Notes the address of a label.
-fn note<'a>(labels: &mut Labels<'a>, name: &'a [u8], address: u32) -> Result<(), SpellError>
-    ensures ok { OnOk result (name_fault_in labels.old address name.now ≡ None) }
-    ensures labels { OnOk result (AddsName labels.old labels.new address name.now) }
-    ensures err { IfErr result (IsFault (name_fault_in labels.old address name.now)) }
+fn note<'a>(labels: &mut Labels<'a>, name: &'a [u8], address: u32) -> Result<(), AllocError>
+    requires { address < address_count }
+    ensures { OnOk result (AddsName labels.old labels.new address name.now) }
 {
-    if labels.contains_key(name) {
-        return Err(SpellError::Fault(SourceFault::LabelTwice));
-    }
-    if ADDRESSES <= address {
-        return Err(SpellError::Fault(SourceFault::TooLong));
-    }
     labels.insert(name, address as u16)?;
     Ok(())
+}
+
+/// Whether a label has an address.
+fn is_held(labels: &Labels<'_>, label: Option<&[u8]>) -> bool
+    ensures { result ≡ is_held_in labels.now label.entry }
+{
+    match label {
+        Some(name) => labels.contains_key(name),
+        None => false,
+    }
+}
+
+/// Whether a label at an address, or one of so many words from there on, is past the last address.
+fn is_too_long(address: u32, label: Option<&[u8]>, length: usize) -> bool
+    requires { address ≤ address_count }
+    ensures { result ≡ is_past address (in_label label.entry) length }
+{
+    (label.is_some() && ADDRESSES <= address) || length > (ADDRESSES - address) as usize
 }
 
 /// The words of a source whose lines can be read and placed, or the first fault of a reference.
@@ -131,7 +145,7 @@ fn push_statement(
     address: u32,
     statement: &Statement<'_>,
 ) -> Result<(), SpellError>
-    requires { address ≤ 65536 }
+    requires { address ≤ address_count }
     ensures ok { OnOk result (fault_by labels.now address statement.now ≡ None) }
     ensures own { OnOk result (AddsOwn labels.now address statement.now words.old words.new) }
     ensures err { IfErr result (IsFault (fault_by labels.now address statement.now)) }
@@ -149,7 +163,7 @@ fn push_statement(
         }
         Statement::ShortJumpTo(condition, name) => {
             let target = label_address(labels, name)?;
-            let word = short_jump(*condition, i32::from(target) - address as i32)?;
+            let word = short_jump(*condition, distance(address, target))?;
             words.push(word)?;
         }
         Statement::EntryAt(kind, name) => {
@@ -178,6 +192,14 @@ fn label_address(labels: &Labels<'_>, name: &[u8]) -> Result<u16, SourceFault>
         Some(address) => Ok(*address),
         None => Err(SourceFault::NoLabel),
     }
+}
+
+/// How far it is from an address to another.
+fn distance(from: u32, to: u16) -> i32
+    requires { from ≤ address_count }
+    ensures { result ≡ pos to -ℤ pos from }
+{
+    i32::from(to) - from as i32
 }
 
 /// The word of a short jump by a displacement.

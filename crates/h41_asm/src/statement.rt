@@ -1,7 +1,7 @@
 //! What a line says behind its label.
 
-ghost use Rattle.std.specs.Prelude.{◌≡◌, ◌+◌, ◌≤◌, ◌==◌, [], ◌∷◌, length};
-ghost use Rattle.h41_asm.specs.CodeStatements.{found_in_code, in_code, read_in_code, singles_in, taken_by, taken_in_code, taken_operand, takes_in_code, takes_numbered, words_left};
+ghost use Rattle.std.specs.Prelude.{◌≡◌, ◌+◌, ◌≤◌, ◌==◌, [], ◌∷◌, length, is_some, IfSome};
+ghost use Rattle.h41_asm.specs.CodeStatements.{AreBehind, found_in_code, in_code, read_in_code, singles_in, taken_by, taken_in_code, taken_operand, takes_in_code, takes_numbered};
 ghost use Rattle.h41_asm.specs.SourceLines.{words_of};
 ghost use Rattle.h41_asm.specs.Statements as spec;
 
@@ -113,10 +113,8 @@ fn single_among(singles: &[(&str, Row)], words: LineWords<'_>) -> Option<Row>
     ensures { result ≡ spec.single_among (singles_in singles.now) (words_of words.entry.rest.now) }
 {
     for (name, row) in singles {
-        if let Some(others) = behind(name, words) {
-            if is_nothing(others) {
-                return Some(*row);
-            }
+        if is_whole(words, name) {
+            return Some(*row);
         }
     }
     None
@@ -150,8 +148,10 @@ fn taken_among<'a>(
 }
 
 /// The words behind those of a mnemonic, where they begin with it.
+#[tactic(auto, using(crate::proofs::Mnemonics::after_behind))]
 fn behind<'a>(name: &str, words: LineWords<'a>) -> Option<LineWords<'a>>
-    ensures { words_left result ≡ spec.behind name.now (words_of words.entry.rest.now) }
+    ensures found { is_some result ≡ spec.begins (words_of words.entry.rest.now) name.now }
+    ensures rest { IfSome result (AreBehind name.now (words_of words.entry.rest.now)) }
 {
     let mut rest = words;
     for part in LineWords::new(name.as_bytes()) {
@@ -161,6 +161,16 @@ fn behind<'a>(name: &str, words: LineWords<'a>) -> Option<LineWords<'a>>
         }
     }
     Some(rest)
+}
+
+/// Whether words are just a mnemonic.
+fn is_whole(words: LineWords<'_>, name: &str) -> bool
+    ensures { result ≡ spec.is_whole (words_of words.entry.rest.now) name.now }
+{
+    match behind(name, words) {
+        Some(others) => is_nothing(others),
+        None => false,
+    }
 }
 
 /// Whether no word is left.

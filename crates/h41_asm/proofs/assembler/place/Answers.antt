@@ -26,7 +26,7 @@ loop-line-preserved c =
     let placed : IsPlaced before all c.args.origin c.loop-line.number c.loop-line.address (line ∷ rest) = rw left at c.loop-line.invariant.placed in
     let gave = c.in-Ok.ensures in
     let count = ap length c.in-Some.ensures.steps in
-    let within = placed_within before c.loop-line.address line gave.ok in
+    let within = placed_within _ c.loop-line.address line gave.ok in
     record {
       within = omega (arith, within, gave.length);
       count = omega (arith, count, c.loop-line.invariant.count);

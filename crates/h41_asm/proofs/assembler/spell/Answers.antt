@@ -1,12 +1,12 @@
 use Rattle.std.proofs.Common.{[], append-nil, refl, ◌≡◌, ◌+◌, ◌∷◌, List, Ok, arith, sym, ◌∙◌, ap, length, map}
 use Rattle.h41_asm.specs.CodeStatements.{in_code}
 use Rattle.h41_asm.specs.SourceLines.{SourceLine, line_of, source_lines, words_of}
-use Rattle.h41_asm.specs.Faults.{reference_faults}
 use Rattle.h41_asm.specs.Placing.{Labels}
 use Rattle.h41_asm.specs.LabelTable.{IsReady, labels_in}
 use Rattle.h41_asm.specs.Statements.{reading, statement_length}
 use Rattle.h41_lines.proofs.LineCount.{length-lines}
 use Rattle.h41_asm.proofs.Spelling.{ready_behind, faults_behind, not_ready, words_behind}
+use Rattle.h41_asm.proofs.Walks.{reference_faults, reference_faults_of}
 use Rattle.h41_asm.proofs.assembler.spell.Goals as goal
 use Rattle.h41_asm.proofs.assembler.spell.Goals.{in-Ok+in-Ok-push_statement, in_default}
 
@@ -14,7 +14,7 @@ pub loop-line-init : goal.loop-line-init
 loop-line-init c =
     let count = length-lines c.args.text.now in
     rw (c.into_iter-line-iterator.ensures.into_iter_gives, c.new-line-items.ensures, c.from-address.ensures, c.new-words.ensures.items)
-    (record { ready = c.requires; within = omega arith; count = omega (arith, count); faults = refl; spelled = λ others spelled. spelled })
+    (record { ready = c.requires; within = omega arith; count = omega (arith, count); faults = sym (reference_faults_of (labels_in c.args.labels.now) c.args.origin (source_lines c.args.text.now)); spelled = λ others spelled. spelled })
 
 pub loop-line-preserved : goal.loop-line-preserved
 loop-line-preserved c =

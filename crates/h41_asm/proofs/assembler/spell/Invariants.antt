@@ -1,8 +1,8 @@
 use Rattle.std.proofs.Common.{◌≡◌, ◌+◌, ◌≤◌, ℕ, List, ◌++◌, length}
-use Rattle.h41_asm.specs.Faults.{reference_faults}
 use Rattle.h41_asm.specs.Placing.{LinesSpell}
-use Rattle.h41_asm.specs.LabelTable.{IsReady, labels_in}
+use Rattle.h41_asm.specs.LabelTable.{IsReady, first_fault_by, labels_in}
 use Rattle.h41_asm.specs.SourceLines.{lines, source_lines}
+use Rattle.h41_asm.proofs.Walks.{reference_faults}
 use Rattle.h41_asm.proofs.assembler.spell.Given as goal
 
 abbrev pub invariant-loop-line : goal.invariant-loop-line
@@ -13,7 +13,7 @@ invariant-loop-line l = record {
   -- their number, and how many are left
   count : l.number + length (lines l.line-iterator.rest.now) ≤ length l.text + 1;
   -- the faults are those that are left
-  faults : reference_faults (labels_in l.labels) l.number l.address (source_lines l.line-iterator.rest.now) ≡ reference_faults (labels_in l.labels) 1 l.origin (source_lines l.text);
+  faults : reference_faults (labels_in l.labels) l.number l.address (source_lines l.line-iterator.rest.now) ≡ first_fault_by l.labels l.origin l.text;
   -- and what spells these spells all, behind the words so far
   spelled : (others : List ℕ) → LinesSpell (labels_in l.labels) l.address (source_lines l.line-iterator.rest.now) others
       → LinesSpell (labels_in l.labels) l.origin (source_lines l.text) (l.words.items ++ others);

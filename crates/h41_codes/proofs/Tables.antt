@@ -7,20 +7,7 @@ use Rattle.h41_codes.specs.declared.functions.ParameterFunction.TheVariants.{Rec
 use Rattle.h41_codes.specs.declared.characters.Character.{Character}
 use Rattle.h41_codes.specs.declared.characters.Character.TheVariants.{Zero, One, Two, Three, Four, Five, Six, Seven, Eight, Nine, Point, Exponent, Minus}
 use Rattle.h41_codes.specs.Codes.{function_code, parameter_function_code, character_code}
-
-abbrev pub functions : List Function
-functions =
-    Add ∷ Subtract ∷ Multiply ∷ Divide ∷ TestXLessThanY ∷ TestXGreaterThanY ∷ TestXAtMostY ∷ AddStatistics
-    ∷ SubtractStatistics ∷ AddHours ∷ SubtractHours ∷ Modulo ∷ Percent ∷ PercentChange ∷ PolarToRectangular
-    ∷ RectangularToPolar ∷ NaturalLogarithm ∷ Square ∷ SquareRoot ∷ Power ∷ ChangeSign ∷ Exponential
-    ∷ CommonLogarithm ∷ PowerOfTen ∷ ExponentialLessOne ∷ Sine ∷ Cosine ∷ Tangent ∷ ArcSine ∷ ArcCosine
-    ∷ ArcTangent ∷ OctalToDecimal ∷ Reciprocal ∷ AbsoluteValue ∷ Factorial ∷ TestXNotZero ∷ TestXPositive
-    ∷ LogarithmOfOneMore ∷ TestXNegative ∷ TestXZero ∷ IntegerPart ∷ FractionPart ∷ DegreesToRadians
-    ∷ RadiansToDegrees ∷ DecimalToHours ∷ HoursToDecimal ∷ Round ∷ DecimalToOctal ∷ ClearStatistics
-    ∷ ExchangeXY ∷ Pi ∷ ClearStack ∷ RollUp ∷ RollDown ∷ LastX ∷ ClearX ∷ TestXEqualsY ∷ TestXDiffersFromY
-    ∷ Signum ∷ TestXAtMostZero ∷ Mean ∷ StandardDeviation ∷ ViewAlpha ∷ ClearDisplay ∷ Degrees ∷ Radians
-    ∷ Grads ∷ Enter ∷ Stop ∷ Return ∷ Beep ∷ ClearAlpha ∷ ShiftAlpha ∷ Pause ∷ ClearRegisters ∷ AlphaOff
-    ∷ AlphaOn ∷ TurnOff ∷ Prompt ∷ Advance ∷ []
+use Rattle.h41_codes.specs.Functions.{functions, parameter_functions, characters}
 
 -- the function of a code
 abbrev pub function_at : ℕ → Function
@@ -34,12 +21,6 @@ pub function_range : (function : Function) → (0x40 ≤ function_code function)
 function_range Add = (omega arith, omega arith)
 function_range function = (omega arith, omega arith)
 
-abbrev pub parameter_functions : List ParameterFunction
-parameter_functions =
-    Recall ∷ Store ∷ StoreAdd ∷ StoreSubtract ∷ StoreMultiply ∷ StoreDivide ∷ IncrementSkip ∷ DecrementSkip
-    ∷ View ∷ StatisticsRegisters ∷ StoreAlpha ∷ RecallAlpha ∷ Fixed ∷ Scientific ∷ Engineering ∷ Tone
-    ∷ SetFlag ∷ ClearFlag ∷ TestSetAndClear ∷ TestClearAndClear ∷ TestSet ∷ TestClear ∷ Exchange ∷ Label ∷ []
-
 -- the function with a parameter of a code
 abbrev pub parameter_function_at : ℕ → ParameterFunction
 parameter_function_at code =
@@ -48,10 +29,6 @@ parameter_function_at code =
 pub parameter_function_again : (function : ParameterFunction) → parameter_function_at (parameter_function_code function) ≡ function
 parameter_function_again Recall = refl
 parameter_function_again function = refl
-
-abbrev pub characters : List Character
-characters =
-    Zero ∷ One ∷ Two ∷ Three ∷ Four ∷ Five ∷ Six ∷ Seven ∷ Eight ∷ Nine ∷ Point ∷ Exponent ∷ Minus ∷ []
 
 -- the character of a code
 abbrev pub character_at : ℕ → Character

@@ -4,4 +4,5 @@ pub mod Canon
 pub mod Cells
 pub mod Codes
 pub mod Counts
+pub mod Functions
 pub mod Heads

@@ -16,6 +16,7 @@ use Rattle.h41_codes.specs.declared.line.Operand.{Operand}
 use Rattle.h41_codes.specs.declared.line.Operand.TheVariants.{Direct, Indirect}
 use Rattle.h41_codes.specs.declared.line.Line.{Line}
 use Rattle.h41_codes.specs.declared.line.Line.TheVariants.{Number, Named, Plain, WithOperand, Module, BranchIndirect, GlobalLabel, End, FinalEnd, BranchTo, Text}
+use Rattle.h41_codes.specs.Functions.{functions, parameter_functions}
 use Rattle.h41_codes.specs.Counts.{parameter_count, module_count, entry_count, text_most, name_most, number_most}
 use Rattle.h41_lines.specs.Numbers.{hexadecimal}
 use Rattle.h41_text.specs.declared.words.Word.{Word}
@@ -28,21 +29,7 @@ abbrev pub with_text : {A : Type 0} → (A → List ℕ) → List A → List ℕ
 with_text text_of [] text = None
 with_text text_of (item ∷ items) text = if bytes_eq (text_of item) text then Some item else with_text text_of items text
 
--- the functions without a parameter, and the one of a name
-abbrev pub functions : List Function
-functions =
-    Add ∷ Subtract ∷ Multiply ∷ Divide ∷ TestXLessThanY ∷ TestXGreaterThanY ∷ TestXAtMostY ∷ AddStatistics
-    ∷ SubtractStatistics ∷ AddHours ∷ SubtractHours ∷ Modulo ∷ Percent ∷ PercentChange ∷ PolarToRectangular
-    ∷ RectangularToPolar ∷ NaturalLogarithm ∷ Square ∷ SquareRoot ∷ Power ∷ ChangeSign ∷ Exponential
-    ∷ CommonLogarithm ∷ PowerOfTen ∷ ExponentialLessOne ∷ Sine ∷ Cosine ∷ Tangent ∷ ArcSine ∷ ArcCosine
-    ∷ ArcTangent ∷ OctalToDecimal ∷ Reciprocal ∷ AbsoluteValue ∷ Factorial ∷ TestXNotZero ∷ TestXPositive
-    ∷ LogarithmOfOneMore ∷ TestXNegative ∷ TestXZero ∷ IntegerPart ∷ FractionPart ∷ DegreesToRadians
-    ∷ RadiansToDegrees ∷ DecimalToHours ∷ HoursToDecimal ∷ Round ∷ DecimalToOctal ∷ ClearStatistics
-    ∷ ExchangeXY ∷ Pi ∷ ClearStack ∷ RollUp ∷ RollDown ∷ LastX ∷ ClearX ∷ TestXEqualsY ∷ TestXDiffersFromY
-    ∷ Signum ∷ TestXAtMostZero ∷ Mean ∷ StandardDeviation ∷ ViewAlpha ∷ ClearDisplay ∷ Degrees ∷ Radians
-    ∷ Grads ∷ Enter ∷ Stop ∷ Return ∷ Beep ∷ ClearAlpha ∷ ShiftAlpha ∷ Pause ∷ ClearRegisters ∷ AlphaOff
-    ∷ AlphaOn ∷ TurnOff ∷ Prompt ∷ Advance ∷ []
-
+-- the function without a parameter of a name
 abbrev pub function_of : List ℕ → Option Function
 function_of name = with_text function_name functions name
 
@@ -52,13 +39,6 @@ word_text (word.Function function) = parameter_function_name function
 word_text (word.Branch branch) = branch_name branch
 word_text word.Wordless = codes "W"
 word_text word.Module = codes "XROM"
-
--- the functions with a parameter
-abbrev pub parameter_functions : List ParameterFunction
-parameter_functions =
-    Recall ∷ Store ∷ StoreAdd ∷ StoreSubtract ∷ StoreMultiply ∷ StoreDivide ∷ IncrementSkip ∷ DecrementSkip
-    ∷ View ∷ StatisticsRegisters ∷ StoreAlpha ∷ RecallAlpha ∷ Fixed ∷ Scientific ∷ Engineering ∷ Tone
-    ∷ SetFlag ∷ ClearFlag ∷ TestSetAndClear ∷ TestClearAndClear ∷ TestSet ∷ TestClear ∷ Exchange ∷ Label ∷ []
 
 -- all words, and the one of a name
 abbrev pub words : List Word

@@ -31,7 +31,7 @@ use Rattle.h41_deck.specs.declared.fault.CommandFault.{CommandFault}
 use Rattle.h41_deck.specs.Listings.{listed}
 use Rattle.h41_deck.specs.Blocks.{LoadsTaken, PlugsTaken}
 use Rattle.h41_deck.specs.Replies.{LoadsBlock, LoadsBytes, Plugs, Reply}
-use Rattle.h41_deck.specs.Writing.{DoesAlone, IsListed, IsRefusalOf, IsShown, LeavesText, Replies, RepliesInPart, SaysText, item_of, made_text, outcome_in, text_in}
+use Rattle.h41_deck.specs.Writing.{SaysAlone, IsListed, IsRefusalOf, IsShown, LeavesText, Replies, RepliesInPart, SaysText, item_of, made_text, outcome_in, text_in}
 
 -- a block that is refused
 pub refused_text : (values : Result (List ℕ) LineRefusal) (command : Command) (refusal : LineRefusal) (s : BenchState) (old : Option (List ℕ))
@@ -87,7 +87,7 @@ loads_taken block s t bytes made refusal means same loads = record {
 -- a command without a block
 pub alone_text : {W : Type 0} (result : Result (Option Refusal) CommandFault) (values : Result (List ℕ) LineRefusal) (command : Command)
     (s t : BenchState) (contents : W → Option (List ℕ)) (old new : W) → None ≡ result_err values
-    → DoesAlone result command s t contents old new → LeavesText result (with_values values command) s t contents old new
+    → SaysAlone result command s t contents old new → LeavesText result (with_values values command) s t contents old new
 alone_text result (Ok given) command s t contents old new e does = does given
 alone_text result (Err why) command s t contents old new e does = cc
 

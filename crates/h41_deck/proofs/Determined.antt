@@ -1,6 +1,8 @@
 -- Why a deck determines what it prints, where steps, loads, blocks and lists of lines are determined.
-use Rattle.std.proofs.Common.{◌≡◌, ℕ, Bool, Result, Option, Some, Ok, Err, List, [], ◌∷◌, flat_map, refl, sym, ap, subst, ◌∙◌}
+use Rattle.std.proofs.Common.{◌≡◌, ℕ, Bool, Result, Option, Some, Ok, Err, List, [], ◌∷◌, ◌++◌, if◌then◌else◌, flat_map, refl, sym, ap, subst, ◌∙◌}
 use Rattle.std.specs.Prelude.{option_map}
+use Rattle.std.proofs.lemmas.Bool.{le-leb}
+use Rattle.std.proofs.lemmas.Grind.{flat_map-append}
 use Rattle.h41_commands.specs.BlockLaws.{FillingIsDetermined, MeaningIsDetermined}
 use Rattle.h41_commands.specs.declared.commands.Command.{Command}
 use Rattle.h41_commands.specs.declared.commands.Command.TheVariants as commands
@@ -8,6 +10,8 @@ use Rattle.h41_commands.specs.declared.commands.View.{View}
 use Rattle.h41_commands.specs.declared.commands.View.TheVariants as views
 use Rattle.h41_commands.specs.declared.refusal.LineRefusal.{LineRefusal}
 use Rattle.h41_commands.specs.Items.{Spelled}
+use Rattle.h41_commands.specs.Items as items
+use Rattle.h41_lines.specs.Lines.{lines}
 use Rattle.h41_debug.specs.Bench.{BenchState, start, with_calculator}
 use Rattle.h41_debug.specs.BenchLaws.{StepsAreDetermined}
 use Rattle.h41_program.specs.ProgramLaws.{ListsAreDetermined}
@@ -18,7 +22,7 @@ use Rattle.h41_xrom.specs.Programs.{Becomes, Loads, size_makes}
 use Rattle.h41_deck.specs.declared.refusal.Refusal.{Refusal}
 use Rattle.h41_deck.specs.declared.refusal.Refusal.TheVariants.{Calculator}
 use Rattle.h41_deck.specs.Answers.{Answer, ends_by, printed, says_or_ends}
-use Rattle.h41_deck.specs.Deck.{Answers, DeckDeterminesOutcome, DeckDeterminesText, LongDeckDeterminesText, outcome_of}
+use Rattle.h41_deck.specs.Deck.{AnswersInTurn, DeckDeterminesOutcome, DeckDeterminesText, FirstTextIsFront, LongDeckDeterminesText, commands_of, commands_within, outcome_of}
 use Rattle.h41_deck.specs.ProgramListing.{listed_line}
 use Rattle.h41_deck.specs.Replies.{Calls, ItemReply, LoadsBytes, PlugsWords, Reply}
 use Rattle.h41_deck.specs.Views.{Shows}
@@ -89,7 +93,7 @@ module _ (same_steps : StepsAreDetermined) (same_load : LoadIsDetermined) (same_
   same_item (Err why) s t u a b p q = (p.0 ∙ sym q.0, p.1 ∙ sym q.1)
   same_item (Ok given) s t u a b p q = same_reply given.0 given.1 s t u a b p q
 
-  same_answers : (items : List Spelled) (s : BenchState) (a b : List Answer) → Answers items s a → Answers items s b → a ≡ b
+  same_answers : (items : List Spelled) (s : BenchState) (a b : List Answer) → AnswersInTurn items s a → AnswersInTurn items s b → a ≡ b
   same_answers [] s [] [] p q = refl
   same_answers [] s [] (y ∷ b) p q = absurd q
   same_answers [] s (x ∷ a) b p q = absurd p
@@ -97,7 +101,7 @@ module _ (same_steps : StepsAreDetermined) (same_load : LoadIsDetermined) (same_
   same_answers (item ∷ items) s (x ∷ a) [] p q = absurd q
   same_answers (item ∷ items) s (x ∷ a) (y ∷ b) p q =
       let both = same_item item s p.0 q.0 x y p.1 q.1 in
-      let rest = same_answers items q.0 a b (subst (λ from. Answers items from a) both.0 p.2) q.2 in
+      let rest = same_answers items q.0 a b (subst (λ from. AnswersInTurn items from a) both.0 p.2) q.2 in
       λ i. both.1 i ∷ rest i
 
   pub same_text : DeckDeterminesText
@@ -108,3 +112,26 @@ module _ (same_steps : StepsAreDetermined) (same_load : LoadIsDetermined) (same_
 
   pub same_outcome : DeckDeterminesOutcome
   same_outcome bytes outcome other p q = p.2 ∙ ap outcome_of (same_answers _ start p.0 q.0 p.1.answered q.1.answered) ∙ sym q.2
+
+  same_first : (items more : List Spelled) (s : BenchState) (a b : List Answer) → AnswersInTurn items s a → AnswersInTurn (items ++ more) s b
+      → (c : List Answer) × (b ≡ a ++ c)
+  same_first [] more s [] b p q = (b, refl)
+  same_first [] more s (x ∷ a) b p q = absurd p
+  same_first (item ∷ items) more s [] b p q = absurd p
+  same_first (item ∷ items) more s (x ∷ a) [] p q = absurd q
+  same_first (item ∷ items) more s (x ∷ a) (y ∷ b) p q =
+      let both = same_item item s q.0 p.0 y x q.1 p.1 in
+      let rest = same_first items more p.0 a b p.2 (subst (λ from. AnswersInTurn (items ++ more) from b) both.0 q.2) in
+      (rest.0, λ i. both.1 i ∷ rest.1 i)
+
+  pub first_is_front : FirstTextIsFront
+  first_is_front deck first text p q =
+      let whole : commands_of deck ≡ items.commands (lines deck) =
+          ap (λ (short : Bool). if short then items.commands (lines deck) else commands_within deck) (le-leb _ _ q.1.bound) in
+      let given = subst (λ (of : List Spelled). AnswersInTurn of start q.0) (sym whole ∙ p.begins) q.1.answered in
+      let more = same_first p.first p.rest start p.answers q.0 p.answered given in
+      (
+        flat_map printed more.0,
+        q.2 ∙ ap (λ answers. flat_map printed answers) more.1 ∙ flat_map-append printed p.answers more.0
+            ∙ ap (λ (front : List ℕ). front ++ flat_map printed more.0) (sym p.text_is),
+      )

@@ -1,21 +1,23 @@
 -- What the code that goes through a deck has answered. It only connects the code with the other definitions.
-use Rattle.std.specs.Prelude.{◌≡◌, Bool, true, false, ℕ, List, Option, flat_map, Result, IfOk}
+use Rattle.std.specs.Prelude.{◌≡◌, Bool, true, false, ℕ, List, Option, flat_map, Result, IfErr, IfOk}
 use Rattle.std.specs.Io.KnownBytes.{Appends}
 use Rattle.h41_commands.specs.declared.item.Item.{Item}
 use Rattle.h41_commands.specs.Entries.{given}
 use Rattle.h41_commands.specs.Items.{Spelled, closed, commands}
 use Rattle.h41_lines.specs.Lines.{lines}
 use Rattle.h41_debug.specs.Bench.{BenchState, start}
+use Rattle.h41_deck.specs.declared.fault.CommandFault.{CommandFault}
 use Rattle.h41_deck.specs.declared.replies.Outcome.{Outcome}
 use Rattle.h41_deck.specs.declared.replies.Outcome.TheVariants.{Accepted, Refused}
 use Rattle.h41_deck.specs.Answers.{Answer, printed}
-use Rattle.h41_deck.specs.Deck.{Answers, outcome_of}
-use Rattle.h41_deck.specs.Writing.{Replies}
+use Rattle.h41_deck.specs.Deck.{AnswersInTurn, LeavesFirst, outcome_of}
+use Rattle.h41_deck.specs.Faults.{of_command}
+use Rattle.h41_deck.specs.Writing.{Leaves}
 
 -- what these commands print, and how they end
 pub record Answered (items : List Spelled) (text : List ℕ) (outcome : Outcome) : Type 0 where
   pub answers : List Answer
-  pub answered : Answers items start answers
+  pub answered : AnswersInTurn items start answers
   pub text_is : text ≡ flat_map printed answers
   pub outcome_is : outcome ≡ outcome_of answers
 
@@ -38,6 +40,11 @@ abbrev pub outcome_and : Outcome → Outcome → Outcome
 outcome_and Refused next = Refused
 outcome_and Accepted next = next
 
--- where an item was answered, its reply is written
-abbrev pub AnswersItem : {E W : Type 0} → Result Outcome E → Item → BenchState → BenchState → (W → Option (List ℕ)) → W → W → Type 0
-AnswersItem result item s t contents old new = IfOk result (Replies (given item) s t (contents old) (contents new))
+-- where a fault ended them, it leaves the replies to some first of them
+abbrev pub LeavesBytes : {A W : Type 0} → Result A CommandFault → Bool → List ℕ → (W → Option (List ℕ)) → W → W → Type 0
+LeavesBytes result is_whole bytes contents old new = IfErr result (λ fault.
+    LeavesFirst (answered_items is_whole (commands (lines bytes))) (contents old) (contents new) (of_command fault))
+
+-- what an item leaves, by its answer: its reply, a front of it, or nothing
+abbrev pub AnswersItem : {W : Type 0} → Result Outcome CommandFault → Item → BenchState → BenchState → (W → Option (List ℕ)) → W → W → Type 0
+AnswersItem result item s t contents old new = Leaves result (given item) s t contents old new

@@ -1,5 +1,5 @@
 -- What is written of an answer, and what the code's results say of it. It connects the code with the other definitions; of it the
--- contract of `apply` cites `Does`, by what it writes: `Replies`, or a front of it, `RepliesInPart`.
+-- contract of `apply` cites `Acts`, by what it writes: `Replies`, or a front of it, `RepliesInPart`.
 use Rattle.std.specs.Global.{Global}
 use Rattle.std.specs.Prelude.{◌≡◌, ℕ, Vec, List, [], Option, Some, None, Result, Ok, Err}
 use Rattle.std.specs.Io.KnownBytes.{Appends, Keeps}
@@ -56,8 +56,8 @@ Leaves (Err OutOfMemory) item s t contents old new = Keeps (contents old) (conte
 abbrev pub item_of : Command → TakenBlock → Spelled
 item_of command block = with_values (judgement block) command
 
-abbrev pub Does : {W : Type 0} → Result Outcome CommandFault → Command → TakenBlock → BenchState → BenchState → (W → Option (List ℕ)) → W → W → Type 0
-Does result command block s t contents old new = Leaves result (item_of command block) s t contents old new
+abbrev pub Acts : {W : Type 0} → Result Outcome CommandFault → Command → TakenBlock → BenchState → BenchState → (W → Option (List ℕ)) → W → W → Type 0
+Acts result command block s t contents old new = Leaves result (item_of command block) s t contents old new
 
 -- the text of an answer is written, and its refusal is still to be told
 pub record SaysText (item : Spelled) (s t : BenchState) (old new : Option (List ℕ)) (refusal : Option Refusal) : Type 0 where
@@ -70,12 +70,12 @@ LeavesText (Ok refusal) item s t contents old new = SaysText item s t (contents 
 LeavesText (Err WriteFault) item s t contents old new = RepliesInPart item s t (contents old) (contents new)
 LeavesText (Err OutOfMemory) item s t contents old new = Keeps (contents old) (contents new)
 
-abbrev pub DoesSaying : {W : Type 0} → Result (Option Refusal) CommandFault → Command → TakenBlock → BenchState → BenchState → (W → Option (List ℕ)) → W → W → Type 0
-DoesSaying result command block s t contents old new = LeavesText result (item_of command block) s t contents old new
+abbrev pub Says : {W : Type 0} → Result (Option Refusal) CommandFault → Command → TakenBlock → BenchState → BenchState → (W → Option (List ℕ)) → W → W → Type 0
+Says result command block s t contents old new = LeavesText result (item_of command block) s t contents old new
 
 -- a command without a block does so whatever values a block would have
-abbrev pub DoesAlone : {W : Type 0} → Result (Option Refusal) CommandFault → Command → BenchState → BenchState → (W → Option (List ℕ)) → W → W → Type 0
-DoesAlone result command s t contents old new = (values : List ℕ) → LeavesText result (Ok (command, values)) s t contents old new
+abbrev pub SaysAlone : {W : Type 0} → Result (Option Refusal) CommandFault → Command → BenchState → BenchState → (W → Option (List ℕ)) → W → W → Type 0
+SaysAlone result command s t contents old new = (values : List ℕ) → LeavesText result (Ok (command, values)) s t contents old new
 
 -- what was made: a text or its refusal, and the text alone
 abbrev pub text_in : Result (Vec ℕ Global) Refusal → Result (List ℕ) Refusal

@@ -1,8 +1,8 @@
 //! A deck: its commands, answered in turn.
 
 ghost use Rattle.std.specs.Prelude.{◌≡◌, ◌≢◌, Err, IfOk, OnOk, true, false};
-ghost use Rattle.h41_deck.specs.AnsweredItems.{AnswersBytes, AnswersItem};
-ghost use Rattle.h41_deck.specs.Deck.{EndsKnown, EndsUnread, WritesDeck};
+ghost use Rattle.h41_deck.specs.AnsweredItems.{AnswersBytes, AnswersItem, LeavesBytes};
+ghost use Rattle.h41_deck.specs.Deck.{EndsKnown, EndsUnread, LeavesDeck, WritesDeck};
 
 use crate::fault::{CommandFault, Fault};
 use crate::refusal::Refusal;
@@ -30,12 +30,15 @@ pub fn run_deck<R: Source, W: Sink>(
     requires writer_clear { W.failed writer.old ≡ false }
 
     // What is written is the text of the deck that was read, where both ends tell their bytes.
-    ensures deck { OnOk result (WritesDeck (R.remaining reader.old) W.contents writer.old writer.new) }
+    ensures deck { WritesDeck result (R.remaining reader.old) W.contents writer.old writer.new }
     ensures outcome { IfOk result (EndsKnown (R.remaining reader.old)) }
     ensures flushed { OnOk result (W.flushed writer.new ≡ true) }
 
     // A read failed, and nothing is written; or the deck is too long, and the text of its commands within the bound is.
-    ensures read_fault { EndsUnread result R.Source W.Sink reader.old reader.new writer.old writer.new }
+    ensures unread { EndsUnread result R.Source W.Sink reader.old reader.new writer.old writer.new }
+
+    // Where a fault ended it, the replies to some first commands are written, or where writing failed a front of them.
+    ensures left { LeavesDeck result (R.remaining reader.old) W.contents writer.old writer.new }
 
     // The marks tell which end failed.
     ensures write_fault { result ≡ Err Fault.WriteFault → W.failed writer.new ≡ true }
@@ -60,6 +63,7 @@ fn answer_deck<W: Sink>(
 ) -> Result<Outcome, CommandFault>
     requires { W.failed writer.old ≡ false }
     ensures answers { AnswersBytes result is_whole deck.now W.contents writer.old writer.new }
+    ensures left { LeavesBytes result is_whole deck.now W.contents writer.old writer.new }
     ensures flushed { OnOk result (W.flushed writer.new ≡ true) }
     ensures mark { result ≡ Err CommandFault.WriteFault → W.failed writer.new ≡ true }
     ensures clear { result ≢ Err CommandFault.WriteFault → W.failed writer.new ≡ false }

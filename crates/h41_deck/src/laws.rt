@@ -1,17 +1,19 @@
 //! Laws of decks: each is the contract of a function with nothing to do but to call the laws it rests on.
 
-ghost use Rattle.h41_deck.specs.Deck.{DeckDeterminesOutcome, DeckDeterminesText, LongDeckDeterminesText};
+ghost use Rattle.h41_deck.specs.Deck.{DeckDeterminesOutcome, DeckDeterminesText, FirstTextIsFront, LongDeckDeterminesText};
 
 use h41_commands::laws::blocks_are_determined;
 use h41_debug::laws::steps_are_determined;
 use h41_program::laws::lists_are_determined;
 use h41_xrom::laws::load_is_determined;
 
-/// A deck determines its text, whether a refusal is printed, and where it is too long the text that is printed all the same.
+/// A deck determines its text, whether a refusal is printed, and where it is too long the text that is printed all the same. The
+/// replies to some first commands are a front of its text.
 pub fn deck_is_determined()
     ensures text { DeckDeterminesText }
     ensures long { LongDeckDeterminesText }
     ensures outcome { DeckDeterminesOutcome }
+    ensures front { FirstTextIsFront }
 {
     steps_are_determined();
     load_is_determined();

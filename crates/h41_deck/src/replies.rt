@@ -11,7 +11,7 @@ ghost use Rattle.h41_pages.specs.Addresses.{page_size};
 ghost use Rattle.h41_deck.specs.Answers.{ending_line, ends_by};
 ghost use Rattle.h41_deck.specs.Blocks.{LoadsTaken, PlugsTaken, PlugsWordsOf};
 ghost use Rattle.h41_deck.specs.Replies.{LoadsBytes, Reply, takes_memory};
-ghost use Rattle.h41_deck.specs.Writing.{Does, DoesAlone, DoesSaying, EndsAs, IsRefusalOf, made_text};
+ghost use Rattle.h41_deck.specs.Writing.{Acts, SaysAlone, Says, EndsAs, IsRefusalOf, made_text};
 
 use crate::fault::CommandFault;
 use crate::refusal::Refusal;
@@ -76,7 +76,7 @@ pub fn apply<W: Sink>(
     requires block { block.kind ≡ kind_of command }
 
     // The reply is written, or where writing failed a front of it, or where memory was refused nothing.
-    ensures reply { Does result command block bench.old bench.new W.contents writer.old writer.new }
+    ensures reply { Acts result command block bench.old bench.new W.contents writer.old writer.new }
 
     // Memory is refused to commands that take some.
     ensures memory { result ≡ Err CommandFault.OutOfMemory → takes_memory command ≡ true }
@@ -100,7 +100,7 @@ fn say<W: Sink>(
 ) -> Result<Option<Refusal>, CommandFault>
     requires clear { W.failed writer.old ≡ false }
     requires block { block.kind ≡ kind_of command }
-    ensures text { DoesSaying result command block bench.old bench.new W.contents writer.old writer.new }
+    ensures text { Says result command block bench.old bench.new W.contents writer.old writer.new }
     ensures memory { result ≡ Err CommandFault.OutOfMemory → takes_memory command ≡ true }
     ensures unchanged { result ≡ Err CommandFault.OutOfMemory → bench.new ≡ bench.old }
     ensures mark { result ≡ Err CommandFault.WriteFault → W.failed writer.new ≡ true }
@@ -125,7 +125,7 @@ fn say_alone<W: Sink>(
 ) -> Result<Option<Refusal>, CommandFault>
     requires clear { W.failed writer.old ≡ false }
     requires alone { kind_of command ≡ None }
-    ensures text { DoesAlone result command bench.old bench.new W.contents writer.old writer.new }
+    ensures text { SaysAlone result command bench.old bench.new W.contents writer.old writer.new }
     ensures memory { result ≡ Err CommandFault.OutOfMemory → takes_memory command ≡ true }
     ensures unchanged { result ≡ Err CommandFault.OutOfMemory → bench.new ≡ bench.old }
     ensures mark { result ≡ Err CommandFault.WriteFault → W.failed writer.new ≡ true }

@@ -162,8 +162,8 @@ abbrev pub Ends : {E : Type 0} → Result Ended E → Task → Option (List ℕ)
 Ends result task known = IfOk result (λ ended. IfSome known (TaskEnds task ended))
 
 -- where a task ends with a fault of reading, this is why
-abbrev pub WhyUnread : {A R W : Type 0} → Result A Fault → Task → sources.Ghosts R → sinks.Ghosts W → R → R → W → W → Type 0
-WhyUnread result task source sink before after old new =
+abbrev pub NotRead : {A R W : Type 0} → Result A Fault → Task → sources.Ghosts R → sinks.Ghosts W → R → R → W → W → Type 0
+NotRead result task source sink before after old new =
     result ≡ Err ReadFault → FailedOrTooLong task source sink before after old new
 
 -- where a write or the flush failed, a front of the text of a source or of a list of words is written
@@ -175,37 +175,38 @@ abbrev pub ListingCut : {A R W : Type 0} → Result A Fault → sources.Ghosts R
 ListingCut result source sink before old new = result ≡ Err WriteFault
     → IfSome (source.remaining before) (WritesFrontOf ListingText (sink.contents old) (sink.contents new))
 
--- what a task leaves written where its input or memory failed: a source and a list of words nothing; of a deck nothing is said
-abbrev pub LeavesNothing : {W : Type 0} → Task → sinks.Ghosts W → W → W → Type 0
-LeavesNothing tasks.Run sink old new = Unit {0}
-LeavesNothing (tasks.Assemble origin) sink old new = Keeps (sink.contents old) (sink.contents new)
-LeavesNothing (tasks.List origin) sink old new = Keeps (sink.contents old) (sink.contents new)
+-- what a task leaves written where its input or memory failed: of a deck the replies to some first commands, of a source and of a
+-- list of words nothing
+abbrev pub LeavesBegun : {W : Type 0} → Task → Option (List ℕ) → sinks.Ghosts W → W → W → Type 0
+LeavesBegun tasks.Run known sink old new = IfSome known (WritesTextOf decks.FirstText (sink.contents old) (sink.contents new))
+LeavesBegun (tasks.Assemble origin) known sink old new = Keeps (sink.contents old) (sink.contents new)
+LeavesBegun (tasks.List origin) known sink old new = Keeps (sink.contents old) (sink.contents new)
 
 -- and where reading failed: nothing
 abbrev pub LeavesUnread : {W : Type 0} → sinks.Ghosts W → W → W → Type 0
 LeavesUnread sink old new = Keeps (sink.contents old) (sink.contents new)
 
--- and where the output failed: a front of their text
+-- and where the output failed: a front of these replies, or of their text
 abbrev pub LeavesFront : {W : Type 0} → Task → Option (List ℕ) → sinks.Ghosts W → W → W → Type 0
-LeavesFront tasks.Run known sink old new = Unit {0}
+LeavesFront tasks.Run known sink old new = IfSome known (WritesFrontOf decks.FirstText (sink.contents old) (sink.contents new))
 LeavesFront (tasks.Assemble origin) known sink old new =
     IfSome known (WritesFrontOf (AssemblyText origin) (sink.contents old) (sink.contents new))
 LeavesFront (tasks.List origin) known sink old new =
     IfSome known (WritesFrontOf ListingText (sink.contents old) (sink.contents new))
 
 -- where a task ends with a fault of another end than the output, and of the output
-abbrev pub ErrLeavesNothing : {A W : Type 0} → Result A Fault → Task → sinks.Ghosts W → W → W → Type 0
-ErrLeavesNothing result task sink old new =
-    IfErr result (λ fault. fault ≢ WriteFault → LeavesNothing task sink old new)
+abbrev pub ErrLeavesBegun : {A R W : Type 0} → Result A Fault → Task → sources.Ghosts R → sinks.Ghosts W → R → W → W → Type 0
+ErrLeavesBegun result task source sink before old new =
+    IfErr result (λ fault. fault ≢ WriteFault → LeavesBegun task (source.remaining before) sink old new)
 
 abbrev pub ErrLeavesFront : {A R W : Type 0} → Result A Fault → Task → sources.Ghosts R → sinks.Ghosts W → R → W → W → Type 0
 ErrLeavesFront result task source sink before old new =
     result ≡ Err WriteFault → LeavesFront task (source.remaining before) sink old new
 
 -- where a job has the status of a fault, and the output did not fail, or did
-abbrev pub JobLeavesNothing : {W : Type 0} → ℕ → Job → sinks.Ghosts W → W → W → Type 0
-JobLeavesNothing status job sink old new =
-    status ≡ 3 → sink.failed new ≡ false → LeavesNothing job.task sink old new
+abbrev pub JobBegun : {R W : Type 0} → ℕ → Job → sources.Ghosts R → sinks.Ghosts W → R → W → W → Type 0
+JobBegun status job source sink before old new =
+    status ≡ 3 → sink.failed new ≡ false → LeavesBegun job.task (source.remaining before) sink old new
 
 abbrev pub JobLeavesUnread : {R W : Type 0} → sources.Ghosts R → sinks.Ghosts W → R → W → W → Type 0
 JobLeavesUnread source sink after old new = source.failed after ≡ true → LeavesUnread sink old new

@@ -4,7 +4,7 @@ ghost use Rattle.std.specs.Prelude.{◌≡◌, ◌≢◌, ◌≤◌, true, false
 ghost use Rattle.std.specs.Io.KnownBytes.{Keeps};
 ghost use Rattle.h41_ends.specs.Ends.{Appended};
 ghost use Rattle.h41_jobs.specs.Statuses.{EndsJob, IsTaskStatus, TellsFault, fault_line};
-ghost use Rattle.h41_jobs.specs.Tasks.{Ends, ErrLeavesFront, ErrLeavesNothing, JobLeavesFront, JobLeavesNothing, JobLeavesUnread, JobWritesText, LeavesUnread, MayEnd, OkWritesText, Tells, TellsWord, WhyUnread, mistake_line};
+ghost use Rattle.h41_jobs.specs.Tasks.{Ends, ErrLeavesBegun, ErrLeavesFront, JobBegun, JobLeavesFront, JobLeavesUnread, JobWritesText, LeavesUnread, MayEnd, OkWritesText, Tells, TellsWord, NotRead, mistake_line};
 
 use crate::arguments::{Job, Task};
 use crate::assemble::assemble_input;
@@ -51,9 +51,9 @@ pub fn serve<R: Source, W: Sink, E: Sink>(
     ensures silent { result ≤ 1 → Keeps (E.contents faults.old) (E.contents faults.new) }
     ensures mistake { TellsWord result job.entry R.Source E.Sink reader.old faults.old faults.new }
 
-    // Where something failed, nothing of a source or of a list is written, or where writing failed a front of its text. The
-    // fault's line is told, if it can be.
-    ensures unwritten { JobLeavesNothing result job.entry W.Sink writer.old writer.new }
+    // Where something failed, the replies to some first commands of a deck are written, and nothing of a source or of a list; or
+    // where writing failed a front of these replies or of its text. The fault's line is told, if it can be.
+    ensures begun { JobBegun result job.entry R.Source W.Sink reader.old writer.old writer.new }
     ensures unread { JobLeavesUnread R.Source W.Sink reader.new writer.old writer.new }
     ensures cut { JobLeavesFront result job.entry R.Source W.Sink reader.old writer.old writer.new }
     ensures fault { TellsFault result job.entry.task R.Source W.Sink E.Sink
@@ -80,8 +80,8 @@ fn do_task<R: Source, W: Sink>(
     ensures ends { Ends result task (R.remaining reader.old) }
     ensures kind { IfOk result (MayEnd task) }
     ensures flushed { OnOk result (W.flushed writer.new ≡ true) }
-    ensures read { WhyUnread result task R.Source W.Sink reader.old reader.new writer.old writer.new }
-    ensures unwritten { ErrLeavesNothing result task W.Sink writer.old writer.new }
+    ensures read { NotRead result task R.Source W.Sink reader.old reader.new writer.old writer.new }
+    ensures begun { ErrLeavesBegun result task R.Source W.Sink reader.old writer.old writer.new }
     ensures unread { R.failed reader.new ≡ true → LeavesUnread W.Sink writer.old writer.new }
     ensures cut { ErrLeavesFront result task R.Source W.Sink reader.old writer.old writer.new }
     ensures write_fault { result ≡ Err Fault.WriteFault → W.failed writer.new ≡ true }

@@ -1,4 +1,4 @@
-use Rattle.h41_deck.proofs.Determined.{same_text, same_long, same_outcome}
+use Rattle.h41_deck.proofs.Determined.{same_text, same_long, same_outcome, first_is_front}
 use Rattle.h41_deck.proofs.laws.deck_is_determined.Goals as goal
 
 pub returns-clause-text : goal.returns-clause-text
@@ -14,4 +14,9 @@ returns-clause-long c =
 pub returns-clause-outcome : goal.returns-clause-outcome
 returns-clause-outcome c =
     same_outcome c.steps_are_determined.ensures c.load_is_determined.ensures c.blocks_are_determined.ensures.filling c.blocks_are_determined.ensures.meaning
+    c.lists_are_determined.ensures.lines
+
+pub returns-clause-front : goal.returns-clause-front
+returns-clause-front c =
+    first_is_front c.steps_are_determined.ensures c.load_is_determined.ensures c.blocks_are_determined.ensures.filling c.blocks_are_determined.ensures.meaning
     c.lists_are_determined.ensures.lines

@@ -50,7 +50,7 @@ pub fn line_before<const REGS: usize>(ram: &Ram<REGS>, position: u16) -> Option<
 /// The number of the line at a position, counted from another position to the END.
 fn number_from<const REGS: usize>(ram: &Ram<REGS>, from: u16, position: u16) -> Option<u16>
     requires { IsTrue (is_sound ram.now) }
-    ensures number { AnswersFrom (λ lines. number_in position (up_to_end lines)) ram.now from result }
+    ensures is { AnswersFrom (λ lines. number_in position (up_to_end lines)) ram.now from result }
     ensures some { IfSome result (λ number. 1 ≤ number) }
 {
     let mut count = 0;

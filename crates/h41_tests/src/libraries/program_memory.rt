@@ -1,12 +1,13 @@
 //! h41_program: programs edited, and lines and labels found.
 
 ghost use Rattle.std.specs.Prelude.{IsTrue};
+ghost use Rattle.h41_program.specs.Lines.{is_inner};
 ghost use Rattle.h41_ram.specs.RegisterMap.{is_sound};
 
-use h41_codes::{Line, RegisterFunction, ShortRegister, decode};
+use h41_codes::{Function, Line, RegisterFunction, ShortRegister, decode};
 use h41_digits::Reg;
 use h41_program::{
-    ListedLine, ProgramRefusal, close_last, delete, first_from, global, insert, is_inner, line_at,
+    ListedLine, ProgramRefusal, close_last, delete, first_from, global, insert, line_at,
     line_before, line_number, line_numbered, load, next, replace, set_size, start_of,
 };
 use h41_ram::Ram;
@@ -35,11 +36,23 @@ enum Step {
     Register(u16, u64),
 }
 
-/// The line that bytes begin with; a null where they begin with none.
-fn line(bytes: &[u8]) -> Line {
+/// The line that bytes begin with; STOP where they begin with none that programs can have.
+fn line(bytes: &[u8]) -> Line
+    ensures { IsTrue (is_inner result) }
+{
     match decode(bytes) {
-        Ok((line, _)) => line,
-        Err(_) => Line::Null,
+        Ok((line, _)) => inner_line(line),
+        Err(_) => Line::Plain(Function::Stop),
+    }
+}
+
+/// A line that programs can have as it is, STOP in the place of another.
+fn inner_line(line: Line) -> Line
+    ensures { IsTrue (is_inner result) }
+{
+    match line {
+        Line::Null | Line::FinalEnd(_, _) => Line::Plain(Function::Stop),
+        _ => line,
     }
 }
 
@@ -63,36 +76,14 @@ fn finds_recall(ram: &Ram<320>, at: u16, position: u16, behind: u16) -> bool
     }
 }
 
-/// Inserts a line that programs can have, and says whether the answer is the one that is wanted.
-fn inserts(ram: &mut Ram<320>, before: u16, line: Line, answer: Result<(), ProgramRefusal>) -> bool
-    requires { IsTrue (is_sound ram.old) }
-{
-    if is_inner(line) {
-        insert(ram, before, line) == answer
-    } else {
-        false
-    }
-}
-
-/// Puts such a line in the place of another, and says the same.
-fn replaces(ram: &mut Ram<320>, at: u16, line: Line, answer: Result<(), ProgramRefusal>) -> bool
-    requires { IsTrue (is_sound ram.old) }
-{
-    if is_inner(line) {
-        replace(ram, at, line) == answer
-    } else {
-        false
-    }
-}
-
 /// Makes the step, and says whether its answer is the one that is wanted.
 fn makes(ram: &mut Ram<320>, step: &Step) -> bool
     requires { IsTrue (is_sound ram.old) }
 {
     match step {
         Step::Load(bytes, answer) => load(ram, bytes) == *answer,
-        Step::Insert(before, bytes, answer) => inserts(ram, *before, line(bytes), *answer),
-        Step::Replace(at, bytes, answer) => replaces(ram, *at, line(bytes), *answer),
+        Step::Insert(before, bytes, answer) => insert(ram, *before, line(bytes)) == *answer,
+        Step::Replace(at, bytes, answer) => replace(ram, *at, line(bytes)) == *answer,
         Step::Delete(at, answer) => delete(ram, *at) == *answer,
         Step::SetSize(size, answer) => set_size(ram, *size) == *answer,
         Step::Next(at, answer) => next(ram, *at) == *answer,

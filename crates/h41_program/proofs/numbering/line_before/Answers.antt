@@ -9,10 +9,10 @@ returns-in-Some g c =
     c.start_of-start.ensures
     (λ lines from.
     c.numbered_from.ensures lines from
-    ∙ ap (before_number (up_to_end lines)) (sym c.in-Some.is ∙ c.number_from.ensures.number lines from))
+    ∙ ap (before_number (up_to_end lines)) (sym c.in-Some.is ∙ c.number_from.ensures.is lines from))
 
 pub returns-in-None : goal.returns-in-None
 returns-in-None g c =
     of_program c.byte_round_trip.ensures.one c.one_list.ensures (before_in c.args.position) c.args.ram.now c.args.position c.start_of-start.result None
     c.start_of-start.ensures
-    (λ lines from. ap (before_number (up_to_end lines)) (sym c.in-None.is ∙ c.number_from.ensures.number lines from))
+    (λ lines from. ap (before_number (up_to_end lines)) (sym c.in-None.is ∙ c.number_from.ensures.is lines from))

@@ -15,8 +15,8 @@ overflow_add-count g c =
     let most = c.in-Some.ensures.behind in
     omega (arith, before.3, onward, most)
 
-pub returns-then-listed-position-clause-number : goal.returns-then-listed-position-clause-number
-returns-then-listed-position-clause-number g c lines from =
+pub returns-then-listed-position-clause-is : goal.returns-then-listed-position-clause-is
+returns-then-listed-position-clause-is g c lines from =
     let memory = c.args.ram.now in
     let found = c.in-Some.found in
     let before = c.loop-found.invariant in
@@ -25,8 +25,8 @@ returns-then-listed-position-clause-number g c lines from =
     let whole = parts.1 ∙ ap (λ (l : List ListedLine). before.0 ++ l) rest.1 in
     sym (ap (number_of c.args.position) whole ∙ counted_here c.args.position before.0 found.listed rest.0 before.4 (same_test found.listed.position c.args.position c.if-listed-position.true) ∙ ap (λ (n : ℕ). Some (n + 1)) (sym before.2))
 
-pub returns-then-is_end-clause-number : goal.returns-then-is_end-clause-number
-returns-then-is_end-clause-number g c lines from =
+pub returns-then-is_end-clause-is : goal.returns-then-is_end-clause-is
+returns-then-is_end-clause-is g c lines from =
     let memory = c.args.ram.now in
     let found = c.in-Some.found in
     let before = c.loop-found.invariant in
@@ -36,8 +36,8 @@ returns-then-is_end-clause-number g c lines from =
     let end = up_to_end-end found.listed rest.0 (sym c.is_end.ensures ∙ c.if-is_end.true) in
     sym (ap (number_of c.args.position) whole ∙ counted_end c.args.position before.0 found.listed rest.0 before.4 (other_test found.listed.position c.args.position c.if-listed-position.false) end)
 
-pub returns-then-is_final_end-clause-number : goal.returns-then-is_final_end-clause-number
-returns-then-is_final_end-clause-number g c lines from =
+pub returns-then-is_final_end-clause-is : goal.returns-then-is_final_end-clause-is
+returns-then-is_final_end-clause-is g c lines from =
     let memory = c.args.ram.now in
     let found = c.in-Some.found in
     let before = c.loop-found.invariant in
@@ -61,8 +61,8 @@ loop-found-preserved g c =
       counted_more c.args.position before.0 found.listed before.4 (other_test found.listed.position c.args.position c.if-listed-position.false) middle,
     )
 
-pub returns-clause-number : goal.returns-clause-number
-returns-clause-number g c lines from =
+pub returns-clause-is : goal.returns-clause-is
+returns-clause-is g c lines from =
     let memory = c.args.ram.now in
     let before = c.loop-found.invariant in
     let whole = ends_none (program_bytes memory) (final_position memory) c.args.from c.loop-found.at before.0 lines before.1 c.in_default.ensures.none (from.sound c.requires) in

@@ -1,11 +1,12 @@
 """Listings of programs: the texts of their lines, as the bench reads them."""
 import re
 
-from decks import LONGEST_LINE, block, refused, shown, words_of
+from decks import LONGEST_LINE, Failure, block, refused, shown, words_of
 from spellings import Speller, read_tables, remark_on
 
 # A number in front of a line, and what stands behind it.
 NUMBERED = re.compile(r"([0-9]{1,4})(?:[.:)]?\s+|(?=[*♦◆▸▶►•●>]\s*LBL\b))(\S.*)", re.I)
+QUOTED = re.compile(r"""["'“‘ᵀ]""")
 ENDED = re.compile(r"(?:[0-9]+\S*\s+)?\.?END\.?(?:\s.*)?", re.I)
 
 
@@ -14,8 +15,9 @@ def readable(texts):
     asked = sorted({text for text in texts if may_be_line(text)})
     deck = b"".join(b"reset\n" + block(b"program", [text.encode()]) for text in asked)
     status, found = refused(deck)
-    bad = {asked[first // 4] for first, _, _ in found}
-    return set() if status > 1 else set(asked) - bad
+    if status > 1:
+        raise Failure("the bench could not read the lines")
+    return set(asked) - {asked[first // 4] for first, _, _ in found}
 
 
 def may_be_line(text):
@@ -71,12 +73,16 @@ class Listing:
         speller = Speller(tables, self.lines)
         good = readable(self.lines)
         others = {line: speller.spellings(line) for line in self.lines if line not in good and not is_comment(line)}
-        good |= readable(text for found in others.values() for text, _ in found or [])
+        tried = [text for found in others.values() for text, _ in found or []]
+        good |= readable(tried + [function for function in map(speller.function_called, tried) if function])
         for number, line in enumerate(self.lines, 1):
             if is_comment(line):
                 self.texts.append(line)
             elif line in others:
                 self.texts.append(self.spelled(number, line, others[line], good))
+                function = speller.function_called(self.texts[-1])
+                if function in good and not QUOTED.search(line):
+                    self.told.append((number, f"{self.texts[-1]} calls a label; the function is the line {function}"))
             else:
                 self.texts.append(line)
                 if remark_on(line):

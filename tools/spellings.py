@@ -200,6 +200,11 @@ class Speller:
             return []
         return [(f'{found[1].upper()} "{self.characters(name)}"', "")]
 
+    def function_called(self, text):
+        """The line that a function would be, whose name is called as a label's; none where no name is called."""
+        found = re.fullmatch(r'XEQ "([^"]+)"', text)
+        return self.tables.name(found[1]) if found else None
+
     def whole(self, line):
         """A function without an operand."""
         if LAST.fullmatch(line):

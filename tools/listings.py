@@ -62,9 +62,11 @@ class Listing:
         if all(speller.number(speller.plain(lines[at])) for at in places):
             self.notes.append("each line is a number as it stands, so none has a number in front taken off")
             return lines
-        gaps = sum(number != last + 1 and number > last for last, number in zip(numbers, numbers[1:]))
+        gaps = [(last, number) for last, number in zip(numbers, numbers[1:]) if number > last + 1]
+        missing = f"; behind {gaps[0][0]} stands {gaps[0][1]}" if gaps else ""
+        missing += f", and there are {len(gaps)} such gaps" if gaps[1:] else ""
         self.notes.append(f"each line has a number in front, {found[places[0]][1]} to {found[places[-1]][1]}: they are "
-                          f"taken off{f'; {gaps} of them are not by one above the last' if gaps else ''}")
+                          f"taken off{missing}")
         return [found[at][2] if at in found else line for at, line in enumerate(lines)]
 
     def read(self):

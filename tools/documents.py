@@ -2,14 +2,18 @@
 import os
 import re
 
+from decks import Failure, bytes_of
+
 DOCS = os.path.join(os.path.dirname(os.path.realpath(__file__)), "..", "docs")
 
 
 def section_of(document, heading):
     """The text of a document below a heading, up to the next heading of its level or a higher one."""
-    with open(os.path.join(DOCS, document), encoding="utf-8") as file:
-        text = file.read()
-    level, behind = re.search(rf"^(#+) {re.escape(heading)}\n(.*)", text, re.M | re.S).groups()
+    text = bytes_of(os.path.join(DOCS, document)).decode("utf-8")
+    found = re.search(rf"^(#+) {re.escape(heading)}\n(.*)", text, re.M | re.S)
+    if not found:
+        raise Failure(f"docs/{document} has no section {heading}")
+    level, behind = found.groups()
     return re.split(rf"^#{{1,{len(level)}}} ", behind, maxsplit=1, flags=re.M)[0]
 
 

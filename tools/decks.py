@@ -1,6 +1,7 @@
 """What the tools share: the lines of a deck, its commands and blocks, and runs of the bench."""
 import os
 import re
+import signal
 import subprocess
 import sys
 
@@ -41,6 +42,11 @@ def bytes_of(path):
             return file.read()
     except OSError as error:
         raise Failure(f"{path}: it cannot be read: {error.strerror}") from error
+
+
+def end_with_reader():
+    """From here on the tool ends where what reads its output has ended. Not before: the bench may end with input unread."""
+    signal.signal(signal.SIGPIPE, signal.SIG_DFL)
 
 
 def lines_of(deck):

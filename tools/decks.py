@@ -1,0 +1,148 @@
+"""What the tools share: the lines of a deck, its commands and blocks, and runs of the bench."""
+import os
+import re
+import signal
+import subprocess
+import sys
+
+TOP = os.path.join(os.path.dirname(os.path.realpath(__file__)), "..")
+BENCH = os.path.join(TOP, "bench")
+
+# A line with one of these as its first word opens a block, up to its `end`.
+OPENERS = {b"words", b"image", b"asm", b"load", b"program"}
+
+LONGEST_LINE = 200
+LONGEST_DECK = 67_108_864
+
+# The launcher's status where the program could not be built.
+NOT_BUILT = 70
+
+# What stands before each command, and what it prints. No command prints these two lines in a row.
+MARK = b"?\nstep ?\n"
+MARK_ANSWER = [b"! 50 BadCommand", b"! 51 BadNumber"]
+
+# Commands that print a text of the deck's own, which may look like a refusal. They are never refused.
+NEVER_REFUSED = ([b"show", b"alpha"], [b"show", b"display"])
+
+
+class Failure(Exception):
+    """Why a tool ends, and with which status."""
+
+    def __init__(self, why, status=1):
+        super().__init__(why)
+        self.status = status
+
+
+def bytes_of(path):
+    """The bytes of a file; `-` is standard input."""
+    try:
+        if path == "-":
+            return sys.stdin.buffer.read()
+        with open(path, "rb") as file:
+            return file.read()
+    except OSError as error:
+        raise Failure(f"{path}: it cannot be read: {error.strerror}") from error
+
+
+def end_with_reader():
+    """From here on the tool ends where what reads its output has ended. Not before: the bench may end with input unread."""
+    signal.signal(signal.SIGPIPE, signal.SIG_DFL)
+
+
+def lines_of(deck):
+    """The deck's lines with their ends; the last may have none."""
+    return re.findall(rb"[^\n]*\n|[^\n]+", deck)
+
+
+def text_of(line):
+    """The line without its end: an LF, and a CR directly before it."""
+    return re.sub(rb"\r?\n\Z", b"", line)
+
+
+def words_of(line):
+    """The line's words; none where it is too long."""
+    text = text_of(line)
+    return re.findall(rb"[^ \t]+", text) if len(text) <= LONGEST_LINE else []
+
+
+def is_skipped(line):
+    """Whether the line is a comment or blank."""
+    text = text_of(line)
+    return len(text) <= LONGEST_LINE and (text.startswith(b"#") or not text.strip(b" \t"))
+
+
+def items_of(lines):
+    """The deck's commands and blocks: of each the first line and the last, counted from 0."""
+    items, first = [], None
+    for at, line in enumerate(lines):
+        words = words_of(line)
+        if first is not None:
+            if words == [b"end"]:
+                items.append((first, at))
+                first = None
+        elif words[:1] and words[0] in OPENERS:
+            first = at
+        elif not is_skipped(line):
+            items.append((at, at))
+    if first is not None:
+        items.append((first, len(lines) - 1))
+    return items
+
+
+def marked(lines, items):
+    """The deck with the mark before each item but the first. None is needed behind the last, which may lack its end."""
+    firsts = {first for first, _ in items[1:]}
+    return b"".join(MARK + line if at in firsts else line for at, line in enumerate(lines))
+
+
+def answers_of(output):
+    """The lines that each item has printed, by the output of a marked deck."""
+    answers = [[]]
+    for line in output.splitlines():
+        answers[-1].append(line)
+        if answers[-1][-2:] == MARK_ANSWER:
+            del answers[-1][-2:]
+            answers.append([])
+    return answers
+
+
+def run(deck):
+    """Runs a deck: the status and what it writes. The program's own faults and the launcher's go to standard error."""
+    if len(deck) > LONGEST_DECK:
+        raise Failure(f"the deck has {len(deck)} bytes with what is added to it, and {LONGEST_DECK} is the most", 3)
+    ran = subprocess.run([BENCH, "run", "-"], input=deck, stdout=subprocess.PIPE)
+    if ran.returncode == NOT_BUILT:
+        raise Failure("the program could not be built", NOT_BUILT)
+    return ran.returncode, ran.stdout
+
+
+def refused(deck):
+    """The status of a deck, 0 where it has no refusal, and the refused commands and blocks: of each the first line and the
+    last, counted from 0, and the refusal."""
+    lines = lines_of(deck)
+    items = items_of(lines)
+    status, output = run(marked(lines, items))
+    answers = answers_of(output)
+    if status in (0, 1) and items and len(answers) != len(items):
+        raise Failure(f"the bench answered {len(answers)} commands of {len(items)}", 3)
+    found = [(first, last, answer[-1].decode()) for (first, last), answer in zip(items, answers)
+             if answer and answer[-1].startswith(b"! ") and words_of(lines[first]) not in NEVER_REFUSED]
+    return (status if status > 1 else int(bool(found))), found
+
+
+def hexadecimal(data):
+    """Bytes as lines of a block."""
+    return [data[at:at + 32].hex().upper().encode() for at in range(0, len(data), 32)]
+
+
+def block(opener, lines):
+    """A block of a deck, by its lines without their ends."""
+    return b"\n".join([opener, *lines, b"end", b""])
+
+
+def shown(text):
+    """A line as it is told, with what cannot be printed in escapes."""
+    text = text.decode(errors="backslashreplace") if isinstance(text, bytes) else text
+    text = "".join(letter if letter.isprintable() or letter == "\t" else letter.encode("unicode_escape").decode()
+                   for letter in text)
+    return text if len(text) <= LONGEST_LINE else f"{text[:LONGEST_LINE]}.."

@@ -1,0 +1,239 @@
+"""Lines of programs as listings have them, and the texts that the bench may read for each.
+
+Signs and names stand in the tables of docs/PROGRAMS.md. What is said here are the forms of lines: numbers, texts, labels,
+functions with an operand. A line has some texts, the likeliest first; whether the bench reads one is asked of the bench."""
+import re
+from dataclasses import dataclass, field
+
+from documents import codes_of, section_of, tables_of
+
+DOCUMENT = "PROGRAMS.md"
+
+# Signs that stand before a LBL in printed listings.
+LABEL_MARKS = "*♦◆▸▶►•●>"
+
+# The append sign, before a text, and as the first character between its quotes.
+APPENDED = re.compile(r"""(?:(?:[├⊢]|\|-|-[├⊢]|>(?=\s*["'])|APPEND(?=[\s"']))\s*)(?:"(.*)"|'(.*)'|(.+))""", re.I)
+APPENDED_WITHIN = re.compile(r'"(?:[├⊢]|-[├⊢]|\\7F)(.*)"')
+TEXT = re.compile(r'"(.*)"|\'(.*)\'|ᵀ(.+)')
+
+LABELLED = re.compile(r"""(LBL|GTO|XEQ|W)(?:\s*"(.*)"|\s*'(.*)'|\s*ᵀ(.*)|\s+([^\s"']+))""", re.I)
+NAME = re.compile(r"(?!IND\Z|\.).*[^\W\d_].*", re.I)
+ONE_LETTER = re.compile(r"(?:LBL|GTO|XEQ) ([A-Za-z])")
+
+OPERATED = re.compile(r"(.+?)\s+(?:(IND)\s*)?(?:ST\s+)?([0-9]{1,3}|[A-Za-z]|[├⊢]|\|-|APPEND)", re.I)
+STACK = "TZYXLMNOPQ"
+
+MODULE = re.compile(r"XROM\s*([0-9]{1,2})\s*[,/:.]\s*([0-9]{1,2})", re.I)
+LAST = re.compile(r"\.END\.\s+REG\s+[0-9]+", re.I)
+HEAD = re.compile(r"\{.*\}")
+
+NUMBER = re.compile(r"([+-]?)([0-9.,]*)(?:\s*[Ee]\s*([+-]?)\s*([0-9]*))?")
+GROUPS = re.compile(r"[1-9][0-9]{0,2}(?:,[0-9]{3})+(?:\.[0-9]*)?")
+GROUPS_OF_POINTS = re.compile(r"[1-9][0-9]{0,2}(?:\.[0-9]{3})+,[0-9]*")
+DECIMAL_COMMA = re.compile(r"[0-9]*,[0-9]*")
+
+
+@dataclass
+class Tables:
+    """The tables of the document."""
+
+    everywhere: dict = field(default_factory=dict)
+    in_names: dict = field(default_factory=dict)
+    in_texts: dict = field(default_factory=dict)
+    names: dict = field(default_factory=dict)
+    printed: dict = field(default_factory=dict)
+
+    def key(self, name):
+        """What a name is looked up by: capitals, its signs replaced, without blanks."""
+        name = re.sub(r"[a-z]", lambda letter: letter[0].upper(), re.sub(r"\s", "", name))
+        return replaced(name, self.in_names)
+
+    def name(self, name):
+        """The name of a function as the bench has it; one that the table has not stays."""
+        key = self.key(name)
+        return self.names.get(key, key)
+
+
+def replaced(text, signs):
+    for sign, other in signs.items():
+        text = text.replace(sign, other)
+    return text
+
+
+def read_tables():
+    """The tables of signs and names."""
+    tables = Tables()
+    for signs, other in tables_of(section_of(DOCUMENT, "Signs everywhere"))[0]:
+        tables.everywhere.update(dict.fromkeys(map(sign_of, codes_of(signs)), sign_of(codes_of(other)[0])))
+    for signs, name, text in tables_of(section_of(DOCUMENT, "Signs in names and texts"))[0]:
+        for cell, into in ((name, tables.in_names), (text, tables.in_texts)):
+            if codes_of(cell):
+                into.update(dict.fromkeys(codes_of(signs), codes_of(cell)[0]))
+    for name, printed, others in tables_of(section_of(DOCUMENT, "Names of functions"))[0]:
+        name = codes_of(name)[0]
+        if codes_of(printed):
+            tables.printed[name] = codes_of(printed)[0]
+        tables.names.update(dict.fromkeys(map(tables.key, codes_of(printed) + codes_of(others)), name))
+    return tables
+
+
+def sign_of(code):
+    """A sign of the first table, which may be written U+ and its number."""
+    return chr(int(code[2:], 16)) if re.fullmatch(r"U\+[0-9A-F]{4}", code) else code
+
+
+def outside_quotes(text, sign):
+    """Where a sign first stands outside quotes; -1 where it does not."""
+    quoted = False
+    for at, letter in enumerate(text):
+        quoted ^= letter == '"'
+        if letter == sign and not quoted:
+            return at
+    return -1
+
+
+class Speller:
+    """Spells the lines of a listing. What its commas mean is told by all of its numbers."""
+
+    def __init__(self, tables, lines):
+        self.tables = tables
+        numbers = [found[2] for found in map(NUMBER.fullmatch, map(self.plain, lines)) if found]
+        certain = [number for number in numbers if "," in number and not self.is_ambiguous(number)]
+        self.comma_is_point = bool(certain) and not any(map(GROUPS.fullmatch, certain))
+
+    @staticmethod
+    def is_ambiguous(number):
+        """Whether a comma may part thousands or be the decimal point."""
+        return number.count(",") == 1 and "." not in number and GROUPS.fullmatch(number) is not None
+
+    def plain(self, line):
+        """The line with typewriter's signs alone, without a comment behind it and a mark before its LBL."""
+        line = replaced(line, self.tables.everywhere)
+        at = outside_quotes(line, ";")
+        line = (line if at < 0 else line[:at]).strip()
+        return re.sub(rf"\A[{re.escape(LABEL_MARKS)}]\s*(?=LBL\b)", "", line, flags=re.I)
+
+    def spellings(self, line):
+        """The texts that a line may have, the likeliest first, each with a remark on how it was read. None where nothing
+        is left of the line, as of a comment."""
+        line = self.plain(line)
+        if line == "" or HEAD.fullmatch(line):
+            return None
+        found = [(line, "")]
+        for form in (self.number, self.text, self.module, self.function, self.label, self.whole):
+            found += form(line)
+        return found
+
+    def number(self, line):
+        """A number: blanks and plus signs go, and commas are read."""
+        found = NUMBER.fullmatch(line)
+        if not found or found[4] is None and not re.search(r"[0-9]", found[2]):
+            return []
+        sign, mantissa, exponent_sign, exponent = found.groups()
+        read, remark = self.commas(mantissa)
+        if read is None:
+            return []
+        end = "" if exponent is None else f"E{exponent_sign.replace('+', '')}{exponent}"
+        return [(f"{sign.replace('+', '')}{read}{end}", remark)]
+
+    def commas(self, mantissa):
+        """The mantissa without commas, and how they were read."""
+        if "," not in mantissa:
+            return mantissa, ""
+        thousands, point = mantissa.replace(",", ""), mantissa.replace(",", ".")
+        if self.is_ambiguous(mantissa):
+            if self.comma_is_point:
+                return point, "the comma is the decimal point, as in other numbers of this listing"
+            return thousands, f"the comma parts thousands; else write {point}"
+        if GROUPS.fullmatch(mantissa):
+            return thousands, "commas part thousands"
+        if GROUPS_OF_POINTS.fullmatch(mantissa):
+            return mantissa.replace(".", "").replace(",", "."), "points part thousands"
+        if DECIMAL_COMMA.fullmatch(mantissa):
+            return point, "the comma is the decimal point"
+        return None, ""
+
+    def characters(self, text):
+        """The characters of a text or a name between quotes."""
+        return replaced(text, self.tables.in_texts)
+
+    def text(self, line):
+        """A text for ALPHA."""
+        for form, front in ((APPENDED_WITHIN, ">"), (APPENDED, ">"), (TEXT, "")):
+            found = form.fullmatch(line)
+            if found:
+                content = next(part for part in found.groups() if part is not None)
+                return [(f'{front}"{self.characters(content)}"', "")]
+        return []
+
+    @staticmethod
+    def module(line):
+        """A function of a module, by its numbers."""
+        found = MODULE.fullmatch(line)
+        return [(f"XROM {int(found[1]):02},{int(found[2]):02}", "")] if found else []
+
+    def function(self, line):
+        """A function with its operand."""
+        found = OPERATED.fullmatch(line)
+        if not found:
+            return []
+        name, indirect, operand = found.groups()
+        return [(f"{self.tables.name(name)} {'IND ' if indirect else ''}{self.operand(operand)}", "")]
+
+    @staticmethod
+    def operand(text):
+        """An operand: two digits, a letter, or the append register."""
+        if text.isdecimal():
+            return f"{int(text):02}"
+        if len(text) == 1 and text.isascii():
+            return text if text in "abcde" else text.upper()
+        return "append"
+
+    def label(self, line):
+        """A label by its name, in quotes or without."""
+        found = LABELLED.fullmatch(line)
+        if not found:
+            return []
+        name = next(part for part in found.groups()[1:] if part is not None)
+        if found[5] and not NAME.fullmatch(name):
+            return []
+        return [(f'{found[1].upper()} "{self.characters(name)}"', "")]
+
+    def function_called(self, text):
+        """The line that a function would be, whose name is called as a label's; none where no name is called."""
+        found = re.fullmatch(r'XEQ "([^"]+)"', text)
+        return self.tables.name(found[1]) if found else None
+
+    def whole(self, line):
+        """A function without an operand."""
+        if LAST.fullmatch(line):
+            return [(".END.", "")]
+        has_letter = not line.isascii() or re.search(r"[A-Za-z]", line)
+        if '"' in line or not has_letter and self.tables.key(line) not in self.tables.names:
+            return []
+        return [(self.tables.name(line), "")]
+
+
+def remark_on(line):
+    """How a line that the bench reads may be meant otherwise; nothing where it may not."""
+    found = ONE_LETTER.fullmatch(line)
+    if found:
+        return f'the label {found[1]} of one letter; a name stands in quotes, "{found[1]}"'
+    if line.startswith('"|-'):
+        return f'a text that begins with |-; appended it is >"{line[3:]}'
+    if NUMBER.fullmatch(line) and line.count(".") > 1:
+        return "a number with two points, as it stands"
+    return ""
+
+
+def printed(tables, line):
+    """A line as archives print it, which is read as the same line again."""
+    found = re.fullmatch(r'(>?|[A-Z]+ )(".*")', line)
+    if found:
+        signs = {}
+        for sign, other in tables.in_texts.items():
+            signs.setdefault(other, sign)
+        return found[1].replace(">", "├") + replaced(found[2], signs)
+    name, blank, operand = line.partition(" ")
+    return tables.printed.get(name, name) + blank + operand.replace("append", "├")

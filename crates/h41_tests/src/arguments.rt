@@ -83,6 +83,19 @@ fn prints_help(rt: HostRuntime) {
 }
 
 #[test]
+fn tells_the_version(rt: HostRuntime) {
+    for word in ["--version", "-V"] {
+        let words = ["bench", word];
+        let holds = match read_words(rt.alloc(), &words) {
+            Ok(_) => false,
+            Err(ending) => ending.status() == 0 && ending.text().contains("bench 0.1.0, proved with"),
+        };
+        assert!(rt; holds, "at {words:?}");
+    }
+    ends(&rt, rt.alloc(), &["bench", "run", "--version"], 2);
+}
+
+#[test]
 fn refuses_other_words(rt: HostRuntime) {
     ends(&rt, rt.alloc(), &[], 2);
     ends(&rt, rt.alloc(), &["bench"], 2);

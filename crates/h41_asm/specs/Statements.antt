@@ -1,6 +1,6 @@
 -- What a line of a source says behind its label: the words of an instruction or of a directive, some by an address that a
--- label stands for; or that it cannot be read. Instructions are the mnemonics of HP's VASM listings; the directives CON, NAME,
--- ENTRY and FOCAL, and which faults there are, are this project's own.
+-- label stands for; or that it cannot be read. Instructions are those of this project's table of mnemonics; the directives CON,
+-- NAME, ENTRY and FOCAL, and which faults there are, are its own too.
 use Rattle.std.specs.Prelude.{ℕ, ◌+◌, ◌/◌, ◌%◌, ℤ, Bool, ◌&&◌, List, [], ◌∷◌, ◌++◌, length, drop, map, filter, find, reverse, ◌==◌, is_none, if◌then◌else◌, Option, Some, None, option_map, Result, Ok, Err, bytes_eq, codes}
 use Rattle.std.specs.Prelude.{int_le}
 use Rattle.std.specs.List.{list_any, starts_with}

@@ -1,5 +1,5 @@
-//! The assembler: from the text of a source to the words that it spells. Mnemonics are those of HP's VASM listings, the
-//! directives this project's own.
+//! The assembler: from the text of a source to the words that it spells. Mnemonics and
+//! directives are this project's own.
 #![tactic(auto)]
 
 mod assembler;

@@ -3,7 +3,7 @@
 
 ghost use Rattle.std.specs.Prelude.{◌≡◌, ◌≢◌, ◌∷◌, ◌≤◌, true, Err, IfOk, IfSome, IsSome, Ok, OnErr, codes, drop, map, string_bytes};
 ghost use Rattle.h41_bench.specs.ProgramWords.{named};
-ghost use Rattle.h41_jobs.specs.CommandLine.{asks_help, file_to_run, is_mistake};
+ghost use Rattle.h41_jobs.specs.CommandLine.{asks_help, asks_version, file_to_run, is_mistake};
 ghost use Rattle.h41_jobs.specs.Ending.{status_of};
 ghost use Rattle.h41_jobs.specs.Statuses.{EndsJobOf, EndsTask, IsOrFailed, IsStatus, IsTaskStatus};
 
@@ -39,6 +39,7 @@ fn main(rt: HostRuntime) -> ExitCode {
 /// there is no job. Answers the status.
 fn run_words(rt: &HostRuntime, alloc: Global, words: &[String]) -> u8
     ensures help { asks_help (named (map string_bytes words.now)) ≡ true → IsOrFailed 0 result }
+    ensures version { asks_version (named (map string_bytes words.now)) ≡ true → IsOrFailed 0 result }
     ensures mistake { is_mistake (named (map string_bytes words.now)) ≡ true → IsOrFailed 2 result }
     ensures run { IsSome (file_to_run (named (map string_bytes words.now))) → IsStatus result }
     ensures job { EndsJobOf (named (map string_bytes words.now)) result }

@@ -1,5 +1,5 @@
--- The listing of words: they are cut into instructions, and each is told on a line of its own. The texts are those of HP's
--- VASM listings; the form of a line is this project's own.
+-- The listing of words: they are cut into instructions, and each is told on a line of its own. The texts are those of
+-- this project's table of mnemonics, and so is the form of a line.
 use Rattle.std.specs.Prelude.{ℕ, ◌+◌, ◌%◌, List, [], ◌∷◌, ◌++◌, flat_map, Option, Some, None, codes, ◌==◌, if◌then◌else◌}
 use Rattle.h41_digits.specs.Register.{hexadecimal_text}
 use Rattle.h41_words.specs.Mnemonics.{row_text, instruction_text}

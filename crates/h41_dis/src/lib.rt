@@ -1,4 +1,4 @@
-//! The lister: the text of the HP-41's words, an instruction a line. Mnemonics are those of HP's VASM listings.
+//! The lister: the text of the HP-41's words, an instruction a line. Mnemonics are this project's table.
 #![tactic(auto)]
 
 mod cut;

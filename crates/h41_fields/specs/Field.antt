@@ -1,4 +1,4 @@
--- The fields of a register: the places that a word of the Nut processor works on, by the names of HP's VASM listings.
+-- The fields of a register: the places that a word of the Nut processor works on, by the names of this project's table of mnemonics.
 use Rattle.std.specs.Prelude.{ℕ, ◌+◌, ◌-◌, Bool, true, ◌&&◌, ◌||◌, List, [], ◌∷◌, length, slice_index, filter, nat_lt, nat_le, ◌==◌}
 use Rattle.std.specs.List.{range_with_len}
 use Rattle.h41_fields.specs.declared.field.Field.{Field}

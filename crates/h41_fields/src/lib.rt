@@ -1,4 +1,4 @@
-//! The fields of a register that the words of the HP-41's Nut processor work on, by the names of HP's VASM listings.
+//! The fields of a register that the words of the HP-41's Nut processor work on, by the names of this project's table of mnemonics.
 #![tactic(auto)]
 
 mod field;

@@ -9,7 +9,7 @@ use Rattle.std.proofs.lemmas.Slice.Eq.{bytes_eq-Decides}
 use Rattle.clap.specs.Words.{Row, Rule, Shape, Text, first_of, subcommand_of}
 use Rattle.clap.specs.Walk.{Outcome, after_flag, after_step, subcommand_met, subcommand_or_other, trailing, Held, Names, Step, Waiting, Walk, idle, word_met, value, walk, walk_from, walked, nothing_held, settled, finished, has_long, has_short, arg_by_long, arg_by_short, arg_by_index, long_or_other, short_or_plain, to_positional, bundle_met}
 use Rattle.clap.specs.Walk as outcome
-use Rattle.clap.specs.Simple.{built, entered, built_leaf, filled, help_rule, inherited, marked_built, with_index, with_leaf_noted, names_of}
+use Rattle.clap.specs.Simple.{built, entered, built_leaf, filled, help_rule, inherited, marked_built, version_rule, with_index, with_leaf_noted, names_of}
 use Rattle.clap.specs.Lexer.{long_of, long_of_rest, short_of, short_of_rest, strip_byte}
 use Rattle.clap.specs.Kinds.{IsAmong, Kinds, or_else}
 use Rattle.clap.specs.Faults.{fault_of, is_simple_and_free, other_fault, word_fault, flag_word_fault, long_fault, short_fault, bundle_fault, bundle_step_fault, flags_fault, turn_fault, walk_fault, step_fault, settle_fault, defaults_fault, check_fault, level_fault, entered_fault}
@@ -33,7 +33,7 @@ use Rattle.h41_jobs.specs.declared.arguments.Ending.{Ending}
 use Rattle.h41_jobs.specs.declared.arguments.Ending.TheVariants as endings
 use Rattle.h41_jobs.specs.declared.arguments.Job.{Job}
 use Rattle.h41_jobs.specs.Ending.{AsksFor, AsksForNoRun, AsksToRun, GivesJob, parts_of}
-use Rattle.h41_jobs.specs.CommandLine.{asks_help, has_wrong_files, is_command, is_help_flag, is_mistake, is_flag, is_last_flag, only_file, file_for, file_to_run}
+use Rattle.h41_jobs.specs.CommandLine.{asks_help, asks_version, has_wrong_files, is_command, is_help_flag, is_mistake, is_flag, is_last_flag, only_file, file_for, file_to_run}
 
 pub simple_bench : is_simple_and_free bench_app ≡ true
 simple_bench = refl
@@ -90,8 +90,27 @@ refuses_if : (rules : List Rule) (again : Bool) (t : Bool) → Refuses rules aga
 refuses_if rules again true = refuses_help rules again
 refuses_if rules again false = refuses_none rules again
 
+abbrev version : Rule
+version = with_index 1 (filled version_rule)
+
+refuses_version : (rules : List Rule) (again : Bool) → Refuses rules again (Some version)
+refuses_version rules again None rest rows pending next = (
+  λ e. let asked : kind.DisplayVersion ∷ [] ≡ [] = (nothing_left _ _ e).1 in cc,
+  λ e. let asked : kind.DisplayVersion ∷ [] ≡ [] = (nothing_left _ _ (nothing_left _ _ e).0).1 in cc,
+)
+refuses_version rules again (Some v) rest rows pending next = (
+  λ e. cc,
+  λ e. let asked : kind.DisplayVersion ∷ [] ≡ [] = (nothing_left _ _ (nothing_left _ _ e).0).1 in cc,
+)
+
+-- the flag for help, else the one for the version, else none
+refuses_either : (rules : List Rule) (again : Bool) (t u : Bool) → Refuses rules again (cond t (Some help) (cond u (Some version) None))
+refuses_either rules again true u = refuses_help rules again
+refuses_either rules again false true = refuses_version rules again
+refuses_either rules again false false = refuses_none rules again
+
 top_refuses : RefusesAll top.rules false
-top_refuses = (λ n. refuses_if top.rules false (has_long help n), λ x. refuses_if top.rules false (has_short help x))
+top_refuses = (λ n. refuses_either top.rules false (has_long help n) (has_long version n), λ x. refuses_either top.rules false (has_short help x) (has_short version x))
 
 leaf_refuses : RefusesAll leaf.rules false
 leaf_refuses = (λ n. refuses_if leaf.rules false (has_long help n), λ x. refuses_if leaf.rules false (has_short help x))
@@ -721,6 +740,31 @@ helps (name ∷ a ∷ b ∷ []) is =
     a parts.0
 helps (name ∷ a ∷ b ∷ c ∷ rest) is = cc
 
+-- ---- words that ask for the version
+
+version_long : (name : Text) → fault_of bench_app (name ∷ codes "--version" ∷ []) ≡ kind.DisplayVersion ∷ []
+unfolding clap_on_literals
+version_long name = refl
+
+version_short : (name : Text) → fault_of bench_app (name ∷ codes "-V" ∷ []) ≡ kind.DisplayVersion ∷ []
+unfolding clap_on_literals
+version_short name = refl
+
+pub versions : (words : List Text) → asks_version words ≡ true → fault_of bench_app words ≡ kind.DisplayVersion ∷ []
+versions [] is = cc
+versions (name ∷ []) is = cc
+versions (name ∷ a ∷ []) is = go (bytes_eq a (codes "--version")) refl (bytes_eq a (codes "-V")) refl
+  where
+    P : Text → Type 0
+    P word = fault_of bench_app (name ∷ word ∷ []) ≡ kind.DisplayVersion ∷ []
+
+    go : (x : Bool) → bytes_eq a (codes "--version") ≡ x → (y : Bool) → bytes_eq a (codes "-V") ≡ y → P a
+    go true same y _ = subst P (sym ((bytes_eq-Decides a (codes "--version")).0 same)) (version_long name)
+    go false _ true same = subst P (sym ((bytes_eq-Decides a (codes "-V")).0 same)) (version_short name)
+    go false no_long false no_short =
+        let bad : false ≡ true = sym (ap₂ (λ x y. x || y) no_long no_short) ∙ is in cc
+versions (name ∷ a ∷ b ∷ rest) is = cc
+
 -- ---- words that are wrong
 
 -- some kind may come, and none of them is an answer
@@ -978,6 +1022,15 @@ failed_help words e has is = go (subst (λ kinds. HasKind kinds e) (helps words 
     go (inr (inl help)) = inr help
     go (inr (inr none)) = absurd none
 
+pub failed_version : (words : List Text) (e : Error) → HasKind (fault_of bench_app words) e → asks_version words ≡ true
+    → (kind_of e ≡ kind.OutOfMemory) ⊎ (kind_of e ≡ kind.DisplayVersion)
+failed_version words e has is = go (subst (λ kinds. HasKind kinds e) (versions words is) has)
+  where
+    go : HasKind (kind.DisplayVersion ∷ []) e → (kind_of e ≡ kind.OutOfMemory) ⊎ (kind_of e ≡ kind.DisplayVersion)
+    go (inl memory) = inl memory
+    go (inr (inl version)) = inr version
+    go (inr (inr none)) = absurd none
+
 pub failed_mistake : (words : List Text) (e : Error) → HasKind (fault_of bench_app words) e → is_mistake words ≡ true
     → (kind_of e ≡ kind.DisplayHelp → ⊥) × (kind_of e ≡ kind.DisplayVersion → ⊥)
 failed_mistake words e has is = go has
@@ -988,6 +1041,9 @@ failed_mistake words e has is = go has
 
 pub no_help_run : (words : List Text) → asks_help words ≡ true → fault_of bench_app words ≡ [] → ⊥
 no_help_run words is e = let bad : kind.DisplayHelp ∷ [] ≡ [] = sym (helps words is) ∙ e in cc
+
+pub no_version_run : (words : List Text) → asks_version words ≡ true → fault_of bench_app words ≡ [] → ⊥
+no_version_run words is e = let bad : kind.DisplayVersion ∷ [] ≡ [] = sym (versions words is) ∙ e in cc
 
 pub no_mistaken_run : (words : List Text) → is_mistake words ≡ true → fault_of bench_app words ≡ [] → ⊥
 no_mistaken_run words is e = (mistakes words is).some e

@@ -23,11 +23,11 @@ run_app = with_rule (new_app (codes "run")) file_rule
 abbrev pub origin_app : Text → App
 origin_app name = with_rule (with_rule (new_app name) origin_rule) file_rule
 
--- a subcommand is required
+-- a subcommand is required, and there is a version to be told
 abbrev pub empty_bench : App
 empty_bench =
     record (new_app (codes "bench")) {
-      top = record (new_app (codes "bench")).top { subcommand_required = true };
+      top = record (new_app (codes "bench")).top { has_version = true; subcommand_required = true };
     }
 
 abbrev pub bench_app : App

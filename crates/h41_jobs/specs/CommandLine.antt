@@ -48,6 +48,16 @@ asks_help (name ∷ a ∷ []) = is_help_flag a
 asks_help (name ∷ a ∷ b ∷ []) = is_command a && is_help_flag b
 asks_help (name ∷ a ∷ b ∷ c ∷ rest) = false
 
+-- a flag for the version stands alone
+abbrev pub is_version_flag : List ℕ → Bool
+is_version_flag word = bytes_eq word (codes "--version") || bytes_eq word (codes "-V")
+
+abbrev pub asks_version : List (List ℕ) → Bool
+asks_version [] = false
+asks_version (name ∷ []) = false
+asks_version (name ∷ a ∷ []) = is_version_flag a
+asks_version (name ∷ a ∷ b ∷ rest) = false
+
 -- FILE is missing, or the first two words after a command are both FILEs
 abbrev pub has_wrong_files : List (List ℕ) → Bool
 has_wrong_files [] = true

@@ -4,7 +4,7 @@ ghost use Rattle.std.specs.Prelude.{◌≡◌, ◌≢◌, [], true, false, codes
 ghost use Rattle.clap.specs.Words.{FailsBy, HasMatchesOf, app_of, fault_of, kind_of, rule_of, subcommand_rows_of};
 ghost use Rattle.clap.specs.declared.error.kind.ErrorKind.TheVariants as kind;
 ghost use Rattle.h41_jobs.specs.BenchCommand.{bench_app, file_rule, has_globals, job_in, origin_app, origin_asked, origin_in, origin_rule, run_app, task_asked};
-ghost use Rattle.h41_jobs.specs.CommandLine.{asks_help, asm_file, dis_file, file_to_run, is_mistake};
+ghost use Rattle.h41_jobs.specs.CommandLine.{asks_help, asks_version, asm_file, dis_file, file_to_run, is_mistake};
 ghost use Rattle.h41_jobs.specs.Ending.{AsksForNoRun, AsksTo, AsksToRun, EndsAtOnce, EndsWith, GivesJob, GivesJobOf, IsNoHelp, parts_of, status_of, text_of};
 
 use crate::numbers::origin_value;
@@ -34,7 +34,7 @@ pub struct Job<'a> {
 /// How the program ends at once.
 #[derive(Debug, Drop)]
 pub enum Ending {
-    /// Help was asked for. The text is for standard output.
+    /// Help or the version was asked for. The text is for standard output.
     Help(String),
     /// The words are wrong. The text is for standard error.
     Mistake(String),
@@ -69,8 +69,17 @@ impl Ending {
 /// The address of the first word where none is given.
 const ORIGIN: u16 = 0x8000;
 
+/// The version, and the kit that proves it, as `rt version` prints it.
+const VERSION: &str = "0.1.0, proved with rattle-kit-13b logic dac8208d650f15bf";
+
 /// What a wrong origin is answered with.
 const WRONG_ORIGIN: &str = "error: the origin has not four hexadecimal digits\n";
+
+/// How the program is started.
+const USAGE: &str = "\
+bench run FILE
+       bench asm [--origin HHHH] FILE
+       bench dis [--origin HHHH] FILE";
 
 /// What help tells behind the usage.
 const DECKS: &str = "\
@@ -118,9 +127,9 @@ decks to try, and tools/where tells which lines of a deck were refused.";
 
 /// What help tells of `asm`, behind the usage.
 const SOURCES: &str = "\
-A source is a text file of instructions, one a line, as HP's VASM listings spell
-them. A label ends with a colon, a reference to it begins with one, and a comment
-begins with a semicolon. Such as:
+A source is a text file of instructions, one a line, in the mnemonics of this
+project's table, docs/PROCESSOR.md. A label ends with a colon, a reference to it
+begins with one, and a comment begins with a semicolon. Such as:
 
     BACK: LDI 123
           C=C+1 S&X
@@ -147,12 +156,14 @@ fn bench<'a>(alloc: Global) -> Result<Command<'a>, AllocError>
     ensures { IfOk result (λ command. app_of command ≡ bench_app) }
 {
     Command::new(alloc, "bench")
+        .version(VERSION)
         .about("Runs decks of commands of the bench, assembles sources, lists words")
+        .override_usage(USAGE)
         .after_help(DECKS)
         .subcommand_required(true)
         .subcommand(run_command(alloc)?)?
-        .subcommand(origin_command(alloc, "asm", "Assembles a source", SOURCES)?)?
-        .subcommand(origin_command(alloc, "dis", "Lists words as instructions", WORDS)?)
+        .subcommand(assemble_command(alloc)?)?
+        .subcommand(list_command(alloc)?)
 }
 
 /// The command that takes FILE alone.
@@ -162,15 +173,35 @@ fn run_command<'a>(alloc: Global) -> Result<Command<'a>, AllocError>
 {
     Command::new(alloc, "run")
         .about("Runs a deck of commands")
+        .override_usage("bench run FILE")
         .after_help(DECKS)
         .arg(file_argument(alloc))
 }
 
-/// A command that takes an origin beside FILE. Help says what it is about, and the text behind the usage.
+/// The command that assembles a source.
+fn assemble_command<'a>(alloc: Global) -> Result<Command<'a>, AllocError>
+    ensures app { IfOk result (λ command. app_of command ≡ origin_app (codes "asm")) }
+    ensures local { IfOk result (λ command. has_globals command ≡ false) }
+{
+    let usage = "bench asm [--origin HHHH] FILE";
+    origin_command(alloc, "asm", "Assembles a source", usage, SOURCES)
+}
+
+/// The command that lists words.
+fn list_command<'a>(alloc: Global) -> Result<Command<'a>, AllocError>
+    ensures app { IfOk result (λ command. app_of command ≡ origin_app (codes "dis")) }
+    ensures local { IfOk result (λ command. has_globals command ≡ false) }
+{
+    let usage = "bench dis [--origin HHHH] FILE";
+    origin_command(alloc, "dis", "Lists words as instructions", usage, WORDS)
+}
+
+/// A command that takes an origin beside FILE. Help says what it is about, its usage, and the text behind that.
 fn origin_command<'a>(
     alloc: Global,
     name: &'a str,
     about: &'a str,
+    usage: &'a str,
     text: &'a str,
 ) -> Result<Command<'a>, AllocError>
     ensures app { IfOk result (λ command. app_of command ≡ origin_app name.now) }
@@ -178,6 +209,7 @@ fn origin_command<'a>(
 {
     Command::new(alloc, name)
         .about(about)
+        .override_usage(usage)
         .after_help(text)
         .arg(origin_argument(alloc))?
         .arg(file_argument(alloc))
@@ -274,6 +306,7 @@ fn wrong_origin(alloc: Global) -> Ending
 fn make_ending(alloc: Global, error: Error) -> Ending
     ensures memory { kind_of error ≡ kind.OutOfMemory → result ≡ Ending.OutOfMemory }
     ensures help { kind_of error ≡ kind.DisplayHelp → EndsWith 0 result }
+    ensures version { kind_of error ≡ kind.DisplayVersion → EndsWith 0 result }
     ensures mistake { IsNoHelp (kind_of error) → EndsWith 2 result }
 {
     if error.kind() == ErrorKind::OutOfMemory {
@@ -299,6 +332,7 @@ pub fn read_words<'a>(alloc: Global, words: &'a [&'a str]) -> Result<Job<'a>, En
     ensures asm { IfSome (asm_file words.now) (AsksTo result (Task.Assemble 0x8000)) }
     ensures dis { IfSome (dis_file words.now) (AsksTo result (Task.List 0x8000)) }
     ensures help { asks_help (map (λ w. w.now) words.now) ≡ true → EndsAtOnce 0 result }
+    ensures version { asks_version (map (λ w. w.now) words.now) ≡ true → EndsAtOnce 0 result }
     ensures mistake { is_mistake (map (λ w. w.now) words.now) ≡ true → EndsAtOnce 2 result }
 
     // Where the words are taken, the job is that of the command, the FILE and the origin in them, and a wrong origin ends the

@@ -63,9 +63,14 @@ fn is_mistake<'a>(rt: &impl Abort, alloc: Global, words: &'a [&'a str]) {
 
 /// The words end the program with the status, and the text shows how `bench` is used.
 fn ends<'a>(rt: &impl Abort, alloc: Global, words: &'a [&'a str], status: u8) {
+    tells(rt, alloc, words, status, "Usage: bench");
+}
+
+/// The words end the program with the status, and the text has this part.
+fn tells<'a>(rt: &impl Abort, alloc: Global, words: &'a [&'a str], status: u8, part: &str) {
     let holds = match read_words(alloc, words) {
         Ok(_) => false,
-        Err(ending) => ending.status() == status && ending.text().contains("Usage: bench"),
+        Err(ending) => ending.status() == status && ending.text().contains(part),
     };
     assert!(rt; holds, "at {words:?}");
 }
@@ -80,6 +85,15 @@ fn prints_help(rt: HostRuntime) {
             ends(&rt, rt.alloc(), &["bench", words[0], words[1]], 0);
         }
     }
+}
+
+#[test]
+fn tells_the_version(rt: HostRuntime) {
+    for word in ["--version", "-V"] {
+        let words = ["bench", word];
+        tells(&rt, rt.alloc(), &words, 0, "bench 0.1.0, proved with rattle-kit-");
+    }
+    ends(&rt, rt.alloc(), &["bench", "run", "--version"], 2);
 }
 
 #[test]

@@ -1,4 +1,4 @@
--- The listing: which rows there are, in the order of HP's VASM listings.
+-- The listing: which rows there are, family after family, and then the single words.
 use Rattle.std.specs.Prelude.{◌-◌, ℤ, pos, negsuc, List, [], ◌∷◌, ◌++◌, map}
 use Rattle.std.specs.List.{flat_map, range_with_len}
 use Rattle.h41_fields.specs.declared.field.Field.{Field}

@@ -1,4 +1,4 @@
--- The text of each instruction as HP's VASM listings have it: its mnemonic, and an operand behind a blank where it takes one.
+-- The text of each instruction in this project's table of mnemonics: its name, and an operand behind a blank where it takes one.
 -- Addresses, displacements and the numbers of LDI and CON are hexadecimal and in upper case, the other operands decimal.
 use Rattle.std.specs.Prelude.{ℕ, ◌+◌, ◌*◌, ℤ, pos, negsuc, List, [], ◌++◌, Option, Some, None, codes}
 use Rattle.std.specs.Fmt.{decimal}

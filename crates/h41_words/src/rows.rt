@@ -1,5 +1,4 @@
-//! The rows of the table of words: what a word can stand for. Each comment begins with the mnemonic of HP's VASM
-//! listings.
+//! The rows of the table of words: what a word can stand for. Each comment begins with the mnemonic.
 use crate::operands::{BlockRegister, Digit, Displacement, Place, ReadRegister, StatusBit};
 use crate::operation::Operation;
 use crate::unassigned::UnassignedWord;

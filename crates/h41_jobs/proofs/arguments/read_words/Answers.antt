@@ -3,7 +3,7 @@ use Rattle.h41_jobs.specs.declared.arguments.Task.TheVariants as tasks
 use Rattle.h41_jobs.specs.CommandLine.{file_for, file_to_run}
 use Rattle.h41_jobs.specs.Ending.{GivesJob}
 use Rattle.h41_jobs.specs.BenchCommand.{job_asked}
-use Rattle.h41_jobs.proofs.CommandLemmas.{asked_of, asm_meets, dis_meets, gives_these, failed_help, failed_memory, failed_mistake, failed_run, if_none, if_some, no_help_run, no_mistaken_run, run_asked, runs_file, runs_none, runs_out}
+use Rattle.h41_jobs.proofs.CommandLemmas.{asked_of, asm_meets, dis_meets, gives_these, failed_help, failed_memory, failed_mistake, failed_run, failed_version, if_none, if_some, no_help_run, no_mistaken_run, no_version_run, run_asked, runs_file, runs_none, runs_out}
 use Rattle.h41_jobs.proofs.arguments.read_words.Goals as goal
 
 pub returns-in-Ok-clause-run : goal.returns-in-Ok-clause-run
@@ -22,6 +22,11 @@ pub returns-in-Ok-clause-help : goal.returns-in-Ok-clause-help
 returns-in-Ok-clause-help c = λ is.
     let words : List (List ℕ) = map (λ w. w.now) c.args.words.now in
     absurd (no_help_run words is c.in-Ok.ensures.kinds)
+
+pub returns-in-Ok-clause-version : goal.returns-in-Ok-clause-version
+returns-in-Ok-clause-version c = λ is.
+    let words : List (List ℕ) = map (λ w. w.now) c.args.words.now in
+    absurd (no_version_run words is c.in-Ok.ensures.kinds)
 
 pub returns-in-Ok-clause-mistake : goal.returns-in-Ok-clause-mistake
 returns-in-Ok-clause-mistake c = λ is.
@@ -44,6 +49,14 @@ returns-in-Err-clause-help c = λ is.
     elim (failed_help words c.in-Err.error c.in-Err.ensures.kinds is) [
       | inl memory ↦ inr (c.make_ending.ensures.memory memory)
       | inr help ↦ c.make_ending.ensures.help help
+    ]
+
+pub returns-in-Err-clause-version : goal.returns-in-Err-clause-version
+returns-in-Err-clause-version c = λ is.
+    let words : List (List ℕ) = map (λ w. w.now) c.args.words.now in
+    elim (failed_version words c.in-Err.error c.in-Err.ensures.kinds is) [
+      | inl memory ↦ inr (c.make_ending.ensures.memory memory)
+      | inr version ↦ c.make_ending.ensures.version version
     ]
 
 pub returns-in-Err-clause-mistake : goal.returns-in-Err-clause-mistake

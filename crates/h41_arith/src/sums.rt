@@ -136,7 +136,7 @@ pub fn neg<const DEC: bool>(into: Reg, x: Reg, span: Span) -> (Reg, bool)
 
 /// `into` with 0 - `x` - 1 in the span, each digit's complement to the base less one, and the borrow, which is always set.
 pub fn neg1<const DEC: bool>(into: Reg, x: Reg, span: Span) -> (Reg, bool)
-    ensures rule { DifferenceInto (base_of DEC) into zeros x true span.lo span.hi result.0 result.1 }
+    ensures sub { DifferenceInto (base_of DEC) into zeros x true span.lo span.hi result.0 result.1 }
     ensures borrow { result.1 ≡ true }
 {
     sub::<DEC>(into, Reg::zero(), x, true, span)

@@ -39,7 +39,7 @@ fn main(rt: HostRuntime) -> ExitCode {
 /// there is no job. Answers the status.
 fn run_words(rt: &HostRuntime, alloc: Global, words: &[String]) -> u8
     ensures help { asks_help (named (map string_bytes words.now)) ≡ true → IsOrFailed 0 result }
-    ensures version { asks_version (named (map string_bytes words.now)) ≡ true → IsOrFailed 0 result }
+    ensures about { asks_version (named (map string_bytes words.now)) ≡ true → IsOrFailed 0 result }
     ensures mistake { is_mistake (named (map string_bytes words.now)) ≡ true → IsOrFailed 2 result }
     ensures run { IsSome (file_to_run (named (map string_bytes words.now))) → IsStatus result }
     ensures job { EndsJobOf (named (map string_bytes words.now)) result }

@@ -74,7 +74,7 @@ impl Image {
     /// Writes the word at an offset.
     pub fn write(&mut self, offset: usize, word: Word)
         requires { offset < page_size }
-        ensures change { self.new ≡ record self.old { words = slice_set self.old.words offset word } }
+        ensures one { self.new ≡ record self.old { words = slice_set self.old.words offset word } }
         ensures word { word < word_count }
     {
         let _number = word.number();

@@ -19,7 +19,7 @@ invariant_of-self c =
           let held : IsHeldImage page place w.in-Some.image =
           row_held images chosen page place row _ (Some w.in-Some.image) _ c.self.invariant below inside c.index_mut.ensures.value w.in-Some.is in
           rw w.self-inside-is (row_changed images chosen page place row _ (Some w.write.new.self) c.self.invariant below inside c.index_mut.ensures.value
-          (subst (IsHeldImage page place) (sym w.write.ensures.change)
+          (subst (IsHeldImage page place) (sym w.write.ensures.one)
           (image_held_with page place w.in-Some.image w.offset_of.result c.args.word held w.write.ensures.word)))
       | in_default w ↦
           rw w.self-inside-is (row_changed images chosen page place row _ (Some w.in-Some.image) c.self.invariant below inside c.index_mut.ensures.value

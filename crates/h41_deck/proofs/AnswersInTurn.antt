@@ -124,8 +124,7 @@ module _ (old mid new : Option (List ℕ)) (all left : List Spelled) (s : BenchS
       let next = part.printed_until.0 in
       let before = flat_map printed told.answers in
       let texts : flat_map printed (told.answers ++ next ∷ []) ≡ before ++ part.text =
-          flat_map-append printed told.answers (next ∷ []) ∙ ap (λ text. before ++ text) (append-nil (printed next) ∙ sym part.printed_until.2) in
-      (
+      flat_map-append printed told.answers (next ∷ []) ∙ ap (λ text. before ++ text) (append-nil (printed next) ∙ sym part.printed_until.2) in (
         before ++ part.text,
         record {
           first = told.done ++ item ∷ [];

@@ -127,10 +127,9 @@ module _ (same_steps : StepsAreDetermined) (same_load : LoadIsDetermined) (same_
   pub first_is_front : FirstTextIsFront
   first_is_front deck first text p q =
       let whole : commands_of deck ≡ items.commands (lines deck) =
-          ap (λ (short : Bool). if short then items.commands (lines deck) else commands_within deck) (le-leb _ _ q.1.bound) in
+      ap (λ (short : Bool). if short then items.commands (lines deck) else commands_within deck) (le-leb _ _ q.1.bound) in
       let given = subst (λ (of : List Spelled). AnswersInTurn of start q.0) (sym whole ∙ p.begins) q.1.answered in
-      let more = same_first p.first p.rest start p.answers q.0 p.answered given in
-      (
+      let more = same_first p.first p.rest start p.answers q.0 p.answered given in (
         flat_map printed more.0,
         q.2 ∙ ap (λ answers. flat_map printed answers) more.1 ∙ flat_map-append printed p.answers more.0
             ∙ ap (λ (front : List ℕ). front ++ flat_map printed more.0) (sym p.text_is),

@@ -56,7 +56,7 @@ module _ (known old new : Option (List ℕ)) (bytes : List ℕ) (whole : Bool) (
         | Some deck ↦ λ front fits.
             let is = whole_is deck bytes whole front fits all in
             let same : commands (lines bytes) ≡ commands_of deck = ap (λ (of : List ℕ). commands (lines of)) is.0
-                ∙ sym (ap (λ (short : Bool). if short then commands (lines deck) else commands_within deck) (sym fits ∙ all)) in
+            ∙ sym (ap (λ (short : Bool). if short then commands (lines deck) else commands_within deck) (sym fits ∙ all)) in
             subst (λ (items : List Spelled). LeavesFirst items old new fault) same left
       ] front fits
 
@@ -68,7 +68,7 @@ module _ (known old new : Option (List ℕ)) (bytes : List ℕ) (whole : Bool) (
         | None ↦ λ front fits. tt
         | Some deck ↦ λ front fits.
             let same : closed (commands (lines (ended_lines bytes))) ≡ commands_of deck = ap (λ (of : List ℕ). closed (commands (lines (ended_lines of)))) front
-                ∙ sym (ap (λ (short : Bool). if short then commands (lines deck) else commands_within deck) (sym fits ∙ cut)) in
+            ∙ sym (ap (λ (short : Bool). if short then commands (lines deck) else commands_within deck) (sym fits ∙ cut)) in
             subst (λ (items : List Spelled). LeavesFirst items old new fault) same left
       ] front fits
 

@@ -91,7 +91,13 @@ fn prints_help(rt: HostRuntime) {
 fn tells_the_version(rt: HostRuntime) {
     for word in ["--version", "-V"] {
         let words = ["bench", word];
-        tells(&rt, rt.alloc(), &words, 0, "bench 0.1.0, proved with rattle-kit-");
+        tells(
+            &rt,
+            rt.alloc(),
+            &words,
+            0,
+            "bench 0.1.0, proved with rattle-kit-",
+        );
     }
     ends(&rt, rt.alloc(), &["bench", "run", "--version"], 2);
 }

@@ -61,4 +61,3 @@ pub returns-in_err-flush-clause-left : goal.returns-in_err-flush-clause-left
 returns-in_err-flush-clause-left g c =
     let failed = err_from_is_err_and c.from_residual-in_err-flush.result c.from_residual-in_err-flush.ensures.1 in
     rw (failed.1, failed.2) (told_unpassed _ _ _ _ _ c.loop-bench.bench c.loop-bench.outcome c.loop-bench.invariant.told c.flush.ensures.bytes)
-

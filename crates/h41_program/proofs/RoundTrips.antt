@@ -50,10 +50,10 @@ after_front xs ys k above =
     ap (λ m. get_or (xs ++ ys) m 0) place ∙ get_or-append-add xs ys (k - length xs) 0
 
 -- the first of lines, and the others
-first_inner : (line : Line) (lines : List Line) → All IsInner (line ∷ lines) → IsInner line
+pub first_inner : (line : Line) (lines : List Line) → All IsInner (line ∷ lines) → IsInner line
 first_inner line lines inner = inner 0 line (omega arith)
 
-others_inner : (line : Line) (lines : List Line) → All IsInner (line ∷ lines) → All IsInner lines
+pub others_inner : (line : Line) (lines : List Line) → All IsInner (line ∷ lines) → All IsInner lines
 others_inner line lines inner = λ k d below. inner (suc k) d (omega (arith, below))
 
 -- a front that ends with nulls, and more of them

@@ -1,5 +1,6 @@
 //! Laws of program memory: each is the contract of a function whose result is not looked at.
 ghost use Rattle.h41_program.specs.Dependence.{FirstsDepend, GlobalDepends, LineDepends, ListsDepend, LocalDepends, NextDepends, NonesDepend, SoundnessDepends, StartDepends};
+ghost use Rattle.h41_program.specs.LastProgram.{CloseIsRead};
 ghost use Rattle.h41_program.specs.SearchLaws.{GlobalIsDetermined, LineIsOfList, LocalIsDetermined, NextIsOfList, StartIsDetermined};
 ghost use Rattle.h41_program.specs.ProgramLaws.{EditsAreDetermined, FirstIsDetermined, GoesOnFromNext, ListsAreDetermined, LoadIsRead, LoadsAreDetermined, OneList, PackingFills, PackingHasFewNulls, PackingRoundTrip, ReadIsDetermined, SizeKeepsLines, StandsForItsLine, WrittenIsRead};
 
@@ -29,6 +30,14 @@ pub fn written_is_read()
 /// on it is those of the bytes and `.END.`.
 pub fn load_is_read()
     ensures { LoadIsRead }
+{
+    byte_round_trip();
+}
+
+/// After the last program was closed the list from 0 has before `.END.` the lines that it had, closed: with an END behind them
+/// where there are some and the last is none.
+pub fn close_is_read()
+    ensures { CloseIsRead }
 {
     byte_round_trip();
 }

@@ -1,8 +1,10 @@
 //! Laws of program memory: each is the contract of a function whose result is not looked at.
-ghost use Rattle.h41_program.specs.Dependence.{FirstsDepend, GlobalDepends, LineDepends, ListsDepend, LocalDepends, NextDepends, NonesDepend, SoundnessDepends, StartDepends};
+ghost use Rattle.std.specs.Prelude.{ℕ, Bool, Option, Result};
+ghost use Rattle.h41_program.specs.Dependence.{AnswersDepend, FirstsDepend, LineDepends, ListsDepend, LocalDepends, NextDepends, NonesDepend, ProgramDepends, SoundnessDepends};
 ghost use Rattle.h41_program.specs.LastProgram.{CloseIsRead};
-ghost use Rattle.h41_program.specs.SearchLaws.{GlobalIsDetermined, LineIsOfList, LocalIsDetermined, NextIsOfList, StartIsDetermined};
+ghost use Rattle.h41_program.specs.SearchLaws.{AnswersAreDetermined, LineIsOfList, LocalIsDetermined, NextIsOfList, ProgramIsDetermined};
 ghost use Rattle.h41_program.specs.ProgramLaws.{EditsAreDetermined, FirstIsDetermined, GoesOnFromNext, ListsAreDetermined, LoadIsRead, LoadsAreDetermined, OneList, PackingFills, PackingHasFewNulls, PackingRoundTrip, ReadIsDetermined, SizeKeepsLines, StandsForItsLine, WrittenIsRead};
+ghost use Rattle.h41_program.specs.declared.refusal.ProgramRefusal.{ProgramRefusal};
 
 use h41_codes::laws::{byte_round_trip, line_or_none};
 
@@ -65,11 +67,13 @@ pub fn lists_are_determined()
     byte_round_trip();
 }
 
-/// Each search has one answer, over any memory.
+/// Each search has one answer, over any memory; so have `is_last_open` and the calls that number the lines of a program.
 pub fn searches_are_determined()
-    ensures start { StartIsDetermined }
+    ensures start { AnswersAreDetermined ℕ }
     ensures local { LocalIsDetermined }
-    ensures global { GlobalIsDetermined }
+    ensures global { AnswersAreDetermined (Option ℕ) }
+    ensures last { AnswersAreDetermined (Result Bool ProgramRefusal) }
+    ensures program { ProgramIsDetermined (Option ℕ) }
 {
     byte_round_trip();
 }
@@ -91,9 +95,11 @@ pub fn programs_depend_on_their_registers()
     ensures none { NonesDepend }
     ensures line { LineDepends }
     ensures next { NextDepends }
-    ensures start { StartDepends }
+    ensures start { AnswersDepend ℕ }
     ensures local { LocalDepends }
-    ensures global { GlobalDepends }
+    ensures global { AnswersDepend (Option ℕ) }
+    ensures last { AnswersDepend (Result Bool ProgramRefusal) }
+    ensures program { ProgramDepends (Option ℕ) }
 {}
 
 /// No bytes have two outcomes when they are loaded into a memory: the relation by which `load` promises leaves nothing open.

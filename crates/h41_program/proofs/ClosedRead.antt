@@ -17,7 +17,7 @@ use Rattle.h41_program.specs.ProgramBytes.{program_bytes, final_position}
 use Rattle.h41_program.specs.ProgramLaws.{IsInner}
 use Rattle.h41_program.specs.ProgramLines.{LinesFrom}
 use Rattle.h41_program.specs.Rewriting.{written, HasOutcome}
-use Rattle.h41_program.proofs.Inner.{before_inner, closed_inner}
+use Rattle.h41_program.proofs.Inner.{before_inner, closed_inner, not_final}
 use Rattle.h41_program.proofs.RoundTrips.{first_inner, others_inner}
 use Rattle.h41_program.proofs.Written.{written_read}
 
@@ -41,7 +41,7 @@ ends_with [] (first ∷ rest) inner same =
 ends_with (line ∷ lines) (first ∷ rest) inner same =
     let here = same_first first.line line (lines_of rest) (lines ++ FinalEnd 0 0 ∷ []) same in
     let more = ends_with lines rest (others_inner line lines inner) (same_rest first.line line (lines_of rest) (lines ++ FinalEnd 0 0 ∷ []) same) in
-    let running : is_final_end first.line ≡ false = ap is_final_end here ∙ (first_inner line lines inner).inner in (
+    let running : is_final_end first.line ≡ false = ap is_final_end here ∙ not_final line (first_inner line lines inner).inner in (
       first ∷ more.0,
       rw running (ap (λ (o : Option (List ListedLine)). option_map (λ lines. first ∷ lines) o) more.1),
       ap (λ (l : List Line). first.line ∷ l) more.2 ∙ ap (λ (l : Line). l ∷ lines) here,

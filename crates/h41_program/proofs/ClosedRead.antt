@@ -1,23 +1,24 @@
 -- What closing the last program leaves is read.
 use Rattle.std.proofs.Common.{◌≡◌, Bool, true, false, List, [], ◌∷◌, ◌++◌, refl, sym, ◌∙◌, ap, subst, inl, inr, All, Option, Some, None, Result, Ok, Err}
-use Rattle.std.specs.Prelude.{OnOk, if◌then◌else◌}
-use Rattle.std.specs.Option.{option_map}
+use Rattle.std.specs.Prelude.{OnOk, not, if◌then◌else◌}
+use Rattle.std.specs.Option.{option_map, option_map_or}
 use Rattle.std.proofs.lemmas.Bool.{cases_Bool}
 use Rattle.h41_codes.specs.ByteLaws.{ByteRoundTrip}
 use Rattle.h41_codes.specs.declared.line.Line.{Line}
-use Rattle.h41_codes.specs.declared.line.Line.TheVariants.{FinalEnd}
+use Rattle.h41_codes.specs.declared.line.Line.TheVariants.{End, FinalEnd}
 use Rattle.h41_ram.specs.RegisterMap.{RegisterMap, is_sound}
 use Rattle.h41_program.specs.declared.listed_line.ListedLine.{ListedLine}
 use Rattle.h41_program.specs.declared.refusal.ProgramRefusal.{ProgramRefusal}
 use Rattle.h41_program.specs.declared.refusal.ProgramRefusal.TheVariants.{BrokenProgram}
 use Rattle.h41_program.specs.Edits.{lines_of, answered, before_end, close_behind, closed, is_open, Closes}
-use Rattle.h41_program.specs.LastProgram.{CloseIsRead, LeavesClosed}
-use Rattle.h41_program.specs.Lines.{is_final_end}
+use Rattle.h41_program.specs.LastProgram.{CloseIsRead, ClosedIsNotOpen, LeavesClosed}
+use Rattle.h41_program.specs.Lines.{is_end, is_final_end}
 use Rattle.h41_program.specs.ProgramBytes.{program_bytes, final_position}
 use Rattle.h41_program.specs.ProgramLaws.{IsInner}
 use Rattle.h41_program.specs.ProgramLines.{LinesFrom}
 use Rattle.h41_program.specs.Rewriting.{written, HasOutcome}
 use Rattle.h41_program.proofs.Inner.{before_inner, closed_inner, not_final}
+use Rattle.h41_program.proofs.Packings.{last_line-more}
 use Rattle.h41_program.proofs.RoundTrips.{first_inner, others_inner}
 use Rattle.h41_program.proofs.Written.{written_read}
 
@@ -46,6 +47,14 @@ ends_with (line ∷ lines) (first ∷ rest) inner same =
       rw running (ap (λ (o : Option (List ListedLine)). option_map (λ lines. first ∷ lines) o) more.1),
       ap (λ (l : List Line). first.line ∷ l) more.2 ∙ ap (λ (l : Line). l ∷ lines) here,
     )
+
+-- closed lines are not open
+closed_shut_by : (b : Bool) (lines : List Line) → is_open lines ≡ b → is_open (if b then lines ++ End 0 0 ∷ [] else lines) ≡ false
+closed_shut_by true lines is = ap (λ (o : Option Line). option_map_or (λ line. not (is_end line)) o false) (last_line-more lines (End 0 0))
+closed_shut_by false lines is = is
+
+pub closed_shut : ClosedIsNotOpen
+closed_shut lines = closed_shut_by (is_open lines) lines refl
 
 refused_is_not_done : (refusal : ProgramRefusal) → ◌≡◌ {A = Result (Unit {0}) ProgramRefusal} (Ok tt) (Err refusal) → ⊥
 refused_is_not_done refusal same = cc

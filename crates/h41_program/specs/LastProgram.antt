@@ -1,5 +1,6 @@
 -- The last program in memory: whether it is open, and that closing it is read.
-use Rattle.std.specs.Prelude.{◌≡◌, Bool, List, Option, Some, None, Result, Ok, Err}
+use Rattle.std.specs.Prelude.{◌≡◌, Bool, false, List, Option, Some, None, Result, Ok, Err}
+use Rattle.h41_codes.specs.declared.line.Line.{Line}
 use Rattle.h41_ram.specs.RegisterMap.{RegisterMap}
 use Rattle.h41_program.specs.declared.listed_line.ListedLine.{ListedLine}
 use Rattle.h41_program.specs.declared.refusal.ProgramRefusal.{ProgramRefusal}
@@ -15,6 +16,10 @@ open_before (Some lines) = Ok (is_open (lines_of lines))
 -- whether the last program of a list has lines and no END of its own
 abbrev pub open_in : List ListedLine → Result Bool ProgramRefusal
 open_in lines = open_before (before_end lines)
+
+-- closed lines are not open
+abbrev pub ClosedIsNotOpen : Type 0
+ClosedIsNotOpen = (lines : List Line) → is_open (closed lines) ≡ false
 
 -- memory has before .END. the lines of another, closed
 pub record LeavesClosed (memory new : RegisterMap) : Type 0 where

@@ -1,7 +1,7 @@
 //! Laws of program memory: each is the contract of a function whose result is not looked at.
 ghost use Rattle.std.specs.Prelude.{ℕ, Bool, Option, Result};
 ghost use Rattle.h41_program.specs.Dependence.{AnswersDepend, FirstsDepend, LineDepends, ListsDepend, LocalDepends, NextDepends, NonesDepend, ProgramDepends, SoundnessDepends};
-ghost use Rattle.h41_program.specs.LastProgram.{CloseIsRead};
+ghost use Rattle.h41_program.specs.LastProgram.{CloseIsRead, ClosedIsNotOpen};
 ghost use Rattle.h41_program.specs.SearchLaws.{AnswersAreDetermined, LineIsOfList, LocalIsDetermined, NextIsOfList, ProgramIsDetermined};
 ghost use Rattle.h41_program.specs.ProgramLaws.{EditsAreDetermined, FirstIsDetermined, GoesOnFromNext, ListsAreDetermined, LoadIsRead, LoadsAreDetermined, OneList, PackingFills, PackingHasFewNulls, PackingRoundTrip, ReadIsDetermined, SizeKeepsLines, StandsForItsLine, WrittenIsRead};
 ghost use Rattle.h41_program.specs.declared.refusal.ProgramRefusal.{ProgramRefusal};
@@ -37,9 +37,10 @@ pub fn load_is_read()
 }
 
 /// After the last program was closed the list from 0 has before `.END.` the lines that it had, closed: with an END behind them
-/// where there are some and the last is none.
+/// where there are some and the last is none. Closed lines are not open.
 pub fn close_is_read()
-    ensures { CloseIsRead }
+    ensures read { CloseIsRead }
+    ensures shut { ClosedIsNotOpen }
 {
     byte_round_trip();
 }

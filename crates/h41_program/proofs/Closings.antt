@@ -9,15 +9,39 @@ use Rattle.h41_program.specs.declared.packer.Packer.{Packer}
 use Rattle.h41_program.specs.declared.refusal.ProgramRefusal.{ProgramRefusal}
 use Rattle.h41_program.specs.declared.refusal.ProgramRefusal.TheVariants.{BrokenProgram}
 use Rattle.h41_program.specs.Edits.{lines_of, answered, before_end, close_behind, close_outcome, closed, is_open, Closes}
+use Rattle.h41_program.specs.LastProgram.{open_before}
 use Rattle.h41_program.specs.Lines.{is_end}
 use Rattle.h41_program.specs.LoadSteps.{WritesClosed}
 use Rattle.h41_program.specs.Packers.{Packs}
 use Rattle.h41_program.specs.Rewriting.{written, HasOutcome}
 use Rattle.h41_program.proofs.Outcomes.{written_outcome}
 
+not_both : {A E : Type 0} (r : Result A E) (a : A) (e : E) → r ≡ Ok a → r ≡ Err e → ⊥
+not_both r a e ok err = cc
+
+same_error : {A E : Type 0} (r : Result A E) (e f : E) → r ≡ Err e → r ≡ Err f → e ≡ f
+same_error r e f one other = cc
+
 -- whether lines want an END
 pub open_test : (packer : Packer) (lines : List Line) (answer : Bool) → Packs packer lines → answer ≡ option_map_or (λ line. not (is_end line)) packer.last false → answer ≡ is_open lines
 open_test packer lines answer packs is = is ∙ ap (λ (o : Option Line). option_map_or (λ line. not (is_end line)) o false) packs.last
+
+-- whether the last program is open, by its packed lines
+pub open_ok : (before : Option (List ListedLine)) (first : Result Packer ProgramRefusal) (packer : Packer) (answer : Bool)
+    → MatchOption before (first ≡ Err BrokenProgram) (λ listed. IsOkAnd first (λ held. Packs held (lines_of listed))) → first ≡ Ok packer
+    → answer ≡ option_map_or (λ line. not (is_end line)) packer.last false → Ok answer ≡ open_before before
+open_ok None first packer answer matches ok is = absurd (not_both first packer BrokenProgram ok matches)
+open_ok (Some listed) first packer answer matches ok is =
+    let packs : IsOkAnd {E = ProgramRefusal} (Ok packer) (λ held. Packs held (lines_of listed)) =
+    subst (λ (r : Result Packer ProgramRefusal). IsOkAnd r (λ held. Packs held (lines_of listed))) ok matches in
+    ap (λ (b : Bool). Ok b) (open_test packer (lines_of listed) answer packs is)
+
+pub open_err : (before : Option (List ListedLine)) (first : Result Packer ProgramRefusal) (refusal : ProgramRefusal)
+    → MatchOption before (first ≡ Err BrokenProgram) (λ listed. IsOkAnd first (λ held. Packs held (lines_of listed))) → first ≡ Err refusal
+    → Err refusal ≡ open_before before
+open_err None first refusal matches err = ap (λ (why : ProgramRefusal). Err why) (same_error first refusal BrokenProgram err matches)
+open_err (Some listed) first refusal matches err =
+    absurd (subst (λ (r : Result Packer ProgramRefusal). IsOkAnd r (λ held. Packs held (lines_of listed))) err matches)
 
 pub closed_none : (old : RegisterMap) (lines : List Line) → is_open lines ≡ false → HasOutcome old old (Ok tt) (close_outcome old lines)
 closed_none old lines other = rw other (refl, refl)
@@ -25,12 +49,6 @@ closed_none old lines other = rw other (refl, refl)
 pub closed_some : (old left : RegisterMap) (result : Result (Unit {0}) ProgramRefusal) (lines : List Line) → is_open lines ≡ true
     → HasOutcome old left result (answered tt (written old (closed lines))) → HasOutcome old left result (close_outcome old lines)
 closed_some old left result lines some has = subst (λ (b : Bool). HasOutcome old left result (if b then answered tt (written old (closed lines)) else Ok (old, tt))) (sym some) has
-
-not_both : {A E : Type 0} (r : Result A E) (a : A) (e : E) → r ≡ Ok a → r ≡ Err e → ⊥
-not_both r a e ok err = cc
-
-same_error : {A E : Type 0} (r : Result A E) (e f : E) → r ≡ Err e → r ≡ Err f → e ≡ f
-same_error r e f one other = cc
 
 pub close_ok : (old left : RegisterMap) (before : Option (List ListedLine)) (first : Result Packer ProgramRefusal) (packer : Packer) (result : Result (Unit {0}) ProgramRefusal)
     → MatchOption before (first ≡ Err BrokenProgram) (λ listed. IsOkAnd first (λ held. Packs held (lines_of listed))) → first ≡ Ok packer → WritesClosed packer old left result

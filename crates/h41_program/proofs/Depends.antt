@@ -6,7 +6,7 @@ use Rattle.std.proofs.lemmas.List.FromFn.{get_or-map-range_with_len, length-map-
 use Rattle.h41_digits.specs.Register.{byte_at}
 use Rattle.h41_ram.specs.RegisterMap.{RegisterMap, register_at, curtain_of, end_of, constant_of, is_sound, is_final_end, three_digits}
 use Rattle.h41_program.specs.declared.listed_line.ListedLine.{ListedLine}
-use Rattle.h41_program.specs.Dependence.{AgreeOnProgram, SoundnessDepends, ListsDepend, FirstsDepend, NonesDepend, LineDepends, NextDepends, StartDepends, LocalDepends, GlobalDepends}
+use Rattle.h41_program.specs.Dependence.{AgreeOnProgram, AnswersDepend, SoundnessDepends, ListsDepend, FirstsDepend, NonesDepend, LineDepends, NextDepends, LocalDepends, ProgramDepends}
 use Rattle.h41_program.specs.Lines.{is_final_end as ends_list}
 use Rattle.h41_program.specs.ProgramBytes.{byte_count, program_byte, program_bytes, final_position}
 use Rattle.h41_program.specs.ProgramLines.{behind, FirstFrom, IsFirst, NoneFrom, Reads}
@@ -109,11 +109,17 @@ next memory other at (Ok position) agree answers = (
 )
 next memory other at (Err refusal) agree answers = (answers.0, nones memory other at agree answers.1)
 
-pub start : StartDepends
-start memory other answer result agree answers = (answers.0, lists memory other 0 answers.0 agree answers.1, answers.2)
+pub answers : {A : Type 0} → AnswersDepend A
+answers memory other answer at result agree is = (is.0, lists memory other at is.0 agree is.1, is.2)
 
-pub global : GlobalDepends
-global memory other answer result agree answers = (answers.0, lists memory other 0 answers.0 agree answers.1, answers.2)
+pub program : {A : Type 0} → ProgramDepends A
+program memory other answer at result agree is = record {
+  lines = is.lines;
+  own = is.own;
+  all = lists memory other 0 is.lines agree is.all;
+  program = lists memory other (start_in at is.lines) is.own agree is.program;
+  is = is.is;
+}
 
 pub local : LocalDepends
 local memory other at n result agree answers = record {

@@ -8,20 +8,23 @@ use Rattle.h41_ram.specs.RegisterMap.{RegisterMap}
 use Rattle.h41_program.specs.declared.listed_line.ListedLine.{ListedLine}
 use Rattle.h41_program.specs.declared.refusal.ProgramRefusal.{ProgramRefusal}
 use Rattle.h41_program.specs.Lines.{is_final_end}
+use Rattle.h41_program.specs.Numbering.{up_to_end}
 use Rattle.h41_program.specs.ProgramBytes.{program_bytes, final_position}
 use Rattle.h41_program.specs.ProgramLines.{FirstFrom, LinesFrom, PositionBehind, PositionFrom, Reads, behind, line_of, next_of}
-use Rattle.h41_program.specs.SearchLaws.{StartIsDetermined, LocalIsDetermined, GlobalIsDetermined, LineIsOfList, NextIsOfList}
-use Rattle.h41_program.specs.Searches.{label_in, named_in, position_of, start_in}
+use Rattle.h41_program.specs.SearchLaws.{AnswersAreDetermined, LocalIsDetermined, LineIsOfList, NextIsOfList, ProgramIsDetermined}
+use Rattle.h41_program.specs.Searches.{label_in, position_of, start_in}
 use Rattle.h41_program.proofs.Determined.{first_determined, lists_determined}
 use Rattle.h41_program.proofs.Walks.{last_rest, more_rest, no_rest}
 
-pub start : OneLine → StartIsDetermined
-start one memory at begin other is again =
-    is.2 ∙ ap (start_in at) (lists_determined one memory 0 is.0 again.0 is.1 again.1) ∙ sym again.2
+pub answers : {A : Type 0} → OneLine → AnswersAreDetermined A
+answers one memory answer at result other is again = is.2 ∙ ap answer (lists_determined one memory at is.0 again.0 is.1 again.1) ∙ sym again.2
 
-pub global : OneLine → GlobalIsDetermined
-global one memory name found other is again =
-    is.2 ∙ ap (λ (lines : List ListedLine). position_of (named_in name lines)) (lists_determined one memory 0 is.0 again.0 is.1 again.1) ∙ sym again.2
+pub program : {A : Type 0} → OneLine → ProgramIsDetermined A
+program one memory answer at result other is again =
+    let lines = lists_determined one memory 0 is.lines again.lines is.all again.all in
+    let begin = subst (λ (all : List ListedLine). LinesFrom memory (start_in at all) is.own) lines is.program in
+    let own = lists_determined one memory (start_in at again.lines) is.own again.own begin again.program in
+    is.is ∙ ap (λ (l : List ListedLine). answer (up_to_end l)) own ∙ sym again.is
 
 pub local : OneLine → LocalIsDetermined
 local one memory at n found other is again =

@@ -1,8 +1,8 @@
 -- Lines that programs can have.
-use Rattle.std.proofs.Common.{◌≢◌, ◌≡◌, ℕ, Bool, true, false, List, [], ◌∷◌, ◌++◌, refl, sym, ◌∙◌, subst, arith, inl, inr, All, Option, Some, None}
+use Rattle.std.proofs.Common.{◌≢◌, ◌≡◌, ℕ, Bool, true, false, List, [], ◌∷◌, ◌++◌, refl, sym, ◌∙◌, ap, subst, arith, inl, inr, All, Option, Some, None}
 use Rattle.std.specs.Prelude.{◌||◌, if◌then◌else◌}
 use Rattle.std.specs.Option.{option_map}
-use Rattle.std.proofs.lemmas.Bool.{cases_Bool}
+use Rattle.std.proofs.lemmas.Bool.{cases_Bool, true≢false}
 use Rattle.std.proofs.lemmas.List.Elements.{All-nil, All-cons, All-append}
 use Rattle.std.specs.Prelude.{◌==◌}
 use Rattle.std.specs.List.{flat_map}
@@ -16,9 +16,22 @@ use Rattle.h41_program.specs.ProgramLaws.{IsInner}
 use Rattle.h41_program.specs.ProgramLines.{FirstFrom, Reads, behind}
 use Rattle.h41_program.proofs.Walks.{more_rest, last_rest}
 
+-- a line by its kind
+inner_kind : (line : Line) → line ≢ Null → is_final_end line ≡ false → is_inner line ≡ true
+inner_kind Null some other = absurd (some refl)
+inner_kind (FinalEnd link marks) some other = absurd (true≢false other)
+inner_kind line some other = refl
+
+pub not_null : (line : Line) → is_inner line ≡ true → line ≢ Null
+not_null line is same = true≢false (sym is ∙ ap is_inner same)
+
+pub not_final : (line : Line) → is_inner line ≡ true → is_final_end line ≡ false
+not_final (FinalEnd link marks) is = sym is
+not_final line is = refl
+
 -- a line that is read is inner where it is not .END.
 pub read_inner : (bytes : List ℕ) (final at : ℕ) (first : ListedLine) → FirstFrom bytes final at first → is_final_end first.line ≡ false → IsInner first.line
-read_inner bytes final at first is other = record { valid = is.begins.spells.valid; some = is.not_null; inner = other }
+read_inner bytes final at first is other = record { valid = is.begins.spells.valid; inner = inner_kind first.line is.not_null other }
 
 none_is_not_some : (before : List ListedLine) → ◌≡◌ {A = Option (List ListedLine)} None (Some before) → ⊥
 none_is_not_some before same = cc
@@ -70,7 +83,7 @@ module _ (bytes : List ℕ) (final : ℕ) where
 
 -- an END is inner
 end_inner : IsInner (End 0 0)
-end_inner = record { valid = (omega arith, omega arith); some = λ same. cc; inner = refl }
+end_inner = record { valid = (omega arith, omega arith); inner = refl }
 
 pub closed_inner : (lines : List Line) → All IsInner lines → All IsInner (closed lines)
 closed_inner lines inner = chosen (is_open lines)
@@ -81,9 +94,7 @@ closed_inner lines inner = chosen (is_open lines)
 
 -- lines by their test
 pub inner_line : (line : Line) → is_inner line ≡ true → IsLine line → IsInner line
-inner_line Null is valid = cc
-inner_line (FinalEnd link marks) is valid = cc
-inner_line line is valid = record { valid = valid; some = λ same. cc; inner = refl }
+inner_line line is valid = record { valid = valid; inner = is }
 
 -- a change of a list makes inner lines of its lines
 abbrev pub KeepsInner : (ListedLine → List Line) → Type 0
@@ -92,7 +103,7 @@ KeepsInner change = (listed : ListedLine) → IsLine listed.line → listed.line
 own_inner : (listed : ListedLine) → IsLine listed.line → listed.line ≢ Null → All IsInner (own_line listed)
 own_inner listed valid some = elim (cases_Bool (is_final_end listed.line)) [
   | inl last ↦ rw last (All-nil IsInner)
-  | inr other ↦ rw other (All-cons IsInner listed.line [] (record { valid = valid; some = some; inner = other }) (All-nil IsInner))
+  | inr other ↦ rw other (All-cons IsInner listed.line [] (record { valid = valid; inner = inner_kind listed.line some other }) (All-nil IsInner))
 ]
 
 chosen_inner : (b : Bool) (line : Line) (others : List Line) → IsInner line → All IsInner others → All IsInner (if b then line ∷ [] else others)

@@ -1,4 +1,5 @@
 pub mod Addresses
+pub mod ClosedRead
 pub mod Closings
 pub mod Depends
 pub mod Determined

@@ -10,7 +10,8 @@ use Rattle.h41_program.specs.declared.listed_line.ListedLine.{ListedLine}
 use Rattle.h41_program.specs.Lines.{is_end}
 use Rattle.h41_program.specs.Numbering.{AnswersProgram, number_in, numbered_in, up_to_end}
 use Rattle.h41_program.specs.ProgramLaws.{OneList}
-use Rattle.h41_program.specs.ProgramLines.{AnswersFrom, AnswersOf, LinesFrom}
+use Rattle.h41_program.specs.ProgramLines.{AnswersOf, LinesFrom}
+use Rattle.h41_program.specs.Reading.{AnswersFrom}
 use Rattle.h41_program.specs.Searches.{start_in}
 
 pub same_test : (a b : ℕ) → a ≡ b → (a == b) ≡ true

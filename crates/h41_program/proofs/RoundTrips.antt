@@ -19,6 +19,7 @@ use Rattle.h41_program.specs.ProgramLaws.{IsInner, PackingRoundTrip}
 use Rattle.h41_program.specs.ProgramLines.{line_bytes, FirstFrom, Reads, behind}
 use Rattle.h41_program.proofs.FirstBytes.{stops}
 use Rattle.h41_program.proofs.FirstLines.{line_bytes-below, line_bytes-at}
+use Rattle.h41_program.proofs.Inner.{not_final, not_null}
 use Rattle.h41_program.proofs.LineLengths.{spelling_least}
 use Rattle.h41_program.proofs.Packings.{length-packing, packed-join}
 
@@ -50,10 +51,10 @@ after_front xs ys k above =
     ap (λ m. get_or (xs ++ ys) m 0) place ∙ get_or-append-add xs ys (k - length xs) 0
 
 -- the first of lines, and the others
-first_inner : (line : Line) (lines : List Line) → All IsInner (line ∷ lines) → IsInner line
+pub first_inner : (line : Line) (lines : List Line) → All IsInner (line ∷ lines) → IsInner line
 first_inner line lines inner = inner 0 line (omega arith)
 
-others_inner : (line : Line) (lines : List Line) → All IsInner (line ∷ lines) → All IsInner lines
+pub others_inner : (line : Line) (lines : List Line) → All IsInner (line ∷ lines) → All IsInner lines
 others_inner line lines inner = λ k d below. inner (suc k) d (omega (arith, below))
 
 -- a front that ends with nulls, and more of them
@@ -138,7 +139,7 @@ module _ (again : ByteRoundTrip) where
         from = inside;
         nulls = λ k low high. get_or_append_left (front ++ middle) written_end 0 k (omega (arith, whole, high)) ∙ get_or_append_left front middle 0 k high ∙ nulls k low high;
         begins = subst (λ (l : List ℕ). Begins l line (length (spelling line))) (sym (parts line lines n) ∙ sym taken) begins;
-        not_null = this.some;
+        not_null = not_null line this.inner;
       } in
       let before : length (front ++ spelling line) ≡ length front + length (spelling line) = length-append front (spelling line) in
       let ahead : length next ≡ length (front ++ spelling line) + length (gap line lines) = length-append (front ++ spelling line) (gap line lines) in
@@ -148,7 +149,7 @@ module _ (again : ByteRoundTrip) where
       let reads : Reads ((front ++ middle) ++ written_end) (length (front ++ middle)) (behind first) rest.0 =
       subst (λ (body : List ℕ). Reads (body ++ written_end) (length body) (length front + length (spelling line)) rest.0) same rest.1 in (
         first ∷ rest.0,
-        (is_first, subst (λ (b : Bool). MatchBool b (rest.0 ≡ []) (Reads ((front ++ middle) ++ written_end) (length (front ++ middle)) (behind first) rest.0)) (sym this.inner) reads),
+        (is_first, subst (λ (b : Bool). MatchBool b (rest.0 ≡ []) (Reads ((front ++ middle) ++ written_end) (length (front ++ middle)) (behind first) rest.0)) (sym (not_final line this.inner)) reads),
         ap (λ (l : List Line). line ∷ l) rest.2,
       )
 

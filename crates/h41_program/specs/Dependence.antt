@@ -4,6 +4,7 @@ use Rattle.h41_ram.specs.RegisterMap.{RegisterMap, register_at, c_of, curtain_of
 use Rattle.h41_program.specs.declared.listed_line.ListedLine.{ListedLine}
 use Rattle.h41_program.specs.declared.reading.Found.{Found}
 use Rattle.h41_program.specs.declared.refusal.ProgramRefusal.{ProgramRefusal}
+use Rattle.h41_program.specs.Numbering.{AnswersProgram}
 use Rattle.h41_program.specs.ProgramLines.{AnswersFirst, AnswersNext, AnswersOf, HasFirst, HasNoLine, LinesFrom}
 use Rattle.h41_program.specs.Searches.{AnswersLocal}
 
@@ -42,17 +43,19 @@ NextDepends =
     (memory other : RegisterMap) (at : ℕ) (result : Result ℕ ProgramRefusal) → AgreeOnProgram memory other
     → AnswersNext memory at result → AnswersNext other at result
 
--- the same answers of searches: where programs begin, local labels, global labels
-abbrev pub StartDepends : Type 0
-StartDepends =
-    (memory other : RegisterMap) (answer : List ListedLine → ℕ) (result : ℕ) → AgreeOnProgram memory other
-    → AnswersOf answer memory 0 result → AnswersOf answer other 0 result
+-- the same answers by the list, of any type: where programs begin and names stand, whether the last program is open
+abbrev pub AnswersDepend : Type 0 → Type 0
+AnswersDepend A =
+    (memory other : RegisterMap) (answer : List ListedLine → A) (at : ℕ) (result : A) → AgreeOnProgram memory other
+    → AnswersOf answer memory at result → AnswersOf answer other at result
 
-abbrev pub GlobalDepends : Type 0
-GlobalDepends =
-    (memory other : RegisterMap) (answer : List ListedLine → Option ℕ) (result : Option ℕ) → AgreeOnProgram memory other
-    → AnswersOf answer memory 0 result → AnswersOf answer other 0 result
+-- by the program of a position: the numbers of its lines
+abbrev pub ProgramDepends : Type 0 → Type 0
+ProgramDepends A =
+    (memory other : RegisterMap) (answer : List ListedLine → A) (at : ℕ) (result : A) → AgreeOnProgram memory other
+    → AnswersProgram answer memory at result → AnswersProgram answer other at result
 
+-- and of searches for local labels
 abbrev pub LocalDepends : Type 0
 LocalDepends =
     (memory other : RegisterMap) (at n : ℕ) (result : Option ℕ) → AgreeOnProgram memory other

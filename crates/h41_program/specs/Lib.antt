@@ -1,6 +1,7 @@
 pub mod Dependence
 pub mod EditSteps
 pub mod Edits
+pub mod LastProgram
 pub mod Lines
 pub mod LoadSteps
 pub mod Numbering

@@ -17,7 +17,7 @@ abbrev pub number_in : ℕ → List ListedLine → Option ℕ
 number_in position [] = None
 number_in position (first ∷ rest) = if first.position == position then Some 1 else option_map suc (number_in position rest)
 
--- where the line of a number stands; none where there are not as many
+-- where the line of a number stands; none where there are not as many, and for number 0
 abbrev pub numbered_in : ℕ → List ListedLine → Option ℕ
 numbered_in number [] = None
 numbered_in number (first ∷ rest) = if number == 1 then Some first.position else numbered_in (number - 1) rest

@@ -1,23 +1,22 @@
 -- Laws of lists of lines.
-use Rattle.std.specs.Prelude.{◌≡◌, ◌≢◌, ℕ, ◌-◌, ◌*◌, ◌≤◌, All, IsTrue, false, List, [], ◌∷◌, ◌++◌, length, replicate, Some, Result, Ok}
+use Rattle.std.specs.Prelude.{◌≡◌, ℕ, ◌-◌, ◌*◌, ◌≤◌, All, IsTrue, List, [], ◌∷◌, ◌++◌, length, replicate, Some, Result, Ok}
 use Rattle.h41_codes.specs.ByteGrammar.{IsLine}
 use Rattle.h41_codes.specs.declared.line.Line.{Line}
-use Rattle.h41_codes.specs.declared.line.Line.TheVariants.{Null, FinalEnd}
+use Rattle.h41_codes.specs.declared.line.Line.TheVariants.{FinalEnd}
 use Rattle.h41_ram.specs.RegisterMap.{RegisterMap, is_sound}
 use Rattle.h41_program.specs.declared.listed_line.ListedLine.{ListedLine}
 use Rattle.h41_program.specs.Edits.{lines_of, before_end, closed, loaded_of, EditGives, LoadGives}
 use Rattle.h41_program.specs.declared.refusal.ProgramRefusal.{ProgramRefusal}
-use Rattle.h41_program.specs.Lines.{is_final_end}
+use Rattle.h41_program.specs.Lines.{is_inner}
 use Rattle.h41_program.specs.Packing.{packed, packing, written_end}
 use Rattle.h41_program.specs.ProgramLines.{FirstFrom, LinesFrom, Reads}
 use Rattle.h41_program.specs.Rewriting.{written}
 use Rattle.h41_program.specs.Size.{size_outcome}
 
--- a line that programs can have: neither a null nor .END.
+-- a line that has bytes, and is one that programs can have
 pub record IsInner (line : Line) : Type 0 where
   pub valid : IsLine line
-  pub some : line ≢ Null
-  pub inner : is_final_end line ≡ false
+  pub inner : IsTrue (is_inner line)
 
 -- the bytes of packed lines are read as these lines and .END.
 abbrev pub ReadsAgain : List Line → List ListedLine → Type 0

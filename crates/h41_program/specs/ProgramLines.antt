@@ -98,10 +98,6 @@ AnswersNext memory at (Ok position) =
     (first : ListedLine) × FirstFrom (program_bytes memory) (final_position memory) at first × PositionBehind memory first position
 AnswersNext memory at (Err refusal) = (refusal ≡ BrokenProgram) × HasNoLine memory at
 
--- an answer is that of the lines from a position on
-abbrev pub AnswersFrom : {A : Type 0} → (List ListedLine → A) → RegisterMap → ℕ → A → Type 0
-AnswersFrom answer memory at result = (lines : List ListedLine) → LinesFrom memory at lines → result ≡ answer lines
-
--- the same of a walk to the list's end: there is such a list
+-- an answer is that of the list of lines from a position on
 abbrev pub AnswersOf : {A : Type 0} → (List ListedLine → A) → RegisterMap → ℕ → A → Type 0
 AnswersOf answer memory at result = (lines : List ListedLine) × LinesFrom memory at lines × (result ≡ answer lines)

@@ -2,14 +2,19 @@
 use Rattle.std.specs.Prelude.{◌≡◌, ℕ, ◌-◌, ◌/◌, MatchBool, List, length}
 use Rattle.h41_ram.specs.RegisterMap.{RegisterMap, curtain_of, register_at}
 use Rattle.h41_program.specs.declared.given.Taken.{Taken}
+use Rattle.h41_program.specs.declared.listed_line.ListedLine.{ListedLine}
 use Rattle.h41_program.specs.declared.reading.Found.{Found}
 use Rattle.h41_program.specs.Lines.{is_final_end}
-use Rattle.h41_program.specs.ProgramLines.{NoneFrom, IsFirst, PositionFrom}
+use Rattle.h41_program.specs.ProgramLines.{NoneFrom, IsFirst, LinesFrom, PositionFrom}
 
 -- the position of the line behind a line, or the byte behind it where no line follows; that of .END. is its own
 abbrev pub FoundBehind : RegisterMap → Found → ℕ → Type 0
 FoundBehind memory first position =
     MatchBool (is_final_end first.listed.line) (position ≡ first.listed.position) (PositionFrom memory first.behind position)
+
+-- an answer is that of every list of lines from a position on
+abbrev pub AnswersFrom : {A : Type 0} → (List ListedLine → A) → RegisterMap → ℕ → A → Type 0
+AnswersFrom answer memory at result = (lines : List ListedLine) → LinesFrom memory at lines → result ≡ answer lines
 
 -- bytes have this line first from a position on
 abbrev pub BytesHaveFirst : List ℕ → ℕ → Taken → Type 0

@@ -3,27 +3,26 @@ use Rattle.std.specs.Prelude.{◌≡◌, ℕ, IsTrue, List, Option, Result}
 use Rattle.h41_ram.specs.RegisterMap.{RegisterMap, is_sound}
 use Rattle.h41_program.specs.declared.listed_line.ListedLine.{ListedLine}
 use Rattle.h41_program.specs.declared.refusal.ProgramRefusal.{ProgramRefusal}
+use Rattle.h41_program.specs.Numbering.{AnswersProgram}
 use Rattle.h41_program.specs.ProgramLines.{AnswersFirst, AnswersNext, AnswersOf, LinesFrom, line_of, next_of}
-use Rattle.h41_program.specs.Searches.{AnswersLocal, named_in, position_of, start_in}
+use Rattle.h41_program.specs.Searches.{AnswersLocal}
 
--- a program has one beginning, and a label is found in one place
-abbrev pub StartIsDetermined : Type 0
-StartIsDetermined =
-    (memory : RegisterMap) (at start other : ℕ) → AnswersOf (start_in at) memory 0 start → AnswersOf (start_in at) memory 0 other
-    → start ≡ other
+-- an answer by the list, of any type, is determined: where programs begin and names stand, whether the last program is open
+abbrev pub AnswersAreDetermined : Type 0 → Type 0
+AnswersAreDetermined A =
+    (memory : RegisterMap) (answer : List ListedLine → A) (at : ℕ) (result other : A)
+    → AnswersOf answer memory at result → AnswersOf answer memory at other → result ≡ other
 
+-- so is one by the program of a position: the numbers of its lines
+abbrev pub ProgramIsDetermined : Type 0 → Type 0
+ProgramIsDetermined A =
+    (memory : RegisterMap) (answer : List ListedLine → A) (at : ℕ) (result other : A)
+    → AnswersProgram answer memory at result → AnswersProgram answer memory at other → result ≡ other
+
+-- and a local label is found in one place
 abbrev pub LocalIsDetermined : Type 0
 LocalIsDetermined =
     (memory : RegisterMap) (at n : ℕ) (found other : Option ℕ) → AnswersLocal memory at n found → AnswersLocal memory at n other
-    → found ≡ other
-
--- the answer of a search for a name
-abbrev pub AnswersGlobal : RegisterMap → List ℕ → Option ℕ → Type 0
-AnswersGlobal memory name found = AnswersOf (λ lines. position_of (named_in name lines)) memory 0 found
-
-abbrev pub GlobalIsDetermined : Type 0
-GlobalIsDetermined =
-    (memory : RegisterMap) (name : List ℕ) (found other : Option ℕ) → AnswersGlobal memory name found → AnswersGlobal memory name other
     → found ≡ other
 
 -- the line at a position is the first of the list from there on, and the next position that of its second

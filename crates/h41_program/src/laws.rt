@@ -1,7 +1,10 @@
 //! Laws of program memory: each is the contract of a function whose result is not looked at.
-ghost use Rattle.h41_program.specs.Dependence.{FirstsDepend, GlobalDepends, LineDepends, ListsDepend, LocalDepends, NextDepends, NonesDepend, SoundnessDepends, StartDepends};
-ghost use Rattle.h41_program.specs.SearchLaws.{GlobalIsDetermined, LineIsOfList, LocalIsDetermined, NextIsOfList, StartIsDetermined};
+ghost use Rattle.std.specs.Prelude.{ℕ, Bool, Option, Result};
+ghost use Rattle.h41_program.specs.Dependence.{AnswersDepend, FirstsDepend, LineDepends, ListsDepend, LocalDepends, NextDepends, NonesDepend, ProgramDepends, SoundnessDepends};
+ghost use Rattle.h41_program.specs.LastProgram.{CloseIsRead, ClosedIsNotOpen};
+ghost use Rattle.h41_program.specs.SearchLaws.{AnswersAreDetermined, LineIsOfList, LocalIsDetermined, NextIsOfList, ProgramIsDetermined};
 ghost use Rattle.h41_program.specs.ProgramLaws.{EditsAreDetermined, FirstIsDetermined, GoesOnFromNext, ListsAreDetermined, LoadIsRead, LoadsAreDetermined, OneList, PackingFills, PackingHasFewNulls, PackingRoundTrip, ReadIsDetermined, SizeKeepsLines, StandsForItsLine, WrittenIsRead};
+ghost use Rattle.h41_program.specs.declared.refusal.ProgramRefusal.{ProgramRefusal};
 
 use h41_codes::laws::{byte_round_trip, line_or_none};
 
@@ -33,6 +36,15 @@ pub fn load_is_read()
     byte_round_trip();
 }
 
+/// After the last program was closed the list from 0 has before `.END.` the lines that it had, closed: with an END behind them
+/// where there are some and the last is none. Closed lines are not open.
+pub fn close_is_read()
+    ensures read { CloseIsRead }
+    ensures shut { ClosedIsNotOpen }
+{
+    byte_round_trip();
+}
+
 /// With another number of data registers memory has the same lists of lines.
 pub fn size_keeps_lines()
     ensures { SizeKeepsLines }
@@ -56,11 +68,13 @@ pub fn lists_are_determined()
     byte_round_trip();
 }
 
-/// Each search has one answer, over any memory.
+/// Each search has one answer, over any memory; so have `is_last_open` and the calls that number the lines of a program.
 pub fn searches_are_determined()
-    ensures start { StartIsDetermined }
+    ensures start { AnswersAreDetermined ℕ }
     ensures local { LocalIsDetermined }
-    ensures global { GlobalIsDetermined }
+    ensures global { AnswersAreDetermined (Option ℕ) }
+    ensures last { AnswersAreDetermined (Result Bool ProgramRefusal) }
+    ensures program { ProgramIsDetermined (Option ℕ) }
 {
     byte_round_trip();
 }
@@ -82,9 +96,11 @@ pub fn programs_depend_on_their_registers()
     ensures none { NonesDepend }
     ensures line { LineDepends }
     ensures next { NextDepends }
-    ensures start { StartDepends }
+    ensures start { AnswersDepend ℕ }
     ensures local { LocalDepends }
-    ensures global { GlobalDepends }
+    ensures global { AnswersDepend (Option ℕ) }
+    ensures last { AnswersDepend (Result Bool ProgramRefusal) }
+    ensures program { ProgramDepends (Option ℕ) }
 {}
 
 /// No bytes have two outcomes when they are loaded into a memory: the relation by which `load` promises leaves nothing open.

@@ -1,14 +1,17 @@
 //! Programs loaded behind those in memory.
-ghost use Rattle.std.specs.Prelude.{◌≡◌, ◌≤◌, drop, length, IsTrue, IfOk};
+ghost use Rattle.std.specs.Prelude.{◌≡◌, ◌≤◌, drop, length, IsTrue, IfOk, OnOk};
 ghost use Rattle.std.specs.Option.{ForSome};
 ghost use Rattle.h41_codes.specs.ByteGrammar.{IsLine};
 ghost use Rattle.h41_ram.specs.RegisterMap.{is_sound};
 ghost use Rattle.h41_program.specs.Edits.{Closes, Loads};
+ghost use Rattle.h41_program.specs.LastProgram.{LeavesClosed, open_in};
 ghost use Rattle.h41_program.specs.LoadSteps.{PacksProgram, WritesClosed, PutsLoaded, listed_option, kept_option, checked_nulls};
 ghost use Rattle.h41_program.specs.Packers.{Puts};
+ghost use Rattle.h41_program.specs.ProgramLines.{AnswersOf};
 
 use crate::given::{are_nulls, line_in};
 use crate::kinds::{is_end, is_final_end};
+use crate::laws::close_is_read;
 use crate::packer::Packer;
 use crate::reading::{Found, first_from};
 use crate::refusal::ProgramRefusal;
@@ -33,13 +36,26 @@ pub fn load<const REGS: usize>(ram: &mut Ram<REGS>, bytes: &[u8]) -> Result<u16,
     Ok(start)
 }
 
+/// Whether the last program in memory has lines and no END of its own. 14 where the list does not reach `.END.`.
+pub fn is_last_open<const REGS: usize>(ram: &Ram<REGS>) -> Result<bool, ProgramRefusal>
+    requires { IsTrue (is_sound ram.now) }
+    ensures { AnswersOf open_in ram.now 0 result }
+{
+    match packed_program(ram) {
+        Ok(packer) => Ok(packer.is_open()),
+        Err(refusal) => Err(refusal),
+    }
+}
+
 /// Puts an END behind the last program in memory where it has lines and no END; else nothing changes, nor is anything packed
 /// anew. 14 where the list does not reach `.END.`, 16 where the program would pass below main memory.
 pub fn close_last<const REGS: usize>(ram: &mut Ram<REGS>) -> Result<(), ProgramRefusal>
     requires { IsTrue (is_sound ram.old) }
     ensures lines { Closes ram.old ram.new result }
     ensures sound { IsTrue (is_sound ram.new) }
+    ensures read { OnOk result (LeavesClosed ram.old ram.new) }
 {
+    close_is_read();
     match packed_program(ram) {
         Ok(packer) => write_closed(packer, ram),
         Err(refusal) => Err(refusal),

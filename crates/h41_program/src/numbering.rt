@@ -2,7 +2,7 @@
 ghost use Rattle.std.specs.Prelude.{IsTrue, IfSome, ◌≤◌};
 ghost use Rattle.h41_ram.specs.RegisterMap.{is_sound};
 ghost use Rattle.h41_program.specs.Numbering.{AnswersProgram, before_in, number_in, numbered_in, up_to_end};
-ghost use Rattle.h41_program.specs.ProgramLines.{AnswersFrom};
+ghost use Rattle.h41_program.specs.Reading.{AnswersFrom};
 
 use crate::kinds::{is_end, is_final_end};
 use crate::laws::one_list;
@@ -22,7 +22,8 @@ pub fn line_number<const REGS: usize>(ram: &Ram<REGS>, position: u16) -> Option<
     number_from(ram, start_of(ram, position), position)
 }
 
-/// Where the line of a number stands in the program of a position. `None` where the program has not as many lines.
+/// Where the line of a number stands in the program of a position, where the first has number 1. `None` where the program has
+/// not as many lines, and for number 0.
 pub fn line_numbered<const REGS: usize>(ram: &Ram<REGS>, at: u16, number: u16) -> Option<u16>
     requires { IsTrue (is_sound ram.now) }
     ensures { AnswersProgram (numbered_in number) ram.now at result }

@@ -2,7 +2,8 @@
 ghost use Rattle.std.specs.Prelude.{◌≡◌, ◌&&◌, nat_lt, IsTrue};
 ghost use Rattle.h41_ram.specs.RegisterMap.{is_sound};
 ghost use Rattle.h41_program.specs.Lines as spec;
-ghost use Rattle.h41_program.specs.ProgramLines.{AnswersFrom, AnswersOf};
+ghost use Rattle.h41_program.specs.ProgramLines.{AnswersOf};
+ghost use Rattle.h41_program.specs.Reading.{AnswersFrom};
 ghost use Rattle.h41_program.specs.Searches.{AnswersLocal, label_in, named_in, position_of, start_in};
 
 use crate::kinds::{is_end, is_final_end, is_label, is_named};

@@ -20,10 +20,16 @@ pub returns-clause-next : goal.returns-clause-next
 returns-clause-next c = Depends.next
 
 pub returns-clause-start : goal.returns-clause-start
-returns-clause-start c = Depends.start
+returns-clause-start c = Depends.answers
 
 pub returns-clause-local : goal.returns-clause-local
 returns-clause-local c = Depends.local
 
 pub returns-clause-global : goal.returns-clause-global
-returns-clause-global c = Depends.global
+returns-clause-global c = Depends.answers
+
+pub returns-clause-last : goal.returns-clause-last
+returns-clause-last c = Depends.answers
+
+pub returns-clause-program : goal.returns-clause-program
+returns-clause-program c = Depends.program

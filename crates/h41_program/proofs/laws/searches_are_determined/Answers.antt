@@ -2,10 +2,16 @@ use Rattle.h41_program.proofs.FoundOnce
 use Rattle.h41_program.proofs.laws.searches_are_determined.Goals as goal
 
 pub returns-clause-start : goal.returns-clause-start
-returns-clause-start c = FoundOnce.start c.byte_round_trip.ensures.one
+returns-clause-start c = FoundOnce.answers c.byte_round_trip.ensures.one
 
 pub returns-clause-local : goal.returns-clause-local
 returns-clause-local c = FoundOnce.local c.byte_round_trip.ensures.one
 
 pub returns-clause-global : goal.returns-clause-global
-returns-clause-global c = FoundOnce.global c.byte_round_trip.ensures.one
+returns-clause-global c = FoundOnce.answers c.byte_round_trip.ensures.one
+
+pub returns-clause-last : goal.returns-clause-last
+returns-clause-last c = FoundOnce.answers c.byte_round_trip.ensures.one
+
+pub returns-clause-program : goal.returns-clause-program
+returns-clause-program c = FoundOnce.program c.byte_round_trip.ensures.one

@@ -1,4 +1,5 @@
 use Rattle.h41_program.specs.Edits.{before_end}
+use Rattle.h41_program.proofs.ClosedRead.{close_leaves}
 use Rattle.h41_program.proofs.Closings.{close_err, close_ok, close_sound}
 use Rattle.h41_program.proofs.loading.close_last.Goals as goal
 
@@ -14,3 +15,7 @@ returns-in-Err-clause-lines g c =
 
 pub returns-in-Ok-clause-sound : goal.returns-in-Ok-clause-sound
 returns-in-Ok-clause-sound g c = close_sound c.args.ram.now c.write_closed.new.ram c.write_closed.result c.requires (returns-in-Ok-clause-lines g c)
+
+pub returns-in-Ok-clause-read : goal.returns-in-Ok-clause-read
+returns-in-Ok-clause-read g c =
+    close_leaves c.close_is_read.ensures.read c.args.ram.now c.write_closed.new.ram c.write_closed.result (returns-in-Ok-clause-lines g c)

@@ -1,0 +1,38 @@
+-- The last program in memory: whether it is open, and that closing it is read.
+use Rattle.std.specs.Prelude.{◌≡◌, Bool, false, List, Option, Some, None, Result, Ok, Err}
+use Rattle.h41_codes.specs.declared.line.Line.{Line}
+use Rattle.h41_ram.specs.RegisterMap.{RegisterMap}
+use Rattle.h41_program.specs.declared.listed_line.ListedLine.{ListedLine}
+use Rattle.h41_program.specs.declared.refusal.ProgramRefusal.{ProgramRefusal}
+use Rattle.h41_program.specs.declared.refusal.ProgramRefusal.TheVariants.{BrokenProgram}
+use Rattle.h41_program.specs.Edits.{lines_of, before_end, closed, is_open, Closes}
+use Rattle.h41_program.specs.ProgramLines.{LinesFrom}
+
+-- whether the lines before .END. are open, where there is an .END.
+abbrev pub open_before : Option (List ListedLine) → Result Bool ProgramRefusal
+open_before None = Err BrokenProgram
+open_before (Some lines) = Ok (is_open (lines_of lines))
+
+-- whether the last program of a list has lines and no END of its own
+abbrev pub open_in : List ListedLine → Result Bool ProgramRefusal
+open_in lines = open_before (before_end lines)
+
+-- closed lines are not open
+abbrev pub ClosedIsNotOpen : Type 0
+ClosedIsNotOpen = (lines : List Line) → is_open (closed lines) ≡ false
+
+-- memory has before .END. the lines of another, closed
+pub record LeavesClosed (memory new : RegisterMap) : Type 0 where
+  pub lines : List ListedLine
+  pub before : List ListedLine
+  pub listed : List ListedLine
+  pub after : List ListedLine
+  pub from : LinesFrom memory 0 lines
+  pub own : before_end lines ≡ Some before
+  pub read : LinesFrom new 0 listed
+  pub all : before_end listed ≡ Some after
+  pub same : lines_of after ≡ closed (lines_of before)
+
+-- memory whose last program was closed is read so
+abbrev pub CloseIsRead : Type 0
+CloseIsRead = (memory new : RegisterMap) → Closes memory new (Ok tt) → LeavesClosed memory new

@@ -2,6 +2,7 @@ pub mod Addresses
 pub mod Closings
 pub mod Depends
 pub mod Determined
+pub mod EditPlaces
 pub mod EditSteps
 pub mod Exists
 pub mod FirstBytes
@@ -15,6 +16,7 @@ pub mod LoadSteps
 pub mod Loads
 pub mod Mains
 pub mod Memory
+pub mod NewLines
 pub mod Numbers
 pub mod Outcomes
 pub mod Packings

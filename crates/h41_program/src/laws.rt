@@ -1,5 +1,6 @@
 //! Laws of program memory: each is the contract of a function whose result is not looked at.
 ghost use Rattle.h41_program.specs.Dependence.{FirstsDepend, GlobalDepends, LineDepends, ListsDepend, LocalDepends, NextDepends, NonesDepend, SoundnessDepends, StartDepends};
+ghost use Rattle.h41_program.specs.Edits.{AnswersAreDetermined};
 ghost use Rattle.h41_program.specs.SearchLaws.{GlobalIsDetermined, LineIsOfList, LocalIsDetermined, NextIsOfList, StartIsDetermined};
 ghost use Rattle.h41_program.specs.ProgramLaws.{EditsAreDetermined, FirstIsDetermined, GoesOnFromNext, ListsAreDetermined, LoadIsRead, LoadsAreDetermined, OneList, PackingFills, PackingHasFewNulls, PackingRoundTrip, ReadIsDetermined, SizeKeepsLines, StandsForItsLine, WrittenIsRead};
 
@@ -94,10 +95,11 @@ pub fn loads_are_determined()
     byte_round_trip();
 }
 
-/// No change of the list has two outcomes, at whatever position: so it is with the relation by which `insert`, `replace` and
-/// `delete` promise.
+/// No change of the list has two outcomes, at whatever position, nor two answers: so it is with the relations by which `insert`,
+/// `replace` and `delete` promise.
 pub fn edits_are_determined()
-    ensures { EditsAreDetermined }
+    ensures outcome { EditsAreDetermined }
+    ensures answer { AnswersAreDetermined }
 {
     byte_round_trip();
 }

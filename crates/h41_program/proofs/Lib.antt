@@ -2,6 +2,7 @@ pub mod Addresses
 pub mod Closings
 pub mod Depends
 pub mod Determined
+pub mod EditAnswers
 pub mod EditPlaces
 pub mod EditSteps
 pub mod Exists

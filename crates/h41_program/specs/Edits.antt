@@ -164,6 +164,10 @@ pub record AnswersChanged (answer : ℕ → List ListedLine → Option ℕ) (mem
 abbrev pub StandsNew : RegisterMap → ℕ → RegisterMap → ℕ → Type 0
 StandsNew memory at new position = AnswersChanged position_behind memory at new (Some position)
 
+-- this line is the first from a position on, and stands there
+abbrev pub Stands : RegisterMap → Line → ℕ → Type 0
+Stands memory line position = FirstFrom (program_bytes memory) (final_position memory) position (record { position = position; line = line })
+
 -- where the line stands that is then before a deleted one
 abbrev pub StandsBefore : RegisterMap → ℕ → RegisterMap → Option ℕ → Type 0
 StandsBefore memory at new position = AnswersChanged position_in_front memory at new position

@@ -2,7 +2,7 @@
 ghost use Rattle.std.specs.Prelude.{◌≡◌, ◌||◌, if◌then◌else◌, slice_get, IsTrue, IfOk, OnOk, Ok, Err};
 ghost use Rattle.h41_codes.specs.ByteGrammar.{IsLine};
 ghost use Rattle.h41_ram.specs.RegisterMap.{is_sound};
-ghost use Rattle.h41_program.specs.Edits.{Edits, LeavesChanged, StandsBefore, StandsNew, count_before, done, position_in_front, with_inserted, with_replaced, without_deleted};
+ghost use Rattle.h41_program.specs.Edits.{Edits, LeavesChanged, Stands, StandsBefore, StandsNew, count_before, done, position_in_front, with_inserted, with_replaced, without_deleted};
 ghost use Rattle.h41_program.specs.EditSteps.{Counts, IsChange, PacksChanged, changed, new_part};
 ghost use Rattle.h41_program.specs.EditSteps as spec;
 ghost use Rattle.h41_program.specs.Lines.{is_inner};
@@ -45,6 +45,7 @@ pub fn insert<const REGS: usize>(
     ensures sound { IsTrue (is_sound ram.new) }
     ensures read { OnOk result (LeavesChanged ram.old (with_inserted line) before ram.new) }
     ensures answer { IfOk result (StandsNew ram.old before ram.new) }
+    ensures stands { IfOk result (Stands ram.new line) }
 {
     byte_round_trip();
     know_ranges(&line);
@@ -85,6 +86,7 @@ pub fn replace<const REGS: usize>(
     ensures sound { IsTrue (is_sound ram.new) }
     ensures read { OnOk result (LeavesChanged ram.old (with_replaced line) at ram.new) }
     ensures answer { IfOk result (StandsNew ram.old at ram.new) }
+    ensures stands { IfOk result (Stands ram.new line) }
 {
     byte_round_trip();
     know_ranges(&line);

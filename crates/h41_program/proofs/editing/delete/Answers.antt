@@ -1,7 +1,7 @@
 use Rattle.std.specs.Prelude.{Ok}
 use Rattle.h41_program.specs.Edits.{without_deleted}
 use Rattle.h41_program.proofs.Inner.{deleted_inner}
-use Rattle.h41_program.proofs.NewLines.{stands_before}
+use Rattle.h41_program.proofs.EditAnswers.{stands_before}
 use Rattle.h41_program.proofs.Outcomes.{edit_read}
 use Rattle.h41_program.proofs.editing.delete.Goals as goal
 

@@ -1,4 +1,4 @@
--- There is never a second first line, list of lines or outcome of a load.
+-- There is never a second first line, list of lines, outcome or answer.
 use Rattle.std.proofs.Common.{◌≡◌, ℕ, ◌<◌, Bool, List, [], ◌∷◌, length, get_or, refl, sym, ◌∙◌, ap, subst, arith, inl, inr, Option, Some, None, Result}
 use Rattle.std.specs.Prelude.{MatchBool}
 use Rattle.std.proofs.lemmas.Bool.{cases_lt, cases_Bool}
@@ -8,7 +8,7 @@ use Rattle.h41_codes.specs.declared.line.Line.{Line}
 use Rattle.h41_ram.specs.RegisterMap.{RegisterMap, is_sound}
 use Rattle.h41_program.specs.declared.listed_line.ListedLine.{ListedLine}
 use Rattle.h41_program.specs.declared.refusal.ProgramRefusal.{ProgramRefusal}
-use Rattle.h41_program.specs.Edits.{before_end, edit_outcome, load_outcome, loaded_of, ChangeGives, LoadsBehind}
+use Rattle.h41_program.specs.Edits.{before_end, count_before, edit_outcome, PlacesAreDetermined, load_outcome, loaded_of, ChangeGives, LoadsBehind}
 use Rattle.h41_program.specs.Lines.{is_final_end}
 use Rattle.h41_program.specs.ProgramBytes.{program_bytes, final_position}
 use Rattle.h41_program.specs.ProgramLaws.{EditsAreDetermined, FirstIsDetermined, ListsAreDetermined, LoadsAreDetermined}
@@ -104,3 +104,12 @@ edits_determined one memory change at outcome other gives again = elim gives [
     | inr nothing ↦ none.1 ∙ sym nothing.1
   ]
 ]
+
+pub answers_determined : OneLine → PlacesAreDetermined
+answers_determined one answer memory at new result other is again =
+    let first = first_determined one (program_bytes memory) (final_position memory) at is.first again.first is.stands again.stands in
+    let lines = lists_determined one memory 0 is.lines again.lines is.from again.from in
+    let listed = lists_determined one new 0 is.listed again.listed is.read again.read in
+    is.is ∙ ap (λ (l : ListedLine). answer (count_before l.position is.lines) is.listed) first
+    ∙ ap (λ (l : List ListedLine). answer (count_before again.first.position l) is.listed) lines
+    ∙ ap (answer (count_before again.first.position again.lines)) listed ∙ sym again.is

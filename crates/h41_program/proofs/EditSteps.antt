@@ -1,19 +1,23 @@
 -- The list changed line after line.
-use Rattle.std.proofs.Common.{◌≡◌, ℕ, Bool, true, false, List, [], ◌∷◌, ◌++◌, refl, sym, ◌∙◌, ap, subst, append-nil, append_assoc, Result, Ok, Err}
-use Rattle.std.specs.Prelude.{◌&&◌, ◌||◌, ◌==◌, is_some, IsOkAnd, MatchBool, not, if◌then◌else◌}
+use Rattle.std.proofs.Common.{◌≡◌, ℕ, Bool, true, false, List, [], ◌∷◌, ◌++◌, refl, sym, ◌∙◌, ap, subst, inl, inr, append-nil, append_assoc, Result, Ok, Err}
+use Rattle.std.specs.Prelude.{◌&&◌, ◌||◌, ◌==◌, is_some, IsOkAnd, MatchBool, if◌then◌else◌}
 use Rattle.std.specs.List.{flat_map}
 use Rattle.std.proofs.lemmas.Grind.{flat_map-append}
 use Rattle.std.proofs.lemmas.List.Folds.{list_any-append}
 use Rattle.h41_codes.specs.declared.line.Line.{Line}
 use Rattle.h41_ram.specs.RegisterMap.{RegisterMap}
+use Rattle.h41_program.specs.declared.editing.Change.{Change}
+use Rattle.h41_program.specs.declared.editing.Change.TheVariants.{Delete, Insert, Replace}
 use Rattle.h41_program.specs.declared.listed_line.ListedLine.{ListedLine}
 use Rattle.h41_program.specs.declared.packer.Packer.{Packer}
 use Rattle.h41_program.specs.declared.refusal.ProgramRefusal.{ProgramRefusal}
 use Rattle.h41_program.specs.declared.refusal.ProgramRefusal.TheVariants.{BrokenProgram}
-use Rattle.h41_program.specs.Edits.{before_end, has_line_at, own_line, with_inserted, with_replaced, without_deleted, answered, changed_outcome}
+use Rattle.h41_program.specs.Edits.{before_end, has_line_at, own_line, answered, changed_outcome, done, edit_outcome, Edits}
+use Rattle.h41_program.specs.EditSteps.{PacksChanged, Writes, changed, is_kept, new_part}
 use Rattle.h41_program.specs.Lines.{is_final_end}
-use Rattle.h41_program.specs.Packers.{Packs}
-use Rattle.h41_program.specs.ProgramLines.{IsFirst, Reads, NoneFrom}
+use Rattle.h41_program.specs.Packers.{Packs, line_if}
+use Rattle.h41_program.specs.ProgramBytes.{final_position, program_bytes}
+use Rattle.h41_program.specs.ProgramLines.{AnswersFirst, FirstFrom, IsFirst, Reads, NoneFrom}
 use Rattle.h41_program.specs.Rewriting.{HasOutcome, written}
 use Rattle.h41_program.proofs.Walks.{UpTo, ends_none, ends_final, before_end-none, before_end-final}
 
@@ -31,70 +35,62 @@ changed-more change before listed =
     flat_map-append change before (listed ∷ []) ∙ ap (λ (l : List Line). flat_map change before ++ l) (append-nil (change listed))
 
 -- a line that is kept, and .END.
-pub own_line-other : (listed : ListedLine) → is_final_end listed.line ≡ false → own_line listed ≡ listed.line ∷ []
+own_line-other : (listed : ListedLine) → is_final_end listed.line ≡ false → own_line listed ≡ listed.line ∷ []
 own_line-other listed other = rw other refl
 
-pub own_line-final : (listed : ListedLine) → is_final_end listed.line ≡ true → own_line listed ≡ []
+own_line-final : (listed : ListedLine) → is_final_end listed.line ≡ true → own_line listed ≡ []
 own_line-final listed final = rw final refl
 
-pub without_deleted-other : (place : ℕ) (listed : ListedLine) (here : Bool) → here ≡ (listed.position == place) → is_final_end listed.line ≡ false
-    → (if not here then listed.line ∷ [] else []) ≡ without_deleted place listed
-without_deleted-other place listed here is other =
-    ap (λ (b : Bool). if not b then listed.line ∷ [] else []) is ∙ chosen (listed.position == place) listed other
-  where
-    chosen : (b : Bool) (listed : ListedLine) → is_final_end listed.line ≡ false → (if not b then listed.line ∷ [] else []) ≡ (if b then [] else own_line listed)
-    chosen true listed other = refl
-    chosen false listed other = sym (own_line-other listed other)
+-- what a change makes of a line, where it is the one to be changed or not
+abbrev made : Change → Bool → ListedLine → List Line
+made (Insert line) here listed = (if here then line ∷ [] else []) ++ own_line listed
+made (Replace line) here listed = if here then line ∷ [] else own_line listed
+made Delete here listed = if here then [] else own_line listed
 
-pub without_deleted-final : (place : ℕ) (listed : ListedLine) → is_final_end listed.line ≡ true → without_deleted place listed ≡ []
-without_deleted-final place listed final = nothing (listed.position == place) listed final
-  where
-    nothing : (b : Bool) (listed : ListedLine) → is_final_end listed.line ≡ true → (if b then [] else own_line listed) ≡ []
-    nothing true listed final = refl
-    nothing false listed final = own_line-final listed final
+is_made : (change : Change) (place : ℕ) (listed : ListedLine) → changed change place listed ≡ made change (listed.position == place) listed
+is_made (Insert line) place listed = refl
+is_made (Replace line) place listed = refl
+is_made Delete place listed = refl
 
-pub nil_packs : (packer : Packer) (lines : List Line) → Packs packer lines → Packs packer (lines ++ [])
-nil_packs packer lines packs = subst (λ (l : List Line). Packs packer l) (sym (append-nil lines)) packs
+made_other : (change : Change) (here : Bool) (listed : ListedLine) → is_final_end listed.line ≡ false
+    → new_part here change ++ line_if (is_kept here change) listed.line ≡ made change here listed
+made_other (Insert line) true listed other = ap (λ (l : List Line). line ∷ l) (sym (own_line-other listed other))
+made_other (Insert line) false listed other = sym (own_line-other listed other)
+made_other (Replace line) true listed other = refl
+made_other (Replace line) false listed other = sym (own_line-other listed other)
+made_other Delete true listed other = refl
+made_other Delete false listed other = sym (own_line-other listed other)
 
--- one more line, before which another may be inserted
-pub inserted_packs : (packer : Packer) (line : Line) (place : ℕ) (before : List ListedLine) (listed : ListedLine) (own : List Line) → own_line listed ≡ own
-    → Packs packer ((flat_map (with_inserted line place) before ++ (if listed.position == place then line ∷ [] else [])) ++ own)
-    → Packs packer (flat_map (with_inserted line place) (before ++ listed ∷ []))
-inserted_packs packer line place before listed own is packs =
+made_final : (change : Change) (here : Bool) (listed : ListedLine) → is_final_end listed.line ≡ true → new_part here change ≡ made change here listed
+made_final (Insert line) true listed final = ap (λ (l : List Line). line ∷ l) (sym (own_line-final listed final))
+made_final (Insert line) false listed final = sym (own_line-final listed final)
+made_final (Replace line) true listed final = refl
+made_final (Replace line) false listed final = sym (own_line-final listed final)
+made_final Delete true listed final = refl
+made_final Delete false listed final = sym (own_line-final listed final)
+
+-- one more line, and .END.
+pub one_packs : (packer : Packer) (change : Change) (place : ℕ) (before : List ListedLine) (listed : ListedLine) (here kept : Bool) → here ≡ (listed.position == place)
+    → kept ≡ is_kept here change → is_final_end listed.line ≡ false
+    → Packs packer ((flat_map (changed change place) before ++ new_part here change) ++ line_if kept listed.line)
+    → Packs packer (flat_map (changed change place) (before ++ listed ∷ []))
+one_packs packer change place before listed here kept is keeps other packs =
     subst (λ (l : List Line). Packs packer l)
-    (sym (changed-more (with_inserted line place) before listed
-    ∙ ap (λ (l : List Line). flat_map (with_inserted line place) before ++ ((if listed.position == place then line ∷ [] else []) ++ l)) is
-    ∙ sym (append_assoc (flat_map (with_inserted line place) before) (if listed.position == place then line ∷ [] else []) own)))
+    (append_assoc (flat_map (changed change place) before) (new_part here change) (line_if kept listed.line)
+    ∙ ap (λ (l : List Line). flat_map (changed change place) before ++ l)
+    (ap (λ (b : Bool). new_part here change ++ line_if b listed.line) keeps ∙ made_other change here listed other
+    ∙ ap (λ (b : Bool). made change b listed) is ∙ sym (is_made change place listed))
+    ∙ sym (changed-more (changed change place) before listed))
     packs
 
--- one more line, in whose place another may be put
-replaced_other : (b : Bool) (line : Line) (listed : ListedLine) → is_final_end listed.line ≡ false
-    → (if b then line ∷ [] else []) ++ (if not b then listed.line ∷ [] else []) ≡ (if b then line ∷ [] else own_line listed)
-replaced_other true line listed other = refl
-replaced_other false line listed other = sym (own_line-other listed other)
-
-replaced_final : (b : Bool) (line : Line) (listed : ListedLine) → is_final_end listed.line ≡ true → (if b then line ∷ [] else []) ≡ (if b then line ∷ [] else own_line listed)
-replaced_final true line listed final = refl
-replaced_final false line listed final = sym (own_line-final listed final)
-
-pub replaced_packs : (packer : Packer) (line : Line) (place : ℕ) (before : List ListedLine) (listed : ListedLine) (here : Bool) → here ≡ (listed.position == place) → is_final_end listed.line ≡ false
-    → Packs packer ((flat_map (with_replaced line place) before ++ (if here then line ∷ [] else [])) ++ (if not here then listed.line ∷ [] else []))
-    → Packs packer (flat_map (with_replaced line place) (before ++ listed ∷ []))
-replaced_packs packer line place before listed here is other packs =
+pub last_packs : (packer : Packer) (change : Change) (place : ℕ) (before : List ListedLine) (listed : ListedLine) (here : Bool) → here ≡ (listed.position == place)
+    → is_final_end listed.line ≡ true → Packs packer (flat_map (changed change place) before ++ new_part here change)
+    → Packs packer (flat_map (changed change place) (before ++ listed ∷ []))
+last_packs packer change place before listed here is final packs =
     subst (λ (l : List Line). Packs packer l)
-    (append_assoc (flat_map (with_replaced line place) before) (if here then line ∷ [] else []) (if not here then listed.line ∷ [] else [])
-    ∙ ap (λ (l : List Line). flat_map (with_replaced line place) before ++ l)
-    (replaced_other here line listed other ∙ ap (λ (b : Bool). if b then line ∷ [] else own_line listed) is)
-    ∙ sym (changed-more (with_replaced line place) before listed))
-    packs
-
-pub replaced_last : (packer : Packer) (line : Line) (place : ℕ) (before : List ListedLine) (listed : ListedLine) (here : Bool) → here ≡ (listed.position == place) → is_final_end listed.line ≡ true
-    → Packs packer (flat_map (with_replaced line place) before ++ (if here then line ∷ [] else [])) → Packs packer (flat_map (with_replaced line place) (before ++ listed ∷ []))
-replaced_last packer line place before listed here is final packs =
-    subst (λ (l : List Line). Packs packer l)
-    (ap (λ (l : List Line). flat_map (with_replaced line place) before ++ l)
-    (replaced_final here line listed final ∙ ap (λ (b : Bool). if b then line ∷ [] else own_line listed) is)
-    ∙ sym (changed-more (with_replaced line place) before listed))
+    (ap (λ (l : List Line). flat_map (changed change place) before ++ l)
+    (made_final change here listed final ∙ ap (λ (b : Bool). made change b listed) is ∙ sym (is_made change place listed))
+    ∙ sym (changed-more (changed change place) before listed))
     packs
 
 -- the list was read so far, and each line changed
@@ -149,3 +145,30 @@ changed_refused old change lines result refusal false matches err = (same_refusa
   where
     same_refusal : (result : Result Packer ProgramRefusal) (refusal : ProgramRefusal) → result ≡ Err refusal → result ≡ Err BrokenProgram → ◌≡◌ {A = Result (Unit {0}) ProgramRefusal} (Err refusal) (Err BrokenProgram)
     same_refusal result refusal one other = let e : refusal ≡ BrokenProgram = cc in ap (λ (r : ProgramRefusal). Err r) e
+
+-- the list is changed, or not
+module _ (old : RegisterMap) (change : ℕ → ListedLine → List Line) (at : ℕ) where
+  pub edit_none : (result : Result ℕ ProgramRefusal) (refusal : ProgramRefusal) → AnswersFirst old at (Err refusal) → result ≡ Err refusal → Edits old old change at (done result)
+  edit_none result refusal none is = (Err BrokenProgram, inr (none.1, refl), (ap done is ∙ ap (λ (r : ProgramRefusal). Err r) none.0, refl))
+
+  module _ (first : ListedLine) (stands : FirstFrom (program_bytes old) (final_position old) at first) (packed : Result Packer ProgramRefusal)
+      (packs : PacksChanged old (change first.position) first.position packed) where
+    abbrev reached : Bool
+    reached = is_some (before_end packs.0) && has_line_at first.position packs.0
+
+    pub edit_refused : (result : Result ℕ ProgramRefusal) (refusal : ProgramRefusal) → packed ≡ Err refusal → result ≡ Err refusal → Edits old old change at (done result)
+    edit_refused result refusal err is = (
+      edit_outcome old (change first.position) first.position packs.0,
+      inl (first, stands, (packs.0, packs.1, refl)),
+      subst (λ (r : Result (Unit {0}) ProgramRefusal). HasOutcome old old r (changed_outcome reached old (flat_map (change first.position) packs.0))) (sym (ap done is))
+          (changed_refused old (change first.position) packs.0 packed refusal reached packs.2 err),
+    )
+
+    pub edit_written : (new : RegisterMap) (packer : Packer) (wrote result : Result (Unit {0}) ProgramRefusal) → packed ≡ Ok packer → Writes packer old new wrote → wrote ≡ result
+        → Edits old new change at result
+    edit_written new packer wrote result ok writes is = (
+      edit_outcome old (change first.position) first.position packs.0,
+      inl (first, stands, (packs.0, packs.1, refl)),
+      subst (λ (r : Result (Unit {0}) ProgramRefusal). HasOutcome old new r (changed_outcome reached old (flat_map (change first.position) packs.0))) is
+          (changed_written old new (change first.position) first.position packs.0 packed packer wrote reached packs.2 ok writes),
+    )

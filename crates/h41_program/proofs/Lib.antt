@@ -3,6 +3,8 @@ pub mod ClosedRead
 pub mod Closings
 pub mod Depends
 pub mod Determined
+pub mod EditAnswers
+pub mod EditPlaces
 pub mod EditSteps
 pub mod Exists
 pub mod FirstBytes
@@ -16,6 +18,7 @@ pub mod LoadSteps
 pub mod Loads
 pub mod Mains
 pub mod Memory
+pub mod NewLines
 pub mod Numbers
 pub mod Outcomes
 pub mod Packings

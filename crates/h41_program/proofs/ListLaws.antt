@@ -17,7 +17,7 @@ own_first bytes final at first is = record {
   not_null = is.not_null;
 }
 
-own_reads : (bytes : List ℕ) (final at : ℕ) (first : ListedLine) (rest : List ListedLine) → Reads bytes final at (first ∷ rest) → Reads bytes final first.position (first ∷ rest)
+pub own_reads : (bytes : List ℕ) (final at : ℕ) (first : ListedLine) (rest : List ListedLine) → Reads bytes final at (first ∷ rest) → Reads bytes final first.position (first ∷ rest)
 own_reads bytes final at first rest reads = (own_first bytes final at first reads.0, reads.1)
 
 not_empty : (first : ListedLine) (rest : List ListedLine) → ◌≡◌ {A = List ListedLine} (first ∷ rest) [] → ⊥

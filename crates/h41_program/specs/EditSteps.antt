@@ -1,25 +1,56 @@
 -- What the functions that change the list promise one another. No public contract needs this file.
-use Rattle.std.specs.Prelude.{◌≡◌, ℕ, is_some, MatchBool, IsOkAnd, ◌&&◌, List, Result, Err}
+use Rattle.std.specs.Prelude.{◌≡◌, ℕ, is_some, Bool, true, not, MatchBool, IsOkAnd, ◌&&◌, List, [], Result, Err}
 use Rattle.std.specs.List.{flat_map}
+use Rattle.h41_codes.specs.ByteGrammar.{IsLine}
 use Rattle.h41_codes.specs.declared.line.Line.{Line}
 use Rattle.h41_ram.specs.RegisterMap.{RegisterMap}
+use Rattle.h41_program.specs.declared.editing.Change.{Change}
+use Rattle.h41_program.specs.declared.editing.Change.TheVariants.{Delete, Insert, Replace}
 use Rattle.h41_program.specs.declared.listed_line.ListedLine.{ListedLine}
 use Rattle.h41_program.specs.declared.packer.Packer.{Packer}
 use Rattle.h41_program.specs.declared.refusal.ProgramRefusal.{ProgramRefusal}
 use Rattle.h41_program.specs.declared.refusal.ProgramRefusal.TheVariants.{BrokenProgram}
-use Rattle.h41_program.specs.Edits.{ChangeGives, answered, before_end, has_line_at}
-use Rattle.h41_program.specs.Packers.{Packs}
-use Rattle.h41_program.specs.ProgramLines.{LinesFrom}
+use Rattle.h41_program.specs.Edits.{answered, before_end, count_before, has_line_at, with_inserted, with_replaced, without_deleted}
+use Rattle.h41_program.specs.Packers.{Packs, line_if}
+use Rattle.h41_program.specs.ProgramBytes.{final_position, program_bytes}
+use Rattle.h41_program.specs.ProgramLines.{FirstFrom, LinesFrom}
 use Rattle.h41_program.specs.Rewriting.{written, HasOutcome}
 
 -- the lines of a packer are written into memory
 abbrev pub Writes : Packer → RegisterMap → RegisterMap → Result (Unit {0}) ProgramRefusal → Type 0
 Writes packer old new result = (lines : List Line) → Packs packer lines → HasOutcome old new result (answered tt (written old lines))
 
--- the list is changed at a line's own position
-abbrev pub EditsAt : RegisterMap → RegisterMap → (ListedLine → List Line) → ℕ → Result (Unit {0}) ProgramRefusal → Type 0
-EditsAt old new change position result =
-    (outcome : Result (RegisterMap × Unit {0}) ProgramRefusal) × ChangeGives old change position outcome × HasOutcome old new result outcome
+-- what a change makes of each line of the list
+abbrev pub changed : Change → ℕ → ListedLine → List Line
+changed (Insert line) = with_inserted line
+changed (Replace line) = with_replaced line
+changed Delete = without_deleted
+
+-- its new line is a line
+abbrev pub IsChange : Change → Type 0
+IsChange (Insert line) = IsLine line
+IsChange (Replace line) = IsLine line
+IsChange Delete = Unit {0}
+
+-- the new line, where the line that is changed stands
+abbrev pub new_part : Bool → Change → List Line
+new_part here (Insert line) = line_if here line
+new_part here (Replace line) = line_if here line
+new_part here Delete = []
+
+-- whether a line is kept
+abbrev pub is_kept : Bool → Change → Bool
+is_kept here (Insert line) = true
+is_kept here (Replace line) = not here
+is_kept here Delete = not here
+
+-- so many lines stand before the one that a position stands for
+pub record Counts (memory : RegisterMap) (at count : ℕ) : Type 0 where
+  pub first : ListedLine
+  pub lines : List ListedLine
+  pub stands : FirstFrom (program_bytes memory) (final_position memory) at first
+  pub from : LinesFrom memory 0 lines
+  pub is : count ≡ count_before first.position lines
 
 -- a packer has the changed lines, where the list reaches .END. and has a line at the position
 abbrev pub PacksChanged : RegisterMap → (ListedLine → List Line) → ℕ → Result Packer ProgramRefusal → Type 0

@@ -1,7 +1,7 @@
--- What lines program memory has after a line was inserted or deleted, or bytes were loaded.
-use Rattle.std.specs.Prelude.{◌≡◌, ◌⊎◌, ℕ, Bool, false, not, ◌||◌, is_some, ◌&&◌, List, [], ◌∷◌, ◌++◌, map, length, drop, ◌==◌, if◌then◌else◌, Option, Some, None, Result, Ok, Err}
+-- What lines program memory has after a line was inserted or deleted, or bytes were loaded, and what is answered then.
+use Rattle.std.specs.Prelude.{◌≡◌, ◌⊎◌, ℕ, zero, suc, Bool, false, not, ◌||◌, is_some, ◌&&◌, List, [], ◌∷◌, ◌++◌, map, length, drop, count_by, slice_get, nat_lt, ◌==◌, if◌then◌else◌, Option, Some, None, Result, Ok, Err}
 use Rattle.std.specs.List.{list_all, list_any, flat_map}
-use Rattle.std.specs.Option.{option_map, option_map_or}
+use Rattle.std.specs.Option.{option_and_then, option_map, option_map_or}
 use Rattle.h41_codes.specs.declared.line.Line.{Line}
 use Rattle.h41_codes.specs.declared.line.Line.TheVariants.{End, FinalEnd}
 use Rattle.h41_ram.specs.RegisterMap.{RegisterMap}
@@ -13,6 +13,7 @@ use Rattle.h41_program.specs.Packing.{last_line, packed}
 use Rattle.h41_program.specs.ProgramBytes.{program_bytes, final_position}
 use Rattle.h41_program.specs.ProgramLines.{FirstFrom, HasNoLine, LinesFrom, Reads, behind}
 use Rattle.h41_program.specs.Rewriting.{written, HasOutcome}
+use Rattle.h41_program.specs.Searches.{position_of}
 
 -- the lines alone, without their positions
 abbrev pub lines_of : List ListedLine → List Line
@@ -135,6 +136,52 @@ pub record LeavesChanged (memory : RegisterMap) (change : ℕ → ListedLine →
   pub from : LinesFrom memory 0 lines
   pub read : LinesFrom new 0 listed
   pub same : lines_of listed ≡ flat_map (change first.position) lines ++ FinalEnd 0 0 ∷ []
+
+-- how many lines stand before a position
+abbrev pub count_before : ℕ → List ListedLine → ℕ
+count_before position lines = count_by (λ listed. nat_lt listed.position position) lines
+
+-- where the line stands that has so many lines before it
+abbrev pub position_behind : ℕ → List ListedLine → Option ℕ
+position_behind count listed = position_of (slice_get listed count)
+
+-- where the last of so many lines stands: none where there are none, or it is an END and so in another program
+abbrev pub position_in_front : ℕ → List ListedLine → Option ℕ
+position_in_front zero listed = None
+position_in_front (suc count) listed = option_and_then (λ last. if is_end last.line then None else Some last.position) (slice_get listed count)
+
+-- an answer on a changed list: it goes by how many lines stood before the line that a position stands for
+pub record AnswersChanged (answer : ℕ → List ListedLine → Option ℕ) (memory : RegisterMap) (at : ℕ) (new : RegisterMap) (result : Option ℕ) : Type 0 where
+  pub first : ListedLine
+  pub lines : List ListedLine
+  pub listed : List ListedLine
+  pub stands : FirstFrom (program_bytes memory) (final_position memory) at first
+  pub from : LinesFrom memory 0 lines
+  pub read : LinesFrom new 0 listed
+  pub is : result ≡ answer (count_before first.position lines) listed
+
+-- where the new line stands: as many lines are before it
+abbrev pub StandsNew : RegisterMap → ℕ → RegisterMap → ℕ → Type 0
+StandsNew memory at new position = AnswersChanged position_behind memory at new (Some position)
+
+-- this line is the first from a position on, and stands there
+abbrev pub Stands : RegisterMap → Line → ℕ → Type 0
+Stands memory line position = FirstFrom (program_bytes memory) (final_position memory) position (record { position = position; line = line })
+
+-- where the line stands that is then before a deleted one
+abbrev pub StandsBefore : RegisterMap → ℕ → RegisterMap → Option ℕ → Type 0
+StandsBefore memory at new position = AnswersChanged position_in_front memory at new position
+
+-- no change of the list has two answers
+abbrev pub PlacesAreDetermined : Type 0
+PlacesAreDetermined =
+    (answer : ℕ → List ListedLine → Option ℕ) (memory : RegisterMap) (at : ℕ) (new : RegisterMap) (result other : Option ℕ)
+    → AnswersChanged answer memory at new result → AnswersChanged answer memory at new other → result ≡ other
+
+-- whether a call was done, without its answer
+abbrev pub done : {A : Type 0} → Result A ProgramRefusal → Result (Unit {0}) ProgramRefusal
+done (Ok answer) = Ok tt
+done (Err refusal) = Err refusal
 
 -- the list is changed at the line that a position stands for
 abbrev pub Edits : RegisterMap → RegisterMap → (ℕ → ListedLine → List Line) → ℕ → Result (Unit {0}) ProgramRefusal → Type 0

@@ -1,14 +1,16 @@
-//! Lines inserted and deleted.
-ghost use Rattle.std.specs.Prelude.{◌≡◌, ◌==◌, ◌||◌, if◌then◌else◌, IsTrue, OnOk, Ok, Err};
+//! Lines inserted, replaced and deleted.
+ghost use Rattle.std.specs.Prelude.{◌≡◌, ◌||◌, if◌then◌else◌, slice_get, IsTrue, IfOk, OnOk, Ok, Err};
 ghost use Rattle.h41_codes.specs.ByteGrammar.{IsLine};
 ghost use Rattle.h41_ram.specs.RegisterMap.{is_sound};
-ghost use Rattle.h41_program.specs.Edits.{Edits, LeavesChanged, with_inserted, with_replaced, without_deleted};
-ghost use Rattle.h41_program.specs.EditSteps.{EditsAt, PacksChanged};
+ghost use Rattle.h41_program.specs.Edits.{Edits, LeavesChanged, Stands, StandsBefore, StandsNew, count_before, done, position_in_front, with_inserted, with_replaced, without_deleted};
+ghost use Rattle.h41_program.specs.EditSteps.{Counts, IsChange, PacksChanged, changed, new_part};
+ghost use Rattle.h41_program.specs.EditSteps as spec;
 ghost use Rattle.h41_program.specs.Lines.{is_inner};
 ghost use Rattle.h41_program.specs.Packers.{Puts, line_if};
+ghost use Rattle.h41_program.specs.ProgramLines.{AnswersFrom};
 ghost use Rattle.h41_program.specs.declared.refusal.ProgramRefusal.TheVariants.{BrokenProgram};
 
-use crate::kinds::is_final_end;
+use crate::kinds::{is_end, is_final_end};
 use crate::listed_line::ListedLine;
 use crate::packer::Packer;
 use crate::ranges::know_ranges;
@@ -18,187 +20,181 @@ use h41_codes::Line;
 use h41_codes::laws::byte_round_trip;
 use h41_ram::Ram;
 
+/// A change of the list at one line.
+#[derive(Clone, Copy)]
+enum Change {
+    /// A line is put before it.
+    Insert(Line),
+    /// A line is put in its place.
+    Replace(Line),
+    /// It is dropped.
+    Delete,
+}
+
 /// Inserts a line, which is neither a null nor `.END.`, before the one that a position stands for; at `.END.` it becomes the
-/// last. 14 where the list has no such line or does not reach `.END.`, 16 where the program would pass below main memory.
+/// last. Answers where the new line stands, since packing may move it. 14 where the list has no such line or does not reach
+/// `.END.`, 16 where the program would pass below main memory.
 pub fn insert<const REGS: usize>(
     ram: &mut Ram<REGS>,
     before: u16,
     line: Line,
-) -> Result<(), ProgramRefusal>
+) -> Result<u16, ProgramRefusal>
     requires sound { IsTrue (is_sound ram.old) }
     requires inner { IsTrue (is_inner line) }
-    ensures lines { Edits ram.old ram.new (with_inserted line) before result }
+    ensures lines { Edits ram.old ram.new (with_inserted line) before (done result) }
     ensures sound { IsTrue (is_sound ram.new) }
     ensures read { OnOk result (LeavesChanged ram.old (with_inserted line) before ram.new) }
+    ensures answer { IfOk result (StandsNew ram.old before ram.new) }
+    ensures stands { IfOk result (Stands ram.new line) }
 {
     byte_round_trip();
     know_ranges(&line);
-    match line_at(ram, before) {
-        Ok(listed) => insert_at(ram, listed.position, &line),
-        Err(refusal) => Err(refusal),
-    }
+    let count = change_at(ram, before, Change::Insert(line))?;
+    let inserted = line_behind(ram, count).unwrap();
+    Ok(inserted.position)
 }
 
-/// Deletes the line that a position stands for; `.END.` stays. 14 where the list has no such line or does not reach `.END.`, 16
-/// where the program would pass below main memory.
-pub fn delete<const REGS: usize>(ram: &mut Ram<REGS>, at: u16) -> Result<(), ProgramRefusal>
+/// Deletes the line that a position stands for; `.END.` stays. Answers where the line stands that is then before, or `None`
+/// where its program has none. 14 where the list has no such line or does not reach `.END.`, 16 where the program would pass
+/// below main memory.
+pub fn delete<const REGS: usize>(
+    ram: &mut Ram<REGS>,
+    at: u16,
+) -> Result<Option<u16>, ProgramRefusal>
     requires { IsTrue (is_sound ram.old) }
-    ensures lines { Edits ram.old ram.new without_deleted at result }
+    ensures lines { Edits ram.old ram.new without_deleted at (done result) }
     ensures sound { IsTrue (is_sound ram.new) }
     ensures read { OnOk result (LeavesChanged ram.old without_deleted at ram.new) }
+    ensures answer { IfOk result (StandsBefore ram.old at ram.new) }
 {
     byte_round_trip();
-    match line_at(ram, at) {
-        Ok(listed) => delete_at(ram, listed.position),
-        Err(refusal) => Err(refusal),
-    }
+    let count = change_at(ram, at, Change::Delete)?;
+    Ok(in_front(ram, count))
 }
 
 /// Puts a line, which is neither a null nor `.END.`, in the place of the one that a position stands for; at `.END.` it becomes
-/// the last. This is one change: 16 is judged on the new lines alone. 14 where the list has no such line or does not reach
-/// `.END.`, 16 where the program would pass below main memory.
+/// the last. This is one change: 16 is judged on the new lines alone. Answers where the new line stands. 14 where the list has
+/// no such line or does not reach `.END.`, 16 where the program would pass below main memory.
 pub fn replace<const REGS: usize>(
     ram: &mut Ram<REGS>,
     at: u16,
     line: Line,
-) -> Result<(), ProgramRefusal>
+) -> Result<u16, ProgramRefusal>
     requires sound { IsTrue (is_sound ram.old) }
     requires inner { IsTrue (is_inner line) }
-    ensures lines { Edits ram.old ram.new (with_replaced line) at result }
+    ensures lines { Edits ram.old ram.new (with_replaced line) at (done result) }
     ensures sound { IsTrue (is_sound ram.new) }
     ensures read { OnOk result (LeavesChanged ram.old (with_replaced line) at ram.new) }
+    ensures answer { IfOk result (StandsNew ram.old at ram.new) }
+    ensures stands { IfOk result (Stands ram.new line) }
 {
     byte_round_trip();
     know_ranges(&line);
-    match line_at(ram, at) {
-        Ok(listed) => replace_at(ram, listed.position, &line),
-        Err(refusal) => Err(refusal),
-    }
+    let count = change_at(ram, at, Change::Replace(line))?;
+    let new = line_behind(ram, count).unwrap();
+    Ok(new.position)
 }
 
-/// Inserts a line before the one at its own position.
-fn insert_at<const REGS: usize>(
+/// Changes the list at the line that a position stands for, and answers how many lines stood before it.
+fn change_at<const REGS: usize>(
     ram: &mut Ram<REGS>,
-    place: u16,
-    line: &Line,
-) -> Result<(), ProgramRefusal>
+    at: u16,
+    change: Change,
+) -> Result<u16, ProgramRefusal>
     requires sound { IsTrue (is_sound ram.old) }
-    requires line { IsLine line.now }
-    ensures { EditsAt ram.old ram.new (with_inserted line.now place) place result }
+    requires change { IsChange change }
+    ensures lines { Edits ram.old ram.new (changed change) at (done result) }
+    ensures sound { IsTrue (is_sound ram.new) }
+    ensures count { IfOk result (Counts ram.old at) }
 {
-    match packed_with(ram, place, line) {
-        Ok(packer) => packer.write(ram),
-        Err(refusal) => Err(refusal),
-    }
+    let place = line_at(ram, at)?.position;
+    let count = lines_before(ram, place);
+    packed_changed(ram, place, &change)?.write(ram)?;
+    Ok(count)
 }
 
-/// Deletes the line at its own position.
-fn delete_at<const REGS: usize>(ram: &mut Ram<REGS>, place: u16) -> Result<(), ProgramRefusal>
-    requires { IsTrue (is_sound ram.old) }
-    ensures { EditsAt ram.old ram.new (without_deleted place) place result }
-{
-    match packed_without(ram, place) {
-        Ok(packer) => packer.write(ram),
-        Err(refusal) => Err(refusal),
-    }
-}
-
-/// Puts a line in the place of the one at its own position.
-fn replace_at<const REGS: usize>(
-    ram: &mut Ram<REGS>,
-    place: u16,
-    line: &Line,
-) -> Result<(), ProgramRefusal>
-    requires sound { IsTrue (is_sound ram.old) }
-    requires line { IsLine line.now }
-    ensures { EditsAt ram.old ram.new (with_replaced line.now place) place result }
-{
-    match packed_replaced(ram, place, line) {
-        Ok(packer) => packer.write(ram),
-        Err(refusal) => Err(refusal),
-    }
-}
-
-/// The lines of memory before `.END.` with one more before the line at a position.
-fn packed_with<const REGS: usize>(
-    ram: &Ram<REGS>,
-    place: u16,
-    line: &Line,
-) -> Result<Packer, ProgramRefusal>
-    requires sound { IsTrue (is_sound ram.now) }
-    requires line { IsLine line.now }
-    ensures { PacksChanged ram.now (with_inserted line.now place) place result }
-{
-    let mut packer = Packer::new();
-    let mut met = false;
-    let mut at = 0;
-    while let Some(found) = first_from(ram, at) {
-        let Found { listed, behind } = found;
-        let here = stands_at(&listed, place);
-        put_if(&mut packer, line, here);
-        met = is_met(met, here);
-        if is_final_end(listed.line) {
-            return where_met(packer, met);
-        }
-        packer.put(listed.line);
-        at = behind;
-    }
-    Err(ProgramRefusal::BrokenProgram)
-}
-
-/// The lines of memory before `.END.` without the line at a position.
-fn packed_without<const REGS: usize>(ram: &Ram<REGS>, place: u16) -> Result<Packer, ProgramRefusal>
+/// How many lines of the list from 0 stand before a position.
+fn lines_before<const REGS: usize>(ram: &Ram<REGS>, place: u16) -> u16
     requires { IsTrue (is_sound ram.now) }
-    ensures { PacksChanged ram.now (without_deleted place) place result }
+    ensures { AnswersFrom (count_before place) ram.now 0 result }
 {
-    let mut packer = Packer::new();
-    let mut met = false;
+    let mut count = 0;
     let mut at = 0;
     while let Some(found) = first_from(ram, at) {
         let Found { listed, behind } = found;
-        let here = stands_at(&listed, place);
-        met = is_met(met, here);
-        if is_final_end(listed.line) {
-            return where_met(packer, met);
+        if listed.position >= place {
+            return count;
         }
-        put_if(&mut packer, &listed.line, !here);
+        count += 1;
+        if is_final_end(listed.line) {
+            return count;
+        }
         at = behind;
     }
-    Err(ProgramRefusal::BrokenProgram)
+    count
 }
 
-/// The lines of memory before `.END.` with another in the place of the line at a position.
-fn packed_replaced<const REGS: usize>(
+/// The line of the list from 0 that has so many lines before it.
+fn line_behind<const REGS: usize>(ram: &Ram<REGS>, count: u16) -> Option<ListedLine>
+    requires { IsTrue (is_sound ram.now) }
+    ensures { AnswersFrom (λ lines. slice_get lines count) ram.now 0 result }
+{
+    let mut left = count;
+    let mut at = 0;
+    while let Some(found) = first_from(ram, at) {
+        let Found { listed, behind } = found;
+        if left == 0 {
+            return Some(listed);
+        }
+        if is_final_end(listed.line) {
+            return None;
+        }
+        left -= 1;
+        at = behind;
+    }
+    None
+}
+
+/// Where the last of so many lines stands; `None` where there are none, or it is an END.
+fn in_front<const REGS: usize>(ram: &Ram<REGS>, count: u16) -> Option<u16>
+    requires { IsTrue (is_sound ram.now) }
+    ensures { AnswersFrom (position_in_front count) ram.now 0 result }
+{
+    if count == 0 {
+        return None;
+    }
+    let listed = line_behind(ram, count - 1)?;
+    if is_end(&listed.line) {
+        return None;
+    }
+    Some(listed.position)
+}
+
+/// The lines of memory before `.END.`, changed at the line at its own position.
+fn packed_changed<const REGS: usize>(
     ram: &Ram<REGS>,
     place: u16,
-    line: &Line,
+    change: &Change,
 ) -> Result<Packer, ProgramRefusal>
     requires sound { IsTrue (is_sound ram.now) }
-    requires line { IsLine line.now }
-    ensures { PacksChanged ram.now (with_replaced line.now place) place result }
+    requires change { IsChange change.now }
+    ensures { PacksChanged ram.now (changed change.now place) place result }
 {
     let mut packer = Packer::new();
     let mut met = false;
     let mut at = 0;
     while let Some(found) = first_from(ram, at) {
         let Found { listed, behind } = found;
-        let there = stands_at(&listed, place);
-        put_if(&mut packer, line, there);
-        met = is_met(met, there);
+        let here = listed.position == place;
+        met = is_met(met, here);
+        put_new(&mut packer, change, here);
         if is_final_end(listed.line) {
             return where_met(packer, met);
         }
-        put_if(&mut packer, &listed.line, !there);
+        put_if(&mut packer, &listed.line, is_kept(change, here));
         at = behind;
     }
     Err(ProgramRefusal::BrokenProgram)
-}
-
-/// Whether a line stands at a position.
-fn stands_at(listed: &ListedLine, place: u16) -> bool
-    ensures { result ≡ (listed.now.position == place) }
-{
-    listed.position == place
 }
 
 /// Whether the line at the position was met before, or is met here.
@@ -215,6 +211,27 @@ fn put_if(packer: &mut Packer, line: &Line, wanted: bool)
 {
     if wanted {
         packer.put(*line);
+    }
+}
+
+/// Puts the new line of a change behind others, at the line that is changed.
+fn put_new(packer: &mut Packer, change: &Change, here: bool)
+    requires { IsChange change.now }
+    ensures { Puts packer.old packer.new (new_part here change.now) }
+{
+    match change {
+        Change::Insert(line) | Change::Replace(line) => put_if(packer, line, here),
+        Change::Delete => {}
+    }
+}
+
+/// Whether a line is kept: the one that is changed only where another is inserted before it.
+fn is_kept(change: &Change, here: bool) -> bool
+    ensures { result ≡ spec.is_kept here change.now }
+{
+    match change {
+        Change::Insert(_) => true,
+        Change::Replace(_) | Change::Delete => !here,
     }
 }
 

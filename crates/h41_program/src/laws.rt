@@ -1,6 +1,7 @@
 //! Laws of program memory: each is the contract of a function whose result is not looked at.
 ghost use Rattle.std.specs.Prelude.{ℕ, Bool, Option, Result};
 ghost use Rattle.h41_program.specs.Dependence.{AnswersDepend, FirstsDepend, LineDepends, ListsDepend, LocalDepends, NextDepends, NonesDepend, ProgramDepends, SoundnessDepends};
+ghost use Rattle.h41_program.specs.Edits.{PlacesAreDetermined};
 ghost use Rattle.h41_program.specs.LastProgram.{CloseIsRead, ClosedIsNotOpen};
 ghost use Rattle.h41_program.specs.SearchLaws.{AnswersAreDetermined, LineIsOfList, LocalIsDetermined, NextIsOfList, ProgramIsDetermined};
 ghost use Rattle.h41_program.specs.ProgramLaws.{EditsAreDetermined, FirstIsDetermined, GoesOnFromNext, ListsAreDetermined, LoadIsRead, LoadsAreDetermined, OneList, PackingFills, PackingHasFewNulls, PackingRoundTrip, ReadIsDetermined, SizeKeepsLines, StandsForItsLine, WrittenIsRead};
@@ -110,10 +111,11 @@ pub fn loads_are_determined()
     byte_round_trip();
 }
 
-/// No change of the list has two outcomes, at whatever position: so it is with the relation by which `insert`, `replace` and
-/// `delete` promise.
+/// No change of the list has two outcomes, at whatever position, nor two answers: so it is with the relations by which `insert`,
+/// `replace` and `delete` promise.
 pub fn edits_are_determined()
-    ensures { EditsAreDetermined }
+    ensures outcome { EditsAreDetermined }
+    ensures answer { PlacesAreDetermined }
 {
     byte_round_trip();
 }

@@ -1,26 +1,35 @@
-use Rattle.std.proofs.Common.{Err, ap, inl, inr, refl, subst}
+use Rattle.std.proofs.Common.{◌≡◌, Some, refl, sym, ◌∙◌}
 use Rattle.h41_program.specs.Edits.{with_inserted}
-use Rattle.h41_program.specs.ProgramLines.{AnswersFirst}
-use Rattle.h41_program.specs.declared.refusal.ProgramRefusal.TheVariants.{BrokenProgram}
-use Rattle.h41_program.proofs.Inner.{inner_line, inserted_inner}
-use Rattle.h41_program.proofs.Outcomes.{edit_read, edit_sound}
+use Rattle.h41_program.proofs.EditAnswers.{inserted_puts, leaves_new, stands_new, stands_there}
+use Rattle.h41_program.proofs.Inner.{inner_line}
 use Rattle.h41_program.proofs.editing.insert.Goals as goal
 
-pub returns-in-Ok-clause-lines : goal.returns-in-Ok-clause-lines
-returns-in-Ok-clause-lines g c =
-    let first = subst (λ r. AnswersFirst c.args.ram.now c.args.before r) c.in-Ok.is c.line_at.ensures in
-    let edits = c.insert_at.ensures in
-    (edits.0, inl (c.in-Ok.listed, first, edits.1), edits.2)
+pub unwrap-inserted-requires : goal.unwrap-inserted-requires
+unwrap-inserted-requires g c =
+    let puts = inserted_puts c.args.line (inner_line c.args.line c.requires.inner c.know_ranges.ensures) in
+    let left = leaves_new c.byte_round_trip.ensures.again c.byte_round_trip.ensures.one c.args.ram.now c.change_at.new.ram (with_inserted c.args.line) c.args.before
+    c.in_ok-count.count c.args.line c.requires.sound puts c.in_ok-count.ensures.lines c.in_ok-count.ensures.count in
+    let some : c.line_behind.result ≡ Some left.has.there = c.line_behind.ensures left.leaves.listed left.leaves.read ∙ left.has.got in
+    rw some refl
 
-pub returns-in-Err-clause-lines : goal.returns-in-Err-clause-lines
-returns-in-Err-clause-lines g c =
-    let none = subst (λ r. AnswersFirst c.args.ram.now c.args.before r) c.in-Err.is c.line_at.ensures in
-    (Err BrokenProgram, inr (none.1, refl), (ap (λ r. Err r) none.0, refl))
+pub returns-clause-read : goal.returns-clause-read
+returns-clause-read g c =
+    let puts = inserted_puts c.args.line (inner_line c.args.line c.requires.inner c.know_ranges.ensures) in
+    let left = leaves_new c.byte_round_trip.ensures.again c.byte_round_trip.ensures.one c.args.ram.now c.change_at.new.ram (with_inserted c.args.line) c.args.before
+    c.in_ok-count.count c.args.line c.requires.sound puts c.in_ok-count.ensures.lines c.in_ok-count.ensures.count in
+    left.leaves
 
-pub returns-in-Ok-clause-sound : goal.returns-in-Ok-clause-sound
-returns-in-Ok-clause-sound g c = edit_sound c.args.ram.now c.insert_at.new.ram (with_inserted c.args.line) c.args.before c.insert_at.result c.requires.sound (returns-in-Ok-clause-lines g c)
+pub returns-clause-answer : goal.returns-clause-answer
+returns-clause-answer g c =
+    let leaves = returns-clause-read g c in
+    stands_new c.args.ram.now c.change_at.new.ram c.args.before c.in_ok-count.count c.in_ok-count.ensures.count leaves.listed leaves.read c.unwrap-inserted.result
+    (sym c.unwrap-inserted.ensures ∙ c.line_behind.ensures leaves.listed leaves.read)
 
-pub returns-in-Ok-clause-read : goal.returns-in-Ok-clause-read
-returns-in-Ok-clause-read g c =
-    edit_read c.byte_round_trip.ensures.again c.args.ram.now c.insert_at.new.ram (with_inserted c.args.line) c.args.before c.insert_at.result c.requires.sound
-    (λ position. inserted_inner c.args.line position (inner_line c.args.line c.requires.inner c.know_ranges.ensures)) (returns-in-Ok-clause-lines g c)
+pub returns-clause-stands : goal.returns-clause-stands
+returns-clause-stands g c =
+    let puts = inserted_puts c.args.line (inner_line c.args.line c.requires.inner c.know_ranges.ensures) in
+    let left = leaves_new c.byte_round_trip.ensures.again c.byte_round_trip.ensures.one c.args.ram.now c.change_at.new.ram (with_inserted c.args.line) c.args.before
+    c.in_ok-count.count c.args.line c.requires.sound puts c.in_ok-count.ensures.lines c.in_ok-count.ensures.count in
+    stands_there c.byte_round_trip.ensures.again c.byte_round_trip.ensures.one c.args.ram.now c.change_at.new.ram (with_inserted c.args.line) c.args.before
+    c.in_ok-count.count c.args.line c.in_ok-count.ensures.sound left c.unwrap-inserted.result
+    (sym c.unwrap-inserted.ensures ∙ c.line_behind.ensures left.leaves.listed left.leaves.read)

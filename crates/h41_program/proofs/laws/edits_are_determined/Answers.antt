@@ -1,5 +1,8 @@
-use Rattle.h41_program.proofs.Determined.{edits_determined}
+use Rattle.h41_program.proofs.Determined.{answers_determined, edits_determined}
 use Rattle.h41_program.proofs.laws.edits_are_determined.Goals as goal
 
-pub returns : goal.returns
-returns c = edits_determined c.byte_round_trip.ensures.one
+pub returns-clause-outcome : goal.returns-clause-outcome
+returns-clause-outcome c = edits_determined c.byte_round_trip.ensures.one
+
+pub returns-clause-answer : goal.returns-clause-answer
+returns-clause-answer c = answers_determined c.byte_round_trip.ensures.one

@@ -1,13 +1,13 @@
 use Rattle.std.proofs.Common.{List, length, ◌-◌}
 use Rattle.h41_program.specs.declared.listed_line.ListedLine.{ListedLine}
-use Rattle.h41_program.specs.Edits.{without_deleted}
+use Rattle.h41_program.specs.EditSteps.{changed}
 use Rattle.h41_program.specs.ProgramBytes.{program_bytes, final_position}
 use Rattle.h41_program.proofs.EditSteps.{Changed}
-use Rattle.h41_program.proofs.editing.packed_without.Given as goal
+use Rattle.h41_program.proofs.editing.packed_changed.Given as goal
 
 -- the lines so far, changed
 abbrev pub invariant-loop-found : goal.invariant-loop-found
-invariant-loop-found g l = (before : List ListedLine) × Changed (program_bytes l.ram) (final_position l.ram) l.packer l.met (without_deleted l.place) l.place l.at before
+invariant-loop-found g l = (before : List ListedLine) × Changed (program_bytes l.ram) (final_position l.ram) l.packer l.met (changed l.change l.place) l.place l.at before
 
 -- the bytes that are left
 abbrev pub decreases-loop-found : goal.decreases-loop-found

@@ -1,11 +1,11 @@
 use Rattle.std.proofs.Common.{[], ◌∷◌, ◌++◌, refl, sym, ◌∙◌, ap}
-use Rattle.std.specs.Prelude.{◌||◌}
+use Rattle.std.specs.Prelude.{◌||◌, ◌==◌}
 use Rattle.std.specs.List.{flat_map}
-use Rattle.h41_program.specs.Edits.{with_replaced, has_line_at}
+use Rattle.h41_program.specs.EditSteps.{changed}
 use Rattle.h41_program.specs.ProgramBytes.{program_bytes, final_position}
-use Rattle.h41_program.proofs.EditSteps.{replaced_packs, replaced_last, has_line_at-more, changed_final, changed_none}
+use Rattle.h41_program.proofs.EditSteps.{changed_final, changed_none, has_line_at-more, last_packs, one_packs}
 use Rattle.h41_program.proofs.Walks.{up_to_none, up_to_more, all_none, all_final, from_reads}
-use Rattle.h41_program.proofs.editing.packed_replaced.Goals as goal
+use Rattle.h41_program.proofs.editing.packed_changed.Goals as goal
 
 pub loop-found-init : goal.loop-found-init
 loop-found-init g c = ([], record { read = up_to_none (program_bytes c.args.ram.now) (final_position c.args.ram.now) 0; packs = c.new-packer.ensures; found = refl })
@@ -16,12 +16,13 @@ loop-found-preserved g c =
     let found = c.in-Some.found in
     let before = c.loop-found.invariant in
     let running = sym c.is_final_end.ensures ∙ c.if-is_final_end.false in
-    let met = c.is_met-met.ensures ∙ ap (λ b. b || c.stands_at-there.result) before.1.found ∙ ap (λ b. has_line_at c.args.place before.0 || b) c.stands_at-there.ensures in (
+    let here = found.listed.position == c.args.place in
+    let met = c.is_met-met.ensures ∙ ap (λ b. b || here) before.1.found in (
       before.0 ++ found.listed ∷ [],
       record {
         read = up_to_more (program_bytes memory) (final_position memory) 0 c.loop-found.at found.behind before.0 found.listed before.1.read c.in-Some.ensures.first running;
-        packs = replaced_packs c.put_if-in-Some.new.packer c.args.line.now c.args.place before.0 found.listed c.stands_at-there.result c.stands_at-there.ensures running
-            (c.put_if-in-Some.ensures _ (c.put_if.ensures (flat_map (with_replaced c.args.line.now c.args.place) before.0) before.1.packs));
+        packs = one_packs c.put_if.new.packer c.args.change.now c.args.place before.0 found.listed here c.is_kept.result refl c.is_kept.ensures running
+            (c.put_if.ensures _ (c.put_new.ensures (flat_map (changed c.args.change.now c.args.place) before.0) before.1.packs));
         found = met ∙ sym (has_line_at-more c.args.place before.0 found.listed);
       },
     )
@@ -33,13 +34,15 @@ returns-then-is_final_end g c =
     let before = c.loop-found.invariant in
     let lines = before.0 ++ found.listed ∷ [] in
     let final = sym c.is_final_end.ensures ∙ c.if-is_final_end.true in
-    let met = c.is_met-met.ensures ∙ ap (λ b. b || c.stands_at-there.result) before.1.found ∙ ap (λ b. has_line_at c.args.place before.0 || b) c.stands_at-there.ensures in
+    let here = found.listed.position == c.args.place in
+    let met = c.is_met-met.ensures ∙ ap (λ b. b || here) before.1.found in
     let reads = all_final (program_bytes memory) (final_position memory) 0 c.loop-found.at found.behind before.0 found.listed before.1.read c.in-Some.ensures.first final in (
       lines,
       from_reads memory 0 lines c.requires.sound reads,
-      changed_final (program_bytes memory) (final_position memory) c.loop-found.at found.behind c.put_if.new.packer c.is_met-met.result (with_replaced c.args.line.now c.args.place) c.args.place before.0 lines found.listed
+      changed_final (program_bytes memory) (final_position memory) c.loop-found.at found.behind c.put_new.new.packer c.is_met-met.result (changed c.args.change.now c.args.place) c.args.place before.0 lines found.listed
           before.1.read c.in-Some.ensures.first final
-          (replaced_last c.put_if.new.packer c.args.line.now c.args.place before.0 found.listed c.stands_at-there.result c.stands_at-there.ensures final (c.put_if.ensures (flat_map (with_replaced c.args.line.now c.args.place) before.0) before.1.packs))
+          (last_packs c.put_new.new.packer c.args.change.now c.args.place before.0 found.listed here refl final
+          (c.put_new.ensures (flat_map (changed c.args.change.now c.args.place) before.0) before.1.packs))
           (met ∙ sym (has_line_at-more c.args.place before.0 found.listed)) reads c.where_met.result c.where_met.ensures,
     )
 
@@ -50,5 +53,5 @@ returns g c =
     let reads = all_none (program_bytes memory) (final_position memory) 0 c.loop-found.at before.0 before.1.read c.in_default.ensures.none in (
       before.0,
       from_reads memory 0 before.0 c.requires.sound reads,
-      changed_none (program_bytes memory) (final_position memory) c.loop-found.at (with_replaced c.args.line.now c.args.place) c.args.place before.0 before.0 before.1.read c.in_default.ensures.none reads,
+      changed_none (program_bytes memory) (final_position memory) c.loop-found.at (changed c.args.change.now c.args.place) c.args.place before.0 before.0 before.1.read c.in_default.ensures.none reads,
     )

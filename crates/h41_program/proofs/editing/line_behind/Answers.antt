@@ -1,0 +1,53 @@
+use Rattle.std.proofs.Common.{[], ◌∷◌, ◌++◌, ◌≡◌, ◌≤◌, List, length, sym, ◌∙◌, ap, arith, length-append}
+use Rattle.std.specs.Prelude.{slice_get}
+use Rattle.std.proofs.lemmas.Option.{slice_get_past}
+use Rattle.h41_program.specs.declared.listed_line.ListedLine.{ListedLine}
+use Rattle.h41_program.specs.ProgramBytes.{program_bytes, final_position}
+use Rattle.h41_program.proofs.EditPlaces.{get_behind}
+use Rattle.h41_program.proofs.Walks.{up_to_none, up_to_more, ends_none, first_rest, ends_final}
+use Rattle.h41_program.proofs.editing.line_behind.Goals as goal
+
+pub loop-found-init : goal.loop-found-init
+loop-found-init g c = ([], up_to_none (program_bytes c.args.ram.now) (final_position c.args.ram.now) 0, omega arith)
+
+pub returns-then-left-eq0 : goal.returns-then-left-eq0
+returns-then-left-eq0 g c lines from =
+    let memory = c.args.ram.now in
+    let found = c.in-Some.found in
+    let before = c.loop-found.invariant in
+    let parts = before.1.split lines (from.sound c.requires) in
+    let rest = first_rest (program_bytes memory) (final_position memory) c.loop-found.at found.behind found.listed parts.0 c.in-Some.ensures.first parts.2 in
+    let whole = parts.1 ∙ ap (λ (l : List ListedLine). before.0 ++ l) rest.1 in
+    let number : length before.0 ≡ c.args.count = omega (arith, before.2, c.if-left-eq0.true) in
+    sym (ap (λ (l : List ListedLine). slice_get l c.args.count) whole ∙ ap (slice_get (before.0 ++ found.listed ∷ rest.0)) (sym number) ∙ get_behind before.0 found.listed rest.0)
+
+pub returns-then-is_final_end : goal.returns-then-is_final_end
+returns-then-is_final_end g c lines from =
+    let memory = c.args.ram.now in
+    let found = c.in-Some.found in
+    let before = c.loop-found.invariant in
+    let final = sym c.is_final_end.ensures ∙ c.if-is_final_end.true in
+    let whole = ends_final (program_bytes memory) (final_position memory) 0 c.loop-found.at found.behind before.0 lines found.listed before.1 c.in-Some.ensures.first final (from.sound c.requires) in
+    let size = length-append before.0 (found.listed ∷ []) in
+    let past : length (before.0 ++ found.listed ∷ []) ≤ c.args.count = omega (arith, size, before.2, c.if-left-eq0.false) in
+    sym (ap (λ (l : List ListedLine). slice_get l c.args.count) whole ∙ slice_get_past (before.0 ++ found.listed ∷ []) c.args.count past)
+
+pub loop-found-preserved : goal.loop-found-preserved
+loop-found-preserved g c =
+    let memory = c.args.ram.now in
+    let found = c.in-Some.found in
+    let before = c.loop-found.invariant in
+    let running = sym c.is_final_end.ensures ∙ c.if-is_final_end.false in
+    let size = length-append before.0 (found.listed ∷ []) in (
+      before.0 ++ found.listed ∷ [],
+      up_to_more (program_bytes memory) (final_position memory) 0 c.loop-found.at found.behind before.0 found.listed before.1 c.in-Some.ensures.first running,
+      omega (arith, size, before.2, c.if-left-eq0.false),
+    )
+
+pub returns : goal.returns
+returns g c lines from =
+    let memory = c.args.ram.now in
+    let before = c.loop-found.invariant in
+    let whole = ends_none (program_bytes memory) (final_position memory) 0 c.loop-found.at before.0 lines before.1 c.in_default.ensures.none (from.sound c.requires) in
+    let past : length before.0 ≤ c.args.count = omega (arith, before.2) in
+    sym (ap (λ (l : List ListedLine). slice_get l c.args.count) whole ∙ slice_get_past before.0 c.args.count past)

@@ -7,7 +7,7 @@ ghost use Rattle.h41_program.specs.EditSteps.{Counts, IsChange, PacksChanged, ch
 ghost use Rattle.h41_program.specs.EditSteps as spec;
 ghost use Rattle.h41_program.specs.Lines.{is_inner};
 ghost use Rattle.h41_program.specs.Packers.{Puts, line_if};
-ghost use Rattle.h41_program.specs.ProgramLines.{AnswersFrom};
+ghost use Rattle.h41_program.specs.Reading.{AnswersFrom};
 ghost use Rattle.h41_program.specs.declared.refusal.ProgramRefusal.TheVariants.{BrokenProgram};
 
 use crate::kinds::{is_end, is_final_end};

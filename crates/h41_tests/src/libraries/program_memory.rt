@@ -7,17 +7,17 @@ ghost use Rattle.h41_ram.specs.RegisterMap.{is_sound};
 use h41_codes::{Function, Line, RegisterFunction, ShortRegister, decode};
 use h41_digits::Reg;
 use h41_program::{
-    ListedLine, ProgramRefusal, close_last, delete, first_from, global, insert, line_at,
-    line_before, line_number, line_numbered, load, next, replace, set_size, start_of,
+    ListedLine, ProgramRefusal, close_last, delete, first_from, global, insert, is_last_open,
+    line_at, line_before, line_number, line_numbered, load, next, replace, set_size, start_of,
 };
 use h41_ram::Ram;
 
 /// A call on memory with its answer, where a line is given by its bytes; or a register with its digits.
 enum Step {
     Load(&'static [u8], Result<u16, ProgramRefusal>),
-    Insert(u16, &'static [u8], Result<(), ProgramRefusal>),
-    Replace(u16, &'static [u8], Result<(), ProgramRefusal>),
-    Delete(u16, Result<(), ProgramRefusal>),
+    Insert(u16, &'static [u8], Result<u16, ProgramRefusal>),
+    Replace(u16, &'static [u8], Result<u16, ProgramRefusal>),
+    Delete(u16, Result<Option<u16>, ProgramRefusal>),
     SetSize(u16, Result<(), ProgramRefusal>),
     Next(u16, Result<u16, ProgramRefusal>),
     StartOf(u16, u16),
@@ -26,6 +26,8 @@ enum Step {
     Number(u16, Option<u16>),
     Numbered(u16, u16, Option<u16>),
     Before(u16, Option<u16>),
+    /// Whether the last program is open, and it is closed.
+    Open(Result<bool, ProgramRefusal>),
     Close(Result<(), ProgramRefusal>),
     /// From a position on, the first line is `RCL 05` in its short form, at a position, with another behind it.
     Recall(u16, u16, u16),
@@ -92,6 +94,7 @@ fn makes(ram: &mut Ram<320>, step: &Step) -> bool
         Step::Number(position, answer) => line_number(ram, *position) == *answer,
         Step::Numbered(at, number, answer) => line_numbered(ram, *at, *number) == *answer,
         Step::Before(position, answer) => line_before(ram, *position) == *answer,
+        Step::Open(answer) => is_last_open(ram) == *answer,
         Step::Close(answer) => close_last(ram) == *answer,
         Step::Recall(at, position, behind) => finds_recall(ram, *at, *position, *behind),
         Step::SameLine(at, other) => line_at(ram, *at) == line_at(ram, *other),
@@ -107,7 +110,7 @@ fn makes(ram: &mut Ram<320>, step: &Step) -> bool
 }
 
 /// Rows of steps, each from an empty memory on.
-static ROWS: [(&str, &[Step]); 11] = [
+static ROWS: [(&str, &[Step]); 12] = [
     (
         "two recalls",
         &[
@@ -145,11 +148,11 @@ static ROWS: [(&str, &[Step]); 11] = [
         &[
             Step::Load(&[0x11, 0x00, 0x12, 0x25], Ok(0)),
             Step::SameLine(1, 2),
-            Step::Insert(1, &[0x83], Ok(())),
+            Step::Insert(1, &[0x83], Ok(1)),
             Step::Register(0x19B, 0x11_8312_25C0_0020),
-            Step::Delete(1, Ok(())),
+            Step::Delete(1, Ok(Some(0))),
             Step::Register(0x19B, 0x11_0012_25C0_0020),
-            Step::Insert(3, &[0x13], Ok(())),
+            Step::Insert(3, &[0x13], Ok(4)),
             Step::Register(0x19B, 0x11_0012_0013_2500),
         ],
     ),
@@ -186,12 +189,28 @@ static ROWS: [(&str, &[Step]); 11] = [
         &[
             Step::Load(&[0x25, 0x26], Ok(0)),
             Step::Write(0x19B, 0x25_2600_00C0_002D),
+            Step::Open(Ok(true)),
             Step::Close(Ok(())),
+            Step::Open(Ok(false)),
             Step::Register(0x19B, 0x25_26C0_0000_0000),
             Step::Register(0x19A, 0x00_0000_00C0_0020),
             Step::Write(0x19A, 0x00_0000_00C0_002D),
             Step::Close(Ok(())),
             Step::Register(0x19A, 0x00_0000_00C0_002D),
+        ],
+    ),
+    (
+        "packing moves lines, and a deleted line may be its program's first",
+        &[
+            Step::Load(&[0x25, 0xC0, 0x00, 0x00, 0x26, 0x27], Ok(0)),
+            Step::Delete(4, Ok(None)),
+            Step::Delete(1, Ok(Some(0))),
+            Step::Delete(0, Ok(None)),
+            Step::Write(0x19B, 0x00_2526_00C0_0020),
+            Step::Insert(2, &[0x83], Ok(1)),
+            Step::Replace(2, &[0x90, 0x11], Ok(2)),
+            Step::Register(0x19B, 0x25_8390_11C0_0020),
+            Step::Delete(4, Ok(Some(2))),
         ],
     ),
     (
@@ -218,7 +237,7 @@ static ROWS: [(&str, &[Step]); 11] = [
         &[
             Step::Load(&[0x25; 8], Ok(0)),
             Step::Write(0x19B, 0x25_C000_2025_2525),
-            Step::Insert(0, &[0x26], Ok(())),
+            Step::Insert(0, &[0x26], Ok(0)),
             Step::Register(0x19B, 0x26_2500_00C0_0020),
             Step::Register(0x19A, 0),
         ],
@@ -229,7 +248,7 @@ static ROWS: [(&str, &[Step]); 11] = [
             Step::SetSize(319, Ok(())),
             Step::Load(&[0x25; 4], Ok(0)),
             Step::Insert(0, &[0x26], Err(ProgramRefusal::NoRoom)),
-            Step::Replace(0, &[0x26], Ok(())),
+            Step::Replace(0, &[0x26], Ok(0)),
             Step::Register(0x0C0, 0x26_2525_25C0_0020),
         ],
     ),

@@ -13,10 +13,11 @@ use Rattle.h41_codes.specs.declared.line.Operand.TheVariants.{Direct}
 use Rattle.h41_codes.specs.declared.line.Line.{Line}
 use Rattle.h41_codes.specs.declared.line.Line.TheVariants.{Null, WithOperand, ShortGoTo, GlobalLabel, End, FinalEnd, BranchTo}
 use Rattle.h41_codes.specs.ByteGrammar.{IsOperand}
+use Rattle.h41_codes.specs.ByteLaws.{CanonicalIsShortest}
 use Rattle.h41_codes.specs.Canon.{canonical, shortest_function, shortest_branch}
 use Rattle.h41_text.specs.LineText.{line_text}
 use Rattle.h41_text.specs.LineReading.{HasText, IsTextOf}
-use Rattle.h41_text.specs.TextLaws.{LineTextRoundTrip, OneLineOfText}
+use Rattle.h41_text.specs.TextLaws.{LineTextRoundTrip, OneLineOfText, CanonicalIsShortestOfText}
 use Rattle.h41_text.specs.TextParts.{candidate_line}
 use Rattle.h41_text.proofs.Canonical.{same_text}
 use Rattle.h41_text.proofs.Reading.{reading_again}
@@ -71,6 +72,13 @@ read_of text line of =
 
 pub one_line : OneLineOfText
 one_line text line other of also = same_Some line other (sym (read_of text line of) ∙ read_of text other also)
+
+-- lines with one text have one canonical line, and it is the shortest
+pub shortest_of_text : CanonicalIsShortest → CanonicalIsShortestOfText
+shortest_of_text shortest line other has also same =
+    let own = round_trip line has in
+    let others = subst (λ (text : List ℕ). IsTextOf text (canonical other)) (sym same) (round_trip other also) in
+    shortest line other (one_line (line_text line) (canonical other) (canonical line) others own)
 
 -- a line that has the text
 pub read_is : (text : List ℕ) (line : Line) → line_text line ≡ text → HasText line → IsTextOf text (canonical line)

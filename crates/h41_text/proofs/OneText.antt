@@ -29,32 +29,32 @@ IsRead line = HasText line × (canonical line ≡ line)
 function_read : (function : ParameterFunction) (operand : Operand) → IsOperand operand → IsRead (shortest_function function operand)
 unfolding IsRead
 function_read Recall (Direct register) inside =
-    cond_both (nat_lt register 16) _ _ IsRead (λ short. (record { valid = ltb-true register 16 short; bytes = tt; shown = λ same. cc }, refl))
-    (λ long. (record { valid = inside; bytes = tt; shown = λ same. cc }, cond-false (nat_lt register 16) _ _ long))
+    cond_both (nat_lt register 16) _ _ IsRead (λ short. (record { valid = ltb-true register 16 short; shown = λ same. cc }, refl))
+    (λ long. (record { valid = inside; shown = λ same. cc }, cond-false (nat_lt register 16) _ _ long))
 function_read Store (Direct register) inside =
-    cond_both (nat_lt register 16) _ _ IsRead (λ short. (record { valid = ltb-true register 16 short; bytes = tt; shown = λ same. cc }, refl))
-    (λ long. (record { valid = inside; bytes = tt; shown = λ same. cc }, cond-false (nat_lt register 16) _ _ long))
+    cond_both (nat_lt register 16) _ _ IsRead (λ short. (record { valid = ltb-true register 16 short; shown = λ same. cc }, refl))
+    (λ long. (record { valid = inside; shown = λ same. cc }, cond-false (nat_lt register 16) _ _ long))
 function_read Label (Direct label) inside =
-    cond_both (nat_lt label 15) _ _ IsRead (λ short. (record { valid = ltb-true label 15 short; bytes = tt; shown = λ same. cc }, refl))
-    (λ long. (record { valid = inside; bytes = tt; shown = λ same. cc }, cond-false (nat_lt label 15) _ _ long))
-function_read function operand inside = (record { valid = inside; bytes = tt; shown = λ same. cc }, refl)
+    cond_both (nat_lt label 15) _ _ IsRead (λ short. (record { valid = ltb-true label 15 short; shown = λ same. cc }, refl))
+    (λ long. (record { valid = inside; shown = λ same. cc }, cond-false (nat_lt label 15) _ _ long))
+function_read function operand inside = (record { valid = inside; shown = λ same. cc }, refl)
 
 branch_read : (branch : Branch) (label : ℕ) → label < 128 → IsRead (shortest_branch branch label)
 unfolding IsRead
 branch_read GoTo label inside =
-    cond_both (nat_lt label 15) _ _ IsRead (λ short. (record { valid = (ltb-true label 15 short, omega arith); bytes = tt; shown = λ same. cc }, refl))
-    (λ long. (record { valid = (omega arith, inside); bytes = tt; shown = λ same. cc }, cond-false (nat_lt label 15) _ _ long))
-branch_read Execute label inside = (record { valid = (omega arith, inside); bytes = tt; shown = λ same. cc }, refl)
+    cond_both (nat_lt label 15) _ _ IsRead (λ short. (record { valid = (ltb-true label 15 short, omega arith); shown = λ same. cc }, refl))
+    (λ long. (record { valid = (omega arith, inside); shown = λ same. cc }, cond-false (nat_lt label 15) _ _ long))
+branch_read Execute label inside = (record { valid = (omega arith, inside); shown = λ same. cc }, refl)
 
 canonical_read : (line : Line) → HasText line → IsRead (canonical line)
 unfolding IsRead
 canonical_read (WithOperand function operand) has = function_read function operand has.valid
 canonical_read (BranchTo branch distance backwards label) has = branch_read branch label has.valid.1
-canonical_read (ShortGoTo label distance) has = (record { valid = (has.valid.0, omega arith); bytes = tt; shown = λ same. cc }, refl)
+canonical_read (ShortGoTo label distance) has = (record { valid = (has.valid.0, omega arith); shown = λ same. cc }, refl)
 canonical_read (GlobalLabel link key name) has =
-    (record { valid = (omega arith, omega arith, has.valid.2); bytes = has.bytes; shown = λ same. cc }, refl)
-canonical_read (End link marks) has = (record { valid = (omega arith, omega arith); bytes = tt; shown = λ same. cc }, refl)
-canonical_read (FinalEnd link marks) has = (record { valid = (omega arith, omega arith); bytes = tt; shown = λ same. cc }, refl)
+    (record { valid = (omega arith, omega arith, has.valid.2); shown = λ same. cc }, refl)
+canonical_read (End link marks) has = (record { valid = (omega arith, omega arith); shown = λ same. cc }, refl)
+canonical_read (FinalEnd link marks) has = (record { valid = (omega arith, omega arith); shown = λ same. cc }, refl)
 canonical_read Null has = absurd (has.shown refl)
 canonical_read line has = (has, refl)
 

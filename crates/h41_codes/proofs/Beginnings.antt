@@ -9,7 +9,7 @@ use Rattle.h41_codes.specs.declared.characters.Character.{Character}
 use Rattle.h41_codes.specs.declared.line.Line.TheVariants.{GlobalLabel, Number}
 use Rattle.h41_codes.specs.Codes.{character_code}
 use Rattle.h41_codes.specs.Heads.{IsIn}
-use Rattle.h41_codes.specs.ByteGrammar.{spelling, link_high, link_low, GoesOn, IsLine, IsWhole, Spells, Begins, BeginsNoLine}
+use Rattle.h41_codes.specs.ByteGrammar.{spelling, link_high, link_low, GoesOn, IsBytes, IsLine, IsWhole, Spells, Begins, BeginsNoLine}
 use Rattle.h41_codes.proofs.Reading.{line_at, line_again}
 
 -- the bytes are those of the line, and the rest
@@ -95,8 +95,8 @@ answers_broken bytes (Err fault) begins broken = ((λ is. broken), (λ none. ref
 pub begins_label : (bytes : List ℕ) (link size : ℕ) (name : List ℕ) → 0xC0 ≤ get_or bytes 0 0 → get_or bytes 0 0 < 0xCE → get_or bytes 1 0 < 256
     → link ≡ (get_or bytes 0 0 - 0xC0) * 256 + get_or bytes 1 0 → 0xF0 ≤ get_or bytes 2 0 → get_or bytes 2 0 < 256 → get_or bytes 3 0 < 256
     → size ≡ get_or bytes 2 0 - 0xF0 → 4 ≤ 3 + size → 3 + size ≤ length bytes → name ≡ take (3 + size - 4) (drop 4 bytes)
-    → Begins bytes (GlobalLabel link (get_or bytes 3 0) name) (3 + size)
-begins_label bytes link size name from below second linked label third key sized some inside named =
+    → IsBytes name → Begins bytes (GlobalLabel link (get_or bytes 3 0) name) (3 + size)
+begins_label bytes link size name from below second linked label third key sized some inside named characters =
     let n = 3 + size - 4 in
     let count : length name ≡ n = ap length named ∙ length-take-le n (drop 4 bytes) (omega (arith, length-drop 4 bytes)) in
     let a : link_high link ≡ get_or bytes 0 0 = omega arith in
@@ -106,7 +106,7 @@ begins_label bytes link size name from below second linked label third key sized
     take_four_and bytes n (omega arith) in
     let all : 4 + n ≡ 3 + size = omega arith in
     let spelled : spelling (GlobalLabel link (get_or bytes 3 0) name) ≡ take (4 + n) bytes = cc in
-    begins_by bytes (GlobalLabel link (get_or bytes 3 0) name) (3 + size) inside (omega arith, key, omega arith)
+    begins_by bytes (GlobalLabel link (get_or bytes 3 0) name) (3 + size) inside (omega arith, key, record { fits = omega arith; bytes = characters })
     (spelled ∙ ap (λ k. take k bytes) all) tt
 
 -- a number at the front

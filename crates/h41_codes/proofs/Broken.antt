@@ -96,7 +96,7 @@ needs_of (BranchTo branch distance backwards label) rest valid =
     let range = branch_range branch (distance / 256) (omega (arith, valid.0)) in
     by_kind 14 0xD0 0xF0 (spelling (BranchTo branch distance backwards label) ++ rest) refl range.0 range.1 (omega arith)
 needs_of (Text characters) rest valid =
-    by_kind 15 0xF0 0x100 (spelling (Text characters) ++ rest) refl (omega arith) (omega (arith, valid)) (omega (arith, length-append characters rest))
+    by_kind 15 0xF0 0x100 (spelling (Text characters) ++ rest) refl (omega arith) (omega (arith, valid.fits)) (omega (arith, length-append characters rest))
 
 -- bytes that have not what their first byte needs begin with no line
 pub broken_at : (k low high : ℕ) (bytes : List ℕ) → is_interval edges k low high ≡ true → low ≤ byte bytes 0 → byte bytes 0 < high

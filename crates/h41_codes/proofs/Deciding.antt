@@ -1,7 +1,7 @@
 -- Bytes begin with a line or with none.
-use Rattle.std.proofs.Common.{◌≡◌, ℕ, ◌<◌, ◌≤◌, ◌⊎◌, List, [], ◌∷◌, length, take, drop, refl, sym, ◌∙◌, ap, subst, arith, inl, inr}
+use Rattle.std.proofs.Common.{◌≡◌, ℕ, zero, suc, ◌<◌, ◌≤◌, ◌⊎◌, List, [], ◌∷◌, length, take, drop, refl, sym, ◌∙◌, ap, subst, arith, inl, inr}
 use Rattle.std.proofs.lemmas.Bool.{cases_eq, cases_lt}
-use Rattle.h41_codes.specs.ByteGrammar.{spelling, IsLine, IsOperand, IsWhole, GoesOn, Begins}
+use Rattle.h41_codes.specs.ByteGrammar.{spelling, IsBytes, IsText, IsLine, IsOperand, IsWhole, GoesOn, Begins}
 use Rattle.h41_codes.specs.ByteLaws.{LineOrNone}
 use Rattle.h41_codes.specs.declared.line.Line.{Line}
 use Rattle.h41_codes.specs.declared.line.Line.TheVariants.{Null, LocalLabel, Number, Named, Register, Plain, WithOperand, Module, BranchIndirect, ShortGoTo, GlobalLabel, End, FinalEnd, BranchTo, Text}
@@ -41,25 +41,42 @@ operand_either : (operand : Operand) → Either (IsOperand operand)
 operand_either (Direct parameter) = below parameter 128
 operand_either (Indirect parameter) = below parameter 128
 
+more_bytes : (byte : ℕ) (bytes : List ℕ) → byte < 256 → IsBytes bytes → IsBytes (byte ∷ bytes)
+more_bytes byte bytes first rest zero inside = first
+more_bytes byte bytes first rest (suc index) inside = rest index (omega arith)
+
+are_bytes_either : (bytes : List ℕ) → Either (IsBytes bytes)
+are_bytes_either [] = inl (λ index inside. absurd (omega (arith, inside)))
+are_bytes_either (byte ∷ bytes) = elim (both (below byte 256) (are_bytes_either bytes)) [
+  | inl all ↦ inl (more_bytes byte bytes all.0 all.1)
+  | inr lacks ↦ inr (λ all. lacks (all 0 (omega arith), λ index inside. all (suc index) (omega (arith, inside))))
+]
+
+text_either : (most : ℕ) (characters : List ℕ) → Either (IsText most characters)
+text_either most characters = elim (both (at_most (length characters) most) (are_bytes_either characters)) [
+  | inl all ↦ inl (record { fits = all.0; bytes = all.1 })
+  | inr lacks ↦ inr (λ text. lacks (text.fits, text.bytes))
+]
+
 valid_either : (line : Line) → Either (IsLine line)
 valid_either Null = inl tt
 valid_either (LocalLabel label) = below label 15
 valid_either (Number characters) = both (at_most 1 (length characters)) (at_most (length characters) 16)
-valid_either (Named function name) = at_most (length name) 15
+valid_either (Named function name) = text_either 15 name
 valid_either (Register function register) = below register 16
 valid_either (Plain function) = inl tt
 valid_either (WithOperand function operand) = operand_either operand
 valid_either (Module number entry) = both (below number 32) (below entry 64)
 valid_either (BranchIndirect branch register) = below register 128
 valid_either (ShortGoTo label distance) = both (below label 15) (below distance 256)
-valid_either (GlobalLabel link key name) = elim (both (below link 3584) (both (below key 256) (at_most (length name) 14))) [
+valid_either (GlobalLabel link key name) = elim (both (below link 3584) (both (below key 256) (text_either 14 name))) [
   | inl all ↦ inl (all.0, all.1.0, all.1.1)
   | inr lacks ↦ inr (λ all. lacks (all.0, (all.1, all.2)))
 ]
 valid_either (End link marks) = both (below link 3584) (below marks 128)
 valid_either (FinalEnd link marks) = both (below link 3584) (below marks 112)
 valid_either (BranchTo branch distance backwards label) = both (below distance 4096) (below label 128)
-valid_either (Text characters) = at_most (length characters) 15
+valid_either (Text characters) = text_either 15 characters
 
 -- whether bytes are the same
 bytes_either : (bytes others : List ℕ) → Either (bytes ≡ others)

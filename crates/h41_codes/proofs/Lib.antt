@@ -2,6 +2,7 @@ pub mod Beginnings
 pub mod Broken
 pub mod Deciding
 pub mod Filling
+pub mod FirstBytes
 pub mod Intervals
 pub mod LineLengths
 pub mod Prefixes

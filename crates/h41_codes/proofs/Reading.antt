@@ -263,5 +263,5 @@ line_again (BranchTo branch distance backwards label) rest valid whole =
     ∙ ap (λ b. BranchTo branch distance b (last % 0x80)) ends.0
     ∙ ap (BranchTo branch distance backwards) ends.1)
 line_again (Text characters) rest valid whole =
-    by_kind 15 0xF0 0x100 (spelling (Text characters) ++ rest) (Text characters) refl (omega arith) (omega (arith, valid))
+    by_kind 15 0xF0 0x100 (spelling (Text characters) ++ rest) (Text characters) refl (omega arith) (omega (arith, valid.fits))
     (ap Text (take_at characters rest (0xF0 + length characters - 0xF0) (omega arith)))

@@ -1,5 +1,5 @@
 -- The byte grammar: which bytes spell which line, family after family of HP's byte table.
-use Rattle.std.specs.Prelude.{◌≡◌, ℕ, ◌+◌, ◌*◌, ◌/◌, ◌%◌, ◌<◌, ◌≤◌, Bool, List, [], ◌∷◌, map, length, take, drop, if◌then◌else◌, ◌++◌, ◌↔◌, Result, Ok}
+use Rattle.std.specs.Prelude.{◌≡◌, ℕ, ◌+◌, ◌*◌, ◌/◌, ◌%◌, ◌<◌, ◌≤◌, Bool, List, [], ◌∷◌, map, length, take, drop, if◌then◌else◌, ◌++◌, ◌↔◌, EachIndex, slice_index, Result, Ok}
 use Rattle.h41_codes.specs.declared.functions.Branch.{Branch}
 use Rattle.h41_codes.specs.declared.functions.Branch.TheVariants.{GoTo, Execute}
 use Rattle.h41_codes.specs.declared.line.Operand.{Operand}
@@ -70,9 +70,14 @@ spelling (BranchTo branch distance backwards label) = (branch_code branch + dist
 -- F0 to FF and the characters: a text
 spelling (Text characters) = text_bytes characters
 
--- what the parts of a line are: numbers in their ranges, bytes, and lists that are not too long
-abbrev pub IsText : ℕ → List ℕ → Type 0
-IsText most characters = length characters ≤ most
+-- each of a list is a byte
+abbrev pub IsBytes : List ℕ → Type 0
+IsBytes characters = EachIndex characters (λ index. slice_index characters index < 256)
+
+-- what the parts of a line are: numbers in their ranges, bytes, and lists of bytes that are not too long
+pub record IsText (most : ℕ) (characters : List ℕ) : Type 0 where
+  pub fits : length characters ≤ most
+  pub bytes : IsBytes characters
 
 abbrev pub IsOperand : Operand → Type 0
 IsOperand (Direct parameter) = parameter < parameter_count

@@ -1,8 +1,8 @@
 -- Laws of the byte grammar, and of the shortest spelling.
-use Rattle.std.specs.Prelude.{◌≡◌, ℕ, ◌≤◌, ◌⊎◌, List, [], ◌++◌, length}
+use Rattle.std.specs.Prelude.{◌≡◌, ℕ, ◌≤◌, ◌⊎◌, ◌↔◌, List, [], ◌++◌, length, slice_index}
 use Rattle.h41_codes.specs.declared.line.Line.{Line}
-use Rattle.h41_codes.specs.declared.line.Line.TheVariants.{Number}
-use Rattle.h41_codes.specs.ByteGrammar.{spelling, IsLine, IsWhole, Begins}
+use Rattle.h41_codes.specs.declared.line.Line.TheVariants.{Null, Number}
+use Rattle.h41_codes.specs.ByteGrammar.{spelling, IsLine, GoesOn, IsWhole, Begins}
 use Rattle.h41_codes.specs.Canon.{canonical}
 
 -- a line's bytes begin with it, whatever follows; a number of fewer than 16 bytes where no number goes on
@@ -32,6 +32,14 @@ NoPrefix = (line other : Line) (rest : List ℕ) → IsLine line → IsLine othe
 -- a line has 1 to 18 bytes
 abbrev pub LineHasBytes : Type 0
 LineHasBytes = (line : Line) → IsLine line → (1 ≤ length (spelling line)) × (length (spelling line) ≤ 18)
+
+-- a line's first byte is 10 to 1C just where it is a number
+abbrev pub NumberBegins : Type 0
+NumberBegins = (line : Line) (rest : List ℕ) → IsLine line → GoesOn (spelling line ++ rest) ↔ IsNumber line
+
+-- a line's first byte is 00 just where it is the null
+abbrev pub NullBegins : Type 0
+NullBegins = (line : Line) (rest : List ℕ) → IsLine line → (slice_index (spelling line ++ rest) 0 ≡ 0x00) ↔ (line ≡ Null)
 
 -- the canonical line is a line, takes the fewest bytes of all lines with that canonical line, and is its own
 abbrev pub CanonicalIsLine : Type 0

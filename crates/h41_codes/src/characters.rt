@@ -1,6 +1,7 @@
 //! The characters of texts and of numbers.
 ghost use Rattle.std.specs.Prelude.{◌≡◌, ◌≤◌, ◌↔◌, length, IsSome, IfSome};
 ghost use Rattle.h41_codes.specs.Counts.{number_most};
+ghost use Rattle.h41_codes.specs.ByteGrammar.{IsBytes};
 ghost use Rattle.h41_codes.specs.Cells.{IsNumberOf};
 ghost use Rattle.h41_codes.specs.declared.characters.Character.{Character as Sign};
 
@@ -50,7 +51,8 @@ impl<const MOST: usize> Text<MOST> {
     /// The text of these characters, of which there are at most `MOST`.
     pub(crate) fn of(characters: &[u8]) -> Self
         requires { length characters.now ≤ MOST }
-        ensures { result ≡ characters.now }
+        ensures value { result ≡ characters.now }
+        ensures bytes { IsBytes result }
     {
         let mut cells = [0; MOST];
         for (index, character) in characters.iter().enumerate() {
@@ -66,9 +68,18 @@ impl<const MOST: usize> Text<MOST> {
     pub fn characters(&self) -> &[u8]
         ensures value { result.now ≡ self.now }
         ensures bound { length self.now ≤ MOST }
+        ensures bytes { IsBytes self.now }
     {
-        &self.cells[..self.count]
+        bytes(&self.cells[..self.count])
     }
+}
+
+/// These characters: those of a slice are bytes.
+fn bytes(characters: &[u8]) -> &[u8]
+    ensures value { result.now ≡ characters.now }
+    ensures bytes { IsBytes result.now }
+{
+    characters
 }
 
 /// A character of a number.

@@ -1,6 +1,6 @@
 //! From bytes to the line that they begin with.
 ghost use Rattle.std.specs.Prelude.{◌≡◌, ℕ, ◌+◌, ◌*◌, ◌<◌, ◌≤◌, ◌↔◌, ◌⊎◌, [], ◌∷◌, map, length, take, drop, slice_index, IfOk, OnErr, IfSome, IfNone, IsErr, Ok};
-ghost use Rattle.h41_codes.specs.ByteGrammar.{spelling, text_bytes, IsLine, Spells, Begins, BeginsNoLine, operand_byte, AnswersLine, link_high, link_low};
+ghost use Rattle.h41_codes.specs.ByteGrammar.{spelling, text_bytes, IsBytes, IsLine, Spells, Begins, BeginsNoLine, operand_byte, AnswersLine, link_high, link_low};
 ghost use Rattle.h41_codes.specs.ByteGrammar as grammar;
 ghost use Rattle.h41_codes.specs.Codes as code;
 ghost use Rattle.h41_codes.specs.Heads.{IsOneByte, IsTwoBytes, IsIn, LacksText, IsWholeRun};
@@ -193,6 +193,7 @@ fn text_at(bytes: &[u8]) -> Option<Text<15>>
     ensures text { IfSome result (λ text. take (1 + length text) bytes.now ≡ text_bytes text) }
     ensures inside { IfSome result (λ text. 1 + length text ≤ length bytes.now) }
     ensures most { IfSome result (λ text. length text ≤ 15) }
+    ensures bytes { IfSome result IsBytes }
     ensures none { IfNone result (LacksText bytes.now) }
 {
     if bytes.is_empty() || bytes[0] < 0xF0 {

@@ -1,6 +1,6 @@
 //! Laws of lines and their bytes: each is the contract of a function with nothing to do.
 
-ghost use Rattle.h41_codes.specs.ByteLaws.{ByteRoundTrip, LineOrNone, OneLine, NoPrefix, CanonicalIsLine, CanonicalIsShortest, CanonicalOnce, LineHasBytes};
+ghost use Rattle.h41_codes.specs.ByteLaws.{ByteRoundTrip, LineOrNone, OneLine, NoPrefix, CanonicalIsLine, CanonicalIsShortest, CanonicalOnce, LineHasBytes, NumberBegins, NullBegins};
 
 /// The byte round trip: the bytes of a line begin with that line, whatever follows them, and with no other. A number of
 /// fewer than 16 characters is read again where no character of a number follows.
@@ -22,6 +22,12 @@ pub fn no_prefix()
 /// A line has 1 to 18 bytes.
 pub fn line_has_bytes()
     ensures { LineHasBytes }
+{}
+
+/// What a line's first byte tells: 10 to 1C that it is a number, 00 that it is the null.
+pub fn first_bytes()
+    ensures number { NumberBegins }
+    ensures null { NullBegins }
 {}
 
 /// The canonical line takes the fewest bytes of all lines with that canonical line, and is its own.

@@ -1,5 +1,5 @@
 -- There is a list of lines from each position on.
-use Rattle.std.proofs.Common.{◌≡◌, ◌⊎◌, ℕ, zero, suc, ◌+◌, ◌-◌, ◌<◌, ◌≤◌, Bool, List, [], ◌∷◌, length, take, drop, get_or, refl, sym, ◌∙◌, ap, subst, arith, inl, inr, length-take, length-drop, get_or-take}
+use Rattle.std.proofs.Common.{◌≡◌, ◌⊎◌, ℕ, zero, suc, ◌+◌, ◌-◌, ◌<◌, ◌≤◌, Bool, List, [], ◌∷◌, length, take, drop, get_or, refl, sym, ◌∙◌, ap, subst, arith, inl, inr, length-take, length-drop}
 use Rattle.std.specs.Prelude.{MatchBool}
 use Rattle.std.proofs.lemmas.Bool.{cases_lt, cases_Bool, true≢false}
 use Rattle.h41_codes.specs.ByteGrammar.{spelling, Begins}
@@ -13,7 +13,7 @@ use Rattle.h41_program.specs.ProgramBytes.{program_bytes, final_position}
 use Rattle.h41_program.specs.ProgramLaws.{OneList}
 use Rattle.h41_program.specs.ProgramLines.{line_bytes, FirstFrom, NoneFrom, ReadsTo, LinesFrom, behind}
 use Rattle.h41_program.proofs.Determined.{lists_determined}
-use Rattle.h41_program.proofs.FirstLines.{line_bytes-at, line_bytes-below, first_inside, first_byte, null_begins}
+use Rattle.h41_program.proofs.FirstLines.{line_bytes-at, line_bytes-below, first_inside, first_byte, null_begins, null_byte}
 use Rattle.h41_program.proofs.Windows.{begins_count, begins_least}
 use Rattle.h41_program.proofs.Walks.{from_reads}
 
@@ -108,13 +108,8 @@ module _ (one : OneLine) (tells : LineOrNone) (bytes : List ℕ) (final : ℕ) w
     | inr before ↦ none Null 1 (at_null at first is before)
   ]
 
-  null_byte : (at count : ℕ) (line : Line) → at ≤ final → Begins (taken at) line count → line ≡ Null → get_or bytes at 0 ≡ 0
-  null_byte at count line inside begins null =
-      let own = subst (λ (l : Line). Begins (taken at) l count) null begins in
-      let size = begins_count (taken at) Null count own in
-      let spelled = own.spells.same in
-      let front : take 1 (taken at) ≡ 0 ∷ [] = ap (λ n. take n (taken at)) (sym size) ∙ spelled in
-      sym (first_byte bytes final at inside) ∙ sym (get_or-take 1 (taken at) 0 0 (omega arith)) ∙ ap (λ (l : List ℕ). get_or l 0 0) front
+  null_at : (at count : ℕ) (line : Line) → at ≤ final → Begins (taken at) line count → line ≡ Null → get_or bytes at 0 ≡ 0
+  null_at at count line inside begins null = sym (first_byte bytes final at inside) ∙ null_byte (taken at) line count begins null
 
   -- the first line from a position on, or none
   pub first_or_none : (n at : ℕ) → final < at + n → ((first : ListedLine) × FirstFrom bytes final at first) ⊎ NoneFrom bytes final at
@@ -132,7 +127,7 @@ module _ (one : OneLine) (tells : LineOrNone) (bytes : List ℕ) (final : ℕ) w
               let inside = first_inside bytes final (at + 1) more.0 more.1 in
               let from = more.1.from in
               absurd (omega (arith, beyond, inside, from))
-          | inr inside ↦ inl (more.0, back at more.0 (null_byte at found.1 found.0 inside found.2 null) more.1)
+          | inr inside ↦ inl (more.0, back at more.0 (null_at at found.1 found.0 inside found.2 null) more.1)
         ]
         | inr none ↦ inr (λ first is. none first (further at first is (null_here at found.1 found.0 found.2 null first is)))
       ]

@@ -1,11 +1,13 @@
 -- The first line from a position on: what is known once nulls were passed over.
-use Rattle.std.proofs.Common.{◌≡◌, ◌≢◌, ℕ, ◌-◌, ◌<◌, ◌≤◌, true, false, List, [], ◌∷◌, length, take, drop, get_or, refl, sym, ◌∙◌, ap, subst, arith, inl, inr}
+use Rattle.std.proofs.Common.{◌≡◌, ◌≢◌, ℕ, ◌-◌, ◌<◌, ◌≤◌, true, false, List, [], ◌∷◌, length, drop, get_or, refl, sym, ◌∙◌, ap, subst, arith, inl, inr}
 use Rattle.std.specs.Prelude.{nat_lt, ◌==◌, slice_range}
 use Rattle.std.proofs.lemmas.List.{get_or-drop, get_or-take, length-drop, length-take}
 use Rattle.std.proofs.lemmas.Bool.{cases_lt}
 use Rattle.std.proofs.lemmas.Bool.Decides.{nat_tests}
 use Rattle.h41_codes.specs.ByteGrammar.{spelling, Begins}
 use Rattle.h41_codes.specs.ByteLaws.{OneLine}
+use Rattle.h41_codes.proofs.Beginnings.{parted}
+use Rattle.h41_codes.proofs.FirstBytes as law
 use Rattle.h41_codes.specs.declared.line.Line.{Line}
 use Rattle.h41_codes.specs.declared.line.Line.TheVariants.{Null}
 use Rattle.h41_program.specs.declared.listed_line.ListedLine.{ListedLine}
@@ -103,12 +105,11 @@ stands_there one bytes final at position passed first is = elim (cases_lt first.
   ]
 ]
 
--- no null begins with another byte
-pub no_null : (bytes : List ℕ) (line : Line) (count : ℕ) → get_or bytes 0 0 ≢ 0 → Begins bytes line count → line ≢ Null
-no_null bytes line count other begins = λ null.
-    let size : count ≡ 1 = begins_count bytes line count begins ∙ ap (λ l. length (spelling l)) null in
-    let same : take 1 bytes ≡ 0 ∷ [] = ap (λ n. take n bytes) (sym size) ∙ begins.spells.same ∙ ap spelling null in
-    other (sym (get_or-take 1 bytes 0 0 (omega arith)) ∙ ap (λ (rest : List ℕ). get_or rest 0 0) same)
+-- a null's first byte is 00
+pub null_byte : (bytes : List ℕ) (line : Line) (count : ℕ) → Begins bytes line count → line ≡ Null → get_or bytes 0 0 ≡ 0
+null_byte bytes line count begins null =
+    ap (λ (all : List ℕ). get_or all 0 0) (parted bytes line count begins.spells)
+    ∙ (law.null_begins line (drop count bytes) begins.spells.valid).1 null
 
 pub found_first : (bytes : List ℕ) (final at position : ℕ) (line : Line) (count : ℕ) → Passed bytes final at position → get_or bytes position 0 ≢ 0
     → Begins (line_bytes bytes final position) line count → FirstFrom bytes final at (record { position = position; line = line })
@@ -119,5 +120,5 @@ found_first bytes final at position line count passed other begins =
       from = passed.from;
       nulls = passed.nulls;
       begins = subst (λ (n : ℕ). Begins (line_bytes bytes final position) line n) size begins;
-      not_null = no_null (line_bytes bytes final position) line count here begins;
+      not_null = λ null. here (null_byte (line_bytes bytes final position) line count begins null);
     }

@@ -7,12 +7,10 @@ pub mod EditAnswers
 pub mod EditPlaces
 pub mod EditSteps
 pub mod Exists
-pub mod FirstBytes
 pub mod FirstLines
 pub mod FoundOnce
 pub mod Givens
 pub mod Inner
-pub mod LineLengths
 pub mod ListLaws
 pub mod LoadSteps
 pub mod Loads

@@ -2,14 +2,16 @@
 use Rattle.std.proofs.Common.{◌≡◌, ℕ, suc, zero, ◌+◌, ◌-◌, ◌<◌, ◌≤◌, Bool, true, false, List, [], ◌∷◌, ◌++◌, length, take, drop, get_or, replicate, refl, sym, ◌∙◌, ap, subst, arith, inl, inr, append_assoc, append-nil, length-append, All}
 use Rattle.std.specs.Prelude.{MatchBool, ◌&&◌, if◌then◌else◌}
 use Rattle.std.specs.Option.{option_map_or}
-use Rattle.std.proofs.lemmas.Bool.{cases_lt, cases_Bool}
+use Rattle.std.proofs.lemmas.Bool.{cases_lt, cases_Bool, false≢true}
 use Rattle.std.proofs.lemmas.List.{length-replicate, get_or_append_left, get_or-append-add, get_or-replicate}
 use Rattle.std.proofs.Math.ListN.{get_or-eq_default}
 use Rattle.std.proofs.Math.Seq.{drop-append_seam}
 use Rattle.h41_codes.specs.ByteGrammar.{spelling, IsLine, IsWhole, GoesOn, Begins}
-use Rattle.h41_codes.specs.ByteLaws.{ByteRoundTrip}
+use Rattle.h41_codes.specs.ByteLaws.{ByteRoundTrip, IsNumber}
 use Rattle.h41_codes.specs.declared.line.Line.{Line}
-use Rattle.h41_codes.specs.declared.line.Line.TheVariants.{Number, FinalEnd}
+use Rattle.h41_codes.specs.declared.line.Line.TheVariants.{Null, Number, FinalEnd}
+use Rattle.h41_codes.proofs.FirstBytes.{number_begins}
+use Rattle.h41_codes.proofs.LineLengths.{spelling_least}
 use Rattle.h41_program.specs.declared.listed_line.ListedLine.{ListedLine}
 use Rattle.h41_program.specs.Edits.{lines_of}
 use Rattle.h41_program.specs.Lines.{is_number}
@@ -17,10 +19,8 @@ use Rattle.h41_program.specs.Packing.{gap, last_line, packed, filler, packing, w
 use Rattle.h41_program.specs.Packers.{parting}
 use Rattle.h41_program.specs.ProgramLaws.{IsInner, PackingRoundTrip}
 use Rattle.h41_program.specs.ProgramLines.{line_bytes, FirstFrom, Reads, behind}
-use Rattle.h41_program.proofs.FirstBytes.{stops}
 use Rattle.h41_program.proofs.FirstLines.{line_bytes-below, line_bytes-at}
 use Rattle.h41_program.proofs.Inner.{not_final, not_null}
-use Rattle.h41_program.proofs.LineLengths.{spelling_least}
 use Rattle.h41_program.proofs.Packings.{length-packing, packed-join}
 
 -- nulls that follow part a number from what is behind them
@@ -68,6 +68,12 @@ body_null front n at nulls k low = elim (cases_lt k (length front)) [
 end_begins : Begins written_end (FinalEnd 0 0) 3
 end_begins = record { inside = omega arith; spells = record { valid = (omega arith, omega arith); same = refl }; whole = tt }
 
+-- a number by its test
+number_passes : (line : Line) → IsNumber line → is_number line ≡ true
+number_passes (Number characters) is = refl
+number_passes Null is = absurd is
+number_passes line is = absurd is
+
 -- the bytes behind a number of lines that follow it
 number_stops : (next : Line) (behind : List ℕ) → IsLine next → GoesOn ((if is_number next then 0 ∷ [] else []) ++ (spelling next ++ behind)) → ⊥
 number_stops next behind valid goes = elim (cases_Bool (is_number next)) [
@@ -75,7 +81,8 @@ number_stops next behind valid goes = elim (cases_Bool (is_number next)) [
       let stop : GoesOn (0 ∷ (spelling next ++ behind)) = subst (λ (b : Bool). GoesOn ((if b then 0 ∷ [] else []) ++ (spelling next ++ behind))) number goes in
       absurd (omega (arith, stop.0))
   | inr other ↦
-      stops next behind valid other (subst (λ (b : Bool). GoesOn ((if b then 0 ∷ [] else []) ++ (spelling next ++ behind))) other goes)
+      let on : GoesOn (spelling next ++ behind) = subst (λ (b : Bool). GoesOn ((if b then 0 ∷ [] else []) ++ (spelling next ++ behind))) other goes in
+      false≢true (sym other ∙ number_passes next ((number_begins next behind valid).0 on))
 ]
 
 -- a line is whole before the lines that follow it

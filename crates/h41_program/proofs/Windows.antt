@@ -10,7 +10,7 @@ use Rattle.std.proofs.lemmas.List.{length-map}
 use Rattle.h41_codes.specs.ByteGrammar.{spelling, IsLine, IsWhole, GoesOn, Begins}
 use Rattle.h41_codes.specs.declared.line.Line.{Line}
 use Rattle.h41_codes.specs.declared.line.Line.TheVariants.{Number}
-use Rattle.h41_program.proofs.LineLengths.{spelling_most, spelling_least}
+use Rattle.h41_codes.proofs.LineLengths.{spelling_most, spelling_least}
 
 -- a count of bytes with which a line begins is that of its own
 pub begins_count : (bytes : List ℕ) (line : Line) (count : ℕ) → Begins bytes line count → count ≡ length (spelling line)

@@ -13,10 +13,11 @@ use Rattle.h41_codes.specs.declared.line.Operand.TheVariants.{Direct}
 use Rattle.h41_codes.specs.declared.line.Line.{Line}
 use Rattle.h41_codes.specs.declared.line.Line.TheVariants.{Null, WithOperand, ShortGoTo, GlobalLabel, End, FinalEnd, BranchTo}
 use Rattle.h41_codes.specs.ByteGrammar.{IsOperand}
+use Rattle.h41_codes.specs.ByteLaws.{CanonicalIsShortest}
 use Rattle.h41_codes.specs.Canon.{canonical, shortest_function, shortest_branch}
 use Rattle.h41_text.specs.LineText.{line_text}
 use Rattle.h41_text.specs.LineReading.{HasText, IsTextOf}
-use Rattle.h41_text.specs.TextLaws.{LineTextRoundTrip, OneLineOfText}
+use Rattle.h41_text.specs.TextLaws.{LineTextRoundTrip, OneLineOfText, CanonicalIsShortestOfText}
 use Rattle.h41_text.specs.TextParts.{candidate_line}
 use Rattle.h41_text.proofs.Canonical.{same_text}
 use Rattle.h41_text.proofs.Reading.{reading_again}
@@ -28,32 +29,32 @@ IsRead line = HasText line × (canonical line ≡ line)
 function_read : (function : ParameterFunction) (operand : Operand) → IsOperand operand → IsRead (shortest_function function operand)
 unfolding IsRead
 function_read Recall (Direct register) inside =
-    cond_both (nat_lt register 16) _ _ IsRead (λ short. (record { valid = ltb-true register 16 short; bytes = tt; shown = λ same. cc }, refl))
-    (λ long. (record { valid = inside; bytes = tt; shown = λ same. cc }, cond-false (nat_lt register 16) _ _ long))
+    cond_both (nat_lt register 16) _ _ IsRead (λ short. (record { valid = ltb-true register 16 short; shown = λ same. cc }, refl))
+    (λ long. (record { valid = inside; shown = λ same. cc }, cond-false (nat_lt register 16) _ _ long))
 function_read Store (Direct register) inside =
-    cond_both (nat_lt register 16) _ _ IsRead (λ short. (record { valid = ltb-true register 16 short; bytes = tt; shown = λ same. cc }, refl))
-    (λ long. (record { valid = inside; bytes = tt; shown = λ same. cc }, cond-false (nat_lt register 16) _ _ long))
+    cond_both (nat_lt register 16) _ _ IsRead (λ short. (record { valid = ltb-true register 16 short; shown = λ same. cc }, refl))
+    (λ long. (record { valid = inside; shown = λ same. cc }, cond-false (nat_lt register 16) _ _ long))
 function_read Label (Direct label) inside =
-    cond_both (nat_lt label 15) _ _ IsRead (λ short. (record { valid = ltb-true label 15 short; bytes = tt; shown = λ same. cc }, refl))
-    (λ long. (record { valid = inside; bytes = tt; shown = λ same. cc }, cond-false (nat_lt label 15) _ _ long))
-function_read function operand inside = (record { valid = inside; bytes = tt; shown = λ same. cc }, refl)
+    cond_both (nat_lt label 15) _ _ IsRead (λ short. (record { valid = ltb-true label 15 short; shown = λ same. cc }, refl))
+    (λ long. (record { valid = inside; shown = λ same. cc }, cond-false (nat_lt label 15) _ _ long))
+function_read function operand inside = (record { valid = inside; shown = λ same. cc }, refl)
 
 branch_read : (branch : Branch) (label : ℕ) → label < 128 → IsRead (shortest_branch branch label)
 unfolding IsRead
 branch_read GoTo label inside =
-    cond_both (nat_lt label 15) _ _ IsRead (λ short. (record { valid = (ltb-true label 15 short, omega arith); bytes = tt; shown = λ same. cc }, refl))
-    (λ long. (record { valid = (omega arith, inside); bytes = tt; shown = λ same. cc }, cond-false (nat_lt label 15) _ _ long))
-branch_read Execute label inside = (record { valid = (omega arith, inside); bytes = tt; shown = λ same. cc }, refl)
+    cond_both (nat_lt label 15) _ _ IsRead (λ short. (record { valid = (ltb-true label 15 short, omega arith); shown = λ same. cc }, refl))
+    (λ long. (record { valid = (omega arith, inside); shown = λ same. cc }, cond-false (nat_lt label 15) _ _ long))
+branch_read Execute label inside = (record { valid = (omega arith, inside); shown = λ same. cc }, refl)
 
 canonical_read : (line : Line) → HasText line → IsRead (canonical line)
 unfolding IsRead
 canonical_read (WithOperand function operand) has = function_read function operand has.valid
 canonical_read (BranchTo branch distance backwards label) has = branch_read branch label has.valid.1
-canonical_read (ShortGoTo label distance) has = (record { valid = (has.valid.0, omega arith); bytes = tt; shown = λ same. cc }, refl)
+canonical_read (ShortGoTo label distance) has = (record { valid = (has.valid.0, omega arith); shown = λ same. cc }, refl)
 canonical_read (GlobalLabel link key name) has =
-    (record { valid = (omega arith, omega arith, has.valid.2); bytes = has.bytes; shown = λ same. cc }, refl)
-canonical_read (End link marks) has = (record { valid = (omega arith, omega arith); bytes = tt; shown = λ same. cc }, refl)
-canonical_read (FinalEnd link marks) has = (record { valid = (omega arith, omega arith); bytes = tt; shown = λ same. cc }, refl)
+    (record { valid = (omega arith, omega arith, has.valid.2); shown = λ same. cc }, refl)
+canonical_read (End link marks) has = (record { valid = (omega arith, omega arith); shown = λ same. cc }, refl)
+canonical_read (FinalEnd link marks) has = (record { valid = (omega arith, omega arith); shown = λ same. cc }, refl)
 canonical_read Null has = absurd (has.shown refl)
 canonical_read line has = (has, refl)
 
@@ -71,6 +72,13 @@ read_of text line of =
 
 pub one_line : OneLineOfText
 one_line text line other of also = same_Some line other (sym (read_of text line of) ∙ read_of text other also)
+
+-- lines with one text have one canonical line, and it is the shortest
+pub shortest_of_text : CanonicalIsShortest → CanonicalIsShortestOfText
+shortest_of_text shortest line other has also same =
+    let own = round_trip line has in
+    let others = subst (λ (text : List ℕ). IsTextOf text (canonical other)) (sym same) (round_trip other also) in
+    shortest line other (one_line (line_text line) (canonical other) (canonical line) others own)
 
 -- a line that has the text
 pub read_is : (text : List ℕ) (line : Line) → line_text line ≡ text → HasText line → IsTextOf text (canonical line)

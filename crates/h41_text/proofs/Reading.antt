@@ -19,7 +19,7 @@ use Rattle.h41_codes.specs.declared.line.Operand.{Operand}
 use Rattle.h41_codes.specs.declared.line.Operand.TheVariants.{Direct, Indirect}
 use Rattle.h41_codes.specs.declared.line.Line.{Line}
 use Rattle.h41_codes.specs.declared.line.Line.TheVariants.{Null, LocalLabel, Number, Named, Register, Plain, WithOperand, Module, BranchIndirect, ShortGoTo, GlobalLabel, End, FinalEnd, BranchTo, Text}
-use Rattle.h41_codes.specs.ByteGrammar.{IsLine, IsOperand}
+use Rattle.h41_codes.specs.ByteGrammar.{IsBytes, IsLine, IsOperand}
 use Rattle.h41_codes.specs.Canon.{canonical}
 use Rattle.h41_lines.specs.Characters.{two_digits, is_plain, escaped, character_text}
 use Rattle.h41_lines.proofs.HexadecimalDigits.{read_hexadecimal}
@@ -27,7 +27,7 @@ use Rattle.h41_text.specs.declared.words.Word.{Word}
 use Rattle.h41_text.specs.declared.words.Word.TheVariants as word
 use Rattle.h41_text.specs.Names.{function_name, parameter_function_name, character_byte}
 use Rattle.h41_text.specs.LineText.{line_text, parameter_text, operand_text, number_line, character_quoted, quoted, text_line, ◌&◌}
-use Rattle.h41_text.specs.LineReading.{IsBytes, HasText}
+use Rattle.h41_text.specs.LineReading.{HasText}
 use Rattle.h41_text.specs.TextParts.{word_text, word_line, operand_of, operand_from, behind_ind, two_digits_of, module_line, first_character, unquoted, at_most, begins_with, branch_line, character_of, characters_of, number_of, cut, cut_line, or_else, minus_line, unquoted_line, candidate_line}
 use Rattle.h41_text.proofs.Canonical as canonical_text
 use Rattle.h41_text.proofs.Finding.{is_found, parameter_found, number_none}
@@ -226,9 +226,9 @@ longest_again Null has = absurd (has.shown refl)
 longest_again (LocalLabel label) has =
     short_again (codes "LBL") label 15 _ (omega arith) has.valid (function_again Label (Direct label) (omega (arith, has.valid)))
 longest_again (Number characters) has = number_line_again characters has.valid.0 has.valid.1
-longest_again (Named GoToName name) has = name_again (word.Branch GoTo) (Named GoToName) 15 name (omega arith) has.valid has.bytes (λ text. refl)
-longest_again (Named ExecuteName name) has = name_again (word.Branch Execute) (Named ExecuteName) 15 name (omega arith) has.valid has.bytes (λ text. refl)
-longest_again (Named Wordless name) has = name_again word.Wordless (Named Wordless) 15 name (omega arith) has.valid has.bytes (λ text. refl)
+longest_again (Named GoToName name) has = name_again (word.Branch GoTo) (Named GoToName) 15 name (omega arith) has.valid.fits has.valid.bytes (λ text. refl)
+longest_again (Named ExecuteName name) has = name_again (word.Branch Execute) (Named ExecuteName) 15 name (omega arith) has.valid.fits has.valid.bytes (λ text. refl)
+longest_again (Named Wordless name) has = name_again word.Wordless (Named Wordless) 15 name (omega arith) has.valid.fits has.valid.bytes (λ text. refl)
 longest_again (Register RecallRegister register) has =
     short_again (codes "RCL") register 16 _ (omega arith) has.valid (function_again Recall (Direct register) (omega (arith, has.valid)))
 longest_again (Register StoreRegister register) has =
@@ -240,12 +240,12 @@ longest_again (BranchIndirect GoTo register) has = branch_again GoTo (Indirect r
 longest_again (BranchIndirect Execute register) has = branch_again Execute (Indirect register) has.valid
 longest_again (ShortGoTo label distance) has =
     short_again (codes "GTO") label 15 _ (omega arith) has.valid.0 (branch_again GoTo (Direct label) (omega (arith, has.valid)))
-longest_again (GlobalLabel link key name) has = name_again (word.Function Label) (GlobalLabel 0 0) 14 name (omega arith) has.valid.2 has.bytes (λ text. refl)
+longest_again (GlobalLabel link key name) has = name_again (word.Function Label) (GlobalLabel 0 0) 14 name (omega arith) has.valid.2.fits has.valid.2.bytes (λ text. refl)
 longest_again (End link marks) has = refl
 longest_again (FinalEnd link marks) has = refl
 longest_again (BranchTo GoTo distance backwards label) has = branch_again GoTo (Direct label) has.valid.1
 longest_again (BranchTo Execute distance backwards label) has = branch_again Execute (Direct label) has.valid.1
-longest_again (Text characters) has = text_again characters has.valid has.bytes
+longest_again (Text characters) has = text_again characters has.valid.fits has.valid.bytes
 
 -- and its canonical line is that of the line
 longest_canonical : (line : Line) → IsLine line → canonical (longest line) ≡ canonical line

@@ -2,10 +2,11 @@
 
 ghost use Rattle.std.specs.Prelude.{◌≡◌, ◌≤◌, length};
 ghost use Rattle.h41_text.specs.LineText.{line_text};
-ghost use Rattle.h41_text.specs.TextLaws.{SameText, LineTextRoundTrip, OneLineOfText};
+ghost use Rattle.h41_text.specs.TextLaws.{SameText, LineTextRoundTrip, OneLineOfText, CanonicalIsShortestOfText};
 
 use crate::write_line;
 use h41_codes::Line;
+use h41_codes::laws::canonical_is_shortest;
 
 /// A line and its canonical line have one text.
 pub fn same_text()
@@ -17,6 +18,13 @@ pub fn line_text_round_trip()
     ensures again { LineTextRoundTrip }
     ensures one { OneLineOfText }
 {}
+
+/// Of all lines with one text the canonical line has the fewest bytes.
+pub fn shortest_of_text()
+    ensures { CanonicalIsShortestOfText }
+{
+    canonical_is_shortest();
+}
 
 /// How many characters the text of a line has: at most 51.
 pub fn line_text_fits(line: Line) -> usize

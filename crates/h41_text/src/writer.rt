@@ -26,7 +26,8 @@ const APPEND: u8 = 0x7F;
 
 /// The text of a line. Two spellings of a line have one text; the null's is empty.
 pub fn write_line(line: Line) -> ArrayString<TEXT_CAPACITY>
-    ensures { result.bytes ≡ line_text line }
+    ensures text { result.bytes ≡ line_text line }
+    ensures fits { length result.bytes ≤ 51 }
 {
     match line {
         Line::Null => LineText::new(),

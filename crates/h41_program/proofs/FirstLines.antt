@@ -1,12 +1,11 @@
 -- The first line from a position on: what is known once nulls were passed over.
-use Rattle.std.proofs.Common.{◌≡◌, ◌≢◌, ℕ, ◌-◌, ◌<◌, ◌≤◌, true, false, List, [], ◌∷◌, length, drop, get_or, refl, sym, ◌∙◌, ap, subst, arith, inl, inr}
+use Rattle.std.proofs.Common.{◌≡◌, ◌≢◌, ℕ, ◌-◌, ◌<◌, ◌≤◌, true, false, List, [], ◌∷◌, ◌++◌, length, drop, get_or, refl, sym, ◌∙◌, ap, subst, arith, inl, inr}
 use Rattle.std.specs.Prelude.{nat_lt, ◌==◌, slice_range}
-use Rattle.std.proofs.lemmas.List.{get_or-drop, get_or-take, length-drop, length-take}
+use Rattle.std.proofs.lemmas.List.{get_or-drop, get_or-take, length-drop, length-take, take-append-drop}
 use Rattle.std.proofs.lemmas.Bool.{cases_lt}
 use Rattle.std.proofs.lemmas.Bool.Decides.{nat_tests}
 use Rattle.h41_codes.specs.ByteGrammar.{spelling, Begins}
 use Rattle.h41_codes.specs.ByteLaws.{OneLine}
-use Rattle.h41_codes.proofs.Beginnings.{parted}
 use Rattle.h41_codes.proofs.FirstBytes as law
 use Rattle.h41_codes.specs.declared.line.Line.{Line}
 use Rattle.h41_codes.specs.declared.line.Line.TheVariants.{Null}
@@ -108,7 +107,7 @@ stands_there one bytes final at position passed first is = elim (cases_lt first.
 -- a null's first byte is 00
 pub null_byte : (bytes : List ℕ) (line : Line) (count : ℕ) → Begins bytes line count → line ≡ Null → get_or bytes 0 0 ≡ 0
 null_byte bytes line count begins null =
-    ap (λ (all : List ℕ). get_or all 0 0) (parted bytes line count begins.spells)
+    ap (λ (all : List ℕ). get_or all 0 0) (sym (take-append-drop count bytes) ∙ ap (λ front. front ++ drop count bytes) begins.spells.same)
     ∙ (law.null_begins line (drop count bytes) begins.spells.valid).1 null
 
 pub found_first : (bytes : List ℕ) (final at position : ℕ) (line : Line) (count : ℕ) → Passed bytes final at position → get_or bytes position 0 ≢ 0

@@ -1,0 +1,206 @@
+-- One line is carried out: one rule for all rows. The Owner's Handbook's are flags 24 and 25 and what faults do; the refusals and
+-- their order, what becomes of line 00 and what a typed line does at a fault are this project's choices.
+use Rattle.std.specs.Prelude.{◌≡◌, ℕ, Bool, true, false, List, [], is_some, MatchBool, if◌then◌else◌, Option, Some, None, Result, Ok, Err}
+use Rattle.std.specs.List.{list_all}
+use Rattle.h41_codes.specs.declared.functions.Function.{Function}
+use Rattle.h41_codes.specs.declared.line.Line.{Line}
+use Rattle.h41_codes.specs.declared.line.Line.TheVariants.{Module, Plain}
+use Rattle.h41_decimal.specs.Holding.{number_in}
+use Rattle.h41_focal.specs.Courses.{Course, Arrives, Halts, Stays, Tells, Runs, Seeks, HasNoLabel, HasNoLine, Goes, How, Stepped, Typed}
+use Rattle.h41_focal.specs.LineRows.{row_of}
+use Rattle.h41_focal.specs.Operands.{Meant, Address, meant_of}
+use Rattle.h41_focal.specs.Outcomes.{Answer}
+use Rattle.h41_focal.specs.Outcomes as answers
+use Rattle.h41_focal.specs.Places.{Place, register_in}
+use Rattle.h41_focal.specs.Profile.{is_left_out}
+use Rattle.h41_focal.specs.RowEffects.{lift_after, memory_after}
+use Rattle.h41_focal.specs.Rows as rows
+use Rattle.h41_focal.specs.Values.{Value, Computes}
+use Rattle.h41_focal.specs.declared.fault.Fault.{Fault}
+use Rattle.h41_focal.specs.declared.fault.Fault.TheVariants.{AlphaData, Nonexistent}
+use Rattle.h41_focal.specs.declared.refusal.LineRefusal.{LineRefusal}
+use Rattle.h41_focal.specs.declared.refusal.LineRefusal.TheVariants.{MemoryLost, BrokenProgram, NotInProfile}
+use Rattle.h41_program.specs.ProgramLines.{AnswersFirst, AnswersNext}
+use Rattle.h41_program.specs.declared.listed_line.ListedLine.{ListedLine}
+use Rattle.h41_program.specs.declared.refusal.ProgramRefusal as program
+use Rattle.h41_ram.specs.RegisterMap.{RegisterMap, flag_of, is_sound, register_at, with_flag, zeros}
+use Rattle.h41_show.specs.DisplayFormat.{format_of}
+use Rattle.h41_show.specs.RegisterText.{alpha_text, register_text}
+
+-- what lines work on, beside memory
+pub record FocalState : Type 0 where
+  -- where the next line stands in program memory, and whether that is line 00, the place before its program's first line
+  pub position : ℕ
+  pub at_line_00 : Bool
+  -- the positions to return to, the latest last
+  pub returns : List ℕ
+  -- whether the stack is lifted when a number comes in
+  pub lift : Bool
+
+-- the start: line 00 of the first program, nowhere to return to, lift on
+abbrev pub start : FocalState
+start = record { position = 0; at_line_00 = true; returns = []; lift = true }
+
+-- with memory
+pub record Machine : Type 0 where
+  pub memory : RegisterMap
+  pub focal : FocalState
+
+-- what a line leaves, and its answer
+pub record Left : Type 0 where
+  pub machine : Machine
+  pub answer : Answer
+
+-- whether each place holds a number
+abbrev pub are_numbers : RegisterMap → ℕ → List Place → Bool
+are_numbers memory named places = list_all (λ place. is_some (number_in (register_in memory named place))) places
+
+-- the register that a row computes, or the fault; a row that computes nothing has no use for it
+abbrev pub ComputesIn : RegisterMap → ℕ → Option Value → Result (List ℕ) Fault → Type 0
+ComputesIn memory named None result = result ≡ Ok zeros
+ComputesIn memory named (Some value) result = Computes value memory named result
+
+-- numbers are asked for before anything is computed
+abbrev pub Works : RegisterMap → ℕ → rows.Row → Result (List ℕ) Fault → Type 0
+Works memory named row result =
+    MatchBool (are_numbers memory named (rows.numbers_of row)) (ComputesIn memory named row.value result) (result ≡ Err AlphaData)
+
+-- what stands in the display, and whether the program goes on
+abbrev pub shown_text : List ℕ → rows.Ending → Answer
+shown_text text rows.GoesOn = answers.Viewed text
+shown_text text ending = answers.Prompted text
+
+abbrev pub ended : rows.Ending → Answer
+ended rows.GoesOn = answers.Done
+ended rows.Stops = answers.Stopped
+ended rows.TurnsOff = answers.TurnedOff
+
+abbrev pub answered : RegisterMap → ℕ → rows.Showing → rows.Ending → Answer
+answered memory named rows.AsBefore ending = ended ending
+answered memory named rows.NoText ending = answers.Cleared
+answered memory named rows.NamedText ending = shown_text (register_text (format_of memory) (register_at memory named)) ending
+answered memory named rows.AlphaText ending = shown_text (alpha_text memory) ending
+
+-- a machine at a position that is not line 00
+abbrev pub placed : ℕ → Machine → Machine
+placed position machine = record machine { focal = record machine.focal { position = position; at_line_00 = false } }
+
+-- with positions to return to
+abbrev pub returning : List ℕ → Machine → Machine
+returning returns machine = record machine { focal = record machine.focal { returns = returns } }
+
+-- at line 00 of a program, with nowhere to return to
+abbrev pub at_start : ℕ → Machine → Machine
+at_start start machine = record machine { focal = record machine.focal { position = start; at_line_00 = true; returns = [] } }
+
+-- a fault is shown and the program stops there, at a line that is not line 00. With flag 25 that flag is cleared, and the
+-- program goes on with the next line. Where the line was typed, the position stays.
+abbrev pub error_flag : ℕ
+error_flag = 25
+
+abbrev pub caught : Machine → Machine
+caught machine = record machine { memory = with_flag machine.memory error_flag false }
+
+abbrev pub failed : Machine → Fault → Left
+failed machine fault = record { machine = machine; answer = answers.Failed fault }
+
+abbrev pub done : Machine → Left
+done machine = record { machine = machine; answer = answers.Done }
+
+abbrev pub Fails : How → Machine → Fault → Left → Type 0
+Fails Stepped machine fault left =
+    MatchBool (flag_of machine.memory error_flag)
+    ((next : ℕ) × AnswersNext machine.memory machine.focal.position (Ok next) × (left ≡ done (placed next (caught machine))))
+    (left ≡ failed (placed machine.focal.position machine) fault)
+Fails Typed machine fault left =
+    left ≡ (if flag_of machine.memory error_flag then done (caught machine) else failed machine fault)
+
+-- a line is carried out, or refused
+abbrev pub FailsIn : How → Machine → Fault → Result Left LineRefusal → Type 0
+FailsIn how machine fault carried = (left : Left) × Fails how machine fault left × (carried ≡ Ok left)
+
+-- what is left of a machine with a row's changes, by where the line goes
+abbrev pub Ends : How → Machine → Machine → Answer → Course → Result Left LineRefusal → Type 0
+Ends how old new answer (Arrives position returns) carried =
+    carried ≡ Ok (record { machine = placed position (returning returns new); answer = answer })
+Ends Stepped old new answer (Halts start) carried = carried ≡ Ok (record { machine = at_start start new; answer = answers.Stopped })
+Ends Typed old new answer (Halts start) carried = carried ≡ Ok (done (at_start start new))
+Ends how old new answer Stays carried = carried ≡ Ok (record { machine = new; answer = answer })
+Ends how old new answer (Tells holds) carried = carried ≡ Ok (record { machine = new; answer = answers.Answered holds })
+Ends how old new answer (Runs position) carried =
+    carried ≡ Ok (record { machine = placed position (returning [] new); answer = answers.Runs })
+-- nothing is changed where the calculator looks elsewhere, and where the line that is to be passed over is none
+Ends how old new answer (Seeks name) carried = carried ≡ Ok (record { machine = old; answer = answers.Seeks name })
+Ends how old new answer HasNoLabel carried = FailsIn how old Nonexistent carried
+Ends how old new answer HasNoLine carried = carried ≡ Err BrokenProgram
+
+-- the machine with a row's changes
+abbrev pub worked : rows.Row → ℕ → List ℕ → Machine → Machine
+worked row named result machine = record {
+  memory = memory_after row named result machine.focal.lift machine.memory;
+  focal = record machine.focal { lift = lift_after row.lift machine.focal.lift };
+}
+
+-- a row is applied, where the register that its line names and what is computed are known
+abbrev pub AppliesWith : How → rows.Row → ℕ → Machine → Result (List ℕ) Fault → Result Left LineRefusal → Type 0
+AppliesWith how row named machine (Err fault) carried = FailsIn how machine fault carried
+AppliesWith how row named machine (Ok result) carried =
+    (course : Course) × Goes how row.goes machine.memory named machine.focal.position machine.focal.returns course
+    × Ends how machine (worked row named result machine) (answered machine.memory named row.shows row.ends) course carried
+
+abbrev pub Applies : How → rows.Row → ℕ → Machine → Result Left LineRefusal → Type 0
+Applies how row named machine carried =
+    (result : Result (List ℕ) Fault) × Works machine.memory named row result × AppliesWith how row named machine result carried
+
+-- the address of the register that a line names; a line that names none has no use for it
+abbrev pub named_by : Meant → ℕ
+named_by (Address address) = address
+named_by meant = 0
+
+-- a line whose operand means this
+abbrev pub AppliesTo : How → Line → Machine → Result Meant Fault → Result Left LineRefusal → Type 0
+AppliesTo how line machine (Err fault) carried = FailsIn how machine fault carried
+AppliesTo how line machine (Ok meant) carried = Applies how (row_of line meant) (named_by meant) machine carried
+
+-- a line that this bench carries out; for a function of a module nothing is changed, since the calculator calls it
+abbrev pub CarriesOut : How → Line → Machine → Result Left LineRefusal → Type 0
+CarriesOut how (Module number entry) machine carried =
+    carried ≡ Ok (record { machine = machine; answer = answers.Calls number entry })
+CarriesOut how line machine carried = AppliesTo how line machine (meant_of machine.memory line) carried
+
+-- 13: a line that it does not carry out
+abbrev pub TakesLine : How → Line → Machine → Result Left LineRefusal → Type 0
+TakesLine how line machine carried =
+    MatchBool (is_left_out line) (carried ≡ Err NotInProfile) (CarriesOut how line machine carried)
+
+-- a line is typed; 15 where memory is not sound
+abbrev pub TypesLine : Line → Machine → Result Left LineRefusal → Type 0
+TypesLine line machine carried =
+    MatchBool (is_sound machine.memory) (TakesLine Typed line machine carried) (carried ≡ Err MemoryLost)
+
+-- the line that stands there, or in its place the function that XEQ names there
+abbrev pub line_as : Option Function → Line → Line
+line_as None line = line
+line_as (Some function) line = Plain function
+
+-- a line stands at the position, or none: 14
+abbrev pub StepsAs : Option Function → Machine → Result ListedLine program.ProgramRefusal → Result Left LineRefusal → Type 0
+StepsAs function machine (Ok first) carried = TakesLine Stepped (line_as function first.line) machine carried
+StepsAs function machine (Err refusal) carried = carried ≡ Err BrokenProgram
+
+-- the line at the position is carried out, or a function in its place; 15 where memory is not sound
+abbrev pub StepsLine : Option Function → Machine → Result Left LineRefusal → Type 0
+StepsLine function machine carried =
+    MatchBool (is_sound machine.memory)
+    ((first : Result ListedLine program.ProgramRefusal) × AnswersFirst machine.memory machine.focal.position first × StepsAs function machine first carried)
+    (carried ≡ Err MemoryLost)
+
+-- a function of a module is called from a line: the position is past the line, but where the line was typed. XROM turns lift on, XEQ
+-- of a name leaves it (this project's choice).
+abbrev pub with_lift : rows.Lift → Machine → Machine
+with_lift lift machine = record machine { focal = record machine.focal { lift = lift_after lift machine.focal.lift } }
+
+abbrev pub CallsFrom : How → rows.Lift → Machine → Machine → Type 0
+CallsFrom Stepped lift machine left =
+    (next : ℕ) × AnswersNext machine.memory machine.focal.position (Ok next) × (left ≡ placed next (with_lift lift machine))
+CallsFrom Typed lift machine left = left ≡ with_lift lift machine

@@ -1,0 +1,49 @@
+//! What lines work on, beside memory.
+ghost use Rattle.std.specs.Prelude.{◌≡◌};
+ghost use Rattle.h41_focal.specs.LineStep.{start};
+
+use arrayvec::ArrayVec;
+use std::marker::Model;
+
+/// How many positions can be returned to at most.
+pub const RETURNS: usize = 6;
+
+/// What lines work on, beside memory.
+#[derive(Drop)]
+pub struct Focal {
+    /// Where the next line stands in program memory: bytes are counted from 0.
+    pub position: u16,
+    /// Whether that is line 00, the place before its program's first line.
+    pub is_at_line_00: bool,
+    /// The positions to return to, the latest last.
+    pub returns: ArrayVec<u16, RETURNS>,
+    /// Whether the stack is lifted when a number comes in.
+    pub lift: bool,
+}
+
+impl Model for Focal {
+    ghost use Rattle.h41_focal.specs.LineStep.{FocalState};
+
+    ghost Value = { FocalState };
+
+    ghost view = { λ focal. record {
+      position = focal.position;
+      at_line_00 = focal.is_at_line_00;
+      returns = focal.returns.items;
+      lift = focal.lift;
+    } };
+}
+
+impl Focal {
+    /// The start: line 00 of the first program, nowhere to return to, lift on.
+    pub fn new() -> Self
+        ensures { result ≡ start }
+    {
+        Focal {
+            position: 0,
+            is_at_line_00: true,
+            returns: ArrayVec::new(),
+            lift: true,
+        }
+    }
+}

@@ -1,11 +1,11 @@
 -- Back from codes to functions and characters.
-use Rattle.std.proofs.Common.{◌≡◌, ℕ, ◌+◌, ◌-◌, ◌<◌, ◌≤◌, List, [], ◌∷◌, get_or, if◌then◌else◌, leb, refl, arith}
+use Rattle.std.proofs.Common.{◌≡◌, ℕ, ◌+◌, ◌-◌, ◌<◌, ◌≤◌, get_or, if◌then◌else◌, leb, refl, arith}
 use Rattle.h41_codes.specs.declared.functions.Function.{Function}
-use Rattle.h41_codes.specs.declared.functions.Function.TheVariants.{Add, Subtract, Multiply, Divide, TestXLessThanY, TestXGreaterThanY, TestXAtMostY, AddStatistics, SubtractStatistics, AddHours, SubtractHours, Modulo, Percent, PercentChange, PolarToRectangular, RectangularToPolar, NaturalLogarithm, Square, SquareRoot, Power, ChangeSign, Exponential, CommonLogarithm, PowerOfTen, ExponentialLessOne, Sine, Cosine, Tangent, ArcSine, ArcCosine, ArcTangent, OctalToDecimal, Reciprocal, AbsoluteValue, Factorial, TestXNotZero, TestXPositive, LogarithmOfOneMore, TestXNegative, TestXZero, IntegerPart, FractionPart, DegreesToRadians, RadiansToDegrees, DecimalToHours, HoursToDecimal, Round, DecimalToOctal, ClearStatistics, ExchangeXY, Pi, ClearStack, RollUp, RollDown, LastX, ClearX, TestXEqualsY, TestXDiffersFromY, Signum, TestXAtMostZero, Mean, StandardDeviation, ViewAlpha, ClearDisplay, Degrees, Radians, Grads, Enter, Stop, Return, Beep, ClearAlpha, ShiftAlpha, Pause, ClearRegisters, AlphaOff, AlphaOn, TurnOff, Prompt, Advance}
+use Rattle.h41_codes.specs.declared.functions.Function.TheVariants.{Add}
 use Rattle.h41_codes.specs.declared.functions.ParameterFunction.{ParameterFunction}
-use Rattle.h41_codes.specs.declared.functions.ParameterFunction.TheVariants.{Recall, Store, StoreAdd, StoreSubtract, StoreMultiply, StoreDivide, IncrementSkip, DecrementSkip, View, StatisticsRegisters, StoreAlpha, RecallAlpha, Fixed, Scientific, Engineering, Tone, SetFlag, ClearFlag, TestSetAndClear, TestClearAndClear, TestSet, TestClear, Exchange, Label}
+use Rattle.h41_codes.specs.declared.functions.ParameterFunction.TheVariants.{Recall}
 use Rattle.h41_codes.specs.declared.characters.Character.{Character}
-use Rattle.h41_codes.specs.declared.characters.Character.TheVariants.{Zero, One, Two, Three, Four, Five, Six, Seven, Eight, Nine, Point, Exponent, Minus}
+use Rattle.h41_codes.specs.declared.characters.Character.TheVariants.{Zero}
 use Rattle.h41_codes.specs.Codes.{function_code, parameter_function_code, character_code}
 use Rattle.h41_codes.specs.Functions.{functions, parameter_functions, characters}
 

@@ -9,9 +9,8 @@ use Rattle.h41_codes.specs.declared.functions.Branch.{Branch}
 use Rattle.h41_codes.specs.declared.functions.Branch.TheVariants.{GoTo, Execute}
 use Rattle.h41_codes.specs.declared.functions.NameFunction.TheVariants.{GoToName, ExecuteName, Wordless}
 use Rattle.h41_codes.specs.declared.functions.Function.{Function}
-use Rattle.h41_codes.specs.declared.functions.Function.TheVariants.{Add, Subtract, Multiply, Divide, TestXLessThanY, TestXGreaterThanY, TestXAtMostY, AddStatistics, SubtractStatistics, AddHours, SubtractHours, Modulo, Percent, PercentChange, PolarToRectangular, RectangularToPolar, NaturalLogarithm, Square, SquareRoot, Power, ChangeSign, Exponential, CommonLogarithm, PowerOfTen, ExponentialLessOne, Sine, Cosine, Tangent, ArcSine, ArcCosine, ArcTangent, OctalToDecimal, Reciprocal, AbsoluteValue, Factorial, TestXNotZero, TestXPositive, LogarithmOfOneMore, TestXNegative, TestXZero, IntegerPart, FractionPart, DegreesToRadians, RadiansToDegrees, DecimalToHours, HoursToDecimal, Round, DecimalToOctal, ClearStatistics, ExchangeXY, Pi, ClearStack, RollUp, RollDown, LastX, ClearX, TestXEqualsY, TestXDiffersFromY, Signum, TestXAtMostZero, Mean, StandardDeviation, ViewAlpha, ClearDisplay, Degrees, Radians, Grads, Enter, Stop, Return, Beep, ClearAlpha, ShiftAlpha, Pause, ClearRegisters, AlphaOff, AlphaOn, TurnOff, Prompt, Advance}
-use Rattle.h41_codes.specs.declared.functions.ParameterFunction.{ParameterFunction}
-use Rattle.h41_codes.specs.declared.functions.ParameterFunction.TheVariants.{Recall, Store, StoreAdd, StoreSubtract, StoreMultiply, StoreDivide, IncrementSkip, DecrementSkip, View, StatisticsRegisters, StoreAlpha, RecallAlpha, Fixed, Scientific, Engineering, Tone, SetFlag, ClearFlag, TestSetAndClear, TestClearAndClear, TestSet, TestClear, Exchange, Label}
+use Rattle.h41_codes.specs.declared.functions.Function.TheVariants.{Subtract}
+use Rattle.h41_codes.specs.declared.functions.ParameterFunction.TheVariants.{Label}
 use Rattle.h41_codes.specs.declared.line.Operand.{Operand}
 use Rattle.h41_codes.specs.declared.line.Operand.TheVariants.{Direct, Indirect}
 use Rattle.h41_codes.specs.declared.line.Line.{Line}

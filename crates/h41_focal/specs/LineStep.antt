@@ -16,10 +16,10 @@ use Rattle.h41_focal.specs.Profile.{is_left_out}
 use Rattle.h41_focal.specs.RowEffects.{lift_after, memory_after}
 use Rattle.h41_focal.specs.Rows as rows
 use Rattle.h41_focal.specs.Values.{Value, Computes}
-use Rattle.h41_focal.specs.declared.fault.Fault.{Fault}
-use Rattle.h41_focal.specs.declared.fault.Fault.TheVariants.{AlphaData, Nonexistent}
-use Rattle.h41_focal.specs.declared.refusal.LineRefusal.{LineRefusal}
-use Rattle.h41_focal.specs.declared.refusal.LineRefusal.TheVariants.{MemoryLost, BrokenProgram, NotInProfile}
+use Rattle.h41_focal.specs.declared.fault.LineFault.{LineFault}
+use Rattle.h41_focal.specs.declared.fault.LineFault.TheVariants.{AlphaData, Nonexistent}
+use Rattle.h41_focal.specs.declared.refusal.FocalRefusal.{FocalRefusal}
+use Rattle.h41_focal.specs.declared.refusal.FocalRefusal.TheVariants.{MemoryLost, BrokenProgram, NotInProfile}
 use Rattle.h41_program.specs.ProgramLines.{AnswersFirst, AnswersNext}
 use Rattle.h41_program.specs.declared.listed_line.ListedLine.{ListedLine}
 use Rattle.h41_program.specs.declared.refusal.ProgramRefusal as program
@@ -56,12 +56,12 @@ abbrev pub are_numbers : RegisterMap → ℕ → List Place → Bool
 are_numbers memory named places = list_all (λ place. is_some (number_in (register_in memory named place))) places
 
 -- the register that a row computes, or the fault; a row that computes nothing has no use for it
-abbrev pub ComputesIn : RegisterMap → ℕ → Option Value → Result (List ℕ) Fault → Type 0
+abbrev pub ComputesIn : RegisterMap → ℕ → Option Value → Result (List ℕ) LineFault → Type 0
 ComputesIn memory named None result = result ≡ Ok zeros
 ComputesIn memory named (Some value) result = Computes value memory named result
 
 -- numbers are asked for before anything is computed
-abbrev pub Works : RegisterMap → ℕ → rows.Row → Result (List ℕ) Fault → Type 0
+abbrev pub Works : RegisterMap → ℕ → rows.Row → Result (List ℕ) LineFault → Type 0
 Works memory named row result =
     MatchBool (are_numbers memory named (rows.numbers_of row)) (ComputesIn memory named row.value result) (result ≡ Err AlphaData)
 
@@ -101,13 +101,13 @@ error_flag = 25
 abbrev pub caught : Machine → Machine
 caught machine = record machine { memory = with_flag machine.memory error_flag false }
 
-abbrev pub failed : Machine → Fault → Left
+abbrev pub failed : Machine → LineFault → Left
 failed machine fault = record { machine = machine; answer = answers.Failed fault }
 
 abbrev pub done : Machine → Left
 done machine = record { machine = machine; answer = answers.Done }
 
-abbrev pub Fails : How → Machine → Fault → Left → Type 0
+abbrev pub Fails : How → Machine → LineFault → Left → Type 0
 Fails Stepped machine fault left =
     MatchBool (flag_of machine.memory error_flag)
     ((next : ℕ) × AnswersNext machine.memory machine.focal.position (Ok next) × (left ≡ done (placed next (caught machine))))
@@ -116,11 +116,11 @@ Fails Typed machine fault left =
     left ≡ (if flag_of machine.memory error_flag then done (caught machine) else failed machine fault)
 
 -- a line is carried out, or refused
-abbrev pub FailsIn : How → Machine → Fault → Result Left LineRefusal → Type 0
+abbrev pub FailsIn : How → Machine → LineFault → Result Left FocalRefusal → Type 0
 FailsIn how machine fault carried = (left : Left) × Fails how machine fault left × (carried ≡ Ok left)
 
 -- what is left of a machine with a row's changes, by where the line goes
-abbrev pub Ends : How → Machine → Machine → Answer → Course → Result Left LineRefusal → Type 0
+abbrev pub Ends : How → Machine → Machine → Answer → Course → Result Left FocalRefusal → Type 0
 Ends how old new answer (Arrives position returns) carried =
     carried ≡ Ok (record { machine = placed position (returning returns new); answer = answer })
 Ends Stepped old new answer (Halts start) carried = carried ≡ Ok (record { machine = at_start start new; answer = answers.Stopped })
@@ -142,15 +142,15 @@ worked row named result machine = record {
 }
 
 -- a row is applied, where the register that its line names and what is computed are known
-abbrev pub AppliesWith : How → rows.Row → ℕ → Machine → Result (List ℕ) Fault → Result Left LineRefusal → Type 0
+abbrev pub AppliesWith : How → rows.Row → ℕ → Machine → Result (List ℕ) LineFault → Result Left FocalRefusal → Type 0
 AppliesWith how row named machine (Err fault) carried = FailsIn how machine fault carried
 AppliesWith how row named machine (Ok result) carried =
     (course : Course) × Goes how row.goes machine.memory named machine.focal.position machine.focal.returns course
     × Ends how machine (worked row named result machine) (answered machine.memory named row.shows row.ends) course carried
 
-abbrev pub Applies : How → rows.Row → ℕ → Machine → Result Left LineRefusal → Type 0
+abbrev pub Applies : How → rows.Row → ℕ → Machine → Result Left FocalRefusal → Type 0
 Applies how row named machine carried =
-    (result : Result (List ℕ) Fault) × Works machine.memory named row result × AppliesWith how row named machine result carried
+    (result : Result (List ℕ) LineFault) × Works machine.memory named row result × AppliesWith how row named machine result carried
 
 -- the address of the register that a line names; a line that names none has no use for it
 abbrev pub named_by : Meant → ℕ
@@ -158,23 +158,23 @@ named_by (Address address) = address
 named_by meant = 0
 
 -- a line whose operand means this
-abbrev pub AppliesTo : How → Line → Machine → Result Meant Fault → Result Left LineRefusal → Type 0
+abbrev pub AppliesTo : How → Line → Machine → Result Meant LineFault → Result Left FocalRefusal → Type 0
 AppliesTo how line machine (Err fault) carried = FailsIn how machine fault carried
 AppliesTo how line machine (Ok meant) carried = Applies how (row_of line meant) (named_by meant) machine carried
 
 -- a line that this bench carries out; for a function of a module nothing is changed, since the calculator calls it
-abbrev pub CarriesOut : How → Line → Machine → Result Left LineRefusal → Type 0
+abbrev pub CarriesOut : How → Line → Machine → Result Left FocalRefusal → Type 0
 CarriesOut how (Module number entry) machine carried =
     carried ≡ Ok (record { machine = machine; answer = answers.Calls number entry })
 CarriesOut how line machine carried = AppliesTo how line machine (meant_of machine.memory line) carried
 
 -- 13: a line that it does not carry out
-abbrev pub TakesLine : How → Line → Machine → Result Left LineRefusal → Type 0
+abbrev pub TakesLine : How → Line → Machine → Result Left FocalRefusal → Type 0
 TakesLine how line machine carried =
     MatchBool (is_left_out line) (carried ≡ Err NotInProfile) (CarriesOut how line machine carried)
 
 -- a line is typed; 15 where memory is not sound
-abbrev pub TypesLine : Line → Machine → Result Left LineRefusal → Type 0
+abbrev pub TypesLine : Line → Machine → Result Left FocalRefusal → Type 0
 TypesLine line machine carried =
     MatchBool (is_sound machine.memory) (TakesLine Typed line machine carried) (carried ≡ Err MemoryLost)
 
@@ -184,12 +184,12 @@ line_as None line = line
 line_as (Some function) line = Plain function
 
 -- a line stands at the position, or none: 14
-abbrev pub StepsAs : Option Function → Machine → Result ListedLine program.ProgramRefusal → Result Left LineRefusal → Type 0
+abbrev pub StepsAs : Option Function → Machine → Result ListedLine program.ProgramRefusal → Result Left FocalRefusal → Type 0
 StepsAs function machine (Ok first) carried = TakesLine Stepped (line_as function first.line) machine carried
 StepsAs function machine (Err refusal) carried = carried ≡ Err BrokenProgram
 
 -- the line at the position is carried out, or a function in its place; 15 where memory is not sound
-abbrev pub StepsLine : Option Function → Machine → Result Left LineRefusal → Type 0
+abbrev pub StepsLine : Option Function → Machine → Result Left FocalRefusal → Type 0
 StepsLine function machine carried =
     MatchBool (is_sound machine.memory)
     ((first : Result ListedLine program.ProgramRefusal) × AnswersFirst machine.memory machine.focal.position first × StepsAs function machine first carried)

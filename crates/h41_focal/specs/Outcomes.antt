@@ -1,6 +1,6 @@
 -- What a line leaves for the calculator to do, as a clause sees it: texts are their bytes.
 use Rattle.std.specs.Prelude.{ℕ, Bool, List}
-use Rattle.h41_focal.specs.declared.fault.Fault.{Fault}
+use Rattle.h41_focal.specs.declared.fault.LineFault.{LineFault}
 
 pub data Answer : Type 0 where
   -- the program goes on
@@ -24,4 +24,4 @@ pub data Answer : Type 0 where
   -- a function of this name is called, which memory does not have
   Seeks : List ℕ → Answer
   -- the line was not done: the display shows why, and the program stops
-  Failed : Fault → Answer
+  Failed : LineFault → Answer

@@ -25,8 +25,8 @@ use Rattle.h41_show.specs.declared.format.Notation.TheVariants.{Fixed, Scientifi
 use Rattle.h41_focal.specs.Counters.{Way, recounted}
 use Rattle.h41_focal.specs.NumberLines.{IsNumberOf}
 use Rattle.h41_focal.specs.Places.{Place, amount_in, register_in}
-use Rattle.h41_focal.specs.declared.fault.Fault.{Fault}
-use Rattle.h41_focal.specs.declared.fault.Fault.TheVariants.{DataError, OutOfRange}
+use Rattle.h41_focal.specs.declared.fault.LineFault.{LineFault}
+use Rattle.h41_focal.specs.declared.fault.LineFault.TheVariants.{DataError, OutOfRange}
 
 pub data Value : Type 0 where
   -- a number that is given, in units
@@ -113,13 +113,13 @@ pub record IsRegisterOf (number : ℤ) (register : List ℕ) : Type 0 where
   pub holds : holding_of register ≡ Number number
 
 -- the register of what was answered, or the fault: with flag 24 no result is out of range
-abbrev pub Kept : Sign → Bool → Result Ten DecimalFault → Result (List ℕ) Fault → Type 0
+abbrev pub Kept : Sign → Bool → Result Ten DecimalFault → Result (List ℕ) LineFault → Type 0
 Kept sign ignored (Ok number) result = IsOkAnd result (IsRegisterOf (units number))
 Kept sign ignored (Err Data) result = result ≡ Err DataError
 Kept sign ignored (Err Range) result = MatchBool ignored (IsOkAnd result (IsRegisterOf (signed sign greatest))) (result ≡ Err OutOfRange)
 
 -- a value is computed: the register of it, or the fault
-pub record Computes (value : Value) (memory : RegisterMap) (named : ℕ) (result : Result (List ℕ) Fault) : Type 0 where
+pub record Computes (value : Value) (memory : RegisterMap) (named : ℕ) (result : Result (List ℕ) LineFault) : Type 0 where
   pub answer : Result Ten DecimalFault
   pub nearest : IsValue value memory named answer
   pub kept : Kept (sign_of_value value memory named) (flag_of memory range_flag) answer result

@@ -3,7 +3,7 @@ use thiserror::Error;
 
 /// Why a line was not done. It is no refusal: the display shows it, or flag 25 lets the program go on.
 #[derive(Clone, Copy, Debug, PartialEq, Eq, Error)]
-pub enum Fault {
+pub enum LineFault {
     /// A number was needed, and a register holds none.
     #[error("ALPHA DATA")]
     AlphaData,

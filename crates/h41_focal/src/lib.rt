@@ -6,7 +6,7 @@ mod focal;
 mod outcome;
 mod refusal;
 
-pub use fault::Fault;
+pub use fault::LineFault;
 pub use focal::{Focal, RETURNS};
-pub use outcome::{DisplayText, Outcome};
-pub use refusal::LineRefusal;
+pub use outcome::{DisplayText, LineOutcome};
+pub use refusal::FocalRefusal;

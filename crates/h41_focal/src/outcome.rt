@@ -1,5 +1,5 @@
 //! What a line leaves for the calculator to do.
-use crate::fault::Fault;
+use crate::fault::LineFault;
 use arrayvec::ArrayString;
 use h41_codes::{EntryNumber, ModuleNumber, Text};
 
@@ -8,7 +8,7 @@ pub type DisplayText = ArrayString<80>;
 
 /// What is to be done once a line was carried out.
 #[derive(Drop)]
-pub enum Outcome {
+pub enum LineOutcome {
     /// Nothing: the program goes on.
     Done,
     /// The program stops.
@@ -30,5 +30,5 @@ pub enum Outcome {
     /// A function of this name is called, which memory does not have. Nothing was changed.
     Seeks(Text<15>),
     /// The line could not be done: the display shows why, and the program stops.
-    Failed(Fault),
+    Failed(LineFault),
 }

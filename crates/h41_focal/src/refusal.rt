@@ -3,7 +3,7 @@ use thiserror::Error;
 
 /// Why a line was refused.
 #[derive(Clone, Copy, Debug, PartialEq, Eq, Error)]
-pub enum LineRefusal {
+pub enum FocalRefusal {
     /// 15: memory is not sound.
     #[error("memory is lost")]
     MemoryLost,

@@ -1,3 +1,4 @@
+pub mod Carrying
 pub mod Counters
 pub mod Courses
 pub mod FunctionRows

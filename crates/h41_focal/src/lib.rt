@@ -1,8 +1,10 @@
 //! The lines of keystroke programs: what each works on, and what it answers.
 #![tactic(auto)]
 
+mod course;
 mod fault;
 mod focal;
+mod origin;
 mod outcome;
 mod refusal;
 

@@ -1,0 +1,63 @@
+//! Where a line goes once its work is done, or where it cannot be done.
+
+ghost use Rattle.std.specs.Prelude.{◌≡◌};
+ghost use Rattle.h41_focal.specs.Carrying.{KnowsNext, advanced, how_of, left_of, machine_of};
+ghost use Rattle.h41_focal.specs.LineStep.{Fails};
+ghost use Rattle.h41_focal.specs.Rows.{AsItWas, Off, On};
+
+use crate::fault::LineFault;
+use crate::focal::Focal;
+use crate::origin::Origin;
+use crate::outcome::LineOutcome;
+use h41_ram::Ram;
+
+/// The flag that has the program go on where a line cannot be done.
+const ERROR_FLAG: usize = 25;
+
+/// On to the next line; a typed line stays. Lift stays.
+pub fn go_on(focal: &mut Focal, origin: Origin)
+    ensures { focal.new ≡ advanced origin AsItWas focal.old }
+{
+    if let Origin::Program(next) = origin {
+        focal.position = next;
+        focal.is_at_line_00 = false;
+    }
+}
+
+/// On to the next line, with lift.
+pub fn go_on_lifting(focal: &mut Focal, origin: Origin)
+    ensures { focal.new ≡ advanced origin On focal.old }
+{
+    go_on(focal, origin);
+    focal.lift = true;
+}
+
+/// On to the next line, without lift: the next number takes the place of X.
+pub fn go_on_replacing(focal: &mut Focal, origin: Origin)
+    ensures { focal.new ≡ advanced origin Off focal.old }
+{
+    go_on(focal, origin);
+    focal.lift = false;
+}
+
+/// A line cannot be done: the display shows why, and the program stops there. Flag 25 is cleared where it is set, and the
+/// program goes on with the next line.
+pub fn fail<const REGS: usize>(
+    ram: &mut Ram<REGS>,
+    focal: &mut Focal,
+    origin: Origin,
+    fault: LineFault,
+) -> LineOutcome
+    requires { KnowsNext origin ram.old focal.old.position }
+    ensures { Fails (how_of origin) (machine_of ram.old focal.old) fault (left_of ram.new focal.new result) }
+{
+    if ram.flag(ERROR_FLAG) {
+        ram.set_flag(ERROR_FLAG, false);
+        go_on(focal, origin);
+        return LineOutcome::Done;
+    }
+    if let Origin::Program(_) = origin {
+        focal.is_at_line_00 = false;
+    }
+    LineOutcome::Failed(fault)
+}

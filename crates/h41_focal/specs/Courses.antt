@@ -2,8 +2,8 @@
 use Rattle.std.specs.Prelude.{◌≡◌, ◌⊎◌, ℕ, ◌-◌, Bool, List, [], ◌∷◌, ◌++◌, length, drop, reverse, MatchBool, Option, Some, None, Ok, Err}
 use Rattle.h41_codes.specs.declared.functions.Branch.{Branch}
 use Rattle.h41_codes.specs.declared.functions.Branch.TheVariants.{GoTo, Execute}
-use Rattle.h41_focal.specs.RowEffects.{holds_in}
-use Rattle.h41_focal.specs.Rows as rows
+use Rattle.h41_rows.specs.RowEffects.{holds_in}
+use Rattle.h41_rows.specs.Rows as rows
 use Rattle.h41_program.specs.ProgramLines.{AnswersNext, AnswersOf}
 use Rattle.h41_program.specs.Searches.{AnswersLocal, named_in, position_of, start_in}
 use Rattle.h41_program.specs.declared.refusal.ProgramRefusal.TheVariants.{BrokenProgram}

@@ -1,14 +1,7 @@
+pub mod Arrivals
 pub mod Carrying
-pub mod Counters
 pub mod Courses
-pub mod FunctionRows
-pub mod LineRows
 pub mod LineStep
-pub mod NumberLines
-pub mod Operands
 pub mod Outcomes
-pub mod Places
-pub mod Profile
-pub mod RowEffects
-pub mod Rows
-pub mod Values
+pub mod StackMoves
+pub mod Works

@@ -1,23 +1,21 @@
 -- One line is carried out: one rule for all rows. The Owner's Handbook's are flags 24 and 25 and what faults do; the refusals and
 -- their order, what becomes of line 00 and what a typed line does at a fault are this project's choices.
-use Rattle.std.specs.Prelude.{◌≡◌, ℕ, Bool, true, false, List, [], is_some, MatchBool, if◌then◌else◌, Option, Some, None, Result, Ok, Err}
-use Rattle.std.specs.List.{list_all}
+use Rattle.std.specs.Prelude.{◌≡◌, ℕ, Bool, true, false, List, [], MatchBool, if◌then◌else◌, Option, Some, None, Result, Ok, Err}
 use Rattle.h41_codes.specs.declared.functions.Function.{Function}
 use Rattle.h41_codes.specs.declared.line.Line.{Line}
 use Rattle.h41_codes.specs.declared.line.Line.TheVariants.{Module, Plain}
-use Rattle.h41_decimal.specs.Holding.{number_in}
 use Rattle.h41_focal.specs.Courses.{Course, Arrives, Halts, Stays, Tells, Runs, Seeks, HasNoLabel, HasNoLine, Goes, How, Stepped, Typed}
-use Rattle.h41_focal.specs.LineRows.{row_of}
-use Rattle.h41_focal.specs.Operands.{Meant, Address, meant_of}
+use Rattle.h41_rows.specs.LineRows.{row_of}
+use Rattle.h41_rows.specs.Operands.{Meant, Address, meant_of}
 use Rattle.h41_focal.specs.Outcomes.{Answer}
 use Rattle.h41_focal.specs.Outcomes as answers
-use Rattle.h41_focal.specs.Places.{Place, register_in}
-use Rattle.h41_focal.specs.Profile.{is_left_out}
-use Rattle.h41_focal.specs.RowEffects.{lift_after, memory_after}
-use Rattle.h41_focal.specs.Rows as rows
-use Rattle.h41_focal.specs.Values.{Value, Computes}
-use Rattle.h41_focal.specs.declared.fault.LineFault.{LineFault}
-use Rattle.h41_focal.specs.declared.fault.LineFault.TheVariants.{AlphaData, Nonexistent}
+use Rattle.h41_rows.specs.Places.{are_numbers}
+use Rattle.h41_rows.specs.Profile.{is_left_out}
+use Rattle.h41_rows.specs.RowEffects.{lift_after, memory_after}
+use Rattle.h41_rows.specs.Rows as rows
+use Rattle.h41_rows.specs.Values.{Value, Computes}
+use Rattle.h41_rows.specs.declared.fault.LineFault.{LineFault}
+use Rattle.h41_rows.specs.declared.fault.LineFault.TheVariants.{AlphaData, Nonexistent}
 use Rattle.h41_focal.specs.declared.refusal.FocalRefusal.{FocalRefusal}
 use Rattle.h41_focal.specs.declared.refusal.FocalRefusal.TheVariants.{MemoryLost, BrokenProgram, NotInProfile}
 use Rattle.h41_program.specs.ProgramLines.{AnswersFirst, AnswersNext}
@@ -50,10 +48,6 @@ pub record Machine : Type 0 where
 pub record Left : Type 0 where
   pub machine : Machine
   pub answer : Answer
-
--- whether each place holds a number
-abbrev pub are_numbers : RegisterMap → ℕ → List Place → Bool
-are_numbers memory named places = list_all (λ place. is_some (number_in (register_in memory named place))) places
 
 -- the register that a row computes, or the fault; a row that computes nothing has no use for it
 abbrev pub ComputesIn : RegisterMap → ℕ → Option Value → Result (List ℕ) LineFault → Type 0

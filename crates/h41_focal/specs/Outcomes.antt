@@ -1,6 +1,6 @@
 -- What a line leaves for the calculator to do, as a clause sees it: texts are their bytes.
 use Rattle.std.specs.Prelude.{ℕ, Bool, List}
-use Rattle.h41_focal.specs.declared.fault.LineFault.{LineFault}
+use Rattle.h41_rows.specs.declared.fault.LineFault.{LineFault}
 
 pub data Answer : Type 0 where
   -- the program goes on

@@ -1,15 +1,14 @@
 //! Where a line goes once its work is done, or where it cannot be done.
 
 ghost use Rattle.std.specs.Prelude.{◌≡◌};
-ghost use Rattle.h41_focal.specs.Carrying.{KnowsNext, advanced, how_of, left_of, machine_of};
-ghost use Rattle.h41_focal.specs.LineStep.{Fails};
-ghost use Rattle.h41_focal.specs.Rows.{AsItWas, Off, On};
+ghost use Rattle.h41_focal.specs.Carrying.{FailsAs, KnowsNext, advanced};
+ghost use Rattle.h41_rows.specs.Rows.{AsItWas, Off, On};
 
-use crate::fault::LineFault;
 use crate::focal::Focal;
 use crate::origin::Origin;
 use crate::outcome::LineOutcome;
 use h41_ram::Ram;
+use h41_rows::LineFault;
 
 /// The flag that has the program go on where a line cannot be done.
 const ERROR_FLAG: usize = 25;
@@ -49,7 +48,7 @@ pub fn fail<const REGS: usize>(
     fault: LineFault,
 ) -> LineOutcome
     requires { KnowsNext origin ram.old focal.old.position }
-    ensures { Fails (how_of origin) (machine_of ram.old focal.old) fault (left_of ram.new focal.new result) }
+    ensures { FailsAs origin fault ram.old focal.old ram.new focal.new result }
 {
     if ram.flag(ERROR_FLAG) {
         ram.set_flag(ERROR_FLAG, false);

@@ -1,14 +1,30 @@
 //! The lines of keystroke programs: what each works on, and what it answers.
 #![tactic(auto)]
 
+mod alpha_lines;
+mod arithmetic;
 mod course;
-mod fault;
+mod display_lines;
+mod flag_lines;
 mod focal;
+mod functions;
+mod labels;
+mod lines;
+mod loop_lines;
+mod mode_lines;
+mod operand_lines;
 mod origin;
 mod outcome;
+mod questions;
 mod refusal;
+mod register_lines;
+mod register_uses;
+mod stack_lines;
+mod uses;
+mod works;
 
-pub use fault::LineFault;
 pub use focal::{Focal, RETURNS};
+pub use h41_rows::LineFault;
+pub use lines::{key_line, step_as, step_line};
 pub use outcome::{DisplayText, LineOutcome};
 pub use refusal::FocalRefusal;

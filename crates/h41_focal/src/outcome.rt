@@ -1,7 +1,7 @@
 //! What a line leaves for the calculator to do.
-use crate::fault::LineFault;
 use arrayvec::ArrayString;
 use h41_codes::{EntryNumber, ModuleNumber, Text};
+use h41_rows::LineFault;
 
 /// A text for the display.
 pub type DisplayText = ArrayString<80>;

@@ -1,0 +1,6 @@
+mod LabelsMet
+mod LinesTaken
+mod RowApplied
+mod RowAsked
+mod RowDone
+mod ValueComputed

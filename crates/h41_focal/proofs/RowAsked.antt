@@ -1,0 +1,180 @@
+-- A row whose line asks is applied: by what it computes, what it makes of memory, whether its condition holds, and where the line then is.
+use Rattle.std.proofs.Common.{◌≡◌, ℕ, Bool, true, false, ◌&&◌, is_some, MatchBool, List, Ok, Err, Result, refl, ap, sym, subst, ◌∙◌, inl, inr}
+use Rattle.h41_decimal.specs.Holding.{number_in}
+use Rattle.h41_focal.specs.Carrying.{CarriesRow, KnowsNext, Leads, advanced, answer_of, told}
+use Rattle.h41_rows.specs.Computing.{WorksOn}
+use Rattle.h41_rows.specs.Computing as computing
+use Rattle.h41_rows.specs.Counters.{Way}
+use Rattle.h41_focal.specs.Courses.{Course, Arrives, Asks, HasNoLine, Stays, StepsFrom, Tells}
+use Rattle.h41_rows.specs.LineRows.{loop}
+use Rattle.h41_focal.specs.LineStep.{FocalState, Works}
+use Rattle.h41_focal.specs.Outcomes as answers
+use Rattle.h41_rows.specs.Places.{Named, are_numbers, register_in}
+use Rattle.h41_rows.specs.RowEffects.{holds_in, memory_after}
+use Rattle.h41_rows.specs.Rows.{Condition, Row}
+use Rattle.h41_rows.specs.Rows as rows
+use Rattle.h41_rows.specs.Values.{Computes, Counted}
+use Rattle.h41_rows.specs.declared.fault.LineFault.{LineFault}
+use Rattle.h41_rows.specs.declared.fault.LineFault.TheVariants.{AlphaData}
+use Rattle.h41_focal.specs.declared.origin.Origin.{Origin}
+use Rattle.h41_focal.specs.declared.origin.Origin.TheVariants.{Program, Typed}
+use Rattle.h41_focal.specs.declared.outcome.LineOutcome.{LineOutcome}
+use Rattle.h41_focal.specs.declared.refusal.FocalRefusal.{FocalRefusal}
+use Rattle.h41_program.specs.ProgramLines.{AnswersNext}
+use Rattle.h41_program.specs.declared.refusal.ProgramRefusal.TheVariants as program
+use Rattle.h41_ram.specs.RegisterMap.{RegisterMap, zeros}
+
+-- the course of a line that asks
+arrives :
+    (holds : Bool) (memory : RegisterMap) (next position : ℕ) (returns : List ℕ)
+    → MatchBool holds (position ≡ next) (AnswersNext memory next (Ok position))
+    → Asks holds memory next returns (Arrives position returns)
+arrives true memory next position returns same = ap (λ (p : ℕ). Arrives p returns) same
+arrives false memory next position returns behind = inl (position, behind, refl)
+
+has_no_line :
+    (holds : Bool) (memory : RegisterMap) (next : ℕ) (returns : List ℕ)
+    → holds ≡ false
+    → AnswersNext memory next (Err program.BrokenProgram)
+    → Asks holds memory next returns HasNoLine
+has_no_line holds memory next returns fails broken = rw fails (inr (broken, refl))
+
+-- the program goes on from a line that asks, where its row goes by a condition
+program_leads :
+    (next : ℕ) (lead : Origin) (row : Row) (condition : Condition) (holds : Bool) (named : ℕ) (memory : RegisterMap) (focal : FocalState) (register : List ℕ) (outcome : LineOutcome)
+    → KnowsNext (Program next) memory focal.position
+    → ((course : Course) → Asks (holds_in memory named condition) memory next focal.returns course → StepsFrom row.goes memory named focal.position next focal.returns course)
+    → row.shows ≡ rows.AsBefore
+    → row.ends ≡ rows.GoesOn
+    → Works memory named row (Ok register)
+    → holds ≡ holds_in memory named condition
+    → Leads (Program next) memory holds (Ok lead)
+    → answer_of outcome ≡ answers.Done
+    → CarriesRow (Program next) row named memory focal (memory_after row named register focal.lift memory) (advanced lead row.lift focal) (Ok outcome)
+program_leads next (Program position) row condition holds named memory focal register outcome knows goes shows ends works is leads answers =
+    let asks : Asks (holds_in memory named condition) memory next focal.returns (Arrives leads.0 focal.returns) =
+    subst (λ (b : Bool). Asks b memory next focal.returns (Arrives leads.0 focal.returns)) is (arrives holds memory next leads.0 focal.returns leads.2) in
+    let same : position ≡ leads.0 = cc leads.1 in
+    (Ok register, works, (Arrives leads.0 focal.returns, (next, knows, goes _ asks), rw (answers, shows, ends, same) refl))
+program_leads next Typed row condition holds named memory focal register outcome knows goes shows ends works is leads answers =
+    absurd (cc leads.1)
+
+-- a test is done
+pub test_leads :
+    (origin lead : Origin) (row : Row) (condition : Condition) (holds : Bool) (named : ℕ) (memory : RegisterMap) (focal : FocalState) (register : List ℕ) (outcome : LineOutcome)
+    → KnowsNext origin memory focal.position
+    → row.goes ≡ rows.Tests condition
+    → row.shows ≡ rows.AsBefore
+    → row.ends ≡ rows.GoesOn
+    → Works memory named row (Ok register)
+    → holds ≡ holds_in memory named condition
+    → Leads origin memory holds (Ok lead)
+    → answer_of outcome ≡ told origin holds
+    → CarriesRow origin row named memory focal (memory_after row named register focal.lift memory) (advanced lead row.lift focal) (Ok outcome)
+test_leads (Program next) lead row condition holds named memory focal register outcome knows goes shows ends works is leads answers =
+    program_leads next lead row condition holds named memory focal register outcome knows (λ course asks. rw goes asks) shows ends works is leads answers
+test_leads Typed (Program position) row condition holds named memory focal register outcome knows goes shows ends works is leads answers =
+    absurd (cc leads)
+test_leads Typed Typed row condition holds named memory focal register outcome knows goes shows ends works is leads answers =
+    (Ok register, works, (Tells holds, rw goes (ap (λ (b : Bool). Tells b) is), rw answers refl))
+
+-- a loop counted
+pub loop_leads :
+    (origin lead : Origin) (row : Row) (condition : Condition) (holds : Bool) (named : ℕ) (memory : RegisterMap) (focal : FocalState) (register : List ℕ) (outcome : LineOutcome)
+    → KnowsNext origin memory focal.position
+    → row.goes ≡ rows.Counts condition
+    → row.shows ≡ rows.AsBefore
+    → row.ends ≡ rows.GoesOn
+    → Works memory named row (Ok register)
+    → holds ≡ holds_in memory named condition
+    → Leads origin memory holds (Ok lead)
+    → answer_of outcome ≡ answers.Done
+    → CarriesRow origin row named memory focal (memory_after row named register focal.lift memory) (advanced lead row.lift focal) (Ok outcome)
+loop_leads (Program next) lead row condition holds named memory focal register outcome knows goes shows ends works is leads answers =
+    program_leads next lead row condition holds named memory focal register outcome knows (λ course asks. rw goes asks) shows ends works is leads answers
+loop_leads Typed (Program position) row condition holds named memory focal register outcome knows goes shows ends works is leads answers =
+    absurd (cc leads)
+loop_leads Typed Typed row condition holds named memory focal register outcome knows goes shows ends works is leads answers =
+    (Ok register, works, (Stays, rw goes refl, rw (answers, shows, ends) refl))
+
+-- the line that would be passed over is none
+program_refused :
+    (next : ℕ) (row : Row) (condition : Condition) (holds : Bool) (named : ℕ) (memory new : RegisterMap) (focal after : FocalState) (register : List ℕ) (refusal : FocalRefusal)
+    → KnowsNext (Program next) memory focal.position
+    → ((course : Course) → Asks (holds_in memory named condition) memory next focal.returns course → StepsFrom row.goes memory named focal.position next focal.returns course)
+    → Works memory named row (Ok register)
+    → holds ≡ holds_in memory named condition
+    → Leads (Program next) memory holds (Err refusal)
+    → CarriesRow (Program next) row named memory focal new after (Err refusal)
+program_refused next row condition holds named memory new focal after register refusal knows goes works is leads =
+    let asks = has_no_line (holds_in memory named condition) memory next focal.returns (sym is ∙ leads.1) leads.2 in
+    (Ok register, works, (HasNoLine, (next, knows, goes _ asks), rw leads.0 refl))
+
+-- a test is refused
+pub test_refused :
+    (origin : Origin) (row : Row) (condition : Condition) (holds : Bool) (named : ℕ) (memory new : RegisterMap) (focal after : FocalState) (register : List ℕ) (refusal : FocalRefusal)
+    → KnowsNext origin memory focal.position
+    → row.goes ≡ rows.Tests condition
+    → Works memory named row (Ok register)
+    → holds ≡ holds_in memory named condition
+    → Leads origin memory holds (Err refusal)
+    → CarriesRow origin row named memory focal new after (Err refusal)
+test_refused (Program next) row condition holds named memory new focal after register refusal knows goes works is leads =
+    program_refused next row condition holds named memory new focal after register refusal knows (λ course asks. rw goes asks) works is leads
+test_refused Typed row condition holds named memory new focal after register refusal knows goes works is leads = absurd (cc leads)
+
+-- a loop is refused
+pub loop_refused :
+    (origin : Origin) (row : Row) (condition : Condition) (holds : Bool) (named : ℕ) (memory new : RegisterMap) (focal after : FocalState) (register : List ℕ) (refusal : FocalRefusal)
+    → KnowsNext origin memory focal.position
+    → row.goes ≡ rows.Counts condition
+    → Works memory named row (Ok register)
+    → holds ≡ holds_in memory named condition
+    → Leads origin memory holds (Err refusal)
+    → CarriesRow origin row named memory focal new after (Err refusal)
+loop_refused (Program next) row condition holds named memory new focal after register refusal knows goes works is leads =
+    program_refused next row condition holds named memory new focal after register refusal knows (λ course asks. rw goes asks) works is leads
+loop_refused Typed row condition holds named memory new focal after register refusal knows goes works is leads = absurd (cc leads)
+
+-- a test computes nothing, and its condition is told where its places hold numbers
+asked :
+    (numbers holds other : Bool)
+    → MatchBool numbers (◌≡◌ {A = Result Bool LineFault} (Ok holds) (Ok other)) (◌≡◌ {A = Result Bool LineFault} (Ok holds) (Err AlphaData))
+    → MatchBool numbers (◌≡◌ {A = Result (List ℕ) LineFault} (Ok zeros) (Ok zeros)) (◌≡◌ {A = Result (List ℕ) LineFault} (Ok zeros) (Err AlphaData)) × (holds ≡ other)
+asked true holds other told = (refl, cc told)
+asked false holds other told = absurd (cc told)
+
+faulted :
+    (numbers other : Bool) (fault : LineFault)
+    → MatchBool numbers (◌≡◌ {A = Result Bool LineFault} (Err fault) (Ok other)) (◌≡◌ {A = Result Bool LineFault} (Err fault) (Err AlphaData))
+    → MatchBool numbers (◌≡◌ {A = Result (List ℕ) LineFault} (Err fault) (Ok zeros)) (◌≡◌ {A = Result (List ℕ) LineFault} (Err fault) (Err AlphaData))
+faulted true other fault told = absurd (cc told)
+faulted false other fault told = cc told
+
+pub test_asked :
+    (memory : RegisterMap) (named : ℕ) (condition : Condition) (result : Result Bool LineFault) (holds : Bool)
+    → computing.Tells memory condition result
+    → result ≡ Ok holds
+    → Works memory named (rows.test condition) (Ok zeros) × (holds ≡ holds_in memory named condition)
+test_asked memory named condition result holds tells is =
+    asked (are_numbers memory named (rows.places_in_condition condition)) holds (holds_in memory named condition) (let told = tells named in rw is at told)
+
+pub test_faulted :
+    (memory : RegisterMap) (named : ℕ) (condition : Condition) (result : Result Bool LineFault) (fault : LineFault)
+    → computing.Tells memory condition result
+    → result ≡ Err fault
+    → Works memory named (rows.test condition) (Err fault)
+test_faulted memory named condition result fault tells is =
+    faulted (are_numbers memory named (rows.places_in_condition condition)) (holds_in memory named condition) fault (let told = tells named in rw is at told)
+
+-- a loop's counter is asked for twice, once for the value and once for the condition
+twice : (number : Bool) (A B : Type 0) → MatchBool (number && true) A B → MatchBool (number && (number && true)) A B
+twice true A B works = works
+twice false A B works = works
+
+pub loop_works :
+    (way : Way) (memory : RegisterMap) (address : ℕ) (result : Result (List ℕ) LineFault)
+    → WorksOn memory address (Counted way Named) result
+    → Works memory address (loop way) result
+loop_works way memory address result works =
+    twice (is_some (number_in (register_in memory address Named))) (Computes (Counted way Named) memory address result) (result ≡ Err AlphaData) works

@@ -1,0 +1,72 @@
+-- A row whose line goes on to the next one is done, by equations for memory and for where the line then is.
+use Rattle.std.proofs.Common.{arith, ◌≡◌, ◌≢◌, ℕ, ◌≤◌, false, nat_eq, List, [], ◌∷◌, length, drop, slice_index, Some, Result, Ok, refl}
+use Rattle.std.proofs.lemmas.Bool.Decides.{nat_tests}
+use Rattle.h41_focal.proofs.RowApplied.{row_applied}
+use Rattle.h41_focal.specs.Carrying.{KnowsNext, Leaves, advanced, answer_of}
+use Rattle.h41_rows.specs.Computing.{WorksOn, value_of_two}
+use Rattle.h41_rows.specs.LineRows.{text_row}
+use Rattle.h41_focal.specs.LineStep.{FocalState, Works, answered}
+use Rattle.h41_rows.specs.Places.{Named, X}
+use Rattle.h41_rows.specs.RowEffects.{memory_after, with_alpha_change}
+use Rattle.h41_rows.specs.Rows.{Row, Appends, Becomes}
+use Rattle.h41_rows.specs.Rows as rows
+use Rattle.h41_focal.specs.Works.{register_use_row}
+use Rattle.h41_rows.specs.declared.fault.LineFault.{LineFault}
+use Rattle.h41_focal.specs.declared.origin.Origin.{Origin}
+use Rattle.h41_focal.specs.declared.outcome.LineOutcome.{LineOutcome}
+use Rattle.h41_focal.specs.declared.outcome.LineOutcome.TheVariants as outcomes
+use Rattle.h41_focal.specs.declared.uses.RegisterUse.TheVariants as registers
+use Rattle.h41_rows.specs.declared.values.OfTwo.{OfTwo}
+use Rattle.h41_rows.specs.declared.values.OfTwo.TheVariants as twos
+use Rattle.h41_ram.specs.RegisterMap.{RegisterMap, zeros}
+
+-- with what it computes
+pub row_done :
+    (origin : Origin) (row : Row) (named : ℕ) (memory new : RegisterMap) (focal after : FocalState) (register : List ℕ) (outcome : LineOutcome)
+    → KnowsNext origin memory focal.position
+    → row.goes ≡ rows.Next
+    → Works memory named row (Ok register)
+    → answer_of outcome ≡ answered memory named row.shows row.ends
+    → new ≡ memory_after row named register focal.lift memory
+    → after ≡ advanced origin row.lift focal
+    → Leaves origin row named memory focal new after outcome
+row_done origin row named memory new focal after register outcome knows goes works answers makes ends =
+    rw (makes, ends) (row_applied origin row named memory focal register outcome knows goes works answers)
+
+-- arithmetic in a register works on the numbers of its value alone
+pub works_in_register :
+    (value : OfTwo) (memory : RegisterMap) (named : ℕ) (result : Result (List ℕ) LineFault)
+    → WorksOn memory named (value_of_two value Named X) result
+    → Works memory named (register_use_row (registers.Combine value)) result
+works_in_register twos.Sum memory named result works = works
+works_in_register twos.Difference memory named result works = works
+works_in_register twos.Product memory named result works = works
+works_in_register twos.Quotient memory named result works = works
+works_in_register twos.Remainder memory named result works = works
+works_in_register twos.Percentage memory named result works = works
+
+-- a text came into ALPHA; a text of no character does nothing
+pub text_done :
+    (characters : List ℕ) (origin : Origin) (named : ℕ) (memory new : RegisterMap) (focal after : FocalState)
+    → KnowsNext origin memory focal.position
+    → new ≡ with_alpha_change memory named (text_row characters).alpha memory
+    → after ≡ advanced origin rows.On focal
+    → Leaves origin (text_row characters) named memory focal new after outcomes.Done
+text_done [] origin named memory new focal after knows makes ends =
+    row_done origin (text_row []) named memory new focal after zeros outcomes.Done knows refl refl refl makes ends
+text_done (character ∷ text) origin named memory new focal after knows makes ends =
+    row_done origin (text_row (character ∷ text)) named memory new focal after zeros outcomes.Done knows refl refl refl makes ends
+
+-- what a text does to ALPHA, by its first character
+pub text_appends :
+    (characters : List ℕ) → 1 ≤ length characters → slice_index characters 0 ≡ 0x7F
+    → (text_row characters).alpha ≡ Some (Appends (drop 1 characters))
+text_appends [] some first = absurd (omega arith)
+text_appends (character ∷ text) some first = rw first refl
+
+pub text_replaces :
+    (characters : List ℕ) → 1 ≤ length characters → slice_index characters 0 ≢ 0x7F
+    → (text_row characters).alpha ≡ Some (Becomes characters)
+text_replaces [] some first = absurd (omega arith)
+text_replaces (character ∷ text) some first =
+    let other : nat_eq character 0x7F ≡ false = grind (arith, nat_tests) in rw other refl

@@ -1,0 +1,12 @@
+use Rattle.std.proofs.Common.{refl}
+use Rattle.h41_focal.proofs.RowApplied.{row_applied}
+use Rattle.h41_focal.specs.Works.{flag_use_row}
+use Rattle.h41_focal.specs.declared.uses.FlagUse.TheVariants as flags
+use Rattle.h41_focal.specs.declared.outcome.LineOutcome.TheVariants as outcomes
+use Rattle.h41_ram.specs.RegisterMap.{zeros}
+use Rattle.h41_focal.proofs.flag_lines.change_flag.Goals as goal
+
+pub returns : goal.returns
+returns g c = λ named.
+    rw (c.go_on_lifting.ensures, c.set_flag.ensures, c.from.ensures)
+    (row_applied _ (flag_use_row (flags.Change c.args.on) c.args.flag) named _ _ zeros outcomes.Done c.requires.next refl refl refl)

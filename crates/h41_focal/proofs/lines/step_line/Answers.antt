@@ -1,0 +1,13 @@
+use Rattle.std.proofs.Common.{None}
+use Rattle.std.proofs.lemmas.Result.{err_from_is_err_and}
+use Rattle.h41_focal.proofs.LinesTaken.{step_refused, step_taken}
+use Rattle.h41_focal.proofs.lines.step_line.Goals as goal
+
+pub returns-in_err-line-clause-line : goal.returns-in_err-line-clause-line
+returns-in_err-line-clause-line g c =
+    let refused = err_from_is_err_and c.from_residual.result c.from_residual.ensures.1 in
+    rw (refused.1, refused.2) (step_refused None c.args.ram.now c.args.focal.now c.in_err-line.field-0.0 c.in_err-line.ensures)
+
+pub returns-clause-line : goal.returns-clause-line
+returns-clause-line g c =
+    step_taken None _ _ _ _ c.in_ok-line.line c.in_ok-line.next _ c.in_ok-line.ensures c.carry_out.ensures.taken

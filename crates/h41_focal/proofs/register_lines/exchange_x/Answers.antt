@@ -1,0 +1,13 @@
+use Rattle.std.proofs.Common.{refl}
+use Rattle.h41_focal.proofs.RowDone.{row_done}
+use Rattle.h41_rows.specs.Places.{Named}
+use Rattle.h41_focal.specs.Works.{register_use_row}
+use Rattle.h41_focal.specs.declared.uses.RegisterUse.TheVariants as registers
+use Rattle.h41_focal.specs.declared.outcome.LineOutcome.TheVariants as outcomes
+use Rattle.h41_ram.specs.RegisterMap.{zeros}
+use Rattle.h41_focal.proofs.register_lines.exchange_x.Goals as goal
+
+pub returns : goal.returns
+returns g c =
+    row_done _ (register_use_row registers.Exchange) c.args.address _ _ _ _ zeros outcomes.Done c.requires refl refl refl
+    (c.exchange.ensures c.args.address Named zeros refl) c.go_on_lifting.ensures

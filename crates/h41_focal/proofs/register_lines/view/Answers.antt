@@ -1,0 +1,13 @@
+use Rattle.std.proofs.Common.{refl}
+use Rattle.h41_focal.proofs.RowDone.{row_done}
+use Rattle.h41_focal.specs.Works.{register_use_row}
+use Rattle.h41_focal.specs.declared.uses.RegisterUse.TheVariants as registers
+use Rattle.h41_focal.specs.declared.outcome.LineOutcome.TheVariants as outcomes
+use Rattle.h41_ram.specs.RegisterMap.{zeros}
+use Rattle.h41_focal.proofs.register_lines.view.Goals as goal
+
+pub returns : goal.returns
+returns g c =
+    row_done _ (register_use_row registers.View) c.args.address _ _ _ _ zeros (outcomes.Viewed c.register_text.result) c.requires refl refl
+    (rw (c.register_text.ensures, c.read.ensures, c.from_flags.ensures) refl)
+    refl c.go_on_lifting.ensures

@@ -1,0 +1,10 @@
+use Rattle.std.proofs.Common.{refl}
+use Rattle.h41_focal.proofs.RowApplied.{row_applied}
+use Rattle.h41_focal.specs.declared.outcome.LineOutcome.TheVariants as outcomes
+use Rattle.h41_focal.proofs.stack_lines.be_silent.Goals as goal
+use Rattle.h41_rows.specs.Rows.{silent}
+use Rattle.h41_ram.specs.RegisterMap.{zeros}
+
+pub returns : goal.returns
+returns g c = λ named.
+    rw c.go_on.ensures (row_applied _ silent named _ _ zeros outcomes.Done c.requires refl refl refl)

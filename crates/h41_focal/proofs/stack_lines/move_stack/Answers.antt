@@ -1,0 +1,40 @@
+use Rattle.std.proofs.Common.{◌≡◌, ℕ, ap, refl}
+use Rattle.h41_focal.proofs.RowApplied.{row_applied}
+use Rattle.h41_focal.proofs.stack_lines.move_stack.Goals as goal
+use Rattle.h41_focal.specs.LineStep.{FocalState, answered}
+use Rattle.h41_focal.specs.Outcomes as answers
+use Rattle.h41_rows.specs.Rows as rows
+use Rattle.h41_focal.specs.Works.{move_row}
+use Rattle.h41_focal.specs.declared.outcome.LineOutcome.TheVariants as outcomes
+use Rattle.h41_focal.specs.declared.works.Movement.{Movement}
+use Rattle.h41_focal.specs.declared.works.Movement.TheVariants as moves
+use Rattle.h41_ram.specs.RegisterMap.{RegisterMap}
+
+-- a line that moves the stack goes on to the next one
+goes_on : (movement : Movement) → (move_row movement).goes ≡ rows.Next
+goes_on moves.Exchange = refl
+goes_on moves.RollUp = refl
+goes_on moves.RollDown = refl
+goes_on moves.LastX = refl
+goes_on moves.Enter = refl
+goes_on moves.Pi = refl
+goes_on moves.ClearStack = refl
+goes_on moves.ClearX = refl
+
+-- and answers nothing
+answers_done : (memory : RegisterMap) (movement : Movement) (named : ℕ) → answers.Done ≡ answered memory named (move_row movement).shows (move_row movement).ends
+answers_done memory moves.Exchange named = refl
+answers_done memory moves.RollUp named = refl
+answers_done memory moves.RollDown named = refl
+answers_done memory moves.LastX named = refl
+answers_done memory moves.Enter named = refl
+answers_done memory moves.Pi named = refl
+answers_done memory moves.ClearStack named = refl
+answers_done memory moves.ClearX named = refl
+
+pub returns : goal.returns
+returns g c = λ named.
+    let moved = c.move_registers.ensures named in
+    rw (c.go_on_behind.ensures, moved.2, ap (λ (focal : FocalState). focal.lift) c.focal.view_is)
+    (row_applied _ (move_row c.args.movement) named _ c.args.focal.now moved.0 outcomes.Done c.requires (goes_on c.args.movement) moved.1
+    (answers_done c.args.ram.now c.args.movement named))

@@ -1,0 +1,46 @@
+-- What private functions promise one another of labels and returns.
+use Rattle.std.specs.Prelude.{◌≡◌, ℕ, true, false, List, [], ◌∷◌, reverse}
+use Rattle.h41_codes.specs.declared.functions.Branch.{Branch}
+use Rattle.h41_codes.specs.declared.functions.Branch.TheVariants.{GoTo, Execute}
+use Rattle.h41_focal.specs.Carrying.{answer_of}
+use Rattle.h41_focal.specs.Courses.{pushed}
+use Rattle.h41_focal.specs.LineStep.{FocalState}
+use Rattle.h41_focal.specs.Outcomes.{Answer}
+use Rattle.h41_focal.specs.Outcomes as answers
+use Rattle.h41_focal.specs.declared.origin.Origin.{Origin}
+use Rattle.h41_focal.specs.declared.origin.Origin.TheVariants.{Program, Typed}
+use Rattle.h41_focal.specs.declared.outcome.LineOutcome.{LineOutcome}
+use Rattle.h41_program.specs.ProgramLines.{AnswersOf}
+use Rattle.h41_program.specs.Searches.{start_in}
+use Rattle.h41_ram.specs.RegisterMap.{RegisterMap}
+
+-- where the search for a local label begins
+abbrev pub from_of : Origin → ℕ → ℕ
+from_of (Program next) position = next
+from_of Typed position = position
+
+-- at a label, by how the line came and whether it returns
+abbrev pub focal_at : Origin → Branch → ℕ → FocalState → FocalState
+focal_at origin GoTo position focal = record focal { position = position; at_line_00 = false }
+focal_at (Program next) Execute position focal =
+    record focal { position = position; at_line_00 = false; returns = pushed focal.returns next }
+focal_at Typed Execute position focal = record focal { position = position; at_line_00 = false; returns = [] }
+
+abbrev pub answer_at : Origin → Branch → Answer
+answer_at origin GoTo = answers.Done
+answer_at (Program next) Execute = answers.Done
+answer_at Typed Execute = answers.Runs
+
+-- at line 00 of a program
+abbrev pub halted_at : ℕ → FocalState → FocalState
+halted_at start focal = record focal { position = start; at_line_00 = true; returns = [] }
+
+-- back to the latest position to return to, or to line 00
+abbrev pub GoesBackFrom : RegisterMap → List ℕ → FocalState → FocalState → LineOutcome → Type 0
+GoesBackFrom memory [] focal after outcome =
+    (start : ℕ) × AnswersOf (start_in focal.position) memory 0 start × (after ≡ halted_at start focal) × (answer_of outcome ≡ answers.Stopped)
+GoesBackFrom memory (latest ∷ others) focal after outcome =
+    (after ≡ record focal { position = latest; at_line_00 = false; returns = reverse others }) × (answer_of outcome ≡ answers.Done)
+
+abbrev pub ReturnsFrom : RegisterMap → FocalState → FocalState → LineOutcome → Type 0
+ReturnsFrom memory focal after outcome = GoesBackFrom memory (reverse focal.returns) focal after outcome

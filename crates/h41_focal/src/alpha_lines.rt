@@ -1,0 +1,105 @@
+//! Lines that work on ALPHA.
+
+ghost use Rattle.std.specs.Prelude.{◌≡◌, ◌≤◌, ℕ, IfNone, IfSome, Some, length};
+ghost use Rattle.h41_codes.specs.declared.line.Line.TheVariants as lines;
+ghost use Rattle.h41_focal.specs.Carrying.{DoesLine, DoesWork, KnowsNext};
+ghost use Rattle.h41_rows.specs.LineRows.{row_of, text_row};
+ghost use Rattle.h41_rows.specs.Operands.{NoOperand};
+ghost use Rattle.h41_rows.specs.RowEffects.{with_alpha_change};
+ghost use Rattle.h41_rows.specs.Rows.{Appends, Becomes};
+ghost use Rattle.h41_focal.specs.Works.{row_of_work};
+ghost use Rattle.h41_focal.specs.declared.works.Work.TheVariants.{Alpha};
+
+use crate::course::go_on_lifting;
+use crate::focal::Focal;
+use crate::origin::Origin;
+use crate::outcome::LineOutcome;
+use crate::works::AlphaWork;
+use h41_codes::Text;
+use h41_ram::Ram;
+use h41_rows::{append_text, replace_text, shift_six};
+
+/// The flag that brings ALPHA into the display.
+const ALPHA_MODE: usize = 48;
+
+/// The first character of a text that comes behind what ALPHA holds.
+const APPEND: u8 = 0x7F;
+
+/// ALPHA is cleared or shifted, or its mode is set.
+pub fn change_alpha<const REGS: usize>(
+    ram: &mut Ram<REGS>,
+    focal: &mut Focal,
+    origin: Origin,
+    work: AlphaWork,
+) -> LineOutcome
+    requires { KnowsNext origin ram.old focal.old.position }
+    ensures { DoesWork origin (Alpha work) ram.old focal.old ram.new focal.new result }
+{
+    match work {
+        AlphaWork::Clear => {
+            replace_text(ram, &[]);
+            go_on_lifting(focal, origin);
+            LineOutcome::Done
+        }
+        AlphaWork::Shift => {
+            shift_six(ram);
+            go_on_lifting(focal, origin);
+            LineOutcome::Done
+        }
+        AlphaWork::Mode(on) => {
+            ram.set_flag(ALPHA_MODE, on);
+            go_on_lifting(focal, origin);
+            LineOutcome::Done
+        }
+    }
+}
+
+/// ALPHA becomes a text, or, where its first character is the append sign, the rest comes behind what ALPHA holds. A text of
+/// no character leaves ALPHA as it was.
+pub fn text_line<const REGS: usize>(
+    ram: &mut Ram<REGS>,
+    focal: &mut Focal,
+    origin: Origin,
+    text: &Text<15>,
+) -> LineOutcome
+    requires { KnowsNext origin ram.old focal.old.position }
+    ensures { DoesLine origin (lines.Text text.now) ram.old focal.old ram.new focal.new result }
+{
+    put_text(ram, text.characters());
+    go_on_lifting(focal, origin);
+    LineOutcome::Done
+}
+
+/// A text comes into ALPHA: behind what ALPHA holds where it begins with the append sign, else in its place. A text of no
+/// character changes nothing.
+fn put_text<const REGS: usize>(ram: &mut Ram<REGS>, text: &[u8])
+    ensures { (named : ℕ) → ram.new ≡ with_alpha_change ram.old named (text_row text.now).alpha ram.old }
+{
+    match text {
+        [] => {}
+        characters => put_characters(ram, characters),
+    }
+}
+
+/// The same for a text that has a character.
+fn put_characters<const REGS: usize>(ram: &mut Ram<REGS>, text: &[u8])
+    requires { 1 ≤ length text.now }
+    ensures { (named : ℕ) → ram.new ≡ with_alpha_change ram.old named (text_row text.now).alpha ram.old }
+{
+    match appended(text) {
+        Some(rest) => append_text(ram, rest),
+        None => replace_text(ram, text),
+    }
+}
+
+/// What a text has behind the append sign; `None` where it does not begin with it.
+fn appended(text: &[u8]) -> Option<&[u8]>
+    ensures behind { IfSome result (λ rest. (text_row text.now).alpha ≡ Some (Appends rest.now)) }
+    ensures whole { IfNone result (1 ≤ length text.now → (text_row text.now).alpha ≡ Some (Becomes text.now)) }
+{
+    match text {
+        [] => None,
+        [APPEND, rest @ ..] => Some(rest),
+        _ => None,
+    }
+}

@@ -1,0 +1,107 @@
+//! Lines of a flag: it is set or cleared, or asked.
+
+ghost use Rattle.std.specs.Prelude.{◌≡◌, ℕ, ◌<◌, IsTrue};
+ghost use Rattle.h41_focal.specs.Carrying.{CarriesFlag, KeepsAll, KnowsNext, LeavesFlag};
+ghost use Rattle.h41_rows.specs.RowEffects.{agrees};
+ghost use Rattle.h41_focal.specs.declared.uses.FlagUse.TheVariants.{Ask, AskAndClear, Change};
+ghost use Rattle.h41_ram.specs.RegisterMap.{flag_of, is_sound};
+
+use crate::course::go_on_lifting;
+use crate::focal::Focal;
+use crate::origin::Origin;
+use crate::outcome::LineOutcome;
+use crate::questions::{answer, lead};
+use crate::refusal::FocalRefusal;
+use crate::uses::FlagUse;
+use h41_ram::Ram;
+
+/// Whether a flag, 0 to 55, is set, or clear.
+fn agrees_with<const REGS: usize>(ram: &Ram<REGS>, flag: u8, on: bool) -> bool
+    requires { flag < 56 }
+    ensures { result ≡ agrees on (flag_of ram.now flag) }
+{
+    let is_set = ram.flag(usize::from(flag));
+    if on { is_set } else { !is_set }
+}
+
+/// `SF` and `CF`: a flag, 0 to 55, is set or cleared.
+fn change_flag<const REGS: usize>(
+    ram: &mut Ram<REGS>,
+    focal: &mut Focal,
+    origin: Origin,
+    flag: u8,
+    on: bool,
+) -> LineOutcome
+    requires flag { flag < 56 }
+    requires next { KnowsNext origin ram.old focal.old.position }
+    ensures { LeavesFlag origin (Change on) flag ram.old focal.old ram.new focal.new result }
+{
+    ram.set_flag(usize::from(flag), on);
+    go_on_lifting(focal, origin);
+    LineOutcome::Done
+}
+
+/// `FS?` and `FC?`: the program goes on with the next line where a flag, 0 to 55, is set or clear as asked, else with the
+/// one behind it. A typed line is answered. `BrokenProgram`, with nothing changed, where the line that would be passed
+/// over is none.
+fn ask_flag<const REGS: usize>(
+    ram: &mut Ram<REGS>,
+    focal: &mut Focal,
+    origin: Origin,
+    flag: u8,
+    on: bool,
+) -> Result<LineOutcome, FocalRefusal>
+    requires flag { flag < 56 }
+    requires sound { IsTrue (is_sound ram.old) }
+    requires next { KnowsNext origin ram.old focal.old.position }
+    ensures carried { CarriesFlag origin (Ask on) flag ram.old focal.old ram.new focal.new result }
+    ensures kept { KeepsAll ram.old focal.old ram.new focal.new result }
+{
+    let holds = agrees_with(ram, flag, on);
+    let lead = lead(ram, origin, holds)?;
+    go_on_lifting(focal, lead);
+    Ok(answer(origin, holds))
+}
+
+/// `FS?C` and `FC?C`: as `ask_flag`, and the flag is cleared then.
+fn ask_and_clear_flag<const REGS: usize>(
+    ram: &mut Ram<REGS>,
+    focal: &mut Focal,
+    origin: Origin,
+    flag: u8,
+    on: bool,
+) -> Result<LineOutcome, FocalRefusal>
+    requires flag { flag < 56 }
+    requires sound { IsTrue (is_sound ram.old) }
+    requires next { KnowsNext origin ram.old focal.old.position }
+    ensures carried { CarriesFlag origin (AskAndClear on) flag ram.old focal.old ram.new focal.new result }
+    ensures kept { KeepsAll ram.old focal.old ram.new focal.new result }
+{
+    let holds = agrees_with(ram, flag, on);
+    let lead = lead(ram, origin, holds)?;
+    ram.set_flag(usize::from(flag), false);
+    go_on_lifting(focal, lead);
+    Ok(answer(origin, holds))
+}
+
+/// A line of a flag, 0 to 55: it is set, cleared or asked. `BrokenProgram`, with nothing changed, where the line that
+/// would be passed over is none.
+pub fn use_flag<const REGS: usize>(
+    ram: &mut Ram<REGS>,
+    focal: &mut Focal,
+    origin: Origin,
+    taken: FlagUse,
+    flag: u8,
+) -> Result<LineOutcome, FocalRefusal>
+    requires flag { flag < 56 }
+    requires sound { IsTrue (is_sound ram.old) }
+    requires next { KnowsNext origin ram.old focal.old.position }
+    ensures carried { CarriesFlag origin taken flag ram.old focal.old ram.new focal.new result }
+    ensures kept { KeepsAll ram.old focal.old ram.new focal.new result }
+{
+    match taken {
+        FlagUse::Change(on) => Ok(change_flag(ram, focal, origin, flag, on)),
+        FlagUse::Ask(on) => ask_flag(ram, focal, origin, flag, on),
+        FlagUse::AskAndClear(on) => ask_and_clear_flag(ram, focal, origin, flag, on),
+    }
+}

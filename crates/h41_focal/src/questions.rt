@@ -1,0 +1,69 @@
+//! Lines that ask, and go on past the next line where the answer is no.
+
+ghost use Rattle.std.specs.Prelude.{◌≡◌, ℕ, IsTrue};
+ghost use Rattle.h41_focal.specs.Carrying.{CarriesWork, KeepsAll, KnowsNext, Leads, answer_of, told};
+ghost use Rattle.h41_focal.specs.Works.{row_of_work};
+ghost use Rattle.h41_focal.specs.declared.works.Work.TheVariants.{Ask};
+ghost use Rattle.h41_ram.specs.RegisterMap.{is_sound};
+
+use crate::course::{fail, go_on_lifting};
+use crate::focal::Focal;
+use crate::origin::Origin;
+use crate::outcome::LineOutcome;
+use crate::refusal::FocalRefusal;
+use h41_program::next;
+use h41_ram::Ram;
+use h41_rows::{Test, asks};
+
+/// Where a line that asks goes on: at the next line where the answer is yes, else behind that one. A typed line stays.
+/// `BrokenProgram` where the line that would be passed over is none.
+pub fn lead<const REGS: usize>(
+    ram: &Ram<REGS>,
+    origin: Origin,
+    holds: bool,
+) -> Result<Origin, FocalRefusal>
+    requires sound { IsTrue (is_sound ram.now) }
+    ensures { Leads origin ram.now holds result }
+{
+    match origin {
+        Origin::Typed => Ok(Origin::Typed),
+        Origin::Program(following) if holds => Ok(Origin::Program(following)),
+        Origin::Program(following) => match next(ram, following) {
+            Ok(position) => Ok(Origin::Program(position)),
+            Err(_) => Err(FocalRefusal::BrokenProgram),
+        },
+    }
+}
+
+/// What a test answers: where it was typed, whether it holds.
+pub fn answer(origin: Origin, holds: bool) -> LineOutcome
+    ensures { answer_of result ≡ told origin holds }
+{
+    match origin {
+        Origin::Program(_) => LineOutcome::Done,
+        Origin::Typed => LineOutcome::Answered(holds),
+    }
+}
+
+/// A test of X: the program goes on with the next line where it holds, else with the one behind it. A typed test is
+/// answered. `BrokenProgram`, with nothing changed, where the line that would be passed over is none.
+pub fn ask<const REGS: usize>(
+    ram: &mut Ram<REGS>,
+    focal: &mut Focal,
+    origin: Origin,
+    test: Test,
+) -> Result<LineOutcome, FocalRefusal>
+    requires sound { IsTrue (is_sound ram.old) }
+    requires next { KnowsNext origin ram.old focal.old.position }
+    ensures carried { CarriesWork origin (Ask test) ram.old focal.old ram.new focal.new result }
+    ensures kept { KeepsAll ram.old focal.old ram.new focal.new result }
+{
+    match asks(ram, test) {
+        Ok(holds) => {
+            let lead = lead(ram, origin, holds)?;
+            go_on_lifting(focal, lead);
+            Ok(answer(origin, holds))
+        }
+        Err(fault) => Ok(fail(ram, focal, origin, fault)),
+    }
+}

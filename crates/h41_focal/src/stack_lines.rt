@@ -1,0 +1,130 @@
+//! Lines that move the stack, and lines that do little else.
+
+ghost use Rattle.std.specs.Prelude.{◌≡◌, ℕ};
+ghost use Rattle.h41_codes.specs.declared.line.Line.TheVariants as lines;
+ghost use Rattle.h41_focal.specs.Carrying.{DoesLine, DoesWork, KnowsNext, LeavesRow, advanced};
+ghost use Rattle.h41_rows.specs.LineRows.{row_of};
+ghost use Rattle.h41_rows.specs.Operands.{NoOperand};
+ghost use Rattle.h41_rows.specs.Rows.{nothing, silent};
+ghost use Rattle.h41_focal.specs.StackMoves.{Moves};
+ghost use Rattle.h41_focal.specs.Works.{move_row, row_of_work};
+ghost use Rattle.h41_focal.specs.declared.works.Work.TheVariants.{ClearRegisters, Move};
+
+use crate::course::{go_on, go_on_lifting, go_on_replacing};
+use crate::focal::Focal;
+use crate::origin::Origin;
+use crate::outcome::LineOutcome;
+use crate::works::Movement;
+use h41_codes::Number;
+use h41_ram::{Ram, StatusRegister};
+use h41_rows::{
+    bring_in, bring_in_from, clear_data, clear_stack, enter, exchange, pi, roll_down, roll_up,
+    written, zero,
+};
+
+/// The address of Y.
+const Y: u16 = 2;
+
+/// The address of LAST X.
+const LAST_X: u16 = 4;
+
+/// The stack moves. What comes in lifts it where lift is on. Lift is off behind `ENTER^` and `CLX`, and on behind the others.
+pub fn move_stack<const REGS: usize>(
+    ram: &mut Ram<REGS>,
+    focal: &mut Focal,
+    origin: Origin,
+    movement: Movement,
+) -> LineOutcome
+    requires { KnowsNext origin ram.old focal.old.position }
+    ensures { DoesWork origin (Move movement) ram.old focal.old ram.new focal.new result }
+{
+    move_registers(ram, movement, focal.lift);
+    go_on_behind(focal, origin, movement);
+    LineOutcome::Done
+}
+
+/// The registers of the stack move; what comes in lifts them where lift is on.
+fn move_registers<const REGS: usize>(ram: &mut Ram<REGS>, movement: Movement, lift: bool)
+    ensures { Moves movement ram.old ram.new lift }
+{
+    match movement {
+        Movement::Exchange => exchange(ram, Y),
+        Movement::RollUp => roll_up(ram),
+        Movement::RollDown => roll_down(ram),
+        Movement::LastX => bring_in_from(ram, LAST_X, lift),
+        Movement::Enter => enter(ram),
+        Movement::Pi => bring_in(ram, pi(), lift),
+        Movement::ClearStack => clear_stack(ram, zero()),
+        Movement::ClearX => ram.set_status_register(StatusRegister::X, zero()),
+    }
+}
+
+/// On to the next line: the next number takes the place of X behind `ENTER^` and `CLX`.
+fn go_on_behind(focal: &mut Focal, origin: Origin, movement: Movement)
+    ensures { focal.new ≡ advanced origin (move_row movement).lift focal.old }
+{
+    match movement {
+        Movement::Enter | Movement::ClearX => go_on_replacing(focal, origin),
+        Movement::Exchange
+        | Movement::RollUp
+        | Movement::RollDown
+        | Movement::LastX
+        | Movement::Pi
+        | Movement::ClearStack => go_on_lifting(focal, origin),
+    }
+}
+
+/// The number of a number line comes into X; the stack is lifted first where lift is on.
+pub fn number_line<const REGS: usize>(
+    ram: &mut Ram<REGS>,
+    focal: &mut Focal,
+    origin: Origin,
+    number: &Number,
+) -> LineOutcome
+    requires { KnowsNext origin ram.old focal.old.position }
+    ensures { DoesLine origin (lines.Number number.now) ram.old focal.old ram.new focal.new result }
+{
+    bring_in(ram, written(number), focal.lift);
+    go_on_lifting(focal, origin);
+    LineOutcome::Done
+}
+
+/// All data registers become zero.
+pub fn clear_registers<const REGS: usize>(
+    ram: &mut Ram<REGS>,
+    focal: &mut Focal,
+    origin: Origin,
+) -> LineOutcome
+    requires { KnowsNext origin ram.old focal.old.position }
+    ensures { DoesWork origin ClearRegisters ram.old focal.old ram.new focal.new result }
+{
+    clear_data(ram);
+    go_on_lifting(focal, origin);
+    LineOutcome::Done
+}
+
+/// A line that does nothing but turn lift on.
+pub fn do_nothing<const REGS: usize>(
+    ram: &Ram<REGS>,
+    focal: &mut Focal,
+    origin: Origin,
+) -> LineOutcome
+    requires { KnowsNext origin ram.now focal.old.position }
+    ensures { LeavesRow origin nothing ram.now focal.old ram.now focal.new result }
+{
+    go_on_lifting(focal, origin);
+    LineOutcome::Done
+}
+
+/// A line that does nothing, and leaves lift.
+pub fn be_silent<const REGS: usize>(
+    ram: &Ram<REGS>,
+    focal: &mut Focal,
+    origin: Origin,
+) -> LineOutcome
+    requires { KnowsNext origin ram.now focal.old.position }
+    ensures { LeavesRow origin silent ram.now focal.old ram.now focal.new result }
+{
+    go_on(focal, origin);
+    LineOutcome::Done
+}

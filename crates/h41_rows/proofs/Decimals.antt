@@ -1,0 +1,57 @@
+-- The first five decimals of a number.
+use Rattle.std.proofs.Common.{◌≡◌, ℕ, ◌+◌, ◌-◌, ◌*◌, ◌/◌, ◌%◌, ◌^◌, ◌<◌, ◌≤◌, ⊎_elim, sym, ◌∙◌, ap, arith}
+use Rattle.std.specs.Prelude.{ℤ, pos, ◌-ℤ◌}
+use Rattle.std.proofs.Math.Nat.{mul-le-mul_right, pow-le-pow_right}
+use Rattle.std.proofs.lemmas.Nat.{div-mul-add}
+use Rattle.std.proofs.lemmas.Bool.{cases_lt}
+use Rattle.h41_decimal.specs.WholeParts.{HasOnes, IsFraction}
+use Rattle.h41_decimal.specs.declared.sign.Sign.TheVariants.{Plus}
+use Rattle.h41_decimal.proofs.Cuts.{power_parts}
+use Rattle.h41_decimal.proofs.Signed.{signed-sub}
+
+-- a size below 1 has a low exponent
+pub low_exponent : (m b : ℕ) → 10 ^ 9 ≤ m → m * 10 ^ b < 10 ^ 108 → b ≤ 98
+low_exponent m b large below =
+    ⊎_elim
+    (λ (high : 98 < b).
+    absurd
+    (let ten : 0 < 10 = omega arith in
+    let le : 99 ≤ b = omega arith in
+    let p : 10 ^ 99 ≤ 10 ^ b = pow-le-pow_right ten le in
+    let a : 10 ^ 9 * 10 ^ b ≤ m * 10 ^ b = mul-le-mul_right (10 ^ b) large in
+    omega arith))
+    (λ (low : b ≤ 98). low)
+    (cases_lt 98 b)
+
+quotient_of : (size ones d : ℕ) → ones * d ≤ size → size < (ones + 1) * d → size / d ≡ ones
+quotient_of size ones d low high =
+    let rest : size - ones * d < d = omega arith in
+    let e : size ≡ ones * d + (size - ones * d) = omega arith in
+    ap (λ t. t / d) e ∙ div-mul-add ones d (size - ones * d) rest
+
+shifted : (m b : ℕ) → m * 10 ^ (b + 5) ≡ m * 10 ^ b * 100000
+shifted m b =
+    let p : 10 ^ b * 10 ^ 5 ≡ 10 ^ (b + 5) = power_parts b 5 (b + 5) (omega arith) in
+    let q : m * (10 ^ b * 10 ^ 5) ≡ m * 10 ^ (b + 5) = ap (λ t. m * t) p in
+    omega arith
+
+-- its ones five places up
+pub shifted_ones : (m b n : ℕ) → HasOnes (m * 10 ^ (b + 5)) n → n ≡ m * 10 ^ b / 10 ^ 103
+shifted_ones m b n has =
+    let s = shifted m b in
+    let low : n * 10 ^ 108 ≤ m * 10 ^ (b + 5) = has.not_above in
+    let high : m * 10 ^ (b + 5) < (n + 1) * 10 ^ 108 = has.next_above in
+    sym (quotient_of (m * 10 ^ b) n (10 ^ 103) (omega arith) (omega arith))
+
+pub not_many : (m b : ℕ) → m * 10 ^ b < 10 ^ 108 → m * 10 ^ (b + 5) < 10 ^ 10 * 10 ^ 108
+not_many m b below = let s = shifted m b in omega arith
+
+-- what is left of a number that is not negative
+pub rest_of : (k : ℕ) (f : ℤ) → IsFraction (pos k) f → f ≡ pos (k % 10 ^ 108)
+rest_of k f h =
+    let ones = h.integer.ones in
+    let low : ones * 10 ^ 108 ≤ k = h.integer.whole.not_above in
+    let high : k < (ones + 1) * 10 ^ 108 = h.integer.whole.next_above in
+    let q : k / 10 ^ 108 ≡ ones = quotient_of k ones (10 ^ 108) low high in
+    let r : k % 10 ^ 108 + ones * 10 ^ 108 ≡ k = omega arith in
+    h.rest ∙ (ap (λ part. pos k -ℤ part) h.integer.value ∙ signed-sub Plus k (ones * 10 ^ 108) (k % 10 ^ 108) r)

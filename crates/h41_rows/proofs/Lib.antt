@@ -1,0 +1,12 @@
+pub mod AlphaTexts
+pub mod Asked
+pub mod ClearedData
+pub mod Counts
+pub mod Decimals
+pub mod Lifts
+pub mod Loops
+pub mod NumberParts
+pub mod NumberReading
+pub mod Recalled
+pub mod Told
+pub mod Working

@@ -1,0 +1,223 @@
+-- What is computed of the numbers at addresses is computed of the places that have these addresses.
+use Rattle.std.proofs.Common.{◌≡◌, ℕ, sym, ◌∙◌, ap, refl, subst, Bool, true, false, MatchBool, IsOkAnd, List, [], ◌∷◌, Option, Some, None, Result, Ok, Err}
+use Rattle.std.specs.Prelude.{ℤ, pos, neg_ℤ, ◌+ℤ◌, ◌-ℤ◌, ◌*ℤ◌, ◌*◌, unsigned_abs, is_some, ◌&&◌, ◌==◌, if◌then◌else◌, slice_index}
+use Rattle.std.specs.Option.{option_map_or}
+use Rattle.h41_decimal.specs.Holding.{Holding, Text, Other, holding, holding_of, number_in, text_in, worth}
+use Rattle.h41_decimal.specs.NearestDecimal.{Nearest, NearestRoot}
+use Rattle.h41_decimal.specs.Operations.{NearestQuotient}
+use Rattle.h41_decimal.specs.Signs.{sign_of}
+use Rattle.h41_decimal.specs.Units.{one, units}
+use Rattle.h41_decimal.specs.WholeParts.{IsFraction, IsIntegerPart}
+use Rattle.h41_decimal.specs.declared.ten.Ten.{Ten}
+use Rattle.h41_ram.specs.RegisterMap.{RegisterMap, flag_of}
+use Rattle.h41_rows.specs.Answers.{KeptOne, KeptTwo, WithoutNumber, worth_at}
+use Rattle.h41_rows.specs.Computing.{IsAlways, WorksOn, WorksOnOne, WorksOnTwo, value_of_one, value_of_two}
+use Rattle.h41_rows.specs.Counters.{Up, Down, recounted}
+use Rattle.h41_rows.specs.Places.{Place, amount_in, are_numbers, place_address, register_in}
+use Rattle.h41_rows.specs.Rows.{places_in_value}
+use Rattle.h41_rows.specs.Values as values
+use Rattle.h41_rows.specs.Values.{Given, Computes, Kept, range_flag, unit_of}
+use Rattle.h41_rows.specs.declared.fault.LineFault.{LineFault}
+use Rattle.h41_rows.specs.declared.fault.LineFault.TheVariants.{AlphaData}
+use Rattle.h41_rows.specs.declared.values.OfOne.{OfOne}
+use Rattle.h41_rows.specs.declared.values.OfOne.TheVariants as ones
+use Rattle.h41_rows.specs.declared.values.OfTwo.{OfTwo}
+use Rattle.h41_rows.specs.declared.values.OfTwo.TheVariants as twos
+
+-- a test that holds, and one that fails
+pub where_true : (test : Bool) (A B : Type 0) → test ≡ true → A → MatchBool test A B
+where_true test A B e a = subst (λ (t : Bool). MatchBool t A B) (sym e) a
+
+pub where_false : (test : Bool) (A B : Type 0) → test ≡ false → B → MatchBool test A B
+where_false test A B e b = subst (λ (t : Bool). MatchBool t A B) (sym e) b
+
+-- what is worth something is a number
+no_worth : (test : Bool) (text : Holding) → worth text ≡ None → worth (if test then text else Other) ≡ None
+no_worth true text e = e
+no_worth false text e = refl
+
+worth_is_number : (number : Option ℤ) (register : List ℕ) → worth (holding number register) ≡ number
+worth_is_number (Some number) register = refl
+worth_is_number None register = no_worth (slice_index register 13 == 1) (Text (text_in register)) refl
+
+-- the number in a place
+pub amount_of : (memory : RegisterMap) (named : ℕ) (a : Place) (address : ℕ) (number : ℤ) → place_address named a ≡ address
+    → worth_at memory address ≡ Some number → number ≡ amount_in memory named a
+amount_of memory named a address number e w =
+    sym (ap (λ k. option_map_or (λ (n : ℤ). n) (worth_at memory k) (pos 0)) e ∙ ap (λ o. option_map_or (λ (n : ℤ). n) o (pos 0)) w)
+
+pub number_of : (memory : RegisterMap) (named : ℕ) (a : Place) (address : ℕ) (number : Option ℤ) → place_address named a ≡ address
+    → worth_at memory address ≡ number → number_in (register_in memory named a) ≡ number
+number_of memory named a address number e w =
+    sym (worth_is_number (number_in (register_in memory named a)) (register_in memory named a)) ∙ (ap (λ k. worth_at memory k) e ∙ w)
+
+-- one place
+pub computes_one : (value : OfOne) (memory : RegisterMap) (named : ℕ) (a : Place) (number : Ten) (result : Result (List ℕ) LineFault)
+    → units number ≡ amount_in memory named a → worth (holding_of (register_in memory named a)) ≡ Some (units number)
+    → KeptOne value memory number result → Computes (value_of_one value a) memory named result
+computes_one ones.Root memory named a number result e w k =
+    record { answer = k.answer; nearest = subst (λ (t : ℤ). NearestRoot t k.answer) e k.answers; kept = k.kept }
+computes_one ones.Inverse memory named a number result e w k =
+    record { answer = k.answer; nearest = subst (λ (t : ℤ). NearestQuotient (pos one) t k.answer) e k.answers; kept = k.kept }
+computes_one ones.Negative memory named a number result e w k =
+    record { answer = k.answer; nearest = subst (λ (t : ℤ). Nearest (neg_ℤ t) 1 k.answer) e k.answers; kept = k.kept }
+computes_one ones.Size memory named a number result e w k =
+    record { answer = k.answer; nearest = subst (λ (t : ℤ). Nearest (pos (unsigned_abs t)) 1 k.answer) e k.answers; kept = k.kept }
+computes_one ones.IntegerPart memory named a number result e w k =
+    record { answer = k.answer; nearest = subst (λ (t : ℤ). (part : ℤ) × IsIntegerPart t part × Nearest part 1 k.answer) e k.answers; kept = k.kept }
+computes_one ones.Fraction memory named a number result e w k =
+    record { answer = k.answer; nearest = subst (λ (t : ℤ). (rest : ℤ) × IsFraction t rest × Nearest rest 1 k.answer) e k.answers; kept = k.kept }
+computes_one ones.Displayed memory named a number result e w k =
+    record {
+      answer = k.answer;
+      nearest = (number, e, k.answers);
+      kept = subst (λ (t : ℤ). Kept (sign_of t) (flag_of memory range_flag) k.answer result) e k.kept;
+    }
+computes_one ones.Unit memory named a number result e w k =
+    record {
+      answer = k.answer;
+      nearest = subst (λ (o : Option ℤ). Nearest (option_map_or unit_of o (pos 0)) 1 k.answer) (sym w) k.answers;
+      kept = k.kept;
+    }
+computes_one ones.CountedUp memory named a number result e w k =
+    record { answer = k.answer; nearest = subst (λ (t : ℤ). Nearest (recounted Up t) 1 k.answer) e k.answers; kept = k.kept }
+computes_one ones.CountedDown memory named a number result e w k =
+    record { answer = k.answer; nearest = subst (λ (t : ℤ). Nearest (recounted Down t) 1 k.answer) e k.answers; kept = k.kept }
+
+pub works_one : (value : OfOne) (memory : RegisterMap) (address : ℕ) (number : Ten) (result : Result (List ℕ) LineFault)
+    → worth_at memory address ≡ Some (units number) → KeptOne value memory number result → WorksOnOne value memory address result
+works_one value memory address number result w k named a e =
+    let amount = amount_of memory named a address (units number) e w in
+    let there : worth (holding_of (register_in memory named a)) ≡ Some (units number) = ap (λ (n : ℕ). worth_at memory n) e ∙ w in
+    let is_one : are_numbers memory named (a ∷ []) ≡ true =
+    ap (λ (o : Option ℤ). is_some o && true) (number_of memory named a address (Some (units number)) e w) in
+    worked value is_one (computes_one value memory named a number result amount there k)
+  where
+    worked : (value : OfOne) → are_numbers memory named (a ∷ []) ≡ true → Computes (value_of_one value a) memory named result
+        → WorksOn memory named (value_of_one value a) result
+    worked ones.Root t computes = where_true _ _ _ t computes
+    worked ones.Inverse t computes = where_true _ _ _ t computes
+    worked ones.Negative t computes = where_true _ _ _ t computes
+    worked ones.Size t computes = where_true _ _ _ t computes
+    worked ones.IntegerPart t computes = where_true _ _ _ t computes
+    worked ones.Fraction t computes = where_true _ _ _ t computes
+    worked ones.Displayed t computes = where_true _ _ _ t computes
+    worked ones.Unit t computes = computes
+    worked ones.CountedUp t computes = where_true _ _ _ t computes
+    worked ones.CountedDown t computes = where_true _ _ _ t computes
+
+-- the unit of no number
+unit_of_none : (memory : RegisterMap) (named : ℕ) (a : Place) (result : Result (List ℕ) LineFault)
+    → worth (holding_of (register_in memory named a)) ≡ None → IsOkAnd result (λ register. IsAlways (Given (pos 0)) register)
+    → Computes (values.Unit a) memory named result
+unit_of_none memory named a (Ok register) none always =
+    let zero = always memory named in
+    record {
+      answer = zero.answer;
+      nearest = subst (λ (o : Option ℤ). Nearest (option_map_or unit_of o (pos 0)) 1 zero.answer) (sym none) zero.nearest;
+      kept = zero.kept;
+    }
+unit_of_none memory named a (Err fault) none always = absurd always
+
+pub works_without : (value : OfOne) (memory : RegisterMap) (address : ℕ) (fault : LineFault) (result : Result (List ℕ) LineFault)
+    → worth_at memory address ≡ None → fault ≡ AlphaData → WithoutNumber value fault result → WorksOnOne value memory address result
+works_without value memory address fault result w f without named a e =
+    let there : worth (holding_of (register_in memory named a)) ≡ None = ap (λ (n : ℕ). worth_at memory n) e ∙ w in
+    let is_none : are_numbers memory named (a ∷ []) ≡ false =
+    ap (λ (o : Option ℤ). is_some o && true) (number_of memory named a address None e w) in
+    let said : Err fault ≡ Err AlphaData = ap Err f in
+    refused value is_none there said without
+  where
+    refused : (value : OfOne) → are_numbers memory named (a ∷ []) ≡ false → worth (holding_of (register_in memory named a)) ≡ None
+        → ◌≡◌ {A = Result (List ℕ) LineFault} (Err fault) (Err AlphaData) → WithoutNumber value fault result
+        → WorksOn memory named (value_of_one value a) result
+    refused ones.Root t none said without = where_false _ _ _ t (without ∙ said)
+    refused ones.Inverse t none said without = where_false _ _ _ t (without ∙ said)
+    refused ones.Negative t none said without = where_false _ _ _ t (without ∙ said)
+    refused ones.Size t none said without = where_false _ _ _ t (without ∙ said)
+    refused ones.IntegerPart t none said without = where_false _ _ _ t (without ∙ said)
+    refused ones.Fraction t none said without = where_false _ _ _ t (without ∙ said)
+    refused ones.Displayed t none said without = where_false _ _ _ t (without ∙ said)
+    refused ones.Unit t none said without = unit_of_none memory named a result none without
+    refused ones.CountedUp t none said without = where_false _ _ _ t (without ∙ said)
+    refused ones.CountedDown t none said without = where_false _ _ _ t (without ∙ said)
+
+-- two places
+pub computes_two : (value : OfTwo) (memory : RegisterMap) (named : ℕ) (a b : Place) (x y : Ten) (result : Result (List ℕ) LineFault)
+    → units x ≡ amount_in memory named a → units y ≡ amount_in memory named b
+    → KeptTwo value memory x y result → Computes (value_of_two value a b) memory named result
+computes_two twos.Sum memory named a b x y result e f k =
+    let together : units x +ℤ units y ≡ amount_in memory named a +ℤ amount_in memory named b = cc in
+    record {
+      answer = k.answer;
+      nearest = subst (λ (t : ℤ). Nearest t 1 k.answer) together k.answers;
+      kept = subst (λ (t : ℤ). Kept (sign_of t) (flag_of memory range_flag) k.answer result) together k.kept;
+    }
+computes_two twos.Difference memory named a b x y result e f k =
+    let together : units x -ℤ units y ≡ amount_in memory named a -ℤ amount_in memory named b = cc in
+    record {
+      answer = k.answer;
+      nearest = subst (λ (t : ℤ). Nearest t 1 k.answer) together k.answers;
+      kept = subst (λ (t : ℤ). Kept (sign_of t) (flag_of memory range_flag) k.answer result) together k.kept;
+    }
+computes_two twos.Product memory named a b x y result e f k =
+    let together : units x *ℤ units y ≡ amount_in memory named a *ℤ amount_in memory named b = cc in
+    record {
+      answer = k.answer;
+      nearest = subst (λ (t : ℤ). Nearest t one k.answer) together k.answers;
+      kept = subst (λ (t : ℤ). Kept (sign_of t) (flag_of memory range_flag) k.answer result) together k.kept;
+    }
+computes_two twos.Quotient memory named a b x y result e f k =
+    let together : units x *ℤ units y ≡ amount_in memory named a *ℤ amount_in memory named b = cc in
+    record {
+      answer = k.answer;
+      nearest = subst (λ (t : ℤ). NearestQuotient t (amount_in memory named b) k.answer) e (subst (λ (t : ℤ). NearestQuotient (units x) t k.answer) f k.answers);
+      kept = subst (λ (t : ℤ). Kept (sign_of t) (flag_of memory range_flag) k.answer result) together k.kept;
+    }
+computes_two twos.Remainder memory named a b x y result e f k = record { answer = k.answer; nearest = (x, y, e, f, k.answers); kept = k.kept }
+computes_two twos.Percentage memory named a b x y result e f k =
+    let together : units x *ℤ units y ≡ amount_in memory named a *ℤ amount_in memory named b = cc in
+    record {
+      answer = k.answer;
+      nearest = subst (λ (t : ℤ). Nearest t (100 * one) k.answer) together k.answers;
+      kept = subst (λ (t : ℤ). Kept (sign_of t) (flag_of memory range_flag) k.answer result) together k.kept;
+    }
+
+-- where both hold numbers
+both_numbers : (o p : Option ℤ) (x y : ℤ) → o ≡ Some x → p ≡ Some y → (is_some o && (is_some p && true)) ≡ true
+both_numbers o p x y e f = ap (λ (t : Option ℤ). is_some t && (is_some p && true)) e ∙ ap (λ (t : Option ℤ). is_some t && true) f
+
+-- and where the first or the second holds none
+first_without : (o p : Option ℤ) → o ≡ None → (is_some o && (is_some p && true)) ≡ false
+first_without o p e = ap (λ (t : Option ℤ). is_some t && (is_some p && true)) e
+
+second_without : (o p : Option ℤ) → p ≡ None → (is_some o && (is_some p && true)) ≡ false
+second_without None p e = refl
+second_without (Some x) p e = ap (λ (t : Option ℤ). is_some t && true) e
+
+-- two places are asked for by each value of two numbers
+two_asked : (value : OfTwo) (memory : RegisterMap) (named : ℕ) (a b : Place) → are_numbers memory named (places_in_value (value_of_two value a b)) ≡ are_numbers memory named (a ∷ b ∷ [])
+two_asked twos.Sum memory named a b = refl
+two_asked twos.Difference memory named a b = refl
+two_asked twos.Product memory named a b = refl
+two_asked twos.Quotient memory named a b = refl
+two_asked twos.Remainder memory named a b = refl
+two_asked twos.Percentage memory named a b = refl
+
+pub works_two : (value : OfTwo) (memory : RegisterMap) (first second : ℕ) (x y : Ten) (result : Result (List ℕ) LineFault)
+    → worth_at memory first ≡ Some (units x) → worth_at memory second ≡ Some (units y) → KeptTwo value memory x y result
+    → WorksOnTwo value memory first second result
+works_two value memory first second x y result v w k named a b e f =
+    let are = both_numbers _ _ (units x) (units y) (number_of memory named a first (Some (units x)) e v) (number_of memory named b second (Some (units y)) f w) in
+    where_true _ _ _ (two_asked value memory named a b ∙ are)
+    (computes_two value memory named a b x y result (amount_of memory named a first (units x) e v) (amount_of memory named b second (units y) f w) k)
+
+pub first_fails : (value : OfTwo) (memory : RegisterMap) (first second : ℕ) (fault : LineFault)
+    → worth_at memory first ≡ None → fault ≡ AlphaData → WorksOnTwo value memory first second (Err fault)
+first_fails value memory first second fault w said named a b e f =
+    where_false _ _ _ (two_asked value memory named a b ∙ first_without _ _ (number_of memory named a first None e w)) (ap Err said)
+
+pub second_fails : (value : OfTwo) (memory : RegisterMap) (first second : ℕ) (fault : LineFault)
+    → worth_at memory second ≡ None → fault ≡ AlphaData → WorksOnTwo value memory first second (Err fault)
+second_fails value memory first second fault w said named a b e f =
+    where_false _ _ _ (two_asked value memory named a b ∙ second_without _ _ (number_of memory named b second None f w)) (ap Err said)

@@ -1,0 +1,9 @@
+-- What a test of two numbers answers, where registers may hold none.
+use Rattle.std.specs.Prelude.{Bool, Option, Some, None, Result, Ok, Err, ℤ}
+use Rattle.h41_rows.specs.declared.fault.LineFault.{LineFault}
+use Rattle.h41_rows.specs.declared.fault.LineFault.TheVariants.{AlphaData}
+
+abbrev pub asked : (ℤ → ℤ → Bool) → Option ℤ → Option ℤ → Result Bool LineFault
+asked test (Some x) (Some y) = Ok (test x y)
+asked test (Some x) None = Err AlphaData
+asked test None y = Err AlphaData

@@ -1,0 +1,18 @@
+-- A loop's number by its parts.
+use Rattle.std.specs.Prelude.{ℕ, ◌+◌, ◌*◌, ◌/◌, ◌%◌, ◌^◌, ◌==◌, if◌then◌else◌, ℤ, ◌+ℤ◌, unsigned_abs}
+use Rattle.h41_decimal.specs.Signs.{signed, sign_of}
+use Rattle.h41_decimal.specs.Units.{one}
+use Rattle.h41_decimal.specs.declared.sign.Sign.{Sign}
+use Rattle.h41_rows.specs.Counters.{count_of, counter_of, fraction_of}
+
+-- by how much a fraction says that is counted
+abbrev pub count_in : ℕ → ℕ
+count_in fraction = if fraction / 10 ^ 103 % 100 == 0 then 1 else fraction / 10 ^ 103 % 100
+
+-- the number of these ones, whose size has this fraction
+abbrev pub with_ones : ℤ → ℕ → ℤ
+with_ones ones fraction = signed (sign_of ones) (unsigned_abs ones * one + fraction)
+
+-- a number counted up, direction plus, or down
+abbrev pub counted_along : Sign → ℤ → ℤ
+counted_along direction number = with_ones (counter_of number +ℤ signed direction (count_of number)) (fraction_of number)

@@ -1,0 +1,17 @@
+pub mod Answers
+pub mod Comparisons
+pub mod Computing
+pub mod Counters
+pub mod Counting
+pub mod FunctionRows
+pub mod LineRows
+pub mod NumberLines
+pub mod NumberReading
+pub mod Operands
+pub mod Places
+pub mod Profile
+pub mod Results
+pub mod RowEffects
+pub mod Rows
+pub mod Values
+pub mod Wholes

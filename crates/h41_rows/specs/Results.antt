@@ -1,0 +1,6 @@
+-- The value of a result, worked on.
+use Rattle.std.specs.Prelude.{Result}
+use Rattle.std.specs.Result.{result_map_both}
+
+abbrev pub result_map : {T U E : Type 0} → (T → U) → Result T E → Result U E
+result_map f result = result_map_both f (λ fault. fault) result

@@ -1,0 +1,128 @@
+//! What becomes of ALPHA.
+
+ghost use Rattle.h41_rows.specs.Computing.{ChangesAlpha};
+ghost use Rattle.std.specs.Prelude.{◌≡◌, ℕ, ◌-◌, ◌++◌, [], ◌∷◌, length, map, replicate, take};
+ghost use Rattle.h41_decimal.specs.Holding as holding;
+ghost use Rattle.h41_digits.specs.Register.{byte_at};
+ghost use Rattle.h41_ram.specs.RegisterMap.{digits_from};
+ghost use Rattle.h41_rows.specs.RowEffects.{last_24, six_characters, text_register, with_alpha_change};
+ghost use Rattle.h41_rows.specs.Rows.{Appends, AppendsNamed, Becomes, LosesSix};
+
+use h41_digits::Reg;
+use h41_ram::{ALPHA_LENGTH, Ram};
+use h41_show::{Format, register_text};
+
+/// The place of a register that tells ALPHA data from numbers.
+const KIND_PLACE: usize = 13;
+
+/// What stands there in ALPHA data.
+const ALPHA_DATA: u8 = 1;
+
+/// How many characters a register holds.
+const REGISTER_CHARACTERS: usize = 6;
+
+/// ALPHA holds a text alone: its last 24 characters.
+pub fn replace_text<const REGS: usize>(ram: &mut Ram<REGS>, text: &[u8])
+    ensures { ChangesAlpha ram.old ram.new (Becomes text.now) }
+{
+    ram.set_alpha(put_behind([0; ALPHA_LENGTH], text));
+}
+
+/// A text comes behind what ALPHA holds, of which the last 24 characters stay.
+pub fn append_text<const REGS: usize>(ram: &mut Ram<REGS>, text: &[u8])
+    ensures { ChangesAlpha ram.old ram.new (Appends text.now) }
+{
+    ram.set_alpha(put_behind(ram.alpha(), text));
+}
+
+/// The register at an address comes behind what ALPHA holds, as a text: a number as the display shows it, ALPHA data as its
+/// characters, what is neither as its digits in hexadecimal.
+pub fn append_register<const REGS: usize>(ram: &mut Ram<REGS>, address: u16)
+    ensures { ram.new ≡ with_alpha_change ram.old address (Some AppendsNamed) ram.old }
+{
+    let register = ram.read(address);
+    if register.get(KIND_PLACE) == ALPHA_DATA {
+        append_text(ram, after_nulls(&alpha_data(register)));
+    } else {
+        let text = register_text(register, Format::from_flags(ram));
+        append_text(ram, text.as_str().as_bytes());
+    }
+}
+
+/// ALPHA's first six characters go.
+pub fn shift_six<const REGS: usize>(ram: &mut Ram<REGS>)
+    ensures { ChangesAlpha ram.old ram.new LosesSix }
+{
+    let alpha = ram.alpha();
+    let shown = after_nulls(&alpha);
+    replace_text(ram, &shown[shown.len().min(REGISTER_CHARACTERS)..]);
+}
+
+/// ALPHA's first six characters, as a register holds them.
+pub fn first_six<const REGS: usize>(ram: &Ram<REGS>) -> Reg
+    ensures { result ≡ text_register (six_characters ram.now) }
+{
+    let alpha = ram.alpha();
+    holding_bytes(first_at_right(after_nulls(&alpha)))
+}
+
+/// The last 24 of the bytes of two texts, the second behind the first.
+fn put_behind(old: [u8; ALPHA_LENGTH], text: &[u8]) -> [u8; ALPHA_LENGTH]
+    ensures { result ≡ last_24 (old ++ text.now) }
+{
+    let last = &text[text.len().saturating_sub(ALPHA_LENGTH)..];
+    let kept = ALPHA_LENGTH - last.len();
+    let mut bytes = [0; ALPHA_LENGTH];
+    bytes[..kept].copy_from_slice(&old[last.len()..]);
+    bytes[kept..].copy_from_slice(last);
+    bytes
+}
+
+/// Bytes without the leading ones that are zero.
+fn after_nulls(bytes: &[u8]) -> &[u8]
+    ensures { result.now ≡ holding.after_nulls bytes.now }
+{
+    let mut shown = bytes;
+    while let [0, rest @ ..] = shown {
+        shown = rest;
+    }
+    shown
+}
+
+/// The six bytes of ALPHA data in a register, the leftmost first.
+fn alpha_data(register: Reg) -> [u8; REGISTER_CHARACTERS]
+    ensures { result ≡ map (byte_at register) (5 ∷ 4 ∷ 3 ∷ 2 ∷ 1 ∷ 0 ∷ []) }
+{
+    [
+        register.byte(5),
+        register.byte(4),
+        register.byte(3),
+        register.byte(2),
+        register.byte(1),
+        register.byte(0),
+    ]
+}
+
+/// The first six characters of a text, with nulls in front where there are fewer.
+fn first_at_right(text: &[u8]) -> [u8; REGISTER_CHARACTERS]
+    ensures { result ≡ replicate (6 - length (take 6 text.now)) 0 ++ take 6 text.now }
+{
+    let count = text.len().min(REGISTER_CHARACTERS);
+    let mut bytes = [0; REGISTER_CHARACTERS];
+    bytes[REGISTER_CHARACTERS - count..].copy_from_slice(&text[..count]);
+    bytes
+}
+
+/// The register that holds six bytes as ALPHA data.
+fn holding_bytes(bytes: [u8; REGISTER_CHARACTERS]) -> Reg
+    ensures { result ≡ digits_from bytes (0 ∷ 1 ∷ 2 ∷ 3 ∷ 4 ∷ 5 ∷ []) ++ 0 ∷ 1 ∷ [] }
+{
+    Reg::zero()
+        .with_byte(5, bytes[0])
+        .with_byte(4, bytes[1])
+        .with_byte(3, bytes[2])
+        .with_byte(2, bytes[3])
+        .with_byte(1, bytes[4])
+        .with_byte(0, bytes[5])
+        .with(KIND_PLACE, ALPHA_DATA)
+}

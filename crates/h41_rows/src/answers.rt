@@ -1,0 +1,175 @@
+//! What is answered for the numbers in registers, and the register of an answer.
+
+ghost use Rattle.std.specs.Prelude.{◌≡◌, Ok, pos, neg_ℤ, unsigned_abs, ℤ};
+ghost use Rattle.h41_decimal.specs.NearestDecimal.{Nearest};
+ghost use Rattle.h41_decimal.specs.Operations.{NearestQuotient};
+ghost use Rattle.h41_decimal.specs.Units.{one, units};
+ghost use Rattle.h41_decimal.specs.WholeParts.{IsFraction, IsIntegerPart};
+ghost use Rattle.h41_show.specs.DisplayFormat.{format_of};
+ghost use Rattle.h41_rows.specs.Answers.{AnswersOne, AnswersTwo, IsNumberAt, KeptRange, sign_of_one, sign_of_two};
+ghost use Rattle.h41_rows.specs.Values.{IsRegisterOf, places_of, unit_of};
+
+use crate::counting::{counted_down, counted_up};
+use crate::fault::LineFault;
+use crate::signs::{sign_of_difference, sign_of_product, sign_of_sum};
+use crate::values::{OfOne, OfTwo};
+use h41_decimal::laws::decimal_is_its_nearest;
+use h41_decimal::{DecimalFault, Places, Sign, Ten};
+use h41_digits::Reg;
+use h41_ram::Ram;
+use h41_show::{Format, Notation};
+
+/// The flag that has results out of range answered by the greatest number with their sign.
+const RANGE_FLAG: usize = 24;
+
+/// The number in the register at an address, or that it holds none.
+pub fn number_at<const REGS: usize>(ram: &Ram<REGS>, address: u16) -> Result<Ten, LineFault>
+    ensures { IsNumberAt ram.now address result }
+{
+    match Ten::from_reg(ram.read(address)) {
+        Some(number) => Ok(number),
+        None => Err(LineFault::AlphaData),
+    }
+}
+
+/// The register of a number.
+pub fn register(number: Ten) -> Reg
+    ensures { IsRegisterOf (units number) result }
+{
+    number.to_reg()
+}
+
+/// What stands for a result out of range with a sign: the greatest number where flag 24 is set.
+pub fn out_of_range<const REGS: usize>(ram: &Ram<REGS>, sign: Sign) -> Result<Reg, LineFault>
+    ensures { KeptRange ram.now sign result }
+{
+    if ram.flag(RANGE_FLAG) {
+        Ok(register(Ten::greatest(sign)))
+    } else {
+        Err(LineFault::OutOfRange)
+    }
+}
+
+/// The answer for one number.
+pub fn answer_of_one<const REGS: usize>(
+    ram: &Ram<REGS>,
+    value: OfOne,
+    number: Ten,
+) -> Result<Ten, DecimalFault>
+    ensures { AnswersOne value ram.now number result }
+{
+    match value {
+        OfOne::Root => number.sqrt(),
+        OfOne::Inverse => inverse(number),
+        OfOne::Negative => negative(number),
+        OfOne::Size => size(number),
+        OfOne::IntegerPart => integer_part(number),
+        OfOne::Fraction => fraction(number),
+        OfOne::Displayed => number.round_to(display_places(ram)),
+        OfOne::Unit => unit(number),
+        OfOne::CountedUp => counted_up(number),
+        OfOne::CountedDown => counted_down(number),
+    }
+}
+
+/// The sign of an answer for one number, where it can be out of range.
+pub fn sign_of_one(value: OfOne, number: Ten) -> Sign
+    ensures { result ≡ sign_of_one value (units number) }
+{
+    match value {
+        OfOne::Displayed => number.sign(),
+        _ => Sign::Plus,
+    }
+}
+
+/// The answer for two numbers.
+pub fn answer_of_two(value: OfTwo, first: Ten, second: Ten) -> Result<Ten, DecimalFault>
+    ensures { AnswersTwo value first second result }
+{
+    match value {
+        OfTwo::Sum => first.add(second),
+        OfTwo::Difference => first.sub(second),
+        OfTwo::Product => first.mul(second),
+        OfTwo::Quotient => first.div(second),
+        OfTwo::Remainder => first.modulo(second),
+        OfTwo::Percentage => first.percent(second),
+    }
+}
+
+/// The sign of an answer for two numbers, where it can be out of range.
+pub fn sign_of_two(value: OfTwo, first: Ten, second: Ten) -> Sign
+    ensures { result ≡ sign_of_two value (units first) (units second) }
+{
+    match value {
+        OfTwo::Sum => sign_of_sum(first, second),
+        OfTwo::Difference => sign_of_difference(first, second),
+        OfTwo::Product => sign_of_product(first, second),
+        OfTwo::Quotient => sign_of_product(first, second),
+        OfTwo::Remainder => Sign::Plus,
+        OfTwo::Percentage => sign_of_product(first, second),
+    }
+}
+
+/// A number that is an answer as it is.
+pub fn exact(number: Ten) -> Result<Ten, DecimalFault>
+    ensures nearest { Nearest (units number) 1 result }
+    ensures same { result ≡ Ok number }
+{
+    decimal_is_its_nearest();
+    Ok(number)
+}
+
+/// 1 divided by a number.
+fn inverse(number: Ten) -> Result<Ten, DecimalFault>
+    ensures { NearestQuotient (pos one) (units number) result }
+{
+    Ten::Zero.signum().div(number)
+}
+
+/// A number with the other sign.
+fn negative(number: Ten) -> Result<Ten, DecimalFault>
+    ensures { Nearest (neg_ℤ (units number)) 1 result }
+{
+    exact(number.negated())
+}
+
+/// A number without its sign.
+fn size(number: Ten) -> Result<Ten, DecimalFault>
+    ensures { Nearest (pos (unsigned_abs (units number))) 1 result }
+{
+    exact(number.abs())
+}
+
+/// What stands in front of a number's radix mark.
+fn integer_part(number: Ten) -> Result<Ten, DecimalFault>
+    ensures { (part : ℤ) × IsIntegerPart (units number) part × Nearest part 1 result }
+{
+    exact(number.integer_part())
+}
+
+/// What stands behind a number's radix mark.
+fn fraction(number: Ten) -> Result<Ten, DecimalFault>
+    ensures { (rest : ℤ) × IsFraction (units number) rest × Nearest rest 1 result }
+{
+    exact(number.fraction())
+}
+
+/// 1 with a number's sign.
+fn unit(number: Ten) -> Result<Ten, DecimalFault>
+    ensures { Nearest (unit_of (units number)) 1 result }
+{
+    exact(number.signum())
+}
+
+/// To how many decimals or digits the display format rounds.
+#[tactic(auto, unfolding(h41_show::specs::DisplayFormat::format_of))]
+fn display_places<const REGS: usize>(ram: &Ram<REGS>) -> Places
+    ensures { result ≡ places_of (format_of ram.now) }
+{
+    let format = Format::from_flags(ram);
+    match format.notation {
+        Notation::Fixed => Places::Decimals(format.digits),
+        Notation::Scientific => Places::Digits(format.digits + 1),
+        Notation::Engineering => Places::Digits(format.digits + 1),
+    }
+}

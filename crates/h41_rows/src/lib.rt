@@ -1,0 +1,32 @@
+//! What the rows of the table of lines compute, ask, take and change.
+#![tactic(auto)]
+
+mod alpha;
+mod answers;
+mod clearing;
+mod conditions;
+mod counters;
+mod counting;
+mod fault;
+mod flags;
+mod number;
+mod operands;
+mod readings;
+mod signs;
+mod stack;
+mod targets;
+mod values;
+
+pub use alpha::{append_register, append_text, first_six, replace_text, shift_six};
+pub use clearing::clear_data;
+pub use conditions::{Test, asks};
+pub use counters::{goes_on_down, goes_on_up};
+pub use fault::LineFault;
+pub use flags::{set_angles, set_format};
+pub use number::written;
+pub use operands::{BranchTarget, branch_target, data_address, digit_of, flag_of, register_of};
+pub use stack::{
+    bring_in, bring_in_from, clear_stack, drop_into, enter, exchange, keep_last, roll_down,
+    roll_up, store_x,
+};
+pub use values::{OfOne, OfTwo, compute_of_one, compute_of_two, pi, zero};

@@ -1,0 +1,156 @@
+//! What the registers that operands name hold: whole numbers and texts.
+
+ghost use Rattle.std.specs.Prelude.{◌≡◌, ◌<◌, ◌≤◌, ◌/◌, [], ◌∷◌, false, length, map, unsigned_abs};
+ghost use Rattle.std.specs.Result.{result_map_both};
+ghost use Rattle.h41_decimal.specs.Holding as holding;
+ghost use Rattle.h41_decimal.specs.Units.{one, units};
+ghost use Rattle.h41_digits.specs.Register as digits;
+ghost use Rattle.h41_ram.specs.NamedRegisters.{size_of};
+ghost use Rattle.h41_rows.specs.Operands as spec;
+ghost use Rattle.h41_rows.specs.Profile.{is_operand_left_out, is_parameter_left_out};
+ghost use Rattle.h41_rows.specs.Wholes.{told};
+
+use crate::fault::LineFault;
+use h41_codes::{Operand, Parameter};
+use h41_decimal::Ten;
+use h41_digits::Reg;
+use h41_ram::Ram;
+
+/// The first whole number that is told from no greater one.
+const MOST_TOLD: u16 = 1000;
+
+/// The parameter that names the register T; those from there on name status registers, in the order of their addresses.
+const STACK_START: u16 = 112;
+
+/// Where data register `n` stands. There are at most 512.
+pub(crate) fn numbered_register<const REGS: usize>(
+    ram: &Ram<REGS>,
+    n: u16,
+) -> Result<u16, LineFault>
+    ensures value { result ≡ spec.data_register ram.now n }
+    ensures few { size_of ram.now ≤ 512 }
+{
+    if n < ram.size() {
+        Ok(ram.curtain() + n)
+    } else {
+        Err(LineFault::Nonexistent)
+    }
+}
+
+/// Where the register of a parameter stands.
+pub(crate) fn parameter_register<const REGS: usize>(
+    ram: &Ram<REGS>,
+    parameter: Parameter,
+) -> Result<u16, LineFault>
+    requires { is_parameter_left_out parameter ≡ false }
+    ensures { result ≡ spec.parameter_register ram.now parameter }
+{
+    let number = u16::from(parameter.number());
+    if number < 100 {
+        numbered_register(ram, number)
+    } else {
+        Ok(number - STACK_START)
+    }
+}
+
+/// The number that an operand is, or the whole number in the register that it names.
+pub(crate) fn operand_number<const REGS: usize>(
+    ram: &Ram<REGS>,
+    operand: &Operand,
+) -> Result<u16, LineFault>
+    requires { is_operand_left_out operand.now ≡ false }
+    ensures { result ≡ result_map_both told (λ fault. fault) (spec.number_of ram.now operand.now) }
+{
+    match operand {
+        Operand::Direct(parameter) => Ok(u16::from(parameter.number())),
+        Operand::Indirect(parameter) => number_at(ram, *parameter),
+    }
+}
+
+/// The whole number in the register of a parameter.
+fn number_at<const REGS: usize>(ram: &Ram<REGS>, parameter: Parameter) -> Result<u16, LineFault>
+    requires { is_parameter_left_out parameter ≡ false }
+    ensures { result ≡ result_map_both told (λ fault. fault) (spec.then_find (spec.parameter_register ram.now parameter) (spec.whole_at ram.now)) }
+{
+    let address = parameter_register(ram, parameter)?;
+    whole_in(ram.read(address))
+}
+
+/// The address of the register that an operand is, or of the data register whose number stands in the one that it names.
+pub(crate) fn operand_register<const REGS: usize>(
+    ram: &Ram<REGS>,
+    operand: &Operand,
+) -> Result<u16, LineFault>
+    requires { is_operand_left_out operand.now ≡ false }
+    ensures { result ≡ spec.address_of ram.now operand.now }
+{
+    match operand {
+        Operand::Direct(parameter) => parameter_register(ram, *parameter),
+        Operand::Indirect(parameter) => indirect_register(ram, *parameter),
+    }
+}
+
+/// The address of the data register whose number stands in the register of a parameter.
+fn indirect_register<const REGS: usize>(
+    ram: &Ram<REGS>,
+    parameter: Parameter,
+) -> Result<u16, LineFault>
+    requires { is_parameter_left_out parameter ≡ false }
+    ensures { result ≡ spec.then_find (spec.then_find (spec.parameter_register ram.now parameter) (spec.whole_at ram.now)) (spec.data_register ram.now) }
+{
+    let number = number_at(ram, parameter)?;
+    numbered_register(ram, number)
+}
+
+/// The whole number in a register.
+fn whole_in(register: Reg) -> Result<u16, LineFault>
+    ensures { result ≡ result_map_both told (λ fault. fault) (spec.whole_of (holding.worth (holding.holding_of register))) }
+{
+    match Ten::from_reg(register) {
+        Some(number) => Ok(whole(number)),
+        None => Err(LineFault::AlphaData),
+    }
+}
+
+/// The integer part of the size of a number.
+pub(crate) fn whole(number: Ten) -> u16
+    ensures { result ≡ told (unsigned_abs (units number) / one) }
+{
+    match number.ones() {
+        Some(ones) => told(ones),
+        None => MOST_TOLD,
+    }
+}
+
+/// A whole number as operands read it.
+fn told(ones: u64) -> u16
+    ensures { result ≡ told ones }
+{
+    if ones < 1000 { ones as u16 } else { MOST_TOLD }
+}
+
+/// The six bytes at the right of a register, the leftmost first.
+pub(crate) fn alpha_data(register: Reg) -> [u8; 6]
+    ensures { result ≡ map (digits.byte_at register) (5 ∷ 4 ∷ 3 ∷ 2 ∷ 1 ∷ 0 ∷ []) }
+{
+    [
+        register.byte(5),
+        register.byte(4),
+        register.byte(3),
+        register.byte(2),
+        register.byte(1),
+        register.byte(0),
+    ]
+}
+
+/// Bytes without the leading ones that are zero.
+pub(crate) fn after_nulls(bytes: &[u8]) -> &[u8]
+    ensures bytes { result.now ≡ holding.after_nulls bytes.now }
+    ensures most { length result.now ≤ length bytes.now }
+{
+    let mut shown = bytes;
+    while let [0, rest @ ..] = shown {
+        shown = rest;
+    }
+    shown
+}

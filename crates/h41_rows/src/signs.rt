@@ -1,0 +1,38 @@
+//! The signs of what is computed exactly of two numbers.
+
+ghost use Rattle.std.specs.Prelude.{◌≡◌, ◌+ℤ◌, ◌-ℤ◌, ◌*ℤ◌};
+ghost use Rattle.h41_decimal.specs.Signs.{sign_of};
+ghost use Rattle.h41_decimal.specs.Units.{units};
+
+use h41_decimal::{Sign, Ten};
+use std::cmp::Ordering;
+
+/// The sign of a sum; zero's is plus.
+pub fn sign_of_sum(first: Ten, second: Ten) -> Sign
+    ensures { result ≡ sign_of (units first +ℤ units second) }
+{
+    sign_of_difference(first, second.negated())
+}
+
+/// The sign of a difference; zero's is plus.
+pub fn sign_of_difference(first: Ten, second: Ten) -> Sign
+    ensures { result ≡ sign_of (units first -ℤ units second) }
+{
+    match first.cmp(second) {
+        Ordering::Less => Sign::Minus,
+        Ordering::Equal => Sign::Plus,
+        Ordering::Greater => Sign::Plus,
+    }
+}
+
+/// The sign of a product; zero's is plus.
+pub fn sign_of_product(first: Ten, second: Ten) -> Sign
+    ensures { result ≡ sign_of (units first *ℤ units second) }
+{
+    match (first, second) {
+        (Ten::Nonzero(first_sign, _), Ten::Nonzero(second_sign, _)) => {
+            first_sign.times(second_sign)
+        }
+        _ => Sign::Plus,
+    }
+}

@@ -1,0 +1,118 @@
+//! What stack, LAST X and registers take.
+
+ghost use Rattle.std.specs.Prelude.{ℕ, List, [], ◌∷◌};
+ghost use Rattle.h41_rows.specs.Computing.{BringsIn, Exchanges, Moved, Stores, Took, dropped, whole_stack};
+ghost use Rattle.h41_rows.specs.Places.{LastX, T, X, Y, Z};
+ghost use Rattle.h41_rows.specs.RowEffects.{takes_of};
+ghost use Rattle.h41_rows.specs.Rows.{coming_in, compute, copy};
+
+use h41_digits::Reg;
+use h41_ram::{Ram, StatusRegister};
+
+/// X takes a register; the stack is lifted first where lift is on.
+pub fn bring_in<const REGS: usize>(ram: &mut Ram<REGS>, register: Reg, lift: bool)
+    ensures { Took ram.old ram.new register (takes_of (coming_in (compute X)) lift) }
+{
+    if lift {
+        enter(ram);
+    }
+    ram.set_status_register(StatusRegister::X, register);
+}
+
+/// X takes the register at an address, as it was before the lift.
+pub fn bring_in_from<const REGS: usize>(ram: &mut Ram<REGS>, address: u16, lift: bool)
+    ensures { BringsIn ram.old ram.new address lift }
+{
+    let register = ram.read(address);
+    bring_in(ram, register, lift);
+}
+
+/// X takes a register, and LAST X what X held.
+pub fn keep_last<const REGS: usize>(ram: &mut Ram<REGS>, register: Reg)
+    ensures { Took ram.old ram.new register (compute X ∷ copy LastX X ∷ []) }
+{
+    let x = ram.status_register(StatusRegister::X);
+    ram.set_status_register(StatusRegister::X, register);
+    ram.set_status_register(StatusRegister::L, x);
+}
+
+/// X takes a register, LAST X what X held, and the stack drops: T stays.
+pub fn drop_into<const REGS: usize>(ram: &mut Ram<REGS>, register: Reg)
+    ensures { Took ram.old ram.new register dropped }
+{
+    let t = ram.status_register(StatusRegister::T);
+    let z = ram.status_register(StatusRegister::Z);
+    let x = ram.status_register(StatusRegister::X);
+    ram.set_status_register(StatusRegister::X, register);
+    ram.set_status_register(StatusRegister::Y, z);
+    ram.set_status_register(StatusRegister::Z, t);
+    ram.set_status_register(StatusRegister::L, x);
+}
+
+/// X and the register at an address change places.
+pub fn exchange<const REGS: usize>(ram: &mut Ram<REGS>, address: u16)
+    ensures { Exchanges ram.old ram.new address }
+{
+    let x = ram.status_register(StatusRegister::X);
+    let other = ram.read(address);
+    ram.set_status_register(StatusRegister::X, other);
+    ram.write(address, x);
+}
+
+/// The register at an address takes X.
+pub fn store_x<const REGS: usize>(ram: &mut Ram<REGS>, address: u16)
+    ensures { Stores ram.old ram.new address }
+{
+    let x = ram.status_register(StatusRegister::X);
+    ram.write(address, x);
+}
+
+/// X comes from T, and the others go up.
+pub fn roll_up<const REGS: usize>(ram: &mut Ram<REGS>)
+    ensures { Moved ram.old ram.new (copy X T ∷ copy Y X ∷ copy Z Y ∷ copy T Z ∷ []) }
+{
+    let t = ram.status_register(StatusRegister::T);
+    let z = ram.status_register(StatusRegister::Z);
+    let y = ram.status_register(StatusRegister::Y);
+    let x = ram.status_register(StatusRegister::X);
+    ram.set_status_register(StatusRegister::X, t);
+    ram.set_status_register(StatusRegister::Y, x);
+    ram.set_status_register(StatusRegister::Z, y);
+    ram.set_status_register(StatusRegister::T, z);
+}
+
+/// X goes to T, and the others come down.
+pub fn roll_down<const REGS: usize>(ram: &mut Ram<REGS>)
+    ensures { Moved ram.old ram.new (copy X Y ∷ copy Y Z ∷ copy Z T ∷ copy T X ∷ []) }
+{
+    let t = ram.status_register(StatusRegister::T);
+    let z = ram.status_register(StatusRegister::Z);
+    let y = ram.status_register(StatusRegister::Y);
+    let x = ram.status_register(StatusRegister::X);
+    ram.set_status_register(StatusRegister::X, y);
+    ram.set_status_register(StatusRegister::Y, z);
+    ram.set_status_register(StatusRegister::Z, t);
+    ram.set_status_register(StatusRegister::T, x);
+}
+
+/// The stack is lifted, and X stays.
+pub fn enter<const REGS: usize>(ram: &mut Ram<REGS>)
+    ensures { Moved ram.old ram.new (copy T Z ∷ copy Z Y ∷ copy Y X ∷ []) }
+{
+    let z = ram.status_register(StatusRegister::Z);
+    let y = ram.status_register(StatusRegister::Y);
+    let x = ram.status_register(StatusRegister::X);
+    ram.set_status_register(StatusRegister::T, z);
+    ram.set_status_register(StatusRegister::Z, y);
+    ram.set_status_register(StatusRegister::Y, x);
+}
+
+/// The whole stack takes a register.
+pub fn clear_stack<const REGS: usize>(ram: &mut Ram<REGS>, register: Reg)
+    ensures { Took ram.old ram.new register whole_stack }
+{
+    ram.set_status_register(StatusRegister::T, register);
+    ram.set_status_register(StatusRegister::Z, register);
+    ram.set_status_register(StatusRegister::Y, register);
+    ram.set_status_register(StatusRegister::X, register);
+}

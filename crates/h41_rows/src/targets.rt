@@ -1,0 +1,61 @@
+//! Where branches go by what registers hold.
+
+ghost use Rattle.std.specs.Prelude.{◌≡◌, ◌≤◌, length, None, Ok};
+ghost use Rattle.std.specs.Result.{result_map_both};
+ghost use Rattle.h41_decimal.specs.Holding.{holding_of, worth};
+ghost use Rattle.h41_rows.specs.Computing.{meant_by};
+ghost use Rattle.h41_rows.specs.Operands as spec;
+
+use crate::fault::LineFault;
+use crate::operands::BranchTarget;
+use crate::readings;
+use h41_codes::{Parameter, Text};
+use h41_decimal::Ten;
+use h41_digits::Reg;
+
+/// The digit in place 13 of a register that holds ALPHA data.
+const ALPHA_DATA: u8 = 1;
+
+/// Where a branch goes by what a register holds.
+pub(crate) fn target_in(register: Reg) -> Result<BranchTarget, LineFault>
+    ensures { result_map_both meant_by (λ fault. fault) result ≡ spec.target_of (holding_of register) }
+{
+    match Ten::from_reg(register) {
+        Some(number) => label(readings::whole(number)),
+        None => name_in(register),
+    }
+}
+
+/// The local label with a number, as operands read it.
+fn label(number: u16) -> Result<BranchTarget, LineFault>
+    ensures { result_map_both meant_by (λ fault. fault) result ≡ spec.label_of number }
+{
+    if number < 100 {
+        Ok(BranchTarget::Label(Parameter::new(number as u8)))
+    } else {
+        Err(LineFault::Nonexistent)
+    }
+}
+
+/// The name that a register holds, or that it holds none.
+fn name_in(register: Reg) -> Result<BranchTarget, LineFault>
+    requires { worth (holding_of register) ≡ None }
+    ensures { result_map_both meant_by (λ fault. fault) result ≡ spec.target_of (holding_of register) }
+{
+    if register.get(13) == ALPHA_DATA {
+        name(readings::after_nulls(&readings::alpha_data(register)))
+    } else {
+        Err(LineFault::AlphaData)
+    }
+}
+
+/// A name of these characters, six at most.
+fn name(characters: &[u8]) -> Result<BranchTarget, LineFault>
+    requires { length characters.now ≤ 6 }
+    ensures { result_map_both meant_by (λ fault. fault) result ≡ Ok (spec.Name characters.now) }
+{
+    match Text::new(characters) {
+        Some(name) => Ok(BranchTarget::Name(name)),
+        None => Err(LineFault::AlphaData),
+    }
+}

@@ -1,0 +1,157 @@
+//! The values that lines compute.
+
+ghost use Rattle.std.specs.Prelude.{pos};
+ghost use Rattle.h41_decimal.specs.Units.{units};
+ghost use Rattle.h41_rows.specs.Answers.{KeptOne, KeptTwo, WithoutNumber};
+ghost use Rattle.h41_rows.specs.Computing.{IsAlways, WorksOnOne, WorksOnTwo};
+ghost use Rattle.h41_rows.specs.FunctionRows as functions;
+ghost use Rattle.h41_rows.specs.Values.{Given};
+
+use crate::answers::{
+    answer_of_one, answer_of_two, number_at, out_of_range, register, sign_of_one, sign_of_two,
+};
+use crate::fault::LineFault;
+use h41_decimal::laws::decimal_is_its_nearest;
+use h41_decimal::{DecimalFault, Exponent, Mantissa, Sign, Size, Ten};
+use h41_digits::Reg;
+use h41_ram::Ram;
+
+/// A value of one number.
+#[derive(Clone, Copy, Debug, PartialEq, Eq)]
+pub enum OfOne {
+    /// Its square root.
+    Root,
+    /// 1 divided by it.
+    Inverse,
+    /// It with the other sign.
+    Negative,
+    /// It without its sign.
+    Size,
+    /// Its digits in front of the point.
+    IntegerPart,
+    /// Its digits behind the point.
+    Fraction,
+    /// It rounded as the display format says.
+    Displayed,
+    /// 1 with its sign; 0 where there is no number.
+    Unit,
+    /// A loop's counter, counted up.
+    CountedUp,
+    /// A loop's counter, counted down.
+    CountedDown,
+}
+
+/// A value of two numbers.
+#[derive(Clone, Copy, Debug, PartialEq, Eq)]
+pub enum OfTwo {
+    /// Their sum.
+    Sum,
+    /// The first without the second.
+    Difference,
+    /// Their product.
+    Product,
+    /// The first divided by the second.
+    Quotient,
+    /// The first modulo the second.
+    Remainder,
+    /// A hundredth of their product.
+    Percentage,
+}
+
+/// The register of a value of the number at an address. It is AlphaData where there is none, but for the unit; DataError for
+/// the inverse of zero and the root of a negative number; OutOfRange above exponent 99, unless flag 24 is set, which has the
+/// greatest number with the sign instead.
+pub fn compute_of_one<const REGS: usize>(
+    ram: &Ram<REGS>,
+    value: OfOne,
+    address: u16,
+) -> Result<Reg, LineFault>
+    ensures { WorksOnOne value ram.now address result }
+{
+    match number_at(ram, address) {
+        Ok(number) => kept_of_one(ram, value, number),
+        Err(fault) => without_number(value, fault),
+    }
+}
+
+/// The register of a value of the numbers at two addresses. It is AlphaData where one holds none; DataError for a quotient by
+/// zero; OutOfRange above exponent 99, unless flag 24 is set, which has the greatest number with the sign instead.
+pub fn compute_of_two<const REGS: usize>(
+    ram: &Ram<REGS>,
+    value: OfTwo,
+    first: u16,
+    second: u16,
+) -> Result<Reg, LineFault>
+    ensures { WorksOnTwo value ram.now first second result }
+{
+    let x = number_at(ram, first)?;
+    let y = number_at(ram, second)?;
+    kept_of_two(ram, value, x, y)
+}
+
+/// The register of 3.141592654.
+pub fn pi() -> Reg
+    ensures { IsAlways (Given (pos functions.pi)) result }
+{
+    let mantissa = Mantissa {
+        digits: 3_141_592_654,
+    };
+    let exponent = Exponent { biased: 99 };
+    always(Ten::Nonzero(Sign::Plus, Size { mantissa, exponent }))
+}
+
+/// The register of zero.
+pub fn zero() -> Reg
+    ensures { IsAlways (Given (pos 0)) result }
+{
+    always(Ten::Zero)
+}
+
+/// The register of a value of one number.
+fn kept_of_one<const REGS: usize>(
+    ram: &Ram<REGS>,
+    value: OfOne,
+    number: Ten,
+) -> Result<Reg, LineFault>
+    ensures { KeptOne value ram.now number result }
+{
+    match answer_of_one(ram, value, number) {
+        Ok(answer) => Ok(register(answer)),
+        Err(DecimalFault::Data) => Err(LineFault::DataError),
+        Err(DecimalFault::Range) => out_of_range(ram, sign_of_one(value, number)),
+    }
+}
+
+/// What is computed of a register with no number: a fault, but for the unit, which is zero.
+fn without_number(value: OfOne, fault: LineFault) -> Result<Reg, LineFault>
+    ensures { WithoutNumber value fault result }
+{
+    match value {
+        OfOne::Unit => Ok(zero()),
+        _ => Err(fault),
+    }
+}
+
+/// The register of a value of two numbers.
+fn kept_of_two<const REGS: usize>(
+    ram: &Ram<REGS>,
+    value: OfTwo,
+    first: Ten,
+    second: Ten,
+) -> Result<Reg, LineFault>
+    ensures { KeptTwo value ram.now first second result }
+{
+    match answer_of_two(value, first, second) {
+        Ok(answer) => Ok(register(answer)),
+        Err(DecimalFault::Data) => Err(LineFault::DataError),
+        Err(DecimalFault::Range) => out_of_range(ram, sign_of_two(value, first, second)),
+    }
+}
+
+/// The register of a number that is given.
+fn always(number: Ten) -> Reg
+    ensures { IsAlways (Given (units number)) result }
+{
+    decimal_is_its_nearest();
+    register(number)
+}

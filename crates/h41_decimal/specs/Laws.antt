@@ -1,8 +1,11 @@
 -- What follows from the definitions alone.
-use Rattle.std.specs.Prelude.{◌≡◌, ℕ, Ok, Result, ℤ}
+use Rattle.std.specs.Prelude.{◌≡◌, ℕ, List, Ok, Result, ℤ}
+use Rattle.h41_digits.specs.Register.{IsRegister}
+use Rattle.h41_decimal.specs.Holding.{Number, holding_of}
 use Rattle.h41_decimal.specs.Units.{units}
 use Rattle.h41_decimal.specs.NearestDecimal.{Nearest, NearestRoot}
 use Rattle.h41_decimal.specs.NumberEntry.{IsTyped}
+use Rattle.h41_decimal.specs.Operations.{NearestModulo, NearestQuotient, RoundsTo}
 use Rattle.h41_decimal.specs.WholeParts.{HasOnes, IsIntegerPart, IsFraction}
 use Rattle.h41_decimal.specs.declared.fault.DecimalFault.{DecimalFault}
 use Rattle.h41_decimal.specs.declared.parts.Exponent.{Exponent}
@@ -22,6 +25,23 @@ NearestIsDetermined =
 abbrev pub NearestRootIsDetermined : Type 0
 NearestRootIsDetermined =
     (number : ℤ) (x y : Result Ten DecimalFault) → NearestRoot number x → NearestRoot number y → x ≡ y
+
+-- so are the answers for a quotient, for what a division leaves, and for a number that is rounded to steps
+abbrev pub QuotientIsDetermined : Type 0
+QuotientIsDetermined = (x y : ℤ) (a b : Result Ten DecimalFault) → NearestQuotient x y a → NearestQuotient x y b → a ≡ b
+
+abbrev pub ModuloIsDetermined : Type 0
+ModuloIsDetermined = (y x : Ten) (a b : Result Ten DecimalFault) → NearestModulo y x a → NearestModulo y x b → a ≡ b
+
+abbrev pub StepsAreDetermined : Type 0
+StepsAreDetermined =
+    (step : ℕ) (number : ℤ) (a b : Result Ten DecimalFault) → RoundsTo step number a → RoundsTo step number b → a ≡ b
+
+-- a number has one register
+abbrev pub RegisterIsDetermined : Type 0
+RegisterIsDetermined =
+    (number : ℤ) (a b : List ℕ) → IsRegister 14 a → IsRegister 14 b → holding_of a ≡ Number number
+    → holding_of b ≡ Number number → a ≡ b
 
 -- a value that is a decimal already is answered as it is
 abbrev pub DecimalIsItsNearest : Type 0

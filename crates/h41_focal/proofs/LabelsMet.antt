@@ -3,7 +3,9 @@ use Rattle.std.proofs.Common.{◌≡◌, ℕ, List, [], ◌∷◌, Some, None, O
 use Rattle.h41_codes.specs.declared.functions.Branch.{Branch}
 use Rattle.h41_codes.specs.declared.functions.Branch.TheVariants.{GoTo, Execute}
 use Rattle.h41_focal.specs.Arrivals.{GoesBackFrom, answer_at, focal_at, from_of, halted_at}
-use Rattle.h41_focal.specs.Carrying.{KnowsNext, Leaves, answer_of, how_of, left_of, machine_of}
+use Rattle.h41_focal.specs.Carrying.{KnowsNext, Leaves, how_of}
+use Rattle.h41_focal.specs.LineCalls.{left_of, machine_of}
+use Rattle.h41_focal.specs.Outcomes.{answer_of}
 use Rattle.h41_focal.specs.Courses.{GoesBack}
 use Rattle.h41_focal.specs.Courses as courses
 use Rattle.h41_rows.specs.LineRows as lines

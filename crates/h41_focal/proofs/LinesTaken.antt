@@ -6,8 +6,9 @@ use Rattle.h41_codes.specs.declared.functions.RegisterFunction.{RegisterFunction
 use Rattle.h41_codes.specs.declared.line.Line.{Line}
 use Rattle.h41_codes.specs.declared.line.Line.TheVariants as lines
 use Rattle.h41_codes.specs.declared.line.Operand.{Operand}
-use Rattle.h41_focal.specs.Carrying.{CarriesFound, CarriesRow, Stands, TakesAs, UsesDigits, UsesFlag, UsesRegister, carried_as, machine_of}
-use Rattle.h41_focal.specs.LineStep.{FocalState, Left, StepsAs, StepsLine, line_as}
+use Rattle.h41_focal.specs.Carrying.{CarriesFound, CarriesRow, FailsAs, Stands, TakesAs, UsesDigits, UsesFlag, UsesRegister}
+use Rattle.h41_focal.specs.LineCalls.{carried_as, left_of, machine_of}
+use Rattle.h41_focal.specs.LineStep.{FailsLine, FailsWith, FocalState, Left, StepsAs, StepsLine, line_as}
 use Rattle.h41_focal.specs.Works.{digits_use_row, flag_use_row, highest_of, register_use_row, row_of_work}
 use Rattle.h41_focal.specs.declared.origin.Origin.{Origin}
 use Rattle.h41_focal.specs.declared.origin.Origin.TheVariants.{Program}
@@ -135,3 +136,28 @@ pub step_refused :
     → Stands memory focal.position (Err refusal)
     → StepsLine function (machine_of memory focal) (Err refusal)
 step_refused function memory focal refusal stands = refused_by (is_sound memory) function memory focal refusal (Err refusal) refl stands
+
+-- or fails
+pub line_fails :
+    (fault : LineFault) (memory new : RegisterMap) (focal after : FocalState) (line : Line) (next : ℕ) (outcome : LineOutcome)
+    → Stands memory focal.position (Ok (line, next))
+    → FailsAs (Program next) fault memory focal new after outcome
+    → FailsLine fault (machine_of memory focal) (carried_as new after (Ok outcome))
+line_fails fault memory new focal after line next outcome (sound, (first, answers, is), knows) fails =
+    rw sound (Ok first, answers, (left_of new after outcome, fails, refl))
+
+fail_refused_by :
+    (sound : Bool) (fault : LineFault) (memory : RegisterMap) (focal : FocalState) (refusal : FocalRefusal) (carried : Result Left FocalRefusal)
+    → carried ≡ Err refusal
+    → MatchBool sound ((refusal ≡ BrokenProgram) × AnswersFirst memory focal.position (Err program.BrokenProgram)) (refusal ≡ MemoryLost)
+    → MatchBool sound
+    ((first : Result ListedLine refusals.ProgramRefusal) × AnswersFirst memory focal.position first × FailsWith fault (machine_of memory focal) first carried)
+    (carried ≡ Err MemoryLost)
+fail_refused_by true fault memory focal refusal carried refused (is, none) = (Err program.BrokenProgram, none, rw (refused, is) refl)
+fail_refused_by false fault memory focal refusal carried refused is = rw (refused, is) refl
+
+pub fail_refused :
+    (fault : LineFault) (memory : RegisterMap) (focal : FocalState) (refusal : FocalRefusal)
+    → Stands memory focal.position (Err refusal)
+    → FailsLine fault (machine_of memory focal) (Err refusal)
+fail_refused fault memory focal refusal stands = fail_refused_by (is_sound memory) fault memory focal refusal (Err refusal) refl stands

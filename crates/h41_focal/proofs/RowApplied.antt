@@ -1,6 +1,8 @@
 -- A row whose line goes on to the next one is applied: by what it computes, what it makes of memory, and where the line then is.
 use Rattle.std.proofs.Common.{◌≡◌, ℕ, List, Ok, Err, refl}
-use Rattle.h41_focal.specs.Carrying.{KnowsNext, Leaves, advanced, answer_of, how_of, left_of, machine_of}
+use Rattle.h41_focal.specs.Carrying.{KnowsNext, Leaves, advanced, how_of}
+use Rattle.h41_focal.specs.LineCalls.{left_of, machine_of}
+use Rattle.h41_focal.specs.Outcomes.{answer_of}
 use Rattle.h41_focal.specs.Courses as courses
 use Rattle.h41_focal.specs.LineStep.{Fails, FocalState, Works, answered}
 use Rattle.h41_rows.specs.RowEffects.{memory_after}

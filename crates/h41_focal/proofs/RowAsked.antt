@@ -1,7 +1,8 @@
 -- A row whose line asks is applied: by what it computes, what it makes of memory, whether its condition holds, and where the line then is.
 use Rattle.std.proofs.Common.{◌≡◌, ℕ, Bool, true, false, ◌&&◌, is_some, MatchBool, List, Ok, Err, Result, refl, ap, sym, subst, ◌∙◌, inl, inr}
 use Rattle.h41_decimal.specs.Holding.{number_in}
-use Rattle.h41_focal.specs.Carrying.{CarriesRow, KnowsNext, Leads, advanced, answer_of, told}
+use Rattle.h41_focal.specs.Carrying.{CarriesRow, KnowsNext, Leads, advanced, told}
+use Rattle.h41_focal.specs.Outcomes.{answer_of}
 use Rattle.h41_rows.specs.Computing.{WorksOn}
 use Rattle.h41_rows.specs.Computing as computing
 use Rattle.h41_rows.specs.Counters.{Way}

@@ -2,7 +2,8 @@
 use Rattle.std.proofs.Common.{arith, ◌≡◌, ◌≢◌, ℕ, ◌≤◌, false, nat_eq, List, [], ◌∷◌, length, drop, slice_index, Some, Result, Ok, refl}
 use Rattle.std.proofs.lemmas.Bool.Decides.{nat_tests}
 use Rattle.h41_focal.proofs.RowApplied.{row_applied}
-use Rattle.h41_focal.specs.Carrying.{KnowsNext, Leaves, advanced, answer_of}
+use Rattle.h41_focal.specs.Carrying.{KnowsNext, Leaves, advanced}
+use Rattle.h41_focal.specs.Outcomes.{answer_of}
 use Rattle.h41_rows.specs.Computing.{WorksOn, value_of_two}
 use Rattle.h41_rows.specs.LineRows.{text_row}
 use Rattle.h41_focal.specs.LineStep.{FocalState, Works, answered}

@@ -1,14 +1,15 @@
 -- What private functions promise one another.
-use Rattle.std.specs.Prelude.{◌≡◌, ℕ, Bool, false, IsTrue, List, MatchBool, OnErr, Result, Ok, Err, ⊤}
+use Rattle.std.specs.Prelude.{◌≡◌, ℕ, Bool, false, IsTrue, List, MatchBool, Result, Ok, Err, ⊤}
 use Rattle.h41_codes.specs.declared.functions.Branch.{Branch}
 use Rattle.h41_codes.specs.declared.line.Line.{Line}
 use Rattle.h41_codes.specs.declared.line.Operand.{Operand}
 use Rattle.h41_rows.specs.Results.{result_map}
 use Rattle.h41_focal.specs.Courses.{How}
 use Rattle.h41_focal.specs.Courses as courses
-use Rattle.h41_focal.specs.LineStep.{Applies, Fails, FailsIn, FocalState, Left, Machine, TakesLine}
+use Rattle.h41_focal.specs.LineCalls.{carried_as, left_of, machine_of}
+use Rattle.h41_focal.specs.LineStep.{Applies, Fails, FailsIn, FocalState, TakesLine}
 use Rattle.h41_rows.specs.Operands.{Address, Count, DigitKind, FlagKind, NoOperand, RegisterKind, meant_as}
-use Rattle.h41_focal.specs.Outcomes.{Answer}
+use Rattle.h41_focal.specs.Outcomes.{Answer, answer_of}
 use Rattle.h41_focal.specs.Outcomes as answers
 use Rattle.h41_rows.specs.RowEffects.{lift_after}
 use Rattle.h41_rows.specs.Rows.{Lift, Row}
@@ -19,7 +20,6 @@ use Rattle.h41_rows.specs.declared.fault.LineFault.{LineFault}
 use Rattle.h41_focal.specs.declared.origin.Origin.{Origin}
 use Rattle.h41_focal.specs.declared.origin.Origin.TheVariants.{Program, Typed}
 use Rattle.h41_focal.specs.declared.outcome.LineOutcome.{LineOutcome}
-use Rattle.h41_focal.specs.declared.outcome.LineOutcome.TheVariants as outcomes
 use Rattle.h41_focal.specs.declared.refusal.FocalRefusal.{FocalRefusal}
 use Rattle.h41_focal.specs.declared.refusal.FocalRefusal.TheVariants.{BrokenProgram, MemoryLost}
 use Rattle.h41_focal.specs.declared.uses.DigitsUse.{DigitsUse}
@@ -39,31 +39,6 @@ abbrev pub KnowsNext : Origin → RegisterMap → ℕ → Type 0
 KnowsNext (Program next) memory at = AnswersNext memory at (Ok next)
 KnowsNext Typed memory at = ⊤
 
--- an outcome, as a clause sees it
-abbrev pub answer_of : LineOutcome → Answer
-answer_of outcomes.Done = answers.Done
-answer_of outcomes.Stopped = answers.Stopped
-answer_of outcomes.TurnedOff = answers.TurnedOff
-answer_of (outcomes.Viewed text) = answers.Viewed text.bytes
-answer_of (outcomes.Prompted text) = answers.Prompted text.bytes
-answer_of outcomes.Cleared = answers.Cleared
-answer_of (outcomes.Answered holds) = answers.Answered holds
-answer_of outcomes.Runs = answers.Runs
-answer_of (outcomes.Calls number entry) = answers.Calls number entry
-answer_of (outcomes.Seeks name) = answers.Seeks name
-answer_of (outcomes.Failed fault) = answers.Failed fault
-
--- what a call leaves, and its answer
-abbrev pub machine_of : RegisterMap → FocalState → Machine
-machine_of memory focal = record { memory = memory; focal = focal }
-
-abbrev pub left_of : RegisterMap → FocalState → LineOutcome → Left
-left_of memory focal outcome = record { machine = machine_of memory focal; answer = answer_of outcome }
-
-abbrev pub carried_as : RegisterMap → FocalState → Result LineOutcome FocalRefusal → Result Left FocalRefusal
-carried_as memory focal (Ok outcome) = Ok (left_of memory focal outcome)
-carried_as memory focal (Err refusal) = Err refusal
-
 -- on to the next line; a typed line stays
 abbrev pub advanced : Origin → Lift → FocalState → FocalState
 advanced (Program next) lift focal = record focal { position = next; at_line_00 = false; lift = lift_after lift focal.lift }
@@ -74,13 +49,10 @@ abbrev pub Leaves : Origin → Row → ℕ → (memory : RegisterMap) → (focal
 Leaves origin row named memory focal new after outcome =
     Applies (how_of origin) row named (machine_of memory focal) (Ok (left_of new after outcome))
 
--- a row was applied to a machine, or the line refused, which changes nothing
+-- a row was applied to a machine, or the line refused
 abbrev pub CarriesRow : Origin → Row → ℕ → (memory : RegisterMap) → (focal : FocalState) → (new : RegisterMap) → (after : FocalState) → Result LineOutcome FocalRefusal → Type 0
 CarriesRow origin row named memory focal new after result =
     Applies (how_of origin) row named (machine_of memory focal) (carried_as new after result)
-
-abbrev pub KeepsAll : (memory : RegisterMap) → (focal : FocalState) → (new : RegisterMap) → (after : FocalState) → Result LineOutcome FocalRefusal → Type 0
-KeepsAll memory focal new after result = OnErr result ((new ≡ memory) × (after ≡ focal))
 
 -- where a line that asks goes on: the next line where the answer is yes, else the one behind it; a typed line stays
 abbrev pub Leads : Origin → RegisterMap → Bool → Result Origin FocalRefusal → Type 0

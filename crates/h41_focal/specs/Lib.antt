@@ -1,6 +1,8 @@
 pub mod Arrivals
 pub mod Carrying
 pub mod Courses
+pub mod LineCalls
+pub mod LineLaws
 pub mod LineStep
 pub mod Outcomes
 pub mod StackMoves

@@ -189,6 +189,17 @@ StepsLine function machine carried =
     ((first : Result ListedLine program.ProgramRefusal) × AnswersFirst machine.memory machine.focal.position first × StepsAs function machine first carried)
     (carried ≡ Err MemoryLost)
 
+-- the line at the position fails, as where what it calls is nowhere: 15 and 14 as above
+abbrev pub FailsWith : LineFault → Machine → Result ListedLine program.ProgramRefusal → Result Left FocalRefusal → Type 0
+FailsWith fault machine (Ok first) carried = FailsIn Stepped machine fault carried
+FailsWith fault machine (Err refusal) carried = carried ≡ Err BrokenProgram
+
+abbrev pub FailsLine : LineFault → Machine → Result Left FocalRefusal → Type 0
+FailsLine fault machine carried =
+    MatchBool (is_sound machine.memory)
+    ((first : Result ListedLine program.ProgramRefusal) × AnswersFirst machine.memory machine.focal.position first × FailsWith fault machine first carried)
+    (carried ≡ Err MemoryLost)
+
 -- a function of a module is called from a line: the position is past the line, but where the line was typed. XROM turns lift on, XEQ
 -- of a name leaves it (this project's choice).
 abbrev pub with_lift : rows.Lift → Machine → Machine

@@ -1,5 +1,7 @@
 -- What a line leaves for the calculator to do, as a clause sees it: texts are their bytes.
 use Rattle.std.specs.Prelude.{ℕ, Bool, List}
+use Rattle.h41_focal.specs.declared.outcome.LineOutcome.{LineOutcome}
+use Rattle.h41_focal.specs.declared.outcome.LineOutcome.TheVariants as outcomes
 use Rattle.h41_rows.specs.declared.fault.LineFault.{LineFault}
 
 pub data Answer : Type 0 where
@@ -25,3 +27,17 @@ pub data Answer : Type 0 where
   Seeks : List ℕ → Answer
   -- the line was not done: the display shows why, and the program stops
   Failed : LineFault → Answer
+
+-- an outcome, as a clause sees it
+abbrev pub answer_of : LineOutcome → Answer
+answer_of outcomes.Done = Done
+answer_of outcomes.Stopped = Stopped
+answer_of outcomes.TurnedOff = TurnedOff
+answer_of (outcomes.Viewed text) = Viewed text.bytes
+answer_of (outcomes.Prompted text) = Prompted text.bytes
+answer_of outcomes.Cleared = Cleared
+answer_of (outcomes.Answered holds) = Answered holds
+answer_of outcomes.Runs = Runs
+answer_of (outcomes.Calls number entry) = Calls number entry
+answer_of (outcomes.Seeks name) = Seeks name
+answer_of (outcomes.Failed fault) = Failed fault

@@ -1,7 +1,8 @@
 //! Lines of a flag: it is set or cleared, or asked.
 
 ghost use Rattle.std.specs.Prelude.{◌≡◌, ℕ, ◌<◌, IsTrue};
-ghost use Rattle.h41_focal.specs.Carrying.{CarriesFlag, KeepsAll, KnowsNext, LeavesFlag};
+ghost use Rattle.h41_focal.specs.Carrying.{CarriesFlag, KnowsNext, LeavesFlag};
+ghost use Rattle.h41_focal.specs.LineCalls.{KeepsAll};
 ghost use Rattle.h41_rows.specs.RowEffects.{agrees};
 ghost use Rattle.h41_focal.specs.declared.uses.FlagUse.TheVariants.{Ask, AskAndClear, Change};
 ghost use Rattle.h41_ram.specs.RegisterMap.{flag_of, is_sound};

@@ -2,7 +2,8 @@
 
 ghost use Rattle.std.specs.Prelude.{◌≡◌, ℕ, IsTrue};
 ghost use Rattle.h41_focal.specs.Arrivals.{ReturnsFrom, answer_at, focal_at, from_of, halted_at};
-ghost use Rattle.h41_focal.specs.Carrying.{DoesWork, KnowsNext, GoesToLabel, GoesToName, answer_of};
+ghost use Rattle.h41_focal.specs.Carrying.{DoesWork, KnowsNext, GoesToLabel, GoesToName};
+ghost use Rattle.h41_focal.specs.Outcomes.{answer_of};
 ghost use Rattle.h41_focal.specs.Courses.{pushed};
 ghost use Rattle.h41_rows.specs.LineRows as rows;
 ghost use Rattle.h41_focal.specs.Works.{row_of_work};

@@ -1,8 +1,8 @@
 //! Lines are carried out: the one at the position, a function in its place, or a typed one.
 
 ghost use Rattle.std.specs.Prelude.{◌≡◌, ℕ, None, Some, IsTrue};
-ghost use Rattle.h41_focal.specs.Carrying.{KeepsAll, KnowsNext, LeavesRow, Stands, TakesAs, carried_as, machine_of};
-ghost use Rattle.h41_focal.specs.LineStep.{StepsLine, TypesLine};
+ghost use Rattle.h41_focal.specs.Carrying.{KnowsNext, LeavesRow, Stands, TakesAs};
+ghost use Rattle.h41_focal.specs.LineCalls.{FailsHere, KeepsAll, Steps, Types};
 ghost use Rattle.h41_codes.specs.declared.line.Line.TheVariants as lines;
 ghost use Rattle.h41_program.specs.ProgramLines as program_lines;
 ghost use Rattle.h41_program.specs.ProgramLines.{PositionBehind};
@@ -26,7 +26,7 @@ use h41_codes::{
 };
 use h41_program::{Found, ListedLine, first_from, is_final_end};
 use h41_ram::Ram;
-use h41_rows::{BranchTarget, branch_target, data_address};
+use h41_rows::{BranchTarget, LineFault, branch_target, data_address};
 
 /// The line at the position is carried out: 15 where memory is not sound, 14 where no line stands there, 13 where it is left out,
 /// in this order. Nothing is changed then.
@@ -34,7 +34,7 @@ pub fn step_line<const REGS: usize>(
     ram: &mut Ram<REGS>,
     focal: &mut Focal,
 ) -> Result<LineOutcome, FocalRefusal>
-    ensures line { StepsLine None (machine_of ram.old focal.old) (carried_as ram.new focal.new result) }
+    ensures line { Steps None ram.old focal.old ram.new focal.new result }
     ensures unchanged { KeepsAll ram.old focal.old ram.new focal.new result }
 {
     let (line, next) = standing(ram, focal)?;
@@ -47,11 +47,25 @@ pub fn step_as<const REGS: usize>(
     focal: &mut Focal,
     function: Function,
 ) -> Result<LineOutcome, FocalRefusal>
-    ensures line { StepsLine (Some function) (machine_of ram.old focal.old) (carried_as ram.new focal.new result) }
+    ensures line { Steps (Some function) ram.old focal.old ram.new focal.new result }
     ensures unchanged { KeepsAll ram.old focal.old ram.new focal.new result }
 {
     let (_, next) = standing(ram, focal)?;
     carry_out(ram, focal, Origin::Program(next), &Line::Plain(function))
+}
+
+/// The line at the position fails, as where what it calls is nowhere: its fault is answered, or flag 25 has the program go on.
+/// 15 and 14 as in `step_line`.
+pub fn fail_line<const REGS: usize>(
+    ram: &mut Ram<REGS>,
+    focal: &mut Focal,
+    fault: LineFault,
+) -> Result<LineOutcome, FocalRefusal>
+    ensures line { FailsHere fault ram.old focal.old ram.new focal.new result }
+    ensures unchanged { KeepsAll ram.old focal.old ram.new focal.new result }
+{
+    let (_, next) = standing(ram, focal)?;
+    Ok(fail(ram, focal, Origin::Program(next), fault))
 }
 
 /// A typed line is carried out: 15 where memory is not sound, 13 where the line is left out.
@@ -60,7 +74,7 @@ pub fn key_line<const REGS: usize>(
     focal: &mut Focal,
     line: &Line,
 ) -> Result<LineOutcome, FocalRefusal>
-    ensures line { TypesLine line.now (machine_of ram.old focal.old) (carried_as ram.new focal.new result) }
+    ensures line { Types line.now ram.old focal.old ram.new focal.new result }
     ensures unchanged { KeepsAll ram.old focal.old ram.new focal.new result }
 {
     if !ram.is_sound() {

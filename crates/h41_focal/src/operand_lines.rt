@@ -1,7 +1,8 @@
 //! Functions with an operand.
 
 ghost use Rattle.std.specs.Prelude.{◌≡◌, false, IsTrue};
-ghost use Rattle.h41_focal.specs.Carrying.{KeepsAll, KnowsNext, TakesAs, UsesDigits, UsesFlag, UsesRegister};
+ghost use Rattle.h41_focal.specs.Carrying.{KnowsNext, TakesAs, UsesDigits, UsesFlag, UsesRegister};
+ghost use Rattle.h41_focal.specs.LineCalls.{KeepsAll};
 ghost use Rattle.h41_rows.specs.Profile.{is_operand_left_out, is_parameter_left_out, is_use_left_out};
 ghost use Rattle.h41_codes.specs.declared.line.Line.TheVariants as lines;
 ghost use Rattle.h41_ram.specs.RegisterMap.{is_sound};

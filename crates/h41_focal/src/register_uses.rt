@@ -1,7 +1,8 @@
 //! What is done with a register.
 
 ghost use Rattle.std.specs.Prelude.{IsTrue};
-ghost use Rattle.h41_focal.specs.Carrying.{DoesUse, KeepsAll, KnowsNext};
+ghost use Rattle.h41_focal.specs.Carrying.{DoesUse, KnowsNext};
+ghost use Rattle.h41_focal.specs.LineCalls.{KeepsAll};
 ghost use Rattle.h41_focal.specs.Works.{register_use_row};
 ghost use Rattle.h41_ram.specs.RegisterMap.{is_sound};
 

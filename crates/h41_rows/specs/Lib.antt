@@ -12,6 +12,7 @@ pub mod Places
 pub mod Profile
 pub mod Results
 pub mod RowEffects
+pub mod RowLaws
 pub mod Rows
 pub mod Values
 pub mod Wholes

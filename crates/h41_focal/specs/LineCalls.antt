@@ -1,0 +1,41 @@
+-- How the clauses of the calls see what lines work on and what they leave: memory, what else lines work on, and an answer.
+use Rattle.std.specs.Prelude.{◌≡◌, Option, OnErr, Result, Ok, Err}
+use Rattle.h41_codes.specs.declared.functions.Function.{Function}
+use Rattle.h41_codes.specs.declared.line.Line.{Line}
+use Rattle.h41_focal.specs.LineStep.{FailsLine, FocalState, Left, Machine, StepsLine, TypesLine}
+use Rattle.h41_focal.specs.Outcomes.{answer_of}
+use Rattle.h41_focal.specs.declared.outcome.LineOutcome.{LineOutcome}
+use Rattle.h41_focal.specs.declared.refusal.FocalRefusal.{FocalRefusal}
+use Rattle.h41_ram.specs.RegisterMap.{RegisterMap}
+use Rattle.h41_rows.specs.declared.fault.LineFault.{LineFault}
+
+-- what a call leaves, and its answer
+abbrev pub machine_of : RegisterMap → FocalState → Machine
+machine_of memory focal = record { memory = memory; focal = focal }
+
+abbrev pub left_of : RegisterMap → FocalState → LineOutcome → Left
+left_of memory focal outcome = record { machine = machine_of memory focal; answer = answer_of outcome }
+
+abbrev pub carried_as : RegisterMap → FocalState → Result LineOutcome FocalRefusal → Result Left FocalRefusal
+carried_as memory focal (Ok outcome) = Ok (left_of memory focal outcome)
+carried_as memory focal (Err refusal) = Err refusal
+
+-- what a call takes, then what it leaves, and its answer
+abbrev pub Call : Type 1
+Call = (memory : RegisterMap) → (focal : FocalState) → (new : RegisterMap) → (after : FocalState) → Result LineOutcome FocalRefusal → Type 0
+
+-- the line at the position is carried out, or a function in its place
+abbrev pub Steps : Option Function → Call
+Steps function memory focal new after result = StepsLine function (machine_of memory focal) (carried_as new after result)
+
+-- the line at the position fails
+abbrev pub FailsHere : LineFault → Call
+FailsHere fault memory focal new after result = FailsLine fault (machine_of memory focal) (carried_as new after result)
+
+-- a line is typed
+abbrev pub Types : Line → Call
+Types line memory focal new after result = TypesLine line (machine_of memory focal) (carried_as new after result)
+
+-- what is refused changes nothing
+abbrev pub KeepsAll : Call
+KeepsAll memory focal new after result = OnErr result ((new ≡ memory) × (after ≡ focal))

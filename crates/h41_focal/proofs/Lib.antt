@@ -1,3 +1,4 @@
+mod Elsewhere
 mod LabelsMet
 mod LinesTaken
 mod RowApplied

@@ -1,9 +1,9 @@
 -- How the clauses of the calls see what lines work on and what they leave: memory, what else lines work on, and an answer.
-use Rattle.std.specs.Prelude.{◌≡◌, Option, OnErr, Result, Ok, Err}
+use Rattle.std.specs.Prelude.{◌≡◌, IfOk, IsTrue, OnErr, Option, Result, Ok, Err}
 use Rattle.h41_codes.specs.declared.functions.Function.{Function}
 use Rattle.h41_codes.specs.declared.line.Line.{Line}
 use Rattle.h41_focal.specs.LineStep.{FailsLine, FocalState, Left, Machine, StepsLine, TypesLine}
-use Rattle.h41_focal.specs.Outcomes.{answer_of}
+use Rattle.h41_focal.specs.Outcomes.{answer_of, is_elsewhere}
 use Rattle.h41_focal.specs.declared.outcome.LineOutcome.{LineOutcome}
 use Rattle.h41_focal.specs.declared.refusal.FocalRefusal.{FocalRefusal}
 use Rattle.h41_ram.specs.RegisterMap.{RegisterMap}
@@ -39,3 +39,8 @@ Types line memory focal new after result = TypesLine line (machine_of memory foc
 -- what is refused changes nothing
 abbrev pub KeepsAll : Call
 KeepsAll memory focal new after result = OnErr result ((new ≡ memory) × (after ≡ focal))
+
+-- and so does what has to be looked up
+abbrev pub KeepsElsewhere : Call
+KeepsElsewhere memory focal new after result =
+    IfOk result (λ outcome. IsTrue (is_elsewhere (answer_of outcome)) → (new ≡ memory) × (after ≡ focal))

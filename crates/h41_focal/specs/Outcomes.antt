@@ -1,5 +1,5 @@
 -- What a line leaves for the calculator to do, as a clause sees it: texts are their bytes.
-use Rattle.std.specs.Prelude.{ℕ, Bool, List}
+use Rattle.std.specs.Prelude.{ℕ, Bool, true, false, List}
 use Rattle.h41_focal.specs.declared.outcome.LineOutcome.{LineOutcome}
 use Rattle.h41_focal.specs.declared.outcome.LineOutcome.TheVariants as outcomes
 use Rattle.h41_rows.specs.declared.fault.LineFault.{LineFault}
@@ -27,6 +27,12 @@ pub data Answer : Type 0 where
   Seeks : List ℕ → Answer
   -- the line was not done: the display shows why, and the program stops
   Failed : LineFault → Answer
+
+-- what the calculator has to look up: a function of a module, or a name
+abbrev pub is_elsewhere : Answer → Bool
+is_elsewhere (Calls number entry) = true
+is_elsewhere (Seeks name) = true
+is_elsewhere answer = false
 
 -- an outcome, as a clause sees it
 abbrev pub answer_of : LineOutcome → Answer

@@ -2,7 +2,7 @@
 
 ghost use Rattle.std.specs.Prelude.{◌≡◌, ℕ, None, Some, IsTrue};
 ghost use Rattle.h41_focal.specs.Carrying.{KnowsNext, LeavesRow, Stands, TakesAs};
-ghost use Rattle.h41_focal.specs.LineCalls.{FailsHere, KeepsAll, Steps, Types};
+ghost use Rattle.h41_focal.specs.LineCalls.{FailsHere, KeepsAll, KeepsElsewhere, Steps, Types};
 ghost use Rattle.h41_codes.specs.declared.line.Line.TheVariants as lines;
 ghost use Rattle.h41_program.specs.ProgramLines as program_lines;
 ghost use Rattle.h41_program.specs.ProgramLines.{PositionBehind};
@@ -36,6 +36,7 @@ pub fn step_line<const REGS: usize>(
 ) -> Result<LineOutcome, FocalRefusal>
     ensures line { Steps None ram.old focal.old ram.new focal.new result }
     ensures unchanged { KeepsAll ram.old focal.old ram.new focal.new result }
+    ensures elsewhere { KeepsElsewhere ram.old focal.old ram.new focal.new result }
 {
     let (line, next) = standing(ram, focal)?;
     carry_out(ram, focal, Origin::Program(next), &line)
@@ -76,6 +77,7 @@ pub fn key_line<const REGS: usize>(
 ) -> Result<LineOutcome, FocalRefusal>
     ensures line { Types line.now ram.old focal.old ram.new focal.new result }
     ensures unchanged { KeepsAll ram.old focal.old ram.new focal.new result }
+    ensures elsewhere { KeepsElsewhere ram.old focal.old ram.new focal.new result }
 {
     if !ram.is_sound() {
         return Err(FocalRefusal::MemoryLost);

@@ -1,7 +1,7 @@
 //! The registers of the processor, its states at the start, and what its words do to them, family by family.
 
 ghost use Rattle.std.specs.Prelude.{◌≡◌, ◌^◌, ◌<◌};
-ghost use Rattle.h41_nut.specs.Processor.{initial, entered};
+ghost use Rattle.h41_nut.specs.Processor.{initial, entered, with_display_off};
 
 use crate::addresses::END_OF_FUNCTION;
 use crate::base::Base;
@@ -110,6 +110,13 @@ impl Cpu {
             display,
             ..Cpu::new()
         };
+    }
+
+    /// The display goes off, as it does with the calculator.
+    pub fn turn_display_off(&mut self)
+        ensures { self.new ≡ with_display_off self.old }
+    {
+        self.display = false;
     }
 
     /// The register A.

@@ -1,13 +1,14 @@
 -- The calculator: its state, its mode, a call, pages, and single steps. All of it is this project's choice, but for what the words
 -- do.
-use Rattle.std.specs.Prelude.{◌≡◌, ℕ, Bool, true, false, not, nat_lt, ◌==◌, IsTrue, MatchBool, if◌then◌else◌, Option, Some, None, List, [], ◌∷◌, option_map}
+use Rattle.std.specs.Prelude.{◌≡◌, ℕ, Bool, true, false, not, nat_lt, ◌==◌, if◌then◌else◌, Option, Some, None, List, option_map, Result, Ok}
 use Rattle.std.specs.Bool.{then_some}
 use Rattle.std.specs.Option.{option_or}
+use Rattle.std.specs.Result.{result_err}
 use Rattle.h41_nut.specs.declared.refusal.WordRefusal.TheVariants as words
 use Rattle.h41_pages.specs.declared.refusal.PlugRefusal.{PlugRefusal}
-use Rattle.h41_program.specs.declared.listed_line.ListedLine.{ListedLine}
-use Rattle.h41_program.specs.Lines.{is_final_end}
-use Rattle.h41_program.specs.ProgramLines.{LinesFrom}
+use Rattle.h41_focal.specs.LineStep as focal
+use Rattle.h41_focal.specs.LineStep.{FocalState, Left, Machine}
+use Rattle.h41_focal.specs.declared.refusal.FocalRefusal.{FocalRefusal}
 use Rattle.h41_ram.specs.RegisterMap as ram
 use Rattle.h41_nut.specs.Processor.{initial, entered}
 use Rattle.h41_nut.specs.Addresses.{end_of_function}
@@ -18,21 +19,18 @@ use Rattle.h41_nut.specs.WordStep.{Nut, nut_of, refused, Micro}
 use Rattle.h41_xrom.specs.declared.calculator.Mode.{Mode}
 use Rattle.h41_xrom.specs.declared.calculator.Mode.TheVariants as modes
 use Rattle.h41_xrom.specs.declared.refusal.CalculatorRefusal.{CalculatorRefusal}
-use Rattle.h41_xrom.specs.declared.refusal.CalculatorRefusal.TheVariants.{Word, NotInProfile, MemoryLost, Busy}
-
--- What lines of programs work on, beside memory.
-pub record Focal : Type 0 where
-  -- where the next line stands in program memory, and whether that is line 00, the place before its program's first line
-  pub position : ℕ
-  pub at_line_00 : Bool
-  -- the positions to return to
-  pub returns : List ℕ
+use Rattle.h41_xrom.specs.declared.refusal.CalculatorRefusal.TheVariants.{Word, Busy}
+use Rattle.h41_xrom.specs.Lines.{CarriesLine, of_line}
+use Rattle.h41_xrom.specs.Messages.{message_after, processor_after}
 
 -- The state of the calculator.
 pub record CalculatorState : Type 0 where
   -- the processor, its memory, pages and keys
   pub nut : Nut
-  pub focal : Focal
+  -- what lines work on, beside memory
+  pub focal : FocalState
+  -- the text that the display shows in the place of X, where there is one
+  pub message : Option (List ℕ)
   pub mode : Mode
 
 -- how many registers main memory has
@@ -43,15 +41,12 @@ registers = 320
 abbrev pub no_key : Keys
 no_key = record { ky = 0; flag = false }
 
--- at line 00 of the program that begins at a position, with nowhere to return to
-abbrev pub at_program : ℕ → Focal
-at_program position = record { position = position; at_line_00 = true; returns = [] }
-
--- nothing is plugged, nothing runs, and memory has an empty program, at whose line 00 the calculator stands
+-- nothing is plugged, nothing runs, there is no message, and memory has an empty program, at whose line 00 the calculator stands
 abbrev pub start : CalculatorState
 start = record {
   nut = nut_of initial (ram.start registers) pages.no_pages no_key;
-  focal = at_program 0;
+  focal = focal.start;
+  message = None;
   mode = modes.Idle;
 }
 
@@ -92,32 +87,50 @@ without_page page s = with_pages (pages.unplugged s.nut.pages page) s
 abbrev pub restarted : CalculatorState → CalculatorState
 restarted s = with_pages (pages.with_first_banks s.nut.pages) start
 
--- the line at a position is .END., as in an empty program
-abbrev pub IsEmptyFrom : ram.RegisterMap → ℕ → Type 0
-IsEmptyFrom memory at = (final : ListedLine) × LinesFrom memory at (final ∷ []) × IsTrue (is_final_end final.line)
+-- what lines work on, memory with it
+abbrev pub machine_of : CalculatorState → Machine
+machine_of s = record { memory = s.nut.ram; focal = s.focal }
 
--- why a line is not carried out: 13 until lines are carried out; .END. has nothing to do
-abbrev pub RefusesLine : CalculatorState → Option CalculatorRefusal → Type 0
-RefusesLine s None = IsEmptyFrom s.nut.ram s.focal.position
-RefusesLine s (Some why) = (why ≡ NotInProfile) × (IsEmptyFrom s.nut.ram s.focal.position → ⊥)
+-- the calculator after a line was carried out, by what it left: the mode stays
+abbrev pub after_line : CalculatorState → Left → CalculatorState
+after_line s left = record s {
+  nut = record s.nut { ram = left.machine.memory; processor = processor_after left.answer s.nut.processor };
+  focal = left.machine.focal;
+  message = message_after left.answer s.message;
+}
 
--- why a step is refused, or that it is not: a word's refusal while a function runs; else 15 where memory is not sound, and
--- then 13 unless the line at the position is .END.
+-- one line, or why it is refused
+abbrev pub CarriesHere : CalculatorState → Result Left FocalRefusal → Type 0
+CarriesHere s carried = CarriesLine s.nut.pages (machine_of s) carried
+
+-- why a step is refused, or that it is not: a word's refusal while a function runs, else a line's
 abbrev pub RefusesStepIn : Mode → CalculatorState → Option CalculatorRefusal → Type 0
-RefusesStepIn modes.Idle s why = MatchBool (ram.is_sound s.nut.ram) (RefusesLine s why) (why ≡ Some MemoryLost)
+RefusesStepIn modes.Idle s why =
+    (carried : Result Left FocalRefusal) × CarriesHere s carried × (why ≡ option_map of_line (result_err carried))
 RefusesStepIn modes.Micro s why = why ≡ option_map Word (refused s.nut)
 
 abbrev pub RefusesStep : CalculatorState → Option CalculatorRefusal → Type 0
 RefusesStep s why = RefusesStepIn s.mode s why
 
--- a function ends where it arrives at 00F0
+-- a function ends where it arrives at 00F0, and lift is on then
 abbrev pub mode_at : ℕ → Mode
 mode_at address = if address == end_of_function then modes.Idle else modes.Micro
 
--- one step: while a function runs the word's change, and its end where it arrives at 00F0; else nothing, for the line is .END.
+abbrev pub lift_at : ℕ → Bool → Bool
+lift_at address lift = if address == end_of_function then true else lift
+
+-- the calculator after a word was carried out
+abbrev pub after_word : CalculatorState → Nut → CalculatorState
+after_word s nut = record s {
+  nut = nut;
+  focal = record s.focal { lift = lift_at nut.processor.pc s.focal.lift };
+  mode = mode_at nut.processor.pc;
+}
+
+-- one step: while a function runs a word, which is its end where it arrives at 00F0; else a line
 abbrev pub StepIn : Mode → CalculatorState → CalculatorState → Type 0
-StepIn modes.Idle s t = t ≡ s
-StepIn modes.Micro s t = Micro s.nut t.nut × (t ≡ record s { nut = t.nut; mode = mode_at t.nut.processor.pc })
+StepIn modes.Idle s t = (left : Left) × CarriesHere s (Ok left) × (t ≡ after_line s left)
+StepIn modes.Micro s t = Micro s.nut t.nut × (t ≡ after_word s t.nut)
 
 abbrev pub Step : CalculatorState → CalculatorState → Type 0
 Step s t = StepIn s.mode s t

@@ -1,4 +1,6 @@
 pub mod Calculator
 pub mod CalculatorLaws
 pub mod Display
+pub mod Lines
+pub mod Messages
 pub mod Programs

@@ -1,15 +1,16 @@
 -- Programs in memory: loaded, and the number of data registers above them. What memory becomes is said by the list of its lines.
-use Rattle.std.specs.Prelude.{◌≡◌, ℕ, not, List, Option, Some, None, MatchOption, Result, Ok, Err}
+use Rattle.std.specs.Prelude.{◌≡◌, ℕ, true, not, List, [], Option, Some, None, MatchOption, Result, Ok, Err}
 use Rattle.std.specs.Bool.{then_some}
 use Rattle.std.specs.Option.{option_or}
 use Rattle.std.specs.Result.{result_err, result_unwrap_or}
+use Rattle.h41_focal.specs.LineStep.{FocalState}
 use Rattle.h41_program.specs.declared.refusal.ProgramRefusal as program
 use Rattle.h41_program.specs.Edits.{LoadGives}
 use Rattle.h41_program.specs.Size.{size_outcome}
 use Rattle.h41_ram.specs.RegisterMap.{RegisterMap, is_sound}
 use Rattle.h41_xrom.specs.declared.refusal.CalculatorRefusal.{CalculatorRefusal}
 use Rattle.h41_xrom.specs.declared.refusal.CalculatorRefusal.TheVariants.{Program, MemoryLost, Busy}
-use Rattle.h41_xrom.specs.Calculator.{CalculatorState, at_program, is_idle}
+use Rattle.h41_xrom.specs.Calculator.{CalculatorState, is_idle}
 
 -- programs are changed while nothing runs, else 24, and where memory is sound, else 15
 abbrev pub change_refusal : CalculatorState → Option CalculatorRefusal
@@ -19,9 +20,12 @@ change_refusal s = option_or (then_some (not (is_idle s.mode)) Busy) (then_some 
 abbrev pub with_memory : RegisterMap → CalculatorState → CalculatorState
 with_memory memory s = record s { nut = record s.nut { ram = memory } }
 
--- and at line 00 of the program that begins at a position, with nowhere to return to
+-- and at line 00 of the program that begins at a position, with nowhere to return to; lift and message stay
+abbrev pub at_program : ℕ → FocalState → FocalState
+at_program position focal = record focal { position = position; at_line_00 = true; returns = [] }
+
 abbrev pub with_program : RegisterMap → ℕ → CalculatorState → CalculatorState
-with_program memory position s = record s { nut = record s.nut { ram = memory }; focal = at_program position }
+with_program memory position s = record s { nut = record s.nut { ram = memory }; focal = at_program position s.focal }
 
 -- what a change of program memory makes of the calculator, or why it is refused
 abbrev pub loaded : CalculatorState → Result (RegisterMap × ℕ) program.ProgramRefusal → Result CalculatorState CalculatorRefusal

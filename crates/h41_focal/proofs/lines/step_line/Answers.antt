@@ -1,7 +1,9 @@
 use Rattle.std.proofs.Common.{None}
 use Rattle.std.proofs.lemmas.Result.{err_from_is_err_and}
+use Rattle.h41_focal.proofs.Elsewhere.{kept_elsewhere}
 use Rattle.h41_focal.proofs.LinesTaken.{step_refused, step_taken}
 use Rattle.h41_focal.proofs.lines.step_line.Goals as goal
+use Rattle.h41_focal.specs.declared.origin.Origin.TheVariants.{Program}
 
 pub returns-in_err-line-clause-line : goal.returns-in_err-line-clause-line
 returns-in_err-line-clause-line g c =
@@ -11,3 +13,6 @@ returns-in_err-line-clause-line g c =
 pub returns-clause-line : goal.returns-clause-line
 returns-clause-line g c =
     step_taken None _ _ _ _ c.in_ok-line.line c.in_ok-line.next _ c.in_ok-line.ensures c.carry_out.ensures.taken
+
+pub returns-clause-elsewhere : goal.returns-clause-elsewhere
+returns-clause-elsewhere g c = kept_elsewhere (Program c.in_ok-line.next) c.in_ok-line.line _ _ _ _ _ c.carry_out.ensures.taken

@@ -1,0 +1,135 @@
+-- A line that calls what has to be looked up changes nothing.
+use Rattle.std.proofs.Common.{◌≡◌, ℕ, Bool, true, false, List, Ok, Err, Result, refl, sym, ap, ◌∙◌, true≢false}
+use Rattle.std.specs.Prelude.{MatchBool, if◌then◌else◌}
+use Rattle.h41_codes.specs.declared.line.Line.{Line}
+use Rattle.h41_codes.specs.declared.line.Line.TheVariants as lines
+use Rattle.h41_focal.specs.Courses.{Arrives, Course, Halts, HasNoLabel, HasNoLine, How, Runs, Seeks, Stays, Stepped, Tells, Typed}
+use Rattle.h41_focal.specs.Carrying.{TakesAs, how_of}
+use Rattle.h41_focal.specs.LineCalls.{KeepsElsewhere, machine_of}
+use Rattle.h41_focal.specs.LineStep.{AppliesTo, AppliesWith, CarriesOut, Ends, Fails, FailsIn, FocalState, Left, Machine, TakesLine, answered, caught, done, failed, named_by, placed}
+use Rattle.h41_focal.specs.Outcomes.{Answer, answer_of, is_elsewhere}
+use Rattle.h41_focal.specs.declared.origin.Origin.{Origin}
+use Rattle.h41_focal.specs.declared.outcome.LineOutcome.{LineOutcome}
+use Rattle.h41_focal.specs.declared.refusal.FocalRefusal.{FocalRefusal}
+use Rattle.h41_focal.specs.declared.refusal.FocalRefusal.TheVariants.{NotInProfile}
+use Rattle.h41_program.specs.ProgramLines.{AnswersNext}
+use Rattle.h41_ram.specs.RegisterMap.{RegisterMap, flag_of}
+use Rattle.h41_rows.specs.LineRows.{row_of}
+use Rattle.h41_rows.specs.Operands.{Meant, meant_of}
+use Rattle.h41_rows.specs.Profile.{is_left_out}
+use Rattle.h41_rows.specs.Rows as rows
+use Rattle.h41_rows.specs.declared.fault.LineFault.{LineFault}
+
+-- what a row answers is done here
+own_answer : (memory : RegisterMap) (named : ℕ) (shows : rows.Showing) (ends : rows.Ending) → is_elsewhere (answered memory named shows ends) ≡ false
+own_answer memory named rows.AsBefore rows.GoesOn = refl
+own_answer memory named rows.AsBefore rows.Stops = refl
+own_answer memory named rows.AsBefore rows.TurnsOff = refl
+own_answer memory named rows.NoText ends = refl
+own_answer memory named rows.NamedText rows.GoesOn = refl
+own_answer memory named rows.NamedText rows.Stops = refl
+own_answer memory named rows.NamedText rows.TurnsOff = refl
+own_answer memory named rows.AlphaText rows.GoesOn = refl
+own_answer memory named rows.AlphaText rows.Stops = refl
+own_answer memory named rows.AlphaText rows.TurnsOff = refl
+
+-- an answer that isn't looked up, but is
+never : (left : Left) (answer : Answer) (old : Machine) → left.answer ≡ answer → is_elsewhere answer ≡ false → is_elsewhere left.answer ≡ true → left.machine ≡ old
+never left answer old is own elsewhere = absurd (true≢false (sym elsewhere ∙ (ap is_elsewhere is ∙ own)))
+
+-- a line that fails
+stepped_fails : (flag : Bool) (machine : Machine) (fault : LineFault) (left : Left)
+    → MatchBool flag ((next : ℕ) × AnswersNext machine.memory machine.focal.position (Ok next) × (left ≡ done (placed next (caught machine))))
+    (left ≡ failed (placed machine.focal.position machine) fault)
+    → is_elsewhere left.answer ≡ false
+stepped_fails true machine fault left (next, answers, is) = ap (λ (of : Left). is_elsewhere of.answer) is
+stepped_fails false machine fault left is = ap (λ (of : Left). is_elsewhere of.answer) is
+
+typed_fails : (flag : Bool) (machine : Machine) (fault : LineFault) (left : Left) → left ≡ (if flag then done (caught machine) else failed machine fault)
+    → is_elsewhere left.answer ≡ false
+typed_fails true machine fault left is = ap (λ (of : Left). is_elsewhere of.answer) is
+typed_fails false machine fault left is = ap (λ (of : Left). is_elsewhere of.answer) is
+
+fails : (how : How) (machine : Machine) (fault : LineFault) (left : Left) → Fails how machine fault left → is_elsewhere left.answer ≡ false
+fails Stepped machine fault left failing = stepped_fails (flag_of machine.memory 25) machine fault left failing
+fails Typed machine fault left failing = typed_fails (flag_of machine.memory 25) machine fault left failing
+
+same_left : (left other : Left) → ◌≡◌ {A = Result Left FocalRefusal} (Ok left) (Ok other) → left ≡ other
+same_left left other is = cc
+
+fails_in : (how : How) (machine old : Machine) (fault : LineFault) (left : Left) → FailsIn how machine fault (Ok left) → is_elsewhere left.answer ≡ true
+    → left.machine ≡ old
+fails_in how machine old fault left (own, failing, is) elsewhere =
+    never left own.answer old (ap (λ (of : Left). of.answer) (same_left left own is)) (fails how machine fault own failing) elsewhere
+
+-- a row
+ends_keeps : (how : How) (old new : Machine) (answer : Answer) (course : Course) (left : Left) → is_elsewhere answer ≡ false
+    → Ends how old new answer course (Ok left) → is_elsewhere left.answer ≡ true → left.machine ≡ old
+ends_keeps how old new answer (Arrives position returns) left own is elsewhere =
+    never left answer old (ap (λ (of : Left). of.answer) (same_left left _ is)) own elsewhere
+ends_keeps Stepped old new answer (Halts start) left own is elsewhere =
+    never left _ old (ap (λ (of : Left). of.answer) (same_left left _ is)) refl elsewhere
+ends_keeps Typed old new answer (Halts start) left own is elsewhere =
+    never left _ old (ap (λ (of : Left). of.answer) (same_left left _ is)) refl elsewhere
+ends_keeps how old new answer Stays left own is elsewhere =
+    never left answer old (ap (λ (of : Left). of.answer) (same_left left _ is)) own elsewhere
+ends_keeps how old new answer (Tells holds) left own is elsewhere =
+    never left _ old (ap (λ (of : Left). of.answer) (same_left left _ is)) refl elsewhere
+ends_keeps how old new answer (Runs position) left own is elsewhere =
+    never left _ old (ap (λ (of : Left). of.answer) (same_left left _ is)) refl elsewhere
+ends_keeps how old new answer (Seeks name) left own is elsewhere = ap (λ (of : Left). of.machine) (same_left left _ is)
+ends_keeps how old new answer HasNoLabel left own failing elsewhere = fails_in how old old _ left failing elsewhere
+ends_keeps how old new answer HasNoLine left own is elsewhere = cc
+
+applies_with : (how : How) (row : rows.Row) (named : ℕ) (machine : Machine) (result : Result (List ℕ) LineFault) (left : Left)
+    → AppliesWith how row named machine result (Ok left) → is_elsewhere left.answer ≡ true → left.machine ≡ machine
+applies_with how row named machine (Err fault) left failing elsewhere = fails_in how machine machine fault left failing elsewhere
+applies_with how row named machine (Ok result) left (course, goes, ends) elsewhere =
+    ends_keeps how machine _ _ course left (own_answer machine.memory named row.shows row.ends) ends elsewhere
+
+applies_to : (how : How) (line : Line) (machine : Machine) (meant : Result Meant LineFault) (left : Left)
+    → AppliesTo how line machine meant (Ok left) → is_elsewhere left.answer ≡ true → left.machine ≡ machine
+applies_to how line machine (Err fault) left failing elsewhere = fails_in how machine machine fault left failing elsewhere
+applies_to how line machine (Ok meant) left (result, works, applies) elsewhere = applies_with how (row_of line meant) (named_by meant) machine result left applies elsewhere
+
+-- a line
+carries_out : (how : How) (line : Line) (machine : Machine) (left : Left) → CarriesOut how line machine (Ok left) → is_elsewhere left.answer ≡ true
+    → left.machine ≡ machine
+carries_out how (lines.Module number entry) machine left is elsewhere = ap (λ (of : Left). of.machine) (same_left left _ is)
+carries_out how lines.Null machine left is elsewhere = applies_to how lines.Null machine (meant_of machine.memory lines.Null) left is elsewhere
+carries_out how (lines.LocalLabel a) machine left is elsewhere = applies_to how (lines.LocalLabel a) machine (meant_of machine.memory (lines.LocalLabel a)) left is elsewhere
+carries_out how (lines.GlobalLabel a b c) machine left is elsewhere = applies_to how (lines.GlobalLabel a b c) machine (meant_of machine.memory (lines.GlobalLabel a b c)) left is elsewhere
+carries_out how (lines.Number a) machine left is elsewhere = applies_to how (lines.Number a) machine (meant_of machine.memory (lines.Number a)) left is elsewhere
+carries_out how (lines.Named a b) machine left is elsewhere = applies_to how (lines.Named a b) machine (meant_of machine.memory (lines.Named a b)) left is elsewhere
+carries_out how (lines.Register a b) machine left is elsewhere = applies_to how (lines.Register a b) machine (meant_of machine.memory (lines.Register a b)) left is elsewhere
+carries_out how (lines.Plain a) machine left is elsewhere = applies_to how (lines.Plain a) machine (meant_of machine.memory (lines.Plain a)) left is elsewhere
+carries_out how (lines.WithOperand a b) machine left is elsewhere = applies_to how (lines.WithOperand a b) machine (meant_of machine.memory (lines.WithOperand a b)) left is elsewhere
+carries_out how (lines.BranchIndirect a b) machine left is elsewhere = applies_to how (lines.BranchIndirect a b) machine (meant_of machine.memory (lines.BranchIndirect a b)) left is elsewhere
+carries_out how (lines.ShortGoTo a b) machine left is elsewhere = applies_to how (lines.ShortGoTo a b) machine (meant_of machine.memory (lines.ShortGoTo a b)) left is elsewhere
+carries_out how (lines.End a b) machine left is elsewhere = applies_to how (lines.End a b) machine (meant_of machine.memory (lines.End a b)) left is elsewhere
+carries_out how (lines.FinalEnd a b) machine left is elsewhere = applies_to how (lines.FinalEnd a b) machine (meant_of machine.memory (lines.FinalEnd a b)) left is elsewhere
+carries_out how (lines.BranchTo a b c d) machine left is elsewhere = applies_to how (lines.BranchTo a b c d) machine (meant_of machine.memory (lines.BranchTo a b c d)) left is elsewhere
+carries_out how (lines.Text a) machine left is elsewhere = applies_to how (lines.Text a) machine (meant_of machine.memory (lines.Text a)) left is elsewhere
+
+takes_by : (out : Bool) (how : How) (line : Line) (machine : Machine) (left : Left)
+    → MatchBool out (◌≡◌ {A = Result Left FocalRefusal} (Ok left) (Err NotInProfile)) (CarriesOut how line machine (Ok left))
+    → is_elsewhere left.answer ≡ true → left.machine ≡ machine
+takes_by true how line machine left is elsewhere = cc
+takes_by false how line machine left carries elsewhere = carries_out how line machine left carries elsewhere
+
+elsewhere_keeps : (how : How) (line : Line) (machine : Machine) (left : Left) → TakesLine how line machine (Ok left) → is_elsewhere left.answer ≡ true
+    → left.machine ≡ machine
+elsewhere_keeps how line machine left takes elsewhere = takes_by (is_left_out line) how line machine left takes elsewhere
+
+-- what a call takes, and leaves where its answer has to be looked up
+kept_by : (line : Line) (origin : Origin) (memory new : RegisterMap) (focal after : FocalState) (outcome : LineOutcome)
+    → TakesAs origin line memory focal new after (Ok outcome) → is_elsewhere (answer_of outcome) ≡ true → (new ≡ memory) × (after ≡ focal)
+kept_by line origin memory new focal after outcome takes elsewhere =
+    let same : machine_of new after ≡ machine_of memory focal = elsewhere_keeps (how_of origin) line (machine_of memory focal) _ takes elsewhere in
+    (ap (λ (of : Machine). of.memory) same, ap (λ (of : Machine). of.focal) same)
+
+pub kept_elsewhere : (origin : Origin) (line : Line) (memory new : RegisterMap) (focal after : FocalState) (result : Result LineOutcome FocalRefusal)
+    → TakesAs origin line memory focal new after result → KeepsElsewhere memory focal new after result
+kept_elsewhere origin line memory new focal after (Ok outcome) takes =
+    λ elsewhere. kept_by line origin memory new focal after outcome takes elsewhere
+kept_elsewhere origin line memory new focal after (Err refusal) takes = tt

@@ -1,0 +1,27 @@
+-- What a line leaves in the display.
+use Rattle.std.specs.Prelude.{ℕ, List, Option, Some, None, codes}
+use Rattle.h41_focal.specs.Outcomes.{Answer}
+use Rattle.h41_focal.specs.Outcomes as answers
+use Rattle.h41_nut.specs.Processor.{Processor, with_display_off}
+use Rattle.h41_rows.specs.declared.fault.LineFault.{LineFault}
+use Rattle.h41_rows.specs.declared.fault.LineFault.TheVariants.{AlphaData, DataError, Nonexistent, OutOfRange}
+
+-- the message of a fault, as the Owner's Handbook has it
+abbrev pub fault_text : LineFault → List ℕ
+fault_text AlphaData = codes "ALPHA DATA"
+fault_text DataError = codes "DATA ERROR"
+fault_text OutOfRange = codes "OUT OF RANGE"
+fault_text Nonexistent = codes "NONEXISTENT"
+
+-- the message after a line: its own, none where the display is cleared, and else the one from before
+abbrev pub message_after : Answer → Option (List ℕ) → Option (List ℕ)
+message_after (answers.Viewed text) message = Some text
+message_after (answers.Prompted text) message = Some text
+message_after (answers.Failed fault) message = Some (fault_text fault)
+message_after answers.Cleared message = None
+message_after answer message = message
+
+-- OFF turns the display off
+abbrev pub processor_after : Answer → Processor → Processor
+processor_after answers.TurnedOff processor = with_display_off processor
+processor_after answer processor = processor

@@ -11,3 +11,4 @@ pub mod Floors
 pub mod Same
 pub mod Wholes
 pub mod Entries
+pub mod Answered

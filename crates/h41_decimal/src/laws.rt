@@ -1,7 +1,7 @@
 //! Laws of decimals: each is the contract of a function with next to nothing to do.
 
 ghost use Rattle.std.specs.Prelude.{◌≡◌, Some};
-ghost use Rattle.h41_decimal.specs.Laws.{UnitsAreInjective, NearestIsDetermined, NearestRootIsDetermined, DecimalIsItsNearest, OnesAreDetermined, IntegerPartIsDetermined, FractionIsDetermined, TypedIsDetermined};
+ghost use Rattle.h41_decimal.specs.Laws.{UnitsAreInjective, NearestIsDetermined, NearestRootIsDetermined, DecimalIsItsNearest, OnesAreDetermined, IntegerPartIsDetermined, FractionIsDetermined, TypedIsDetermined, QuotientIsDetermined, ModuloIsDetermined, StepsAreDetermined};
 
 use crate::ten::Ten;
 
@@ -18,6 +18,17 @@ pub fn nearest_is_determined()
 /// The nearest decimal of a square root is determined.
 pub fn nearest_root_is_determined()
     ensures { NearestRootIsDetermined }
+{}
+
+/// The answer for a quotient is determined, and so is that for what a division leaves.
+pub fn quotients_are_determined()
+    ensures quotient { QuotientIsDetermined }
+    ensures modulo { ModuloIsDetermined }
+{}
+
+/// The answer for a number that is rounded to steps is determined.
+pub fn steps_are_determined()
+    ensures { StepsAreDetermined }
 {}
 
 /// A value that is a decimal already is answered as it is.

@@ -12,3 +12,4 @@ pub mod Same
 pub mod Wholes
 pub mod Entries
 pub mod Answered
+pub mod Held

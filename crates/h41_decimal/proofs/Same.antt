@@ -45,7 +45,7 @@ unfolding size_at
 same_parts x y e f = ap (λ m. size_at m x.exponent) e ∙ ap (λ k. size_at y.mantissa k) f
 
 -- sizes that are worth the same have one exponent, and so the same digits
-one_exponent : (m n s t : ℕ) → 10 ^ 9 ≤ m → m < 10 ^ 10 → 10 ^ 9 ≤ n → n < 10 ^ 10 → m * 10 ^ s ≡ n * 10 ^ t → s ≡ t
+pub one_exponent : (m n s t : ℕ) → 10 ^ 9 ≤ m → m < 10 ^ 10 → 10 ^ 9 ≤ n → n < 10 ^ 10 → m * 10 ^ s ≡ n * 10 ^ t → s ≡ t
 one_exponent m n s t m_least m_below n_least n_below e =
     ⊎_elim
     (λ (less : s < t). absurd (let h = lower_exponent m n s t m_below n_least less in omega arith))

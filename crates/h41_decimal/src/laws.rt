@@ -1,7 +1,7 @@
 //! Laws of decimals: each is the contract of a function with next to nothing to do.
 
 ghost use Rattle.std.specs.Prelude.{◌≡◌, Some};
-ghost use Rattle.h41_decimal.specs.Laws.{UnitsAreInjective, NearestIsDetermined, NearestRootIsDetermined, DecimalIsItsNearest, OnesAreDetermined, IntegerPartIsDetermined, FractionIsDetermined, TypedIsDetermined, QuotientIsDetermined, ModuloIsDetermined, StepsAreDetermined};
+ghost use Rattle.h41_decimal.specs.Laws.{UnitsAreInjective, NearestIsDetermined, NearestRootIsDetermined, DecimalIsItsNearest, OnesAreDetermined, IntegerPartIsDetermined, FractionIsDetermined, TypedIsDetermined, QuotientIsDetermined, ModuloIsDetermined, StepsAreDetermined, RegisterIsDetermined};
 
 use crate::ten::Ten;
 
@@ -46,6 +46,11 @@ pub fn parts_are_determined()
 /// The number that is typed is determined.
 pub fn typed_is_determined()
     ensures { TypedIsDetermined }
+{}
+
+/// A number has one register.
+pub fn register_is_determined()
+    ensures { RegisterIsDetermined }
 {}
 
 /// A decimal that is written to a register is read again.

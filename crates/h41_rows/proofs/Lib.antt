@@ -9,4 +9,5 @@ pub mod NumberParts
 pub mod NumberReading
 pub mod Recalled
 pub mod Told
+pub mod ValueLaws
 pub mod Working

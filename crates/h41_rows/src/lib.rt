@@ -9,6 +9,7 @@ mod counters;
 mod counting;
 mod fault;
 mod flags;
+pub mod laws;
 mod number;
 mod operands;
 mod readings;

@@ -1,0 +1,23 @@
+//! Laws of rows: each is the contract of a function with nothing to do but to call the laws it rests on.
+
+ghost use Rattle.h41_rows.specs.RowLaws.{ValuesAreDetermined};
+
+use h41_decimal::laws::{
+    nearest_is_determined, nearest_root_is_determined, parts_are_determined,
+    quotients_are_determined, register_is_determined, steps_are_determined, typed_is_determined,
+    units_are_injective,
+};
+
+/// What a line computes is determined: the register, or the fault.
+pub fn values_are_determined()
+    ensures { ValuesAreDetermined }
+{
+    nearest_is_determined();
+    nearest_root_is_determined();
+    parts_are_determined();
+    typed_is_determined();
+    units_are_injective();
+    quotients_are_determined();
+    steps_are_determined();
+    register_is_determined();
+}

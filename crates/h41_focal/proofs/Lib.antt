@@ -1,6 +1,7 @@
 mod Elsewhere
 mod LabelsMet
 mod LinesTaken
+mod OneOutcome
 mod RowApplied
 mod RowAsked
 mod RowDone

@@ -1,0 +1,271 @@
+-- Why a line has one outcome.
+use Rattle.std.proofs.Common.{◌≡◌, ℕ, Bool, true, false, List, [], ◌∷◌, reverse, Option, Some, None, Result, Ok, Err, sym, ap, ◌∙◌, subst, inl, inr}
+use Rattle.std.specs.Prelude.{MatchBool}
+use Rattle.h41_codes.specs.declared.functions.Function.{Function}
+use Rattle.h41_codes.specs.declared.line.Line.{Line}
+use Rattle.h41_codes.specs.declared.line.Line.TheVariants.{Module}
+use Rattle.h41_focal.specs.Courses.{Arrives, Asks, Course, Goes, GoesBack, Halts, HasNoLabel, HasNoLine, How, Passes, Runs, Seeks, Stays, Stepped, StepsFrom, Tells, Typed, TypedFrom, found_at, lost_name, typed_at}
+use Rattle.h41_focal.specs.LineLaws.{FailureIsDetermined, StepIsDetermined, TypedIsDetermined}
+use Rattle.h41_focal.specs.LineStep.{Applies, AppliesTo, AppliesWith, CarriesOut, ComputesIn, Ends, Fails, FailsIn, FailsWith, Left, Machine, StepsAs, TakesLine, Works, answered, caught, done, error_flag, failed, line_as, named_by, placed, worked}
+use Rattle.h41_focal.specs.Outcomes.{Answer}
+use Rattle.h41_focal.specs.declared.refusal.FocalRefusal.{FocalRefusal}
+use Rattle.h41_focal.specs.declared.refusal.FocalRefusal.TheVariants.{MemoryLost, NotInProfile}
+use Rattle.h41_program.specs.Lines.{is_final_end}
+use Rattle.h41_program.specs.ProgramBytes.{final_position, program_bytes}
+use Rattle.h41_program.specs.ProgramLaws.{FirstIsDetermined}
+use Rattle.h41_program.specs.ProgramLines.{AnswersFirst, AnswersNext, PositionBehind, PositionFrom, behind}
+use Rattle.h41_program.specs.SearchLaws.{AnswersAreDetermined, LocalIsDetermined}
+use Rattle.h41_program.specs.Searches.{named_in, position_of, start_in}
+use Rattle.h41_program.specs.declared.listed_line.ListedLine.{ListedLine}
+use Rattle.h41_program.specs.declared.refusal.ProgramRefusal as program
+use Rattle.h41_ram.specs.RegisterMap.{RegisterMap, flag_of, is_sound}
+use Rattle.h41_rows.specs.LineRows.{row_of}
+use Rattle.h41_rows.specs.Operands.{Meant, meant_of}
+use Rattle.h41_rows.specs.Places.{are_numbers}
+use Rattle.h41_rows.specs.Profile.{is_left_out}
+use Rattle.h41_rows.specs.RowEffects.{holds_in}
+use Rattle.h41_rows.specs.RowLaws.{ValuesAreDetermined}
+use Rattle.h41_rows.specs.Rows as rows
+use Rattle.h41_rows.specs.Values.{Value}
+use Rattle.h41_rows.specs.declared.fault.LineFault.{LineFault}
+use Rattle.h41_rows.specs.declared.fault.LineFault.TheVariants.{AlphaData, Nonexistent}
+
+-- a fault that is caught
+abbrev GoesOn : Machine → Left → Type 0
+GoesOn machine left = (next : ℕ) × AnswersNext machine.memory machine.focal.position (Ok next) × (left ≡ done (placed next (caught machine)))
+
+-- what holds of the line at the position, or of there being none
+abbrev ByFirst : Machine → (Result ListedLine program.ProgramRefusal → Type 0) → Type 0
+ByFirst machine holds = (first : Result ListedLine program.ProgramRefusal) × AnswersFirst machine.memory machine.focal.position first × holds first
+
+-- lines and positions in program memory, and what a fault leaves, where no bytes have two first lines
+module _ (same_first : FirstIsDetermined) where
+  -- the line at a position
+  same_line : (memory : RegisterMap) (at : ℕ) (a b : Result ListedLine program.ProgramRefusal) → AnswersFirst memory at a → AnswersFirst memory at b → a ≡ b
+  same_line memory at (Ok first) (Ok other) p q =
+      ap (λ (line : ListedLine). Ok line) (same_first (program_bytes memory) (final_position memory) at first other p q)
+  same_line memory at (Ok first) (Err refusal) p q = absurd (q.1 first p)
+  same_line memory at (Err refusal) (Ok other) p q = absurd (p.1 other q)
+  same_line memory at (Err refusal) (Err other) p q = ap (λ (why : program.ProgramRefusal). Err why) (p.0 ∙ sym q.0)
+
+  -- and the position of the next one
+  same_from : (memory : RegisterMap) (at a b : ℕ) → PositionFrom memory at a → PositionFrom memory at b → a ≡ b
+  same_from memory at a b p q = elim p [
+    | inl first ↦ elim q [
+      | inl other ↦
+          let same = same_first (program_bytes memory) (final_position memory) at first.0 other.0 first.1 other.1 in
+          first.2 ∙ ap (λ (line : ListedLine). line.position) same ∙ sym other.2
+      | inr none ↦ absurd (none.0 first.0 first.1)
+    ]
+    | inr none ↦ elim q [
+      | inl other ↦ absurd (none.0 other.0 other.1)
+      | inr again ↦ none.1 ∙ sym again.1
+    ]
+  ]
+
+  same_behind : (last : Bool) (memory : RegisterMap) (first : ListedLine) (a b : ℕ)
+      → MatchBool last (a ≡ first.position) (PositionFrom memory (behind first) a)
+      → MatchBool last (b ≡ first.position) (PositionFrom memory (behind first) b) → a ≡ b
+  same_behind true memory first a b p q = p ∙ sym q
+  same_behind false memory first a b p q = same_from memory (behind first) a b p q
+
+  same_next : (memory : RegisterMap) (at a b : ℕ) → AnswersNext memory at (Ok a) → AnswersNext memory at (Ok b) → a ≡ b
+  same_next memory at a b p q =
+      let same = same_first (program_bytes memory) (final_position memory) at p.0 q.0 p.1 q.1 in
+      same_behind (is_final_end q.0.line) memory q.0 a b (subst (λ (line : ListedLine). PositionBehind memory line a) same p.2) q.2
+
+  -- what a fault leaves: with flag 25 the program goes on
+  same_stop : (flag_25 : Bool) (machine : Machine) (fault : LineFault) (a b : Left)
+      → MatchBool flag_25 (GoesOn machine a) (a ≡ failed (placed machine.focal.position machine) fault)
+      → MatchBool flag_25 (GoesOn machine b) (b ≡ failed (placed machine.focal.position machine) fault) → a ≡ b
+  same_stop true machine fault a b p q =
+      let same = same_next machine.memory machine.focal.position p.0 q.0 p.1 q.1 in
+      p.2 ∙ ap (λ (next : ℕ). done (placed next (caught machine))) same ∙ sym q.2
+  same_stop false machine fault a b p q = p ∙ sym q
+
+  same_fault : (how : How) (machine : Machine) (fault : LineFault) (a b : Left) → Fails how machine fault a → Fails how machine fault b → a ≡ b
+  same_fault Stepped machine fault a b p q = same_stop (flag_of machine.memory error_flag) machine fault a b p q
+  same_fault Typed machine fault a b p q = p ∙ sym q
+
+  same_failure : (how : How) (machine : Machine) (fault : LineFault) (a b : Result Left FocalRefusal)
+      → FailsIn how machine fault a → FailsIn how machine fault b → a ≡ b
+  same_failure how machine fault a b p q =
+      p.2 ∙ ap (λ (left : Left). Ok left) (same_fault how machine fault p.0 q.0 p.1 q.1) ∙ sym q.2
+
+  -- a line that fails from outside
+  same_outside : (fault : LineFault) (machine : Machine) (first : Result ListedLine program.ProgramRefusal) (a b : Result Left FocalRefusal)
+      → FailsWith fault machine first a → FailsWith fault machine first b → a ≡ b
+  same_outside fault machine (Ok first) a b p q = same_failure Stepped machine fault a b p q
+  same_outside fault machine (Err refusal) a b p q = p ∙ sym q
+
+  same_failed : (sound : Bool) (fault : LineFault) (machine : Machine) (a b : Result Left FocalRefusal)
+      → MatchBool sound (ByFirst machine (λ first. FailsWith fault machine first a)) (a ≡ Err MemoryLost)
+      → MatchBool sound (ByFirst machine (λ first. FailsWith fault machine first b)) (b ≡ Err MemoryLost) → a ≡ b
+  same_failed true fault machine a b p q =
+      let same = same_line machine.memory machine.focal.position p.0 q.0 p.1 q.1 in
+      same_outside fault machine q.0 a b (subst (λ (first : Result ListedLine program.ProgramRefusal). FailsWith fault machine first a) same p.2) q.2
+  same_failed false fault machine a b p q = p ∙ sym q
+
+  pub failure_determined : FailureIsDetermined
+  failure_determined fault machine a b p q = same_failed (is_sound machine.memory) fault machine a b p q
+
+-- what a row computes, where each value has one register or one fault
+module _ (same_value : ValuesAreDetermined) where
+  same_computed : (memory : RegisterMap) (named : ℕ) (value : Option Value) (a b : Result (List ℕ) LineFault)
+      → ComputesIn memory named value a → ComputesIn memory named value b → a ≡ b
+  same_computed memory named None a b p q = p ∙ sym q
+  same_computed memory named (Some value) a b p q = same_value value memory named a b p q
+
+  same_by_numbers : (numbers : Bool) (memory : RegisterMap) (named : ℕ) (value : Option Value) (a b : Result (List ℕ) LineFault)
+      → MatchBool numbers (ComputesIn memory named value a) (a ≡ Err AlphaData)
+      → MatchBool numbers (ComputesIn memory named value b) (b ≡ Err AlphaData) → a ≡ b
+  same_by_numbers true memory named value a b p q = same_computed memory named value a b p q
+  same_by_numbers false memory named value a b p q = p ∙ sym q
+
+  same_work : (memory : RegisterMap) (named : ℕ) (row : rows.Row) (a b : Result (List ℕ) LineFault)
+      → Works memory named row a → Works memory named row b → a ≡ b
+  same_work memory named row a b p q = same_by_numbers (are_numbers memory named (rows.numbers_of row)) memory named row.value a b p q
+
+-- where a line goes, where besides each search has one answer
+module _
+    (same_first : FirstIsDetermined)
+    (same_start : AnswersAreDetermined ℕ)
+    (same_local : LocalIsDetermined)
+    (same_global : AnswersAreDetermined (Option ℕ)) where
+  same_pass : (memory : RegisterMap) (next : ℕ) (returns : List ℕ) (a b : Course) → Passes memory next returns a → Passes memory next returns b → a ≡ b
+  same_pass memory next returns a b p q = elim p [
+    | inl past ↦ elim q [
+      | inl again ↦ past.2 ∙ ap (λ (position : ℕ). Arrives position returns) (same_next same_first memory next past.0 again.0 past.1 again.1) ∙ sym again.2
+      | inr none ↦ absurd (none.0.1 past.1.0 past.1.1)
+    ]
+    | inr none ↦ elim q [
+      | inl past ↦ absurd (none.0.1 past.1.0 past.1.1)
+      | inr again ↦ none.1 ∙ sym again.1
+    ]
+  ]
+
+  same_asked : (holds : Bool) (memory : RegisterMap) (next : ℕ) (returns : List ℕ) (a b : Course)
+      → Asks holds memory next returns a → Asks holds memory next returns b → a ≡ b
+  same_asked true memory next returns a b p q = p ∙ sym q
+  same_asked false memory next returns a b p q = same_pass memory next returns a b p q
+
+  same_back : (memory : RegisterMap) (at : ℕ) (latest_first : List ℕ) (a b : Course)
+      → GoesBack memory at latest_first a → GoesBack memory at latest_first b → a ≡ b
+  same_back memory at [] a b p q =
+      p.2 ∙ ap (λ (start : ℕ). Halts start) (same_start memory (start_in at) 0 p.0 q.0 p.1 q.1) ∙ sym q.2
+  same_back memory at (latest ∷ others) a b p q = p ∙ sym q
+
+  same_from_next : (going : rows.Going) (memory : RegisterMap) (named at next : ℕ) (returns : List ℕ) (a b : Course)
+      → StepsFrom going memory named at next returns a → StepsFrom going memory named at next returns b → a ≡ b
+  same_from_next rows.Next memory named at next returns a b p q = p ∙ sym q
+  same_from_next (rows.Tests condition) memory named at next returns a b p q = same_asked (holds_in memory named condition) memory next returns a b p q
+  same_from_next (rows.Counts condition) memory named at next returns a b p q = same_asked (holds_in memory named condition) memory next returns a b p q
+  same_from_next (rows.ToLabel branch label) memory named at next returns a b p q =
+      p.2 ∙ ap (found_at branch next returns HasNoLabel) (same_local memory next label p.0 q.0 p.1 q.1) ∙ sym q.2
+  same_from_next (rows.ToName branch name) memory named at next returns a b p q =
+      p.2 ∙ ap (found_at branch next returns (lost_name branch name)) (same_global memory (λ lines. position_of (named_in name lines)) 0 p.0 q.0 p.1 q.1)
+      ∙ sym q.2
+  same_from_next rows.Returns memory named at next returns a b p q = same_back memory at (reverse returns) a b p q
+
+  same_from_here : (going : rows.Going) (memory : RegisterMap) (named at : ℕ) (returns : List ℕ) (a b : Course)
+      → TypedFrom going memory named at returns a → TypedFrom going memory named at returns b → a ≡ b
+  same_from_here rows.Next memory named at returns a b p q = p ∙ sym q
+  same_from_here (rows.Tests condition) memory named at returns a b p q = p ∙ sym q
+  same_from_here (rows.Counts condition) memory named at returns a b p q = p ∙ sym q
+  same_from_here (rows.ToLabel branch label) memory named at returns a b p q =
+      p.2 ∙ ap (typed_at branch returns HasNoLabel) (same_local memory at label p.0 q.0 p.1 q.1) ∙ sym q.2
+  same_from_here (rows.ToName branch name) memory named at returns a b p q =
+      p.2 ∙ ap (typed_at branch returns (lost_name branch name)) (same_global memory (λ lines. position_of (named_in name lines)) 0 p.0 q.0 p.1 q.1)
+      ∙ sym q.2
+  same_from_here rows.Returns memory named at returns a b p q =
+      p.2 ∙ ap (λ (start : ℕ). Halts start) (same_start memory (start_in at) 0 p.0 q.0 p.1 q.1) ∙ sym q.2
+
+  same_course : (how : How) (going : rows.Going) (memory : RegisterMap) (named at : ℕ) (returns : List ℕ) (a b : Course)
+      → Goes how going memory named at returns a → Goes how going memory named at returns b → a ≡ b
+  same_course Stepped going memory named at returns a b p q =
+      let same = same_next same_first memory at p.0 q.0 p.1 q.1 in
+      same_from_next going memory named at q.0 returns a b (subst (λ (next : ℕ). StepsFrom going memory named at next returns a) same p.2) q.2
+  same_course Typed going memory named at returns a b p q = same_from_here going memory named at returns a b p q
+
+-- what a course leaves
+same_end : FirstIsDetermined → (how : How) (old new : Machine) (answer : Answer) (course : Course) (a b : Result Left FocalRefusal)
+    → Ends how old new answer course a → Ends how old new answer course b → a ≡ b
+same_end same_first how old new answer (Arrives position returns) a b p q = p ∙ sym q
+same_end same_first Stepped old new answer (Halts start) a b p q = p ∙ sym q
+same_end same_first Typed old new answer (Halts start) a b p q = p ∙ sym q
+same_end same_first how old new answer Stays a b p q = p ∙ sym q
+same_end same_first how old new answer (Tells holds) a b p q = p ∙ sym q
+same_end same_first how old new answer (Runs position) a b p q = p ∙ sym q
+same_end same_first how old new answer (Seeks name) a b p q = p ∙ sym q
+same_end same_first how old new answer HasNoLabel a b p q = same_failure same_first how old Nonexistent a b p q
+same_end same_first how old new answer HasNoLine a b p q = p ∙ sym q
+
+-- a line, where all of this is so
+module _
+    (same_value : ValuesAreDetermined)
+    (same_first : FirstIsDetermined)
+    (same_start : AnswersAreDetermined ℕ)
+    (same_local : LocalIsDetermined)
+    (same_global : AnswersAreDetermined (Option ℕ)) where
+  same_with : (how : How) (row : rows.Row) (named : ℕ) (machine : Machine) (result : Result (List ℕ) LineFault) (a b : Result Left FocalRefusal)
+      → AppliesWith how row named machine result a → AppliesWith how row named machine result b → a ≡ b
+  same_with how row named machine (Err fault) a b p q = same_failure same_first how machine fault a b p q
+  same_with how row named machine (Ok result) a b p q =
+      let new = worked row named result machine in
+      let answer = answered machine.memory named row.shows row.ends in
+      let same =
+      same_course same_first same_start same_local same_global how row.goes machine.memory named machine.focal.position machine.focal.returns p.0 q.0 p.1 q.1 in
+      same_end same_first how machine new answer q.0 a b (subst (λ (course : Course). Ends how machine new answer course a) same p.2) q.2
+
+  same_row : (how : How) (row : rows.Row) (named : ℕ) (machine : Machine) (a b : Result Left FocalRefusal)
+      → Applies how row named machine a → Applies how row named machine b → a ≡ b
+  same_row how row named machine a b p q =
+      let same = same_work same_value machine.memory named row p.0 q.0 p.1 q.1 in
+      same_with how row named machine q.0 a b (subst (λ (result : Result (List ℕ) LineFault). AppliesWith how row named machine result a) same p.2) q.2
+
+  same_meant : (how : How) (line : Line) (machine : Machine) (meant : Result Meant LineFault) (a b : Result Left FocalRefusal)
+      → AppliesTo how line machine meant a → AppliesTo how line machine meant b → a ≡ b
+  same_meant how line machine (Err fault) a b p q = same_failure same_first how machine fault a b p q
+  same_meant how line machine (Ok meant) a b p q = same_row how (row_of line meant) (named_by meant) machine a b p q
+
+  same_carried : (how : How) (line : Line) (machine : Machine) (a b : Result Left FocalRefusal)
+      → CarriesOut how line machine a → CarriesOut how line machine b → a ≡ b
+  same_carried how (Module number entry) machine a b p q = p ∙ sym q
+  same_carried how line machine a b p q = same_meant how line machine (meant_of machine.memory line) a b p q
+
+  same_in_profile : (left_out : Bool) (how : How) (line : Line) (machine : Machine) (a b : Result Left FocalRefusal)
+      → MatchBool left_out (a ≡ Err NotInProfile) (CarriesOut how line machine a)
+      → MatchBool left_out (b ≡ Err NotInProfile) (CarriesOut how line machine b) → a ≡ b
+  same_in_profile true how line machine a b p q = p ∙ sym q
+  same_in_profile false how line machine a b p q = same_carried how line machine a b p q
+
+  same_taken : (how : How) (line : Line) (machine : Machine) (a b : Result Left FocalRefusal)
+      → TakesLine how line machine a → TakesLine how line machine b → a ≡ b
+  same_taken how line machine a b p q = same_in_profile (is_left_out line) how line machine a b p q
+
+  -- a typed line
+  same_typed : (sound : Bool) (line : Line) (machine : Machine) (a b : Result Left FocalRefusal)
+      → MatchBool sound (TakesLine Typed line machine a) (a ≡ Err MemoryLost)
+      → MatchBool sound (TakesLine Typed line machine b) (b ≡ Err MemoryLost) → a ≡ b
+  same_typed true line machine a b p q = same_taken Typed line machine a b p q
+  same_typed false line machine a b p q = p ∙ sym q
+
+  pub typed_determined : TypedIsDetermined
+  typed_determined line machine a b p q = same_typed (is_sound machine.memory) line machine a b p q
+
+  -- a stepped one
+  same_standing : (function : Option Function) (machine : Machine) (first : Result ListedLine program.ProgramRefusal) (a b : Result Left FocalRefusal)
+      → StepsAs function machine first a → StepsAs function machine first b → a ≡ b
+  same_standing function machine (Ok first) a b p q = same_taken Stepped (line_as function first.line) machine a b p q
+  same_standing function machine (Err refusal) a b p q = p ∙ sym q
+
+  same_stepped : (sound : Bool) (function : Option Function) (machine : Machine) (a b : Result Left FocalRefusal)
+      → MatchBool sound (ByFirst machine (λ first. StepsAs function machine first a)) (a ≡ Err MemoryLost)
+      → MatchBool sound (ByFirst machine (λ first. StepsAs function machine first b)) (b ≡ Err MemoryLost) → a ≡ b
+  same_stepped true function machine a b p q =
+      let same = same_line same_first machine.memory machine.focal.position p.0 q.0 p.1 q.1 in
+      same_standing function machine q.0 a b (subst (λ (first : Result ListedLine program.ProgramRefusal). StepsAs function machine first a) same p.2) q.2
+  same_stepped false function machine a b p q = p ∙ sym q
+
+  pub step_determined : StepIsDetermined
+  step_determined function machine a b p q = same_stepped (is_sound machine.memory) function machine a b p q

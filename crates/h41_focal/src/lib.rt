@@ -9,6 +9,7 @@ mod flag_lines;
 mod focal;
 mod functions;
 mod labels;
+pub mod laws;
 mod lines;
 mod loop_lines;
 mod mode_lines;

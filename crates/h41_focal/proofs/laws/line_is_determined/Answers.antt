@@ -1,0 +1,15 @@
+use Rattle.h41_focal.proofs.OneOutcome.{failure_determined, step_determined, typed_determined}
+use Rattle.h41_focal.proofs.laws.line_is_determined.Goals as goal
+
+pub returns-clause-step : goal.returns-clause-step
+returns-clause-step c =
+    step_determined c.values_are_determined.ensures c.lists_are_determined.ensures.first c.searches_are_determined.ensures.start
+    c.searches_are_determined.ensures.local c.searches_are_determined.ensures.global
+
+pub returns-clause-typed : goal.returns-clause-typed
+returns-clause-typed c =
+    typed_determined c.values_are_determined.ensures c.lists_are_determined.ensures.first c.searches_are_determined.ensures.start
+    c.searches_are_determined.ensures.local c.searches_are_determined.ensures.global
+
+pub returns-clause-failure : goal.returns-clause-failure
+returns-clause-failure c = failure_determined c.lists_are_determined.ensures.first

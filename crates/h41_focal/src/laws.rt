@@ -1,0 +1,17 @@
+//! Laws of lines: each is the contract of a function with nothing to do but to call the laws it rests on.
+
+ghost use Rattle.h41_focal.specs.LineLaws.{FailureIsDetermined, StepIsDetermined, TypedIsDetermined};
+
+use h41_program::laws::{lists_are_determined, searches_are_determined};
+use h41_rows::laws::values_are_determined;
+
+/// A line has one outcome: stepped, typed, or failed from outside.
+pub fn line_is_determined()
+    ensures step { StepIsDetermined }
+    ensures typed { TypedIsDetermined }
+    ensures failure { FailureIsDetermined }
+{
+    values_are_determined();
+    lists_are_determined();
+    searches_are_determined();
+}

@@ -5,4 +5,5 @@ mod OneOutcome
 mod RowApplied
 mod RowAsked
 mod RowDone
+mod TypedAsStepped
 mod ValueComputed

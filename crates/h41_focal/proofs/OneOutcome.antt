@@ -41,7 +41,7 @@ ByFirst machine holds = (first : Result ListedLine program.ProgramRefusal) × An
 -- lines and positions in program memory, and what a fault leaves, where no bytes have two first lines
 module _ (same_first : FirstIsDetermined) where
   -- the line at a position
-  same_line : (memory : RegisterMap) (at : ℕ) (a b : Result ListedLine program.ProgramRefusal) → AnswersFirst memory at a → AnswersFirst memory at b → a ≡ b
+  pub same_line : (memory : RegisterMap) (at : ℕ) (a b : Result ListedLine program.ProgramRefusal) → AnswersFirst memory at a → AnswersFirst memory at b → a ≡ b
   same_line memory at (Ok first) (Ok other) p q =
       ap (λ (line : ListedLine). Ok line) (same_first (program_bytes memory) (final_position memory) at first other p q)
   same_line memory at (Ok first) (Err refusal) p q = absurd (q.1 first p)

@@ -1,6 +1,6 @@
 //! Laws of lines: each is the contract of a function with nothing to do but to call the laws it rests on.
 
-ghost use Rattle.h41_focal.specs.LineLaws.{FailureIsDetermined, StepIsDetermined, TypedIsDetermined};
+ghost use Rattle.h41_focal.specs.LineLaws.{FailureIsDetermined, StepIsDetermined, SteppedCanBeTyped, TypedAsStepped, TypedIsDetermined};
 
 use h41_program::laws::{lists_are_determined, searches_are_determined};
 use h41_rows::laws::values_are_determined;
@@ -10,6 +10,17 @@ pub fn line_is_determined()
     ensures step { StepIsDetermined }
     ensures typed { TypedIsDetermined }
     ensures failure { FailureIsDetermined }
+{
+    values_are_determined();
+    lists_are_determined();
+    searches_are_determined();
+}
+
+/// Lines that go on to the next leave the same memory and the same lift, typed in turn or stepped; and where they can be stepped
+/// they can be typed.
+pub fn typed_as_stepped()
+    ensures same { TypedAsStepped }
+    ensures typed { SteppedCanBeTyped }
 {
     values_are_determined();
     lists_are_determined();

@@ -1,0 +1,164 @@
+-- Why lines that go on to the next one leave the same, stepped or typed.
+use Rattle.std.proofs.Common.{◌≡◌, ℕ, Bool, true, false, List, [], ◌∷◌, All, None, Option, Result, Ok, Err, refl, sym, ap, ◌∙◌, subst}
+use Rattle.std.proofs.lemmas.List.Elements.{All-head, All-tail}
+use Rattle.std.specs.Prelude.{IfOk, MatchBool, if◌then◌else◌}
+use Rattle.h41_codes.specs.declared.line.Line.{Line}
+use Rattle.h41_codes.specs.declared.line.Line.TheVariants.{Module}
+use Rattle.h41_focal.proofs.OneOutcome.{same_line, typed_determined}
+use Rattle.h41_focal.specs.Courses.{Arrives, Course, Stays, StepsFrom, Stepped, Typed, TypedFrom}
+use Rattle.h41_focal.specs.LineLaws.{AreAlike, GoesToNext, IsAt, StepsInTurn, SteppedCanBeTyped, TypedAsStepped, TypedIsDetermined, TypesInTurn}
+use Rattle.h41_focal.specs.LineStep.{Applies, AppliesTo, AppliesWith, CarriesOut, Ends, FailsIn, FocalState, Left, Machine, StepsAs, StepsLine, TakesLine, TypesLine, answered, caught, done, error_flag, failed, named_by, placed, worked}
+use Rattle.h41_focal.specs.declared.refusal.FocalRefusal.{FocalRefusal}
+use Rattle.h41_focal.specs.declared.refusal.FocalRefusal.TheVariants.{MemoryLost, NotInProfile}
+use Rattle.h41_program.specs.ProgramLaws.{FirstIsDetermined}
+use Rattle.h41_program.specs.ProgramLines.{AnswersFirst, AnswersNext}
+use Rattle.h41_program.specs.SearchLaws.{AnswersAreDetermined, LocalIsDetermined}
+use Rattle.h41_program.specs.declared.listed_line.ListedLine.{ListedLine}
+use Rattle.h41_program.specs.declared.refusal.ProgramRefusal as program
+use Rattle.h41_ram.specs.RegisterMap.{flag_of, is_sound}
+use Rattle.h41_rows.specs.LineRows.{row_of}
+use Rattle.h41_rows.specs.Operands.{Meant, meant_of}
+use Rattle.h41_rows.specs.Profile.{is_left_out}
+use Rattle.h41_rows.specs.RowLaws.{ValuesAreDetermined}
+use Rattle.h41_rows.specs.Rows as rows
+use Rattle.h41_rows.specs.declared.fault.LineFault.{LineFault}
+
+-- a machine's memory and lift, with what else there is of another
+abbrev beside : Machine → FocalState → Machine
+beside machine focal = record { memory = machine.memory; focal = record focal { lift = machine.focal.lift } }
+
+same_beside : (machine other : Machine) → AreAlike machine other → beside machine other.focal ≡ other
+same_beside machine other alike =
+    ap (λ memory. let made : Machine = record { memory = memory; focal = record other.focal { lift = machine.focal.lift } } in made) alike.0
+    ∙ ap (λ lift. let made : Machine = record { memory = other.memory; focal = record other.focal { lift = lift } } in made) alike.1
+
+same_left : (left other : Left) → ◌≡◌ {A = Result Left FocalRefusal} (Ok left) (Ok other) → left ≡ other
+same_left left other is = cc
+
+no_refusal : (left : Left) (refusal : FocalRefusal) → ◌≡◌ {A = Result Left FocalRefusal} (Ok left) (Err refusal) → ⊥
+no_refusal left refusal is = cc
+
+-- what is the same is alike
+as_same : (left other : Left) → left ≡ other → (machine : Machine) → AreAlike other.machine machine → AreAlike left.machine machine
+as_same left other is machine alike = subst (λ (of : Left). AreAlike of.machine machine) (sym is) alike
+
+-- something is left that is like this
+abbrev LeavesLike : (Result Left FocalRefusal → Type 0) → Left → Type 0
+LeavesLike carries left = (typed : Left) × carries (Ok typed) × AreAlike left.machine typed.machine
+
+-- a fault
+abbrev typed_fault : Bool → Machine → LineFault → Left
+typed_fault flag_25 machine fault = if flag_25 then done (caught machine) else failed machine fault
+
+fails_alike : (flag_25 : Bool) (machine : Machine) (focal : FocalState) (fault : LineFault) (left : Left)
+    → MatchBool flag_25 ((next : ℕ) × AnswersNext machine.memory machine.focal.position (Ok next) × (left ≡ done (placed next (caught machine))))
+    (left ≡ failed (placed machine.focal.position machine) fault)
+    → AreAlike left.machine (typed_fault flag_25 (beside machine focal) fault).machine
+fails_alike true machine focal fault left (next, answers, is) = as_same left _ is (caught (beside machine focal)) (refl, refl)
+fails_alike false machine focal fault left is = as_same left _ is (beside machine focal) (refl, refl)
+
+failure_alike : (machine : Machine) (focal : FocalState) (fault : LineFault) (left : Left)
+    → FailsIn Stepped machine fault (Ok left) → LeavesLike (FailsIn Typed (beside machine focal) fault) left
+failure_alike machine focal fault left (own, fails, is) =
+    let flag_25 = flag_of machine.memory error_flag in
+    let typed = typed_fault flag_25 (beside machine focal) fault in
+    (typed, (typed, refl, refl), as_same left own (same_left left own is) typed.machine (fails_alike flag_25 machine focal fault own fails))
+
+-- a row that goes on to the next line
+with_alike : (row : rows.Row) (named : ℕ) (machine : Machine) (focal : FocalState) (result : Result (List ℕ) LineFault) (left : Left)
+    → row.goes ≡ rows.Next → AppliesWith Stepped row named machine result (Ok left)
+    → LeavesLike (AppliesWith Typed row named (beside machine focal) result) left
+with_alike row named machine focal (Err fault) left goes_on applies = failure_alike machine focal fault left applies
+with_alike row named machine focal (Ok result) left goes_on (course, (next, answers, goes), ends) =
+    let new = worked row named result machine in
+    let other = beside machine focal in
+    let answer = answered machine.memory named row.shows row.ends in
+    let arrives : course ≡ Arrives next machine.focal.returns =
+    subst (λ (going : rows.Going). StepsFrom going machine.memory named machine.focal.position next machine.focal.returns course) goes_on goes in
+    let is = subst (λ (course : Course). Ends Stepped machine new answer course (Ok left)) arrives ends in
+    let stays = subst (λ (going : rows.Going). TypedFrom going other.memory named other.focal.position other.focal.returns Stays) (sym goes_on) refl in
+    let typed : Left = record { machine = worked row named result other; answer = answer } in
+    (typed, (Stays, stays, refl), as_same left _ (same_left left _ is) typed.machine (refl, refl))
+
+row_alike : (row : rows.Row) (named : ℕ) (machine : Machine) (focal : FocalState) (left : Left) → row.goes ≡ rows.Next
+    → Applies Stepped row named machine (Ok left) → LeavesLike (Applies Typed row named (beside machine focal)) left
+row_alike row named machine focal left goes_on (result, works, applies) =
+    let found = with_alike row named machine focal result left goes_on applies in
+    (found.0, (result, works, found.1), found.2)
+
+-- a line that goes on to the next one
+meant_alike : (line : Line) (machine : Machine) (focal : FocalState) (meant : Result Meant LineFault) (left : Left)
+    → IfOk meant (λ meant. (row_of line meant).goes ≡ rows.Next) → AppliesTo Stepped line machine meant (Ok left)
+    → LeavesLike (AppliesTo Typed line (beside machine focal) meant) left
+meant_alike line machine focal (Err fault) left goes_on applies = failure_alike machine focal fault left applies
+meant_alike line machine focal (Ok meant) left goes_on applies = row_alike (row_of line meant) (named_by meant) machine focal left goes_on applies
+
+carried_alike : (line : Line) (machine : Machine) (focal : FocalState) (left : Left)
+    → GoesToNext line → CarriesOut Stepped line machine (Ok left) → LeavesLike (CarriesOut Typed line (beside machine focal)) left
+carried_alike (Module number entry) machine focal left goes_on carries = absurd goes_on
+carried_alike line machine focal left goes_on carries = meant_alike line machine focal (meant_of machine.memory line) left (goes_on machine.memory) carries
+
+profile_alike : (left_out : Bool) (line : Line) (machine : Machine) (focal : FocalState) (left : Left) → GoesToNext line
+    → MatchBool left_out (◌≡◌ {A = Result Left FocalRefusal} (Ok left) (Err NotInProfile)) (CarriesOut Stepped line machine (Ok left))
+    → LeavesLike (λ carried. MatchBool left_out (carried ≡ Err NotInProfile) (CarriesOut Typed line (beside machine focal) carried)) left
+profile_alike true line machine focal left goes_on is = absurd (no_refusal left NotInProfile is)
+profile_alike false line machine focal left goes_on carries = carried_alike line machine focal left goes_on carries
+
+taken_alike : (line : Line) (machine : Machine) (focal : FocalState) (left : Left)
+    → GoesToNext line → TakesLine Stepped line machine (Ok left) → LeavesLike (TakesLine Typed line (beside machine focal)) left
+taken_alike line machine focal left goes_on takes = profile_alike (is_left_out line) line machine focal left goes_on takes
+
+-- the line at the position, where no bytes have two first lines
+module _ (same_first : FirstIsDetermined) where
+  sound_alike : (sound : Bool) (line : Line) (machine : Machine) (focal : FocalState) (left : Left) → GoesToNext line → IsAt line machine
+      → MatchBool sound
+      ((first : Result ListedLine program.ProgramRefusal) × AnswersFirst machine.memory machine.focal.position first × StepsAs None machine first (Ok left))
+      (◌≡◌ {A = Result Left FocalRefusal} (Ok left) (Err MemoryLost))
+      → LeavesLike (λ carried. MatchBool sound (TakesLine Typed line (beside machine focal) carried) (carried ≡ Err MemoryLost)) left
+  sound_alike true line machine focal left goes_on (own, stands, is) (first, answers, steps) =
+      let same = same_line same_first machine.memory machine.focal.position first (Ok own) answers stands in
+      let takes : TakesLine Stepped own.line machine (Ok left) =
+      subst (λ (first : Result ListedLine program.ProgramRefusal). StepsAs None machine first (Ok left)) same steps in
+      taken_alike line machine focal left goes_on (subst (λ (line : Line). TakesLine Stepped line machine (Ok left)) is takes)
+  sound_alike false line machine focal left goes_on stands is = absurd (no_refusal left MemoryLost is)
+
+  line_alike : (line : Line) (machine other : Machine) (left : Left) → GoesToNext line → AreAlike machine other → IsAt line machine
+      → StepsLine None machine (Ok left) → LeavesLike (TypesLine line other) left
+  line_alike line machine other left goes_on alike stands steps =
+      subst (λ (other : Machine). LeavesLike (TypesLine line other) left) (same_beside machine other alike)
+      (sound_alike (is_sound machine.memory) line machine other.focal left goes_on stands steps)
+
+  -- lines in turn
+  turn_alike : (lines : List Line) (machine other left : Machine) → All GoesToNext lines → AreAlike machine other → StepsInTurn lines machine left
+      → (typed : Machine) × TypesInTurn lines other typed × AreAlike left typed
+  turn_alike [] machine other left go_on alike is = (other, refl, subst (λ (left : Machine). AreAlike left other) (sym is) alike)
+  turn_alike (line ∷ lines) machine other left go_on alike (stands, after, steps, others) =
+      let one = line_alike line machine other after (All-head GoesToNext line lines go_on) alike stands steps in
+      let rest = turn_alike lines after.machine one.0.machine left (All-tail GoesToNext line lines go_on) one.2 others in
+      (rest.0, (one.0, one.1, rest.1), rest.2)
+
+  pub can_be_typed : SteppedCanBeTyped
+  can_be_typed lines machine other left go_on alike steps =
+      let found = turn_alike lines machine other left go_on alike steps in
+      (found.0, found.1)
+
+-- lines that are typed in turn have one outcome
+same_turn : TypedIsDetermined → (lines : List Line) (machine left other : Machine)
+    → TypesInTurn lines machine left → TypesInTurn lines machine other → left ≡ other
+same_turn determined [] machine left other p q = p ∙ sym q
+same_turn determined (line ∷ lines) machine left other p q =
+    let same = same_left p.0 q.0 (determined line machine (Ok p.0) (Ok q.0) p.1 q.1) in
+    same_turn determined lines q.0.machine left other (subst (λ (after : Left). TypesInTurn lines after.machine left) same p.2) q.2
+
+-- so they leave what is like that which is left where they are stepped
+module _
+    (same_value : ValuesAreDetermined)
+    (same_first : FirstIsDetermined)
+    (same_start : AnswersAreDetermined ℕ)
+    (same_local : LocalIsDetermined)
+    (same_global : AnswersAreDetermined (Option ℕ)) where
+  pub typed_alike : TypedAsStepped
+  typed_alike lines machine other left typed go_on alike steps types =
+      let found = turn_alike same_first lines machine other left go_on alike steps in
+      let same = same_turn (typed_determined same_value same_first same_start same_local same_global) lines other found.0 typed found.1 types in
+      subst (λ (typed : Machine). AreAlike left typed) same found.2

@@ -1,0 +1,10 @@
+use Rattle.h41_focal.proofs.TypedAsStepped.{can_be_typed, typed_alike}
+use Rattle.h41_focal.proofs.laws.typed_as_stepped.Goals as goal
+
+pub returns-clause-same : goal.returns-clause-same
+returns-clause-same c =
+    typed_alike c.values_are_determined.ensures c.lists_are_determined.ensures.first c.searches_are_determined.ensures.start
+    c.searches_are_determined.ensures.local c.searches_are_determined.ensures.global
+
+pub returns-clause-typed : goal.returns-clause-typed
+returns-clause-typed c = can_be_typed c.lists_are_determined.ensures.first

@@ -7,9 +7,9 @@ use Rattle.h41_xrom.specs.Calculator.{CalculatorState}
 use Rattle.h41_xrom.specs.declared.calculator.Mode.{Mode}
 use Rattle.h41_xrom.specs.declared.calculator.Mode.TheVariants as modes
 
--- a position of program memory by its four decimal digits
+-- a position of program memory by its last four decimal digits; none has more
 abbrev pub position_digits : ℕ → List ℕ
-position_digits position = two_digits (position / 100) ++ two_digits (position % 100)
+position_digits position = two_digits (position / 100 % 100) ++ two_digits (position % 100)
 
 -- the mode, and the address of the next word; while nothing runs the position in program memory
 abbrev pub position_in : CalculatorState → Mode → List ℕ

@@ -1,6 +1,6 @@
 //! Where the calculator is, as a text.
 
-ghost use Rattle.std.specs.Prelude.{◌≡◌, ◌<◌};
+ghost use Rattle.std.specs.Prelude.{◌≡◌};
 ghost use Rattle.h41_debug.specs.Positions as spec;
 
 use crate::bench::Bench;
@@ -21,7 +21,7 @@ impl Bench {
         match calculator.mode() {
             Mode::Idle => {
                 text.push_str("Idle ");
-                text.push_str(position_digits(calculator.position()).as_str());
+                text.push_str(position_digits(calculator.focal().position).as_str());
             }
             Mode::Micro => {
                 text.push_str("Micro ");
@@ -32,13 +32,12 @@ impl Bench {
     }
 }
 
-/// The four decimal digits of a position.
+/// The last four decimal digits of a position. Positions in memory have no more.
 pub fn position_digits(position: u16) -> ArrayString<4>
-    requires { position < 10000 }
     ensures { result.bytes ≡ spec.position_digits position }
 {
     let mut digits = ArrayString::new();
-    digits.push_str(two_digits((position / 100) as u8).as_str());
+    digits.push_str(two_digits((position / 100 % 100) as u8).as_str());
     digits.push_str(two_digits((position % 100) as u8).as_str());
     digits
 }

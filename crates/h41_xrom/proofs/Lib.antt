@@ -1,3 +1,4 @@
-pub mod EmptyPrograms
 pub mod Loading
+pub mod Named
 pub mod StepLaws
+pub mod Stepping

@@ -1,5 +1,6 @@
 -- What loading leaves, by the answer of program memory.
 use Rattle.std.proofs.Common.{◌≡◌, ℕ, true, List, [], Some, None, Result, Ok, Err, refl, sym, ap, subst, ◌∙◌}
+use Rattle.h41_focal.specs.LineStep.{FocalState}
 use Rattle.h41_program.specs.declared.refusal.ProgramRefusal as program
 use Rattle.h41_program.specs.Edits as edits
 use Rattle.h41_program.specs.Edits.{LoadGives}
@@ -8,12 +9,11 @@ use Rattle.h41_ram.specs.RegisterMap.{RegisterMap}
 use Rattle.h41_xrom.specs.declared.refusal.CalculatorRefusal.{CalculatorRefusal}
 use Rattle.h41_xrom.specs.declared.refusal.CalculatorRefusal.TheVariants.{Program}
 use Rattle.h41_xrom.specs.Calculator.{CalculatorState}
-use Rattle.h41_xrom.specs.Programs.{Loads, change_refusal, with_memory, with_program}
+use Rattle.h41_xrom.specs.Programs.{Loads, at_program, change_refusal, with_memory, with_program}
 
--- the calculator with another memory, at line 00 of the program at a position, with these positions to return to
-abbrev pub with_place : RegisterMap → ℕ → List ℕ → CalculatorState → CalculatorState
-with_place memory position returns s =
-    record s { nut = record s.nut { ram = memory }; focal = record { position = position; at_line_00 = true; returns = returns } }
+-- the calculator with another memory, and another place in it
+abbrev pub with_place : RegisterMap → FocalState → CalculatorState → CalculatorState
+with_place memory focal s = record s { nut = record s.nut { ram = memory }; focal = focal }
 
 -- a load that is refused before program memory is asked
 pub load_refused : (bytes : List ℕ) (s : CalculatorState) (why : CalculatorRefusal) → Some why ≡ change_refusal s → Loads bytes s s (Some why)
@@ -37,18 +37,20 @@ pub load_failed : (bytes : List ℕ) (from s : CalculatorState) (memory : Regist
 load_failed bytes from s memory why is accepted loads = failed_by bytes from s memory why loads.0 is accepted loads.1 loads.2
 
 -- and one that is done
-done_by : (bytes : List ℕ) (from s : CalculatorState) (memory : RegisterMap) (position : ℕ) (returns : List ℕ) (outcome : Result (RegisterMap × ℕ) program.ProgramRefusal)
-    → from ≡ s → returns ≡ [] → None ≡ change_refusal s → LoadGives from.nut.ram bytes outcome → HasOutcome from.nut.ram memory (Ok position) outcome
-    → Loads bytes s (with_place memory position returns from) None
-done_by bytes from s memory position returns (Ok made) is none accepted given gives =
+done_by : (bytes : List ℕ) (from s : CalculatorState) (memory : RegisterMap) (position : ℕ) (after : FocalState) (outcome : Result (RegisterMap × ℕ) program.ProgramRefusal)
+    → from ≡ s → after ≡ at_program position from.focal → None ≡ change_refusal s → LoadGives from.nut.ram bytes outcome
+    → HasOutcome from.nut.ram memory (Ok position) outcome → Loads bytes s (with_place memory after from) None
+done_by bytes from s memory position after (Ok made) is place accepted given gives =
     let done : Ok position ≡ Ok made.1 = gives.0 in
-    let same : position ≡ made.1 = cc in (
+    let same : position ≡ made.1 = cc in
+    let there : after ≡ at_program made.1 s.focal = place ∙ (λ i. at_program (same i) (is i).focal) in (
       Ok (with_program made.0 made.1 s),
       rw (sym accepted) (Ok made, subst (λ (of : CalculatorState). LoadGives of.nut.ram bytes (Ok made)) is given, refl),
-      (λ i. with_place (gives.1 i) (same i) (none i) (is i), refl),
+      (λ i. with_place (gives.1 i) (there i) (is i), refl),
     )
-done_by bytes from s memory position returns (Err other) is none accepted given gives = let never : Ok position ≡ Err other = gives.0 in cc
+done_by bytes from s memory position after (Err other) is place accepted given gives = let never : Ok position ≡ Err other = gives.0 in cc
 
-pub load_done : (bytes : List ℕ) (from s : CalculatorState) (memory : RegisterMap) (position : ℕ) (returns : List ℕ) → from ≡ s → returns ≡ [] → None ≡ change_refusal s
-    → edits.Loads from.nut.ram memory bytes (Ok position) → Loads bytes s (with_place memory position returns from) None
-load_done bytes from s memory position returns is none accepted loads = done_by bytes from s memory position returns loads.0 is none accepted loads.1 loads.2
+pub load_done : (bytes : List ℕ) (from s : CalculatorState) (memory : RegisterMap) (position : ℕ) (after : FocalState) → from ≡ s
+    → after ≡ at_program position from.focal → None ≡ change_refusal s → edits.Loads from.nut.ram memory bytes (Ok position)
+    → Loads bytes s (with_place memory after from) None
+load_done bytes from s memory position after is place accepted loads = done_by bytes from s memory position after loads.0 is place accepted loads.1 loads.2

@@ -1,48 +1,106 @@
 -- Why a step and a load leave nothing open.
-use Rattle.std.proofs.Common.{◌≡◌, ℕ, Bool, true, false, List, Option, Some, None, Result, Err, refl, sym, ap, ◌∙◌}
-use Rattle.std.specs.Prelude.{MatchBool, MatchOption}
+use Rattle.std.proofs.Common.{◌≡◌, ℕ, List, Option, Some, None, Result, Ok, Err, refl, sym, ap, subst, ◌∙◌}
+use Rattle.std.specs.Prelude.{MatchOption, option_map}
 use Rattle.std.specs.Result.{result_err, result_unwrap_or}
+use Rattle.h41_codes.specs.declared.functions.Function.{Function}
+use Rattle.h41_codes.specs.declared.line.Line.TheVariants.{Plain}
+use Rattle.h41_focal.specs.LineLaws.{FailureIsDetermined, StepIsDetermined}
+use Rattle.h41_focal.specs.LineStep.{Left, Machine}
+use Rattle.h41_focal.specs.Outcomes.{Answer}
+use Rattle.h41_focal.specs.Outcomes as answers
+use Rattle.h41_focal.specs.declared.refusal.FocalRefusal.{FocalRefusal}
 use Rattle.h41_nut.specs.ProcessorLaws.{MicroIsDetermined}
+use Rattle.h41_pages.specs.FunctionTables.{entry_at, found}
+use Rattle.h41_pages.specs.PageMap.{PageMap}
+use Rattle.h41_pages.specs.declared.functions.Entry.{Entry}
 use Rattle.h41_program.specs.declared.refusal.ProgramRefusal as program
 use Rattle.h41_program.specs.Edits.{LoadGives}
 use Rattle.h41_program.specs.ProgramLaws.{LoadsAreDetermined}
-use Rattle.h41_ram.specs.RegisterMap.{RegisterMap, is_sound}
+use Rattle.h41_ram.specs.RegisterMap.{RegisterMap}
+use Rattle.h41_rows.specs.declared.fault.LineFault.TheVariants.{Nonexistent}
+use Rattle.h41_text.specs.TextLaws.{OneLineOfText}
+use Rattle.h41_xrom.proofs.Named.{text_of}
 use Rattle.h41_xrom.specs.declared.calculator.Mode.{Mode}
 use Rattle.h41_xrom.specs.declared.calculator.Mode.TheVariants as modes
 use Rattle.h41_xrom.specs.declared.refusal.CalculatorRefusal.{CalculatorRefusal}
-use Rattle.h41_xrom.specs.Calculator.{CalculatorState, RefusesLine, RefusesStepIn, StepIn, mode_at}
-use Rattle.h41_xrom.specs.CalculatorLaws.{LoadIsDetermined, StepIsDetermined, StepRefusalIsDetermined}
+use Rattle.h41_xrom.specs.Calculator.{CalculatorState, CarriesHere, RefusesStepIn, StepIn, after_line, after_word, machine_of}
+use Rattle.h41_xrom.specs.CalculatorLaws as CalculatorLaws
+use Rattle.h41_xrom.specs.CalculatorLaws.{LoadIsDetermined, StepRefusalIsDetermined}
+use Rattle.h41_xrom.specs.Lines.{CallsEntry, CallsName, CarriesNamed, GoesOn, GoesOnFrom, IsNamed, of_line}
 use Rattle.h41_xrom.specs.Programs.{change_refusal, loaded}
 
--- why a step is refused
-same_line_refusal : (s : CalculatorState) (a b : Option CalculatorRefusal) → RefusesLine s a → RefusesLine s b → a ≡ b
-same_line_refusal s None None p q = refl
-same_line_refusal s None (Some why) p q = absurd (q.1 p)
-same_line_refusal s (Some why) None p q = absurd (p.1 q)
-same_line_refusal s (Some why) (Some other) p q = ap Some (p.0 ∙ sym q.0)
+-- a line
+same_function_by : (a b : Function) → Plain a ≡ Plain b → a ≡ b
+same_function_by a b is = cc
 
-same_by_soundness : (sound : Bool) (s : CalculatorState) (a b lost : Option CalculatorRefusal)
-    → MatchBool sound (RefusesLine s a) (a ≡ lost) → MatchBool sound (RefusesLine s b) (b ≡ lost) → a ≡ b
-same_by_soundness true s a b lost p q = same_line_refusal s a b p q
-same_by_soundness false s a b lost p q = p ∙ sym q
+module _ (same_step : StepIsDetermined) (same_failure : FailureIsDetermined) (one_line : OneLineOfText) where
+  same_entry : (entry : Option Entry) (machine : Machine) (a b : Result Left FocalRefusal) → CallsEntry entry machine a → CallsEntry entry machine b → a ≡ b
+  same_entry (Some entry) machine a b p q = p ∙ sym q
+  same_entry None machine a b p q = same_failure Nonexistent machine a b p q
 
-same_refusal : (mode : Mode) (s : CalculatorState) (a b : Option CalculatorRefusal) → RefusesStepIn mode s a → RefusesStepIn mode s b → a ≡ b
-same_refusal modes.Idle s a b p q = same_by_soundness (is_sound s.nut.ram) s a b _ p q
-same_refusal modes.Micro s a b p q = p ∙ sym q
+  same_function : (name : List ℕ) (a b : Option Function) → IsNamed name a → IsNamed name b → a ≡ b
+  same_function name (Some a) (Some b) p q = ap Some (same_function_by a b (one_line name (Plain a) (Plain b) (text_of name a p) (text_of name b q)))
+  same_function name (Some a) None p q = absurd (q a p)
+  same_function name None (Some b) p q = absurd (p b q)
+  same_function name None None p q = refl
 
-pub refusal_determined : StepRefusalIsDetermined
-refusal_determined s a b p q = same_refusal s.mode s a b p q
+  same_named : (function : Option Function) (machine : Machine) (a b : Result Left FocalRefusal)
+      → CarriesNamed function machine a → CarriesNamed function machine b → a ≡ b
+  same_named (Some function) machine a b p q = same_step (Some function) machine a b p q
+  same_named None machine a b p q = same_failure Nonexistent machine a b p q
 
--- the state that a step leaves
-module _ (same_micro : MicroIsDetermined) where
-  same_step : (mode : Mode) (s t u : CalculatorState) → StepIn mode s t → StepIn mode s u → t ≡ u
-  same_step modes.Idle s t u p q = p ∙ sym q
-  same_step modes.Micro s t u p q =
-      let nut : t.nut ≡ u.nut = same_micro s.nut t.nut u.nut p.0 q.0 in
-      p.1 ∙ ap (λ reached. record s { nut = reached; mode = mode_at reached.processor.pc }) nut ∙ sym q.1
+  same_name : (numbers : Option (ℕ × ℕ)) (pages : PageMap) (name : List ℕ) (machine : Machine) (a b : Result Left FocalRefusal)
+      → CallsName numbers pages name machine a → CallsName numbers pages name machine b → a ≡ b
+  same_name (Some numbers) pages name machine a b p q = same_entry (entry_at pages numbers.0 numbers.1) machine a b p q
+  same_name None pages name machine a b (f, f_named, f_carries) (g, g_named, g_carries) =
+      let same : f ≡ g = same_function name f g f_named g_named in
+      same_named g machine a b (subst (λ (function : Option Function). CarriesNamed function machine a) same f_carries) g_carries
 
-  pub step_determined : StepIsDetermined
-  step_determined s t u p q = same_step s.mode s t u p q
+  same_going : (answer : Answer) (pages : PageMap) (machine : Machine) (left : Left) (a b : Result Left FocalRefusal)
+      → GoesOn pages machine left answer a → GoesOn pages machine left answer b → a ≡ b
+  same_going (answers.Calls number entry) pages machine left a b p q = same_entry (entry_at pages number entry) machine a b p q
+  same_going (answers.Seeks name) pages machine left a b p q = same_name (found pages name) pages name machine a b p q
+  same_going answers.Done pages machine left a b p q = p ∙ sym q
+  same_going answers.Stopped pages machine left a b p q = p ∙ sym q
+  same_going answers.TurnedOff pages machine left a b p q = p ∙ sym q
+  same_going (answers.Viewed text) pages machine left a b p q = p ∙ sym q
+  same_going (answers.Prompted text) pages machine left a b p q = p ∙ sym q
+  same_going answers.Cleared pages machine left a b p q = p ∙ sym q
+  same_going (answers.Answered holds) pages machine left a b p q = p ∙ sym q
+  same_going answers.Runs pages machine left a b p q = p ∙ sym q
+  same_going (answers.Failed fault) pages machine left a b p q = p ∙ sym q
+
+  same_from : (own : Result Left FocalRefusal) (pages : PageMap) (machine : Machine) (a b : Result Left FocalRefusal)
+      → GoesOnFrom pages machine own a → GoesOnFrom pages machine own b → a ≡ b
+  same_from (Ok left) pages machine a b p q = same_going left.answer pages machine left a b p q
+  same_from (Err refusal) pages machine a b p q = p ∙ sym q
+
+  same_line : (s : CalculatorState) (a b : Result Left FocalRefusal) → CarriesHere s a → CarriesHere s b → a ≡ b
+  same_line s a b (own, own_steps, own_goes) (other, other_steps, other_goes) =
+      let same : own ≡ other = same_step None (machine_of s) own other own_steps other_steps in
+      same_from other s.nut.pages (machine_of s) a b (subst (λ (of : Result Left FocalRefusal). GoesOnFrom s.nut.pages (machine_of s) of a) same own_goes) other_goes
+
+  -- why a step is refused
+  same_refusal : (mode : Mode) (s : CalculatorState) (a b : Option CalculatorRefusal) → RefusesStepIn mode s a → RefusesStepIn mode s b → a ≡ b
+  same_refusal modes.Idle s a b (p, p_carries, p_is) (q, q_carries, q_is) =
+      p_is ∙ ap (λ (of : Result Left FocalRefusal). option_map of_line (result_err of)) (same_line s p q p_carries q_carries) ∙ sym q_is
+  same_refusal modes.Micro s a b p q = p ∙ sym q
+
+  pub refusal_determined : StepRefusalIsDetermined
+  refusal_determined s a b p q = same_refusal s.mode s a b p q
+
+  same_left : (left other : Left) → ◌≡◌ {A = Result Left FocalRefusal} (Ok left) (Ok other) → left ≡ other
+  same_left left other is = cc
+
+  -- the state that a step leaves
+  module _ (same_micro : MicroIsDetermined) where
+    same_state : (mode : Mode) (s t u : CalculatorState) → StepIn mode s t → StepIn mode s u → t ≡ u
+    same_state modes.Idle s t u (p, p_carries, p_is) (q, q_carries, q_is) =
+        p_is ∙ ap (after_line s) (same_left p q (same_line s (Ok p) (Ok q) p_carries q_carries)) ∙ sym q_is
+    same_state modes.Micro s t u p q = p.1 ∙ ap (after_word s) (same_micro s.nut t.nut u.nut p.0 q.0) ∙ sym q.1
+
+    pub step_determined : CalculatorLaws.StepIsDetermined
+    step_determined s t u p q = same_state s.mode s t u p q
 
 -- what a load makes
 module _ (same_load : LoadsAreDetermined) where

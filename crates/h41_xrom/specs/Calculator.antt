@@ -8,6 +8,7 @@ use Rattle.h41_nut.specs.declared.refusal.WordRefusal.TheVariants as words
 use Rattle.h41_pages.specs.declared.refusal.PlugRefusal.{PlugRefusal}
 use Rattle.h41_focal.specs.LineStep as focal
 use Rattle.h41_focal.specs.LineStep.{FocalState, Left, Machine}
+use Rattle.h41_focal.specs.Outcomes.{Answer}
 use Rattle.h41_focal.specs.declared.refusal.FocalRefusal.{FocalRefusal}
 use Rattle.h41_ram.specs.RegisterMap as ram
 use Rattle.h41_nut.specs.Processor.{initial, entered}
@@ -91,13 +92,17 @@ restarted s = with_pages (pages.with_first_banks s.nut.pages) start
 abbrev pub machine_of : CalculatorState → Machine
 machine_of s = record { memory = s.nut.ram; focal = s.focal }
 
+-- what a line leaves in the display
+abbrev pub with_shown : Answer → CalculatorState → CalculatorState
+with_shown answer s = record s {
+  nut = record s.nut { processor = processor_after answer s.nut.processor };
+  message = message_after answer s.message;
+}
+
 -- the calculator after a line was carried out, by what it left: the mode stays
 abbrev pub after_line : CalculatorState → Left → CalculatorState
-after_line s left = record s {
-  nut = record s.nut { ram = left.machine.memory; processor = processor_after left.answer s.nut.processor };
-  focal = left.machine.focal;
-  message = message_after left.answer s.message;
-}
+after_line s left =
+    with_shown left.answer (record s { nut = record s.nut { ram = left.machine.memory }; focal = left.machine.focal })
 
 -- one line, or why it is refused
 abbrev pub CarriesHere : CalculatorState → Result Left FocalRefusal → Type 0

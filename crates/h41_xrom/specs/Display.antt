@@ -1,6 +1,6 @@
 -- What the display shows. The order of the cases is the Owner's Handbook's.
 use Rattle.std.specs.Prelude.{ℕ, List, [], not, if◌then◌else◌}
-use Rattle.std.specs.Option.{option_unwrap_or}
+use Rattle.std.specs.Option.{option_map_or}
 use Rattle.h41_ram.specs.RegisterMap.{RegisterMap, flag_of, register_at}
 use Rattle.h41_show.specs.DisplayFormat.{format_of}
 use Rattle.h41_show.specs.RegisterText.{alpha_text, register_text}
@@ -21,4 +21,4 @@ memory_text memory =
 
 -- the first that applies: nothing while the display is off, the message, and else what memory shows
 abbrev pub display_text : CalculatorState → List ℕ
-display_text s = if not s.nut.processor.display then [] else option_unwrap_or s.message (memory_text s.nut.ram)
+display_text s = if not s.nut.processor.display then [] else option_map_or (λ text. text) s.message (memory_text s.nut.ram)

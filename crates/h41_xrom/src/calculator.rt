@@ -1,27 +1,26 @@
 //! The calculator: processor, memory, pages and keys, and what it does.
 
-ghost use Rattle.std.specs.Prelude.{◌≡◌, ◌<◌, ◌↔◌, IsTrue, None, IfOk, IfErr, OnOk, OnErr};
+ghost use Rattle.std.specs.Prelude.{◌≡◌, None, IfOk, IfErr, OnOk, OnErr, option_map};
 ghost use Rattle.std.specs.Result.{result_err};
 ghost use Rattle.h41_pages.specs.PageMap.{unplug_refusal};
-ghost use Rattle.h41_xrom.specs.Calculator.{IsEmptyFrom, RefusesPage, RefusesStep, RefusesStepIn, Step, StepIn, TakesPage, call_refusal, called, restarted, start, with_page, without_page};
+ghost use Rattle.h41_xrom.specs.Calculator.{RefusesPage, RefusesStep, RefusesStepIn, Step, StepIn, TakesPage, call_refusal, called, restarted, start, with_page, with_shown, without_page};
+ghost use Rattle.h41_focal.specs.Outcomes.{answer_of};
 ghost use Rattle.h41_xrom.specs.declared.calculator.Mode.TheVariants.{Idle, Micro};
-ghost use Rattle.h41_ram.specs.RegisterMap.{is_sound};
-ghost use Rattle.h41_xrom.specs.Programs.{Becomes, Loads, change_refusal, size_makes};
+ghost use Rattle.h41_xrom.specs.Programs.{Becomes, Loads, at_program, change_refusal, size_makes};
 
+use crate::lines::carry_line;
+use crate::messages::fault_text;
 use crate::refusal::CalculatorRefusal;
-use arrayvec::ArrayVec;
+use h41_focal::{DisplayText, Focal, LineOutcome};
 use h41_nut::{Cpu, END_OF_FUNCTION, Keys, WordRefusal, step};
 use h41_pages::{FIRST_ADDRESS, Pages, PlugRefusal, UnplugRefusal};
-use h41_program::{first_from, is_final_end, load, set_size};
+use h41_program::{load, set_size};
 use h41_ram::Ram;
 use std::alloc::{AllocError, Global};
 use std::marker::Model;
 
 /// How many registers main memory has.
 pub const REGISTERS: usize = 320;
-
-/// How many positions of a program can be returned to.
-const RETURNS: usize = 6;
 
 /// What the calculator does.
 #[derive(Clone, Copy, Debug, PartialEq, Eq)]
@@ -39,17 +38,15 @@ pub struct Calculator {
     ram: Ram<REGISTERS>,
     pages: Pages,
     keys: Keys,
+    /// What lines work on, beside memory.
+    focal: Focal,
+    /// The text that the display shows in the place of X, where there is one.
+    message: Option<DisplayText>,
     mode: Mode,
-    /// Where the next line stands in program memory: bytes are counted from 0.
-    position: u16,
-    /// Whether that is line 00, the place before its program's first line.
-    is_at_line_00: bool,
-    /// The positions to return to.
-    returns: ArrayVec<u16, RETURNS>,
-    ghost printed: { position < 10000 },
 }
 
 impl Model for Calculator {
+    ghost use Rattle.std.specs.Prelude.{option_map};
     ghost use Rattle.h41_nut.specs.WordStep.{nut_of};
     ghost use Rattle.h41_xrom.specs.Calculator.{CalculatorState};
 
@@ -57,7 +54,8 @@ impl Model for Calculator {
 
     ghost view = { λ all. record {
       nut = nut_of all.cpu all.ram all.pages all.keys;
-      focal = record { position = all.position; at_line_00 = all.is_at_line_00; returns = all.returns.items };
+      focal = all.focal;
+      message = option_map (λ text. text.bytes) all.message;
       mode = all.mode;
     } };
 }
@@ -72,10 +70,9 @@ impl Calculator {
             ram: Ram::new(),
             pages: Pages::new(alloc)?,
             keys: Keys::new(),
+            focal: Focal::new(),
+            message: None,
             mode: Mode::Idle,
-            position: 0,
-            is_at_line_00: true,
-            returns: ArrayVec::new(),
         })
     }
 
@@ -114,12 +111,18 @@ impl Calculator {
         &self.keys
     }
 
-    /// Where the next line stands in program memory. A position counts bytes from 0, below 10,000.
-    pub fn position(&self) -> u16
-        ensures value { result ≡ self.now.focal.position }
-        ensures printed { result < 10000 }
+    /// What lines work on, beside memory.
+    pub fn focal(&self) -> &Focal
+        ensures { result.now ≡ self.now.focal }
     {
-        self.position
+        &self.focal
+    }
+
+    /// The text that the display shows in the place of X, where there is one.
+    pub fn message(&self) -> Option<DisplayText>
+        ensures { option_map (λ text. text.bytes) result ≡ self.now.message }
+    {
+        self.message
     }
 
     /// Begins the function at an address. Refused as 24 while a function runs, and as 8 below address 4000, 00F0 with
@@ -140,8 +143,9 @@ impl Calculator {
         Ok(())
     }
 
-    /// One step: a word while a function runs, which ends where it arrives at 00F0, and else a line. A word is refused
-    /// as 6 to 12, a line as 15 and 13, and nothing is changed then.
+    /// One step: a word while a function runs, which ends where it arrives at 00F0, and else the line at the position. A word is
+    /// refused as 6 to 12; a line as 15 where memory is not sound, as 14 where bytes are no line, as 13 where it is not carried
+    /// out. Nothing is changed then.
     pub fn step(&mut self) -> Result<(), CalculatorRefusal>
         ensures refusal { RefusesStep self.old (result_err result) }
         ensures change { OnOk result (Step self.old self.new) }
@@ -153,32 +157,36 @@ impl Calculator {
         }
     }
 
-    /// One line. Refused as 15 where memory is not sound, and as 13 until lines are carried out; over `.END.` there is
-    /// nothing to do.
-    fn step_line(&self) -> Result<(), CalculatorRefusal>
-        ensures { RefusesStepIn Idle self.now (result_err result) }
+    /// The line at the position, with what it leaves in the display.
+    fn step_line(&mut self) -> Result<(), CalculatorRefusal>
+        ensures refusal { RefusesStepIn Idle self.old (result_err result) }
+        ensures change { OnOk result (StepIn Idle self.old self.new) }
+        ensures err { OnErr result (self.new ≡ self.old) }
     {
-        if !self.ram.is_sound() {
-            return Err(CalculatorRefusal::MemoryLost);
-        }
-        if !self.is_program_empty() {
-            return Err(CalculatorRefusal::NotInProfile);
-        }
+        let outcome = carry_line(&mut self.ram, &mut self.focal, &self.pages)?;
+        self.show(outcome);
         Ok(())
     }
 
-    /// Whether the line at the position is `.END.`, as in an empty program.
-    fn is_program_empty(&self) -> bool
-        requires { IsTrue (is_sound self.now.nut.ram) }
-        ensures { IsTrue result ↔ IsEmptyFrom self.now.nut.ram self.now.focal.position }
+    /// What a line leaves in the display.
+    fn show(&mut self, outcome: LineOutcome)
+        ensures { self.new ≡ with_shown (answer_of outcome) self.old }
     {
-        match first_from(&self.ram, self.position) {
-            Some(found) => is_final_end(found.listed.line),
-            None => false,
+        match outcome {
+            LineOutcome::Viewed(text) | LineOutcome::Prompted(text) => self.message = Some(text),
+            LineOutcome::Cleared => self.message = None,
+            LineOutcome::Failed(fault) => self.message = Some(fault_text(fault)),
+            LineOutcome::TurnedOff => self.cpu.turn_display_off(),
+            LineOutcome::Done
+            | LineOutcome::Stopped
+            | LineOutcome::Answered(_)
+            | LineOutcome::Runs
+            | LineOutcome::Calls(_, _)
+            | LineOutcome::Seeks(_) => {}
         }
     }
 
-    /// One word, while a function runs.
+    /// One word, while a function runs; lift is on where the function ends.
     fn step_word(&mut self) -> Result<(), CalculatorRefusal>
         requires { self.old.mode ≡ Micro }
         ensures refusal { RefusesStepIn Micro self.old (result_err result) }
@@ -193,21 +201,20 @@ impl Calculator {
         )?;
         if self.cpu.pc() == END_OF_FUNCTION {
             self.mode = Mode::Idle;
+            self.focal.lift = true;
         }
         Ok(())
     }
 
     /// Loads the lines of bytes behind the programs of memory, goes to line 00 of the first of them, and forgets the positions
-    /// to return to. Refused as 24 while a function runs, as 15 where memory is not sound, as 14 where bytes of memory or of
+    /// to return to; lift and message stay. Refused as 24 while a function runs, as 15 where memory is not sound, as 14 where bytes of memory or of
     /// these are no line or an `.END.` stands before the end of these, as 16 where there is no room. Nothing is changed then.
     pub fn load(&mut self, bytes: &[u8]) -> Result<(), CalculatorRefusal>
         ensures { Loads bytes.now self.old self.new (result_err result) }
     {
         self.check_change()?;
         let position = load(&mut self.ram, bytes)?;
-        self.position = position;
-        self.is_at_line_00 = true;
-        self.returns.clear();
+        go_to_program(&mut self.focal, position);
         Ok(())
     }
 
@@ -270,9 +277,17 @@ impl Calculator {
         self.ram = Ram::new();
         self.pages.choose_first_banks();
         self.keys = Keys::new();
+        self.focal = Focal::new();
+        self.message = None;
         self.mode = Mode::Idle;
-        self.position = 0;
-        self.is_at_line_00 = true;
-        self.returns.clear();
     }
+}
+
+/// To line 00 of the program that begins at a position, with nowhere to return to; lift stays.
+fn go_to_program(focal: &mut Focal, position: u16)
+    ensures { focal.new ≡ at_program position focal.old }
+{
+    focal.position = position;
+    focal.is_at_line_00 = true;
+    focal.returns.clear();
 }

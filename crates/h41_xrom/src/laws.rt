@@ -2,14 +2,18 @@
 
 ghost use Rattle.h41_xrom.specs.CalculatorLaws.{LoadIsDetermined, StepIsDetermined, StepRefusalIsDetermined};
 
+use h41_focal::laws::line_is_determined;
 use h41_nut::laws::micro_is_determined;
 use h41_program::laws::loads_are_determined;
+use h41_text::laws::line_text_round_trip;
 
 /// One single step is determined: whether it is refused, its refusal, and the state that it leaves.
 pub fn step_is_determined()
     ensures refusal { StepRefusalIsDetermined }
     ensures state { StepIsDetermined }
 {
+    line_is_determined();
+    line_text_round_trip();
     micro_is_determined();
 }
 

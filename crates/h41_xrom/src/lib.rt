@@ -4,6 +4,8 @@
 mod calculator;
 mod display;
 pub mod laws;
+mod lines;
+mod messages;
 mod refusal;
 
 pub use calculator::{Calculator, Mode, REGISTERS};

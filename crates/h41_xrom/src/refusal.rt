@@ -2,6 +2,7 @@
 
 ghost use Rattle.std.specs.Prelude.{◌≡◌};
 
+use h41_focal::FocalRefusal;
 use h41_nut::WordRefusal;
 use h41_program::ProgramRefusal;
 use thiserror::Error;
@@ -15,7 +16,7 @@ pub enum CalculatorRefusal {
     /// 13: this line of a program is not carried out.
     #[error("this line is not carried out")]
     NotInProfile,
-    /// 14, 16 and 17: a change of program memory.
+    /// 14, 16 and 17: bytes that are no line, and changes of program memory.
     #[error("{0}")]
     Program(ProgramRefusal),
     /// 15: memory is not sound.
@@ -45,5 +46,20 @@ impl From<ProgramRefusal> for CalculatorRefusal {
 
     fn from(refusal: ProgramRefusal) -> Self {
         CalculatorRefusal::Program(refusal)
+    }
+}
+
+impl From<FocalRefusal> for CalculatorRefusal {
+    ghost use Rattle.std.specs.Prelude.{◌≡◌};
+    ghost use Rattle.h41_xrom.specs.Lines.{of_line};
+
+    ghost from_gives = { λ refusal own. own ≡ of_line refusal };
+
+    fn from(refusal: FocalRefusal) -> Self {
+        match refusal {
+            FocalRefusal::MemoryLost => CalculatorRefusal::MemoryLost,
+            FocalRefusal::BrokenProgram => CalculatorRefusal::Program(ProgramRefusal::BrokenProgram),
+            FocalRefusal::NotInProfile => CalculatorRefusal::NotInProfile,
+        }
     }
 }

@@ -14,5 +14,5 @@ returns-in_err-position c =
 
 pub returns : goal.returns
 returns c =
-    load_done c.args.bytes.now _ c.args.self.now c.load.new.ram c.in_ok-position.position c.clear.new.self.items c.self.view_is c.clear.ensures
+    load_done c.args.bytes.now _ c.args.self.now c.load.new.ram c.in_ok-position.position c.go_to_program.new.focal c.self.view_is c.go_to_program.ensures
     (c.in_ok-check_change.ensures) (c.in_ok-position.ensures).lines

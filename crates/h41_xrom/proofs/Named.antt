@@ -1,0 +1,32 @@
+-- What is named, by its text.
+use Rattle.std.proofs.Common.{◌≡◌, ℕ, List, Option, Some, None, Result, Ok, Err, refl, sym, ◌∙◌}
+use Rattle.std.specs.Prelude.{◌↔◌}
+use Rattle.h41_codes.specs.declared.functions.Function.{Function}
+use Rattle.h41_codes.specs.declared.line.Line.{Line}
+use Rattle.h41_codes.specs.declared.line.Line.TheVariants.{Null, Plain}
+use Rattle.h41_text.specs.LineReading.{IsTextOf}
+use Rattle.h41_text.specs.Names.{function_name}
+use Rattle.h41_text.specs.declared.faults.BadText.{BadText}
+use Rattle.h41_xrom.specs.LineCalls.{IsFunction}
+use Rattle.h41_xrom.specs.Lines.{IsNamed}
+
+not_null : (function : Function) → Plain function ≡ Null → ⊥
+not_null function is = cc
+
+pub text_of : (name : List ℕ) (function : Function) → function_name function ≡ name → IsTextOf name (Plain function)
+text_of name function same = record { has = record { valid = tt; shown = not_null function }; shortest = refl; same = same }
+
+-- the text is that of a line
+pub named_by : (name : List ℕ) (line : Line) (function : Option Function) (read : Result Line BadText)
+    → ((of : Line) → (read ≡ Ok of) ↔ IsTextOf name of) → read ≡ Ok line → IsFunction line function → IsNamed name function
+named_by name line (Some function) read means is found =
+    let text : IsTextOf name (Plain function) = (means (Plain function)).0 (rw found at is) in text.same
+named_by name line None read means is none = λ function same.
+    let own : read ≡ Ok (Plain function) = (means (Plain function)).1 (text_of name function same) in
+    none function cc
+
+-- and of none
+pub named_none : (name : List ℕ) (fault : BadText) (read : Result Line BadText)
+    → ((of : Line) → (read ≡ Ok of) ↔ IsTextOf name of) → read ≡ Err fault → IsNamed name None
+named_none name fault read means is = λ function same.
+    let own : read ≡ Ok (Plain function) = (means (Plain function)).1 (text_of name function same) in cc

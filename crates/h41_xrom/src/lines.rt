@@ -1,0 +1,90 @@
+//! A line that calls what memory does not have.
+
+ghost use Rattle.h41_focal.specs.LineCalls.{KeepsAll};
+ghost use Rattle.h41_xrom.specs.LineCalls.{CallsAt, CallsNamed, Carries, IsFunction};
+ghost use Rattle.h41_xrom.specs.Lines.{IsNamed};
+
+use h41_codes::{Function, Line};
+use h41_focal::{Focal, FocalRefusal, LineFault, LineOutcome, fail_line, step_as, step_line};
+use h41_pages::Pages;
+use h41_ram::Ram;
+use h41_text::read_line;
+
+/// The line at the position is carried out; a function that memory does not have is looked up in the modules, then among the
+/// calculator's own.
+pub fn carry_line<const REGS: usize>(
+    ram: &mut Ram<REGS>,
+    focal: &mut Focal,
+    pages: &Pages,
+) -> Result<LineOutcome, FocalRefusal>
+    ensures line { Carries pages.now ram.old focal.old ram.new focal.new result }
+    ensures unchanged { KeepsAll ram.old focal.old ram.new focal.new result }
+{
+    match step_line(ram, focal)? {
+        LineOutcome::Calls(number, entry) => call_entry(
+            ram,
+            focal,
+            pages,
+            number.number(),
+            entry.number(),
+        ),
+        LineOutcome::Seeks(name) => call_named(ram, focal, pages, name.characters()),
+        outcome => Ok(outcome),
+    }
+}
+
+/// A function of a module, by its two numbers: 13 where there is one, until such functions are called, else NONEXISTENT.
+fn call_entry<const REGS: usize>(
+    ram: &mut Ram<REGS>,
+    focal: &mut Focal,
+    pages: &Pages,
+    number: u8,
+    entry: u8,
+) -> Result<LineOutcome, FocalRefusal>
+    ensures line { CallsAt pages.now number entry ram.old focal.old ram.new focal.new result }
+    ensures unchanged { KeepsAll ram.old focal.old ram.new focal.new result }
+{
+    match pages.entry(number, entry) {
+        Some(_) => Err(FocalRefusal::NotInProfile),
+        None => fail_line(ram, focal, LineFault::Nonexistent),
+    }
+}
+
+/// What has a name: a function of a module, else one of the calculator in place of the line, else NONEXISTENT.
+fn call_named<const REGS: usize>(
+    ram: &mut Ram<REGS>,
+    focal: &mut Focal,
+    pages: &Pages,
+    name: &[u8],
+) -> Result<LineOutcome, FocalRefusal>
+    ensures line { CallsNamed pages.now name.now ram.old focal.old ram.new focal.new result }
+    ensures unchanged { KeepsAll ram.old focal.old ram.new focal.new result }
+{
+    if let Some((number, entry)) = pages.find(name) {
+        return call_entry(ram, focal, pages, number, entry);
+    }
+    match function_named(name) {
+        Some(function) => step_as(ram, focal, function),
+        None => fail_line(ram, focal, LineFault::Nonexistent),
+    }
+}
+
+/// The function of the calculator that has a name.
+fn function_named(name: &[u8]) -> Option<Function>
+    ensures { IsNamed name.now result }
+{
+    match read_line(name) {
+        Ok(line) => function_of(&line),
+        Err(_) => None,
+    }
+}
+
+/// The function that a line is, where it is one without an operand.
+fn function_of(line: &Line) -> Option<Function>
+    ensures { IsFunction line.now result }
+{
+    match line {
+        Line::Plain(function) => Some(*function),
+        _ => None,
+    }
+}

@@ -7,7 +7,7 @@ use Rattle.h41_xrom.specs.Calculator.{CalculatorState}
 use Rattle.h41_xrom.specs.declared.calculator.Mode.{Mode}
 use Rattle.h41_xrom.specs.declared.calculator.Mode.TheVariants as modes
 
--- a position of program memory by its last four decimal digits; none has more
+-- a position of program memory by its last four decimal digits
 abbrev pub position_digits : ℕ → List ℕ
 position_digits position = two_digits (position / 100 % 100) ++ two_digits (position % 100)
 

@@ -32,7 +32,7 @@ impl Bench {
     }
 }
 
-/// The last four decimal digits of a position. Positions in memory have no more.
+/// The last four decimal digits of a position.
 pub fn position_digits(position: u16) -> ArrayString<4>
     ensures { result.bytes ≡ spec.position_digits position }
 {

@@ -1,21 +1,27 @@
 -- What private functions promise one another.
-use Rattle.std.specs.Prelude.{◌≡◌, ℕ, Bool, false, IsTrue, List, MatchBool, Result, Ok, Err, ⊤}
+use Rattle.std.specs.Prelude.{◌≡◌, ◌≤◌, ℕ, length, Some, Bool, false, IsTrue, List, MatchBool, Result, Ok, Err, ⊤}
 use Rattle.h41_codes.specs.declared.functions.Branch.{Branch}
+use Rattle.h41_codes.specs.declared.functions.NameFunction.{NameFunction}
+use Rattle.h41_codes.specs.declared.functions.ParameterFunction.{ParameterFunction}
+use Rattle.h41_codes.specs.declared.functions.RegisterFunction.{RegisterFunction}
 use Rattle.h41_codes.specs.declared.line.Line.{Line}
+use Rattle.h41_codes.specs.declared.line.Line.TheVariants as lines
 use Rattle.h41_codes.specs.declared.line.Operand.{Operand}
 use Rattle.h41_rows.specs.Results.{result_map}
 use Rattle.h41_focal.specs.Courses.{How}
 use Rattle.h41_focal.specs.Courses as courses
-use Rattle.h41_focal.specs.LineCalls.{carried_as, left_of, machine_of}
+use Rattle.h41_focal.specs.LineCalls.{Call, carried_as, left_of, machine_of}
 use Rattle.h41_focal.specs.LineStep.{Applies, Fails, FailsIn, FocalState, TakesLine}
 use Rattle.h41_rows.specs.Operands.{Address, Count, DigitKind, FlagKind, NoOperand, RegisterKind, meant_as}
 use Rattle.h41_focal.specs.Outcomes.{Answer, answer_of}
 use Rattle.h41_focal.specs.Outcomes as answers
-use Rattle.h41_rows.specs.RowEffects.{lift_after}
-use Rattle.h41_rows.specs.Rows.{Lift, Row}
+use Rattle.h41_rows.specs.Computing.{meant_by}
+use Rattle.h41_rows.specs.RowEffects.{lift_after, with_alpha_change}
+use Rattle.h41_rows.specs.Rows.{Appends, Becomes, Lift, Row}
 use Rattle.h41_focal.specs.Works.{digits_use_row, flag_use_row, highest_of, register_use_row, row_of_work}
 use Rattle.h41_focal.specs.declared.works.Work.{Work}
-use Rattle.h41_rows.specs.LineRows.{row_of, to_label, to_name}
+use Rattle.h41_rows.specs.LineRows.{row_of, text_row, to_label, to_meant, to_name}
+use Rattle.h41_rows.specs.declared.operands.BranchTarget.{BranchTarget}
 use Rattle.h41_rows.specs.declared.fault.LineFault.{LineFault}
 use Rattle.h41_focal.specs.declared.origin.Origin.{Origin}
 use Rattle.h41_focal.specs.declared.origin.Origin.TheVariants.{Program, Typed}
@@ -24,6 +30,7 @@ use Rattle.h41_focal.specs.declared.refusal.FocalRefusal.{FocalRefusal}
 use Rattle.h41_focal.specs.declared.refusal.FocalRefusal.TheVariants.{BrokenProgram, MemoryLost}
 use Rattle.h41_focal.specs.declared.uses.DigitsUse.{DigitsUse}
 use Rattle.h41_focal.specs.declared.uses.FlagUse.{FlagUse}
+use Rattle.h41_focal.specs.declared.uses.FlagUse.TheVariants.{AskAndClear}
 use Rattle.h41_focal.specs.declared.uses.RegisterUse.{RegisterUse}
 use Rattle.h41_program.specs.ProgramLines.{AnswersFirst, AnswersNext}
 use Rattle.h41_program.specs.declared.listed_line.ListedLine.{ListedLine}
@@ -145,3 +152,36 @@ GoesToName origin branch name memory focal new after outcome = LeavesRow origin 
 -- of a fault
 abbrev pub FailsAs : Origin → LineFault → (memory : RegisterMap) → (focal : FocalState) → (new : RegisterMap) → (after : FocalState) → LineOutcome → Type 0
 FailsAs origin fault memory focal new after outcome = Fails (how_of origin) (machine_of memory focal) fault (left_of new after outcome)
+
+-- lines of each kind are taken
+abbrev pub TakesNamed : Origin → NameFunction → List ℕ → Call
+TakesNamed origin function name memory focal new after result = TakesAs origin (lines.Named function name) memory focal new after result
+
+abbrev pub TakesShort : Origin → RegisterFunction → ℕ → Call
+TakesShort origin function register memory focal new after result = TakesAs origin (lines.Register function register) memory focal new after result
+
+abbrev pub TakesUse : Origin → ParameterFunction → Operand → Call
+TakesUse origin function operand memory focal new after result = TakesAs origin (lines.WithOperand function operand) memory focal new after result
+
+abbrev pub TakesIndirect : Origin → Branch → ℕ → Call
+TakesIndirect origin branch register memory focal new after result = TakesAs origin (lines.BranchIndirect branch register) memory focal new after result
+
+-- a flag is asked, and cleared
+abbrev pub ClearsFlag : Origin → Bool → ℕ → Call
+ClearsFlag origin on flag memory focal new after result = CarriesFlag origin (AskAndClear on) flag memory focal new after result
+
+-- of a branch to what a register holds
+abbrev pub GoesToTarget : Origin → Branch → BranchTarget → (memory : RegisterMap) → (focal : FocalState) → (new : RegisterMap) → (after : FocalState) → LineOutcome → Type 0
+GoesToTarget origin branch target memory focal new after outcome =
+    LeavesRow origin (to_meant branch (meant_by target)) memory focal new after outcome
+
+-- a text comes into ALPHA
+abbrev pub PutsText : List ℕ → RegisterMap → RegisterMap → Type 0
+PutsText text old new = (named : ℕ) → new ≡ with_alpha_change old named (text_row text).alpha old
+
+-- what a text has behind the append sign
+abbrev pub IsBehind : List ℕ → List ℕ → Type 0
+IsBehind text rest = (text_row text).alpha ≡ Some (Appends rest)
+
+abbrev pub IsWhole : List ℕ → Type 0
+IsWhole text = 1 ≤ length text → (text_row text).alpha ≡ Some (Becomes text)

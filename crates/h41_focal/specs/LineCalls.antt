@@ -9,10 +9,11 @@ use Rattle.h41_focal.specs.declared.refusal.FocalRefusal.{FocalRefusal}
 use Rattle.h41_ram.specs.RegisterMap.{RegisterMap}
 use Rattle.h41_rows.specs.declared.fault.LineFault.{LineFault}
 
--- what a call leaves, and its answer
+-- memory, and what else lines work on
 abbrev pub machine_of : RegisterMap → FocalState → Machine
 machine_of memory focal = record { memory = memory; focal = focal }
 
+-- what a call leaves, and its answer
 abbrev pub left_of : RegisterMap → FocalState → LineOutcome → Left
 left_of memory focal outcome = record { machine = machine_of memory focal; answer = answer_of outcome }
 

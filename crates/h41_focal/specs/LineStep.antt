@@ -1,4 +1,4 @@
--- One line is carried out: one rule for all rows. The Owner's Handbook's are flags 24 and 25 and what faults do; the refusals and
+-- One line is carried out: one rule for all rows. The Owner's Handbook's are flag 25 and what faults do; the refusals and
 -- their order, what becomes of line 00 and what a typed line does at a fault are this project's choices.
 use Rattle.std.specs.Prelude.{◌≡◌, ℕ, Bool, true, false, List, [], MatchBool, if◌then◌else◌, Option, Some, None, Result, Ok, Err}
 use Rattle.h41_codes.specs.declared.functions.Function.{Function}
@@ -199,13 +199,3 @@ FailsLine fault machine carried =
     MatchBool (is_sound machine.memory)
     ((first : Result ListedLine program.ProgramRefusal) × AnswersFirst machine.memory machine.focal.position first × FailsWith fault machine first carried)
     (carried ≡ Err MemoryLost)
-
--- a function of a module is called from a line: the position is past the line, but where the line was typed. XROM turns lift on, XEQ
--- of a name leaves it (this project's choice).
-abbrev pub with_lift : rows.Lift → Machine → Machine
-with_lift lift machine = record machine { focal = record machine.focal { lift = lift_after lift machine.focal.lift } }
-
-abbrev pub CallsFrom : How → rows.Lift → Machine → Machine → Type 0
-CallsFrom Stepped lift machine left =
-    (next : ℕ) × AnswersNext machine.memory machine.focal.position (Ok next) × (left ≡ placed next (with_lift lift machine))
-CallsFrom Typed lift machine left = left ≡ with_lift lift machine

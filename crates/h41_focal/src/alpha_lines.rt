@@ -1,12 +1,10 @@
 //! Lines that work on ALPHA.
 
-ghost use Rattle.std.specs.Prelude.{◌≡◌, ◌≤◌, ℕ, IfNone, IfSome, Some, length};
+ghost use Rattle.std.specs.Prelude.{◌≡◌, ◌≤◌, ℕ, IfNone, IfSome, length};
 ghost use Rattle.h41_codes.specs.declared.line.Line.TheVariants as lines;
-ghost use Rattle.h41_focal.specs.Carrying.{DoesLine, DoesWork, KnowsNext};
-ghost use Rattle.h41_rows.specs.LineRows.{row_of, text_row};
+ghost use Rattle.h41_focal.specs.Carrying.{DoesLine, DoesWork, IsBehind, IsWhole, KnowsNext, PutsText};
+ghost use Rattle.h41_rows.specs.LineRows.{row_of};
 ghost use Rattle.h41_rows.specs.Operands.{NoOperand};
-ghost use Rattle.h41_rows.specs.RowEffects.{with_alpha_change};
-ghost use Rattle.h41_rows.specs.Rows.{Appends, Becomes};
 ghost use Rattle.h41_focal.specs.Works.{row_of_work};
 ghost use Rattle.h41_focal.specs.declared.works.Work.TheVariants.{Alpha};
 
@@ -73,7 +71,7 @@ pub fn text_line<const REGS: usize>(
 /// A text comes into ALPHA: behind what ALPHA holds where it begins with the append sign, else in its place. A text of no
 /// character changes nothing.
 fn put_text<const REGS: usize>(ram: &mut Ram<REGS>, text: &[u8])
-    ensures { (named : ℕ) → ram.new ≡ with_alpha_change ram.old named (text_row text.now).alpha ram.old }
+    ensures { PutsText text.now ram.old ram.new }
 {
     match text {
         [] => {}
@@ -84,7 +82,7 @@ fn put_text<const REGS: usize>(ram: &mut Ram<REGS>, text: &[u8])
 /// The same for a text that has a character.
 fn put_characters<const REGS: usize>(ram: &mut Ram<REGS>, text: &[u8])
     requires { 1 ≤ length text.now }
-    ensures { (named : ℕ) → ram.new ≡ with_alpha_change ram.old named (text_row text.now).alpha ram.old }
+    ensures { PutsText text.now ram.old ram.new }
 {
     match appended(text) {
         Some(rest) => append_text(ram, rest),
@@ -94,8 +92,8 @@ fn put_characters<const REGS: usize>(ram: &mut Ram<REGS>, text: &[u8])
 
 /// What a text has behind the append sign; `None` where it does not begin with it.
 fn appended(text: &[u8]) -> Option<&[u8]>
-    ensures behind { IfSome result (λ rest. (text_row text.now).alpha ≡ Some (Appends rest.now)) }
-    ensures whole { IfNone result (1 ≤ length text.now → (text_row text.now).alpha ≡ Some (Becomes text.now)) }
+    ensures behind { IfSome result (λ rest. IsBehind text.now rest.now) }
+    ensures whole { IfNone result (IsWhole text.now) }
 {
     match text {
         [] => None,

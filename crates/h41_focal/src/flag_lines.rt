@@ -1,10 +1,10 @@
 //! Lines of a flag: it is set or cleared, or asked.
 
 ghost use Rattle.std.specs.Prelude.{◌≡◌, ℕ, ◌<◌, IsTrue};
-ghost use Rattle.h41_focal.specs.Carrying.{CarriesFlag, KnowsNext, LeavesFlag};
+ghost use Rattle.h41_focal.specs.Carrying.{CarriesFlag, ClearsFlag, KnowsNext, LeavesFlag};
 ghost use Rattle.h41_focal.specs.LineCalls.{KeepsAll};
 ghost use Rattle.h41_rows.specs.RowEffects.{agrees};
-ghost use Rattle.h41_focal.specs.declared.uses.FlagUse.TheVariants.{Ask, AskAndClear, Change};
+ghost use Rattle.h41_focal.specs.declared.uses.FlagUse.TheVariants.{Ask, Change};
 ghost use Rattle.h41_ram.specs.RegisterMap.{flag_of, is_sound};
 
 use crate::course::go_on_lifting;
@@ -75,7 +75,7 @@ fn ask_and_clear_flag<const REGS: usize>(
     requires flag { flag < 56 }
     requires sound { IsTrue (is_sound ram.old) }
     requires next { KnowsNext origin ram.old focal.old.position }
-    ensures carried { CarriesFlag origin (AskAndClear on) flag ram.old focal.old ram.new focal.new result }
+    ensures carried { ClearsFlag origin on flag ram.old focal.old ram.new focal.new result }
     ensures kept { KeepsAll ram.old focal.old ram.new focal.new result }
 {
     let holds = agrees_with(ram, flag, on);

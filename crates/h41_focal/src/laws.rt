@@ -1,9 +1,19 @@
 //! Laws of lines: each is the contract of a function with nothing to do but to call the laws it rests on.
 
+ghost use Rattle.std.specs.Prelude.{◌≡◌, ◌≤◌, length};
 ghost use Rattle.h41_focal.specs.LineLaws.{FailureIsDetermined, StepIsDetermined, SteppedCanBeTyped, TypedAsStepped, TypedIsDetermined};
 
+use crate::focal::Focal;
 use h41_program::laws::{lists_are_determined, searches_are_determined};
 use h41_rows::laws::values_are_determined;
+
+/// How many positions there are to return to: six at most.
+pub fn six_returns_at_most(focal: &Focal) -> usize
+    ensures count { result ≡ length focal.now.returns }
+    ensures most { result ≤ 6 }
+{
+    focal.returns.len()
+}
 
 /// A line has one outcome: stepped, typed, or failed from outside.
 pub fn line_is_determined()

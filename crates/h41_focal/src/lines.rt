@@ -1,14 +1,11 @@
 //! Lines are carried out: the one at the position, a function in its place, or a typed one.
 
 ghost use Rattle.std.specs.Prelude.{◌≡◌, ℕ, None, Some, IsTrue};
-ghost use Rattle.h41_focal.specs.Carrying.{KnowsNext, LeavesRow, Stands, TakesAs};
+ghost use Rattle.h41_focal.specs.Carrying.{GoesToTarget, KnowsNext, Stands, TakesAs, TakesIndirect, TakesNamed, TakesShort};
 ghost use Rattle.h41_focal.specs.LineCalls.{FailsHere, KeepsAll, KeepsElsewhere, Steps, Types};
-ghost use Rattle.h41_codes.specs.declared.line.Line.TheVariants as lines;
 ghost use Rattle.h41_program.specs.ProgramLines as program_lines;
 ghost use Rattle.h41_program.specs.ProgramLines.{PositionBehind};
 ghost use Rattle.h41_ram.specs.RegisterMap.{is_sound};
-ghost use Rattle.h41_rows.specs.Computing.{meant_by};
-ghost use Rattle.h41_rows.specs.LineRows.{to_meant};
 
 use crate::alpha_lines::text_line;
 use crate::course::fail;
@@ -29,7 +26,7 @@ use h41_ram::Ram;
 use h41_rows::{BranchTarget, LineFault, branch_target, data_address};
 
 /// The line at the position is carried out: 15 where memory is not sound, 14 where no line stands there, 13 where it is left out,
-/// in this order. Nothing is changed then.
+/// in this order, and last 14 where a line that a test or a loop would pass over is none. Nothing is changed then.
 pub fn step_line<const REGS: usize>(
     ram: &mut Ram<REGS>,
     focal: &mut Focal,
@@ -42,7 +39,8 @@ pub fn step_line<const REGS: usize>(
     carry_out(ram, focal, Origin::Program(next), &line)
 }
 
-/// A function is carried out in place of the line at the position, an XEQ that names it: 15, 14 and 13 as in `step_line`.
+/// A function is carried out in place of the line at the position, whatever that is, as for an XEQ that names it: refused as in
+/// `step_line`.
 pub fn step_as<const REGS: usize>(
     ram: &mut Ram<REGS>,
     focal: &mut Focal,
@@ -56,7 +54,7 @@ pub fn step_as<const REGS: usize>(
 }
 
 /// The line at the position fails, as where what it calls is nowhere: its fault is answered, or flag 25 has the program go on.
-/// 15 and 14 as in `step_line`.
+/// 15 and 14 as in `step_line`, nothing else.
 pub fn fail_line<const REGS: usize>(
     ram: &mut Ram<REGS>,
     focal: &mut Focal,
@@ -168,7 +166,7 @@ fn named<const REGS: usize>(
 ) -> Result<LineOutcome, FocalRefusal>
     requires sound { IsTrue (is_sound ram.old) }
     requires next { KnowsNext origin ram.old focal.old.position }
-    ensures taken { TakesAs origin (lines.Named function name) ram.old focal.old ram.new focal.new result }
+    ensures taken { TakesNamed origin function name ram.old focal.old ram.new focal.new result }
     ensures kept { KeepsAll ram.old focal.old ram.new focal.new result }
 {
     match function {
@@ -188,7 +186,7 @@ fn short<const REGS: usize>(
 ) -> Result<LineOutcome, FocalRefusal>
     requires sound { IsTrue (is_sound ram.old) }
     requires next { KnowsNext origin ram.old focal.old.position }
-    ensures taken { TakesAs origin (lines.Register function register) ram.old focal.old ram.new focal.new result }
+    ensures taken { TakesShort origin function register ram.old focal.old ram.new focal.new result }
     ensures kept { KeepsAll ram.old focal.old ram.new focal.new result }
 {
     match (data_address(ram, u16::from(register.number())), function) {
@@ -208,7 +206,7 @@ fn indirect<const REGS: usize>(
 ) -> Result<LineOutcome, FocalRefusal>
     requires sound { IsTrue (is_sound ram.old) }
     requires next { KnowsNext origin ram.old focal.old.position }
-    ensures taken { TakesAs origin (lines.BranchIndirect branch register) ram.old focal.old ram.new focal.new result }
+    ensures taken { TakesIndirect origin branch register ram.old focal.old ram.new focal.new result }
     ensures kept { KeepsAll ram.old focal.old ram.new focal.new result }
 {
     if is_parameter_out(register) {
@@ -230,7 +228,7 @@ fn to_target<const REGS: usize>(
 ) -> LineOutcome
     requires sound { IsTrue (is_sound ram.old) }
     requires next { KnowsNext origin ram.old focal.old.position }
-    ensures { LeavesRow origin (to_meant branch (meant_by target)) ram.old focal.old ram.new focal.new result }
+    ensures { GoesToTarget origin branch target ram.old focal.old ram.new focal.new result }
 {
     match target {
         BranchTarget::Label(label) => to_label(ram, focal, origin, branch, label),

@@ -1,7 +1,7 @@
 //! Functions with an operand.
 
 ghost use Rattle.std.specs.Prelude.{◌≡◌, false, IsTrue};
-ghost use Rattle.h41_focal.specs.Carrying.{KnowsNext, TakesAs, UsesDigits, UsesFlag, UsesRegister};
+ghost use Rattle.h41_focal.specs.Carrying.{KnowsNext, TakesUse, UsesDigits, UsesFlag, UsesRegister};
 ghost use Rattle.h41_focal.specs.LineCalls.{KeepsAll};
 ghost use Rattle.h41_rows.specs.Profile.{is_operand_left_out, is_parameter_left_out, is_use_left_out};
 ghost use Rattle.h41_codes.specs.declared.line.Line.TheVariants as lines;
@@ -31,7 +31,7 @@ pub fn with_operand<const REGS: usize>(
 ) -> Result<LineOutcome, FocalRefusal>
     requires sound { IsTrue (is_sound ram.old) }
     requires next { KnowsNext origin ram.old focal.old.position }
-    ensures taken { TakesAs origin (lines.WithOperand function operand.now) ram.old focal.old ram.new focal.new result }
+    ensures taken { TakesUse origin function operand.now ram.old focal.old ram.new focal.new result }
     ensures kept { KeepsAll ram.old focal.old ram.new focal.new result }
 {
     if is_left_out(function, operand) {

@@ -1,7 +1,8 @@
 //! The registers of the processor, its states at the start, and what its words do to them, family by family.
 
-ghost use Rattle.std.specs.Prelude.{◌≡◌, ◌^◌, ◌<◌};
-ghost use Rattle.h41_nut.specs.Processor.{initial, entered, with_display_off};
+ghost use Rattle.std.specs.Prelude.{◌≡◌, ◌^◌, ◌<◌, false};
+ghost use Rattle.h41_nut.specs.Processor.{initial, entered};
+ghost use Rattle.h41_nut.specs.RegisterWords.{with_display};
 
 use crate::addresses::END_OF_FUNCTION;
 use crate::base::Base;
@@ -114,7 +115,7 @@ impl Cpu {
 
     /// The display goes off, as it does with the calculator.
     pub fn turn_display_off(&mut self)
-        ensures { self.new ≡ with_display_off self.old }
+        ensures { self.new ≡ with_display false self.old }
     {
         self.display = false;
     }

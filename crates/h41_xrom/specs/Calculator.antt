@@ -1,5 +1,5 @@
--- The calculator: its state, its mode, a call, pages, and single steps. All of it is this project's choice, but for what the words
--- do.
+-- The calculator: its state, its mode, a call, pages, and single steps. All of it is this project's choice, but for what words and
+-- lines do.
 use Rattle.std.specs.Prelude.{◌≡◌, ℕ, Bool, true, false, not, nat_lt, ◌==◌, if◌then◌else◌, Option, Some, None, List, option_map, Result, Ok}
 use Rattle.std.specs.Bool.{then_some}
 use Rattle.std.specs.Option.{option_or}
@@ -30,7 +30,7 @@ pub record CalculatorState : Type 0 where
   pub nut : Nut
   -- what lines work on, beside memory
   pub focal : FocalState
-  -- the text that the display shows in the place of X, where there is one
+  -- the text that the display shows before ALPHA and X, where there is one
   pub message : Option (List ℕ)
   pub mode : Mode
 

@@ -1,6 +1,6 @@
 -- A line that calls what memory does not have: a function of a module, by its numbers or by its name, or a function of the
--- calculator, by its name. Modules are asked before the calculator's own functions (this project's choice).
-use Rattle.std.specs.Prelude.{◌≡◌, ◌⊎◌, ℕ, List, Option, Some, None, Result, Ok, Err}
+-- calculator, by its name. Modules are asked before the calculator's own functions.
+use Rattle.std.specs.Prelude.{◌≡◌, ℕ, List, Option, Some, None, Result, Ok, Err}
 use Rattle.h41_codes.specs.declared.functions.Function.{Function}
 use Rattle.h41_focal.specs.LineStep.{FailsLine, Left, Machine, StepsLine}
 use Rattle.h41_focal.specs.Outcomes.{Answer}
@@ -22,7 +22,8 @@ of_line lines.MemoryLost = MemoryLost
 of_line lines.BrokenProgram = Program program.BrokenProgram
 of_line lines.NotInProfile = NotInProfile
 
--- a module's function is called: 13 until such functions can be called from lines; where no page has it, NONEXISTENT
+-- a module's function is called: 13 until such functions can be called from lines; where the lowest page of its number has no such
+-- entry, NONEXISTENT
 abbrev pub CallsEntry : Option Entry → Machine → Result Left FocalRefusal → Type 0
 CallsEntry (Some entry) machine carried = carried ≡ Err lines.NotInProfile
 CallsEntry None machine carried = FailsLine Nonexistent machine carried
@@ -36,7 +37,7 @@ abbrev pub CarriesNamed : Option Function → Machine → Result Left FocalRefus
 CarriesNamed (Some function) machine carried = StepsLine (Some function) machine carried
 CarriesNamed None machine carried = FailsLine Nonexistent machine carried
 
--- what has a name: the first function of a module that has it, else one of the calculator
+-- what has a name: where a module has a function of it, the entry of that function's two numbers; else one of the calculator
 abbrev pub CallsName : Option (ℕ × ℕ) → PageMap → List ℕ → Machine → Result Left FocalRefusal → Type 0
 CallsName (Some numbers) pages name machine carried = CallsEntry (entry_at pages numbers.0 numbers.1) machine carried
 CallsName None pages name machine carried =

@@ -1,8 +1,9 @@
 -- What a line leaves in the display.
-use Rattle.std.specs.Prelude.{ℕ, List, Option, Some, None, codes}
+use Rattle.std.specs.Prelude.{ℕ, false, List, Option, Some, None, codes}
 use Rattle.h41_focal.specs.Outcomes.{Answer}
 use Rattle.h41_focal.specs.Outcomes as answers
-use Rattle.h41_nut.specs.Processor.{Processor, with_display_off}
+use Rattle.h41_nut.specs.Processor.{Processor}
+use Rattle.h41_nut.specs.RegisterWords.{with_display}
 use Rattle.h41_rows.specs.declared.fault.LineFault.{LineFault}
 use Rattle.h41_rows.specs.declared.fault.LineFault.TheVariants.{AlphaData, DataError, Nonexistent, OutOfRange}
 
@@ -19,9 +20,16 @@ message_after (answers.Viewed text) message = Some text
 message_after (answers.Prompted text) message = Some text
 message_after (answers.Failed fault) message = Some (fault_text fault)
 message_after answers.Cleared message = None
-message_after answer message = message
+message_after answers.Done message = message
+message_after answers.Stopped message = message
+message_after answers.TurnedOff message = message
+-- what only a typed line answers, and what is looked up, leave it
+message_after (answers.Answered holds) message = message
+message_after answers.Runs message = message
+message_after (answers.Calls number entry) message = message
+message_after (answers.Seeks name) message = message
 
 -- OFF turns the display off
 abbrev pub processor_after : Answer → Processor → Processor
-processor_after answers.TurnedOff processor = with_display_off processor
+processor_after answers.TurnedOff processor = with_display false processor
 processor_after answer processor = processor

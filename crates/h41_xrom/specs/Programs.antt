@@ -1,4 +1,4 @@
--- Programs in memory: loaded, and the number of data registers above them. What memory becomes is said by the list of its lines.
+-- Programs in memory: loaded, and the number of data registers above them. What memory becomes by a load is said by the list of its lines.
 use Rattle.std.specs.Prelude.{◌≡◌, ℕ, true, not, List, [], Option, Some, None, MatchOption, Result, Ok, Err}
 use Rattle.std.specs.Bool.{then_some}
 use Rattle.std.specs.Option.{option_or}

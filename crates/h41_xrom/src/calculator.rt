@@ -40,7 +40,7 @@ pub struct Calculator {
     keys: Keys,
     /// What lines work on, beside memory.
     focal: Focal,
-    /// The text that the display shows in the place of X, where there is one.
+    /// The text that the display shows before ALPHA and X, where there is one.
     message: Option<DisplayText>,
     mode: Mode,
 }
@@ -118,7 +118,7 @@ impl Calculator {
         &self.focal
     }
 
-    /// The text that the display shows in the place of X, where there is one.
+    /// The text that the display shows before ALPHA and X, where there is one.
     pub fn message(&self) -> Option<DisplayText>
         ensures { option_map (λ text. text.bytes) result ≡ self.now.message }
     {

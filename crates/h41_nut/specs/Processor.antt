@@ -1,5 +1,5 @@
 -- The registers of the processor, and the states that it starts in.
-use Rattle.std.specs.Prelude.{ℕ, Bool, true, List, [], ◌∷◌, replicate}
+use Rattle.std.specs.Prelude.{ℕ, Bool, true, false, List, [], ◌∷◌, replicate}
 use Rattle.h41_fields.specs.declared.field.Pointer.{Pointer}
 use Rattle.h41_fields.specs.declared.field.Pointer.TheVariants.{P}
 use Rattle.h41_nut.specs.Addresses.{end_of_function}
@@ -59,3 +59,7 @@ initial = record {
 -- address that of a function's end, the other three 0000; the display stays as it is
 abbrev pub entered : Processor → ℕ → Processor
 entered s address = record initial { pc = address; returns = end_of_function ∷ 0 ∷ 0 ∷ 0 ∷ []; display = s.display }
+
+-- with the display off
+abbrev pub with_display_off : Processor → Processor
+with_display_off s = record s { display = false }

@@ -34,6 +34,8 @@ carried new after s = record s { nut = record s.nut { ram = new }; focal = after
 
 pub line_left : (from s t : CalculatorState) (new : RegisterMap) (after : FocalState) (outcome : LineOutcome)
     → from ≡ s → CarriesIn from new after (Ok outcome) → t ≡ with_shown (answer_of outcome) (carried new after from) → StepIn Idle s t
-line_left from s t new after outcome is carries shown =
-    (left_of new after outcome, subst (λ (of : CalculatorState). CarriesIn of new after (Ok outcome)) is carries,
-    shown ∙ ap (λ (of : CalculatorState). with_shown (answer_of outcome) (carried new after of)) is)
+line_left from s t new after outcome is carries shown = (
+  left_of new after outcome,
+  subst (λ (of : CalculatorState). CarriesIn of new after (Ok outcome)) is carries,
+  shown ∙ ap (λ (of : CalculatorState). with_shown (answer_of outcome) (carried new after of)) is,
+)

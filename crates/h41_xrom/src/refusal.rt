@@ -58,7 +58,9 @@ impl From<FocalRefusal> for CalculatorRefusal {
     fn from(refusal: FocalRefusal) -> Self {
         match refusal {
             FocalRefusal::MemoryLost => CalculatorRefusal::MemoryLost,
-            FocalRefusal::BrokenProgram => CalculatorRefusal::Program(ProgramRefusal::BrokenProgram),
+            FocalRefusal::BrokenProgram => CalculatorRefusal::Program(
+                ProgramRefusal::BrokenProgram,
+            ),
             FocalRefusal::NotInProfile => CalculatorRefusal::NotInProfile,
         }
     }

@@ -6,7 +6,7 @@ use Rattle.h41_codes.specs.declared.functions.RegisterFunction.{RegisterFunction
 use Rattle.h41_codes.specs.declared.line.Line.{Line}
 use Rattle.h41_codes.specs.declared.line.Line.TheVariants as lines
 use Rattle.h41_codes.specs.declared.line.Operand.{Operand}
-use Rattle.h41_focal.specs.Carrying.{CarriesFound, CarriesRow, FailsAs, Stands, TakesAs, UsesDigits, UsesFlag, UsesRegister}
+use Rattle.h41_focal.specs.Carrying.{CarriesFound, CarriesRow, FailsAs, Stands, TakesAs, UsesDigits, UsesFlag, UsesAddress}
 use Rattle.h41_focal.specs.LineCalls.{carried_as, left_of, machine_of}
 use Rattle.h41_focal.specs.LineStep.{FailsLine, FailsWith, FocalState, Left, StepsAs, StepsLine, line_as}
 use Rattle.h41_focal.specs.Works.{digits_use_row, flag_use_row, highest_of, register_use_row, row_of_work}
@@ -59,7 +59,7 @@ pub register_taken :
     → is_use_left_out function operand ≡ false
     → kind_of function ≡ RegisterKind
     → register_row function ≡ register_use_row taken
-    → UsesRegister origin taken operand memory focal new after result
+    → UsesAddress origin taken operand memory focal new after result
     → TakesAs origin (lines.WithOperand function operand) memory focal new after result
 register_taken origin function operand taken memory new focal after result held kind row (Ok address, meant, carries) =
     rw (held, kind, ← meant, row) carries

@@ -85,8 +85,8 @@ CarriesFound origin row named (Ok found) memory focal new after result = Carries
 CarriesFound origin row named (Err fault) memory focal new after result = FailsIn (how_of origin) (machine_of memory focal) fault (carried_as new after result)
 
 -- with a register, a number of digits, a flag
-abbrev pub UsesRegister : Origin → RegisterUse → Operand → (memory : RegisterMap) → (focal : FocalState) → (new : RegisterMap) → (after : FocalState) → Result LineOutcome FocalRefusal → Type 0
-UsesRegister origin taken operand memory focal new after result =
+abbrev pub UsesAddress : Origin → RegisterUse → Operand → (memory : RegisterMap) → (focal : FocalState) → (new : RegisterMap) → (after : FocalState) → Result LineOutcome FocalRefusal → Type 0
+UsesAddress origin taken operand memory focal new after result =
     (found : Result ℕ LineFault) × (result_map Address found ≡ meant_as RegisterKind memory operand)
     × CarriesFound origin (λ address. register_use_row taken) (λ address. address) found memory focal new after result
 
@@ -160,11 +160,11 @@ TakesNamed origin function name memory focal new after result = TakesAs origin (
 abbrev pub TakesShort : Origin → RegisterFunction → ℕ → Call
 TakesShort origin function register memory focal new after result = TakesAs origin (lines.Register function register) memory focal new after result
 
-abbrev pub TakesUse : Origin → ParameterFunction → Operand → Call
-TakesUse origin function operand memory focal new after result = TakesAs origin (lines.WithOperand function operand) memory focal new after result
+abbrev pub TakenBy : Origin → ParameterFunction → Operand → Call
+TakenBy origin function operand memory focal new after result = TakesAs origin (lines.WithOperand function operand) memory focal new after result
 
-abbrev pub TakesIndirect : Origin → Branch → ℕ → Call
-TakesIndirect origin branch register memory focal new after result = TakesAs origin (lines.BranchIndirect branch register) memory focal new after result
+abbrev pub TakesBranch : Origin → Branch → ℕ → Call
+TakesBranch origin branch register memory focal new after result = TakesAs origin (lines.BranchIndirect branch register) memory focal new after result
 
 -- a flag is asked, and cleared
 abbrev pub ClearsFlag : Origin → Bool → ℕ → Call

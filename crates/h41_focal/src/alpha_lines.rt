@@ -3,9 +3,6 @@
 ghost use Rattle.std.specs.Prelude.{◌≡◌, ◌≤◌, ℕ, IfNone, IfSome, length};
 ghost use Rattle.h41_codes.specs.declared.line.Line.TheVariants as lines;
 ghost use Rattle.h41_focal.specs.Carrying.{DoesLine, DoesWork, IsBehind, IsWhole, KnowsNext, PutsText};
-ghost use Rattle.h41_rows.specs.LineRows.{row_of};
-ghost use Rattle.h41_rows.specs.Operands.{NoOperand};
-ghost use Rattle.h41_focal.specs.Works.{row_of_work};
 ghost use Rattle.h41_focal.specs.declared.works.Work.TheVariants.{Alpha};
 
 use crate::course::go_on_lifting;

@@ -2,7 +2,6 @@
 
 ghost use Rattle.std.specs.Prelude.{ℕ};
 ghost use Rattle.h41_focal.specs.Carrying.{DoesWork, KnowsNext};
-ghost use Rattle.h41_focal.specs.Works.{row_of_work};
 ghost use Rattle.h41_focal.specs.declared.works.Work.TheVariants.{Display};
 
 use crate::course::{go_on, go_on_lifting};

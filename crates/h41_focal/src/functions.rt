@@ -3,7 +3,6 @@
 ghost use Rattle.std.specs.Prelude.{ℕ, IsTrue};
 ghost use Rattle.h41_focal.specs.Carrying.{CarriesWork, KnowsNext, TakesAs};
 ghost use Rattle.h41_focal.specs.LineCalls.{KeepsAll};
-ghost use Rattle.h41_focal.specs.Works.{row_of_work};
 ghost use Rattle.h41_codes.specs.declared.line.Line.TheVariants.{Plain};
 ghost use Rattle.h41_ram.specs.RegisterMap.{is_sound};
 

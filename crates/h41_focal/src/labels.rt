@@ -5,8 +5,6 @@ ghost use Rattle.h41_focal.specs.Arrivals.{ReturnsFrom, answer_at, focal_at, fro
 ghost use Rattle.h41_focal.specs.Carrying.{DoesWork, KnowsNext, GoesToLabel, GoesToName};
 ghost use Rattle.h41_focal.specs.Outcomes.{answer_of};
 ghost use Rattle.h41_focal.specs.Courses.{pushed};
-ghost use Rattle.h41_rows.specs.LineRows as rows;
-ghost use Rattle.h41_focal.specs.Works.{row_of_work};
 ghost use Rattle.h41_focal.specs.declared.works.Work.TheVariants.{Return};
 ghost use Rattle.h41_ram.specs.RegisterMap.{is_sound};
 

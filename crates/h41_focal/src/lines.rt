@@ -1,7 +1,7 @@
 //! Lines are carried out: the one at the position, a function in its place, or a typed one.
 
 ghost use Rattle.std.specs.Prelude.{◌≡◌, ℕ, None, Some, IsTrue};
-ghost use Rattle.h41_focal.specs.Carrying.{GoesToTarget, KnowsNext, Stands, TakesAs, TakesIndirect, TakesNamed, TakesShort};
+ghost use Rattle.h41_focal.specs.Carrying.{GoesToTarget, KnowsNext, Stands, TakesAs, TakesBranch, TakesNamed, TakesShort};
 ghost use Rattle.h41_focal.specs.LineCalls.{FailsHere, KeepsAll, KeepsElsewhere, Steps, Types};
 ghost use Rattle.h41_program.specs.ProgramLines as program_lines;
 ghost use Rattle.h41_program.specs.ProgramLines.{PositionBehind};
@@ -206,7 +206,7 @@ fn indirect<const REGS: usize>(
 ) -> Result<LineOutcome, FocalRefusal>
     requires sound { IsTrue (is_sound ram.old) }
     requires next { KnowsNext origin ram.old focal.old.position }
-    ensures taken { TakesIndirect origin branch register ram.old focal.old ram.new focal.new result }
+    ensures taken { TakesBranch origin branch register ram.old focal.old ram.new focal.new result }
     ensures kept { KeepsAll ram.old focal.old ram.new focal.new result }
 {
     if is_parameter_out(register) {

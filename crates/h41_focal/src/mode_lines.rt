@@ -2,7 +2,6 @@
 
 ghost use Rattle.std.specs.Prelude.{◌<◌, ℕ};
 ghost use Rattle.h41_focal.specs.Carrying.{DoesWork, KnowsNext, LeavesDigits};
-ghost use Rattle.h41_focal.specs.Works.{digits_use_row, row_of_work};
 ghost use Rattle.h41_focal.specs.declared.works.Work.TheVariants.{Angles};
 
 use crate::course::go_on_lifting;

@@ -1,10 +1,9 @@
 //! Functions with an operand.
 
 ghost use Rattle.std.specs.Prelude.{◌≡◌, false, IsTrue};
-ghost use Rattle.h41_focal.specs.Carrying.{KnowsNext, TakesUse, UsesDigits, UsesFlag, UsesRegister};
+ghost use Rattle.h41_focal.specs.Carrying.{KnowsNext, TakenBy, UsesDigits, UsesFlag, UsesAddress};
 ghost use Rattle.h41_focal.specs.LineCalls.{KeepsAll};
 ghost use Rattle.h41_rows.specs.Profile.{is_operand_left_out, is_parameter_left_out, is_use_left_out};
-ghost use Rattle.h41_codes.specs.declared.line.Line.TheVariants as lines;
 ghost use Rattle.h41_ram.specs.RegisterMap.{is_sound};
 
 use crate::course::fail;
@@ -31,7 +30,7 @@ pub fn with_operand<const REGS: usize>(
 ) -> Result<LineOutcome, FocalRefusal>
     requires sound { IsTrue (is_sound ram.old) }
     requires next { KnowsNext origin ram.old focal.old.position }
-    ensures taken { TakesUse origin function operand.now ram.old focal.old ram.new focal.new result }
+    ensures taken { TakenBy origin function operand.now ram.old focal.old ram.new focal.new result }
     ensures kept { KeepsAll ram.old focal.old ram.new focal.new result }
 {
     if is_left_out(function, operand) {
@@ -85,7 +84,7 @@ fn with_register<const REGS: usize>(
     requires sound { IsTrue (is_sound ram.old) }
     requires next { KnowsNext origin ram.old focal.old.position }
     requires held { is_operand_left_out operand.now ≡ false }
-    ensures used { UsesRegister origin taken operand.now ram.old focal.old ram.new focal.new result }
+    ensures used { UsesAddress origin taken operand.now ram.old focal.old ram.new focal.new result }
     ensures kept { KeepsAll ram.old focal.old ram.new focal.new result }
 {
     match register_of(ram, operand) {

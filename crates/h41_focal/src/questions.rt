@@ -4,7 +4,6 @@ ghost use Rattle.std.specs.Prelude.{◌≡◌, ℕ, IsTrue};
 ghost use Rattle.h41_focal.specs.Carrying.{CarriesWork, KnowsNext, Leads, told};
 ghost use Rattle.h41_focal.specs.LineCalls.{KeepsAll};
 ghost use Rattle.h41_focal.specs.Outcomes.{answer_of};
-ghost use Rattle.h41_focal.specs.Works.{row_of_work};
 ghost use Rattle.h41_focal.specs.declared.works.Work.TheVariants.{Ask};
 ghost use Rattle.h41_ram.specs.RegisterMap.{is_sound};
 

@@ -1,7 +1,6 @@
 //! Lines that work on a register.
 
 ghost use Rattle.h41_focal.specs.Carrying.{KnowsNext, UsesAt};
-ghost use Rattle.h41_focal.specs.Works.{register_use_row};
 ghost use Rattle.h41_focal.specs.declared.uses.RegisterUse.TheVariants.{Combine, Exchange, Recall, RecallAlpha, Store, StoreAlpha, View};
 
 use crate::course::{fail, go_on_lifting};

@@ -3,7 +3,6 @@
 ghost use Rattle.std.specs.Prelude.{IsTrue};
 ghost use Rattle.h41_focal.specs.Carrying.{DoesUse, KnowsNext};
 ghost use Rattle.h41_focal.specs.LineCalls.{KeepsAll};
-ghost use Rattle.h41_focal.specs.Works.{register_use_row};
 ghost use Rattle.h41_ram.specs.RegisterMap.{is_sound};
 
 use crate::focal::Focal;

@@ -3,11 +3,9 @@
 ghost use Rattle.std.specs.Prelude.{◌≡◌, ℕ};
 ghost use Rattle.h41_codes.specs.declared.line.Line.TheVariants as lines;
 ghost use Rattle.h41_focal.specs.Carrying.{DoesLine, DoesWork, KnowsNext, LeavesRow, advanced};
-ghost use Rattle.h41_rows.specs.LineRows.{row_of};
-ghost use Rattle.h41_rows.specs.Operands.{NoOperand};
 ghost use Rattle.h41_rows.specs.Rows.{nothing, silent};
 ghost use Rattle.h41_focal.specs.StackMoves.{Moves};
-ghost use Rattle.h41_focal.specs.Works.{move_row, row_of_work};
+ghost use Rattle.h41_focal.specs.Works.{move_row};
 ghost use Rattle.h41_focal.specs.declared.works.Work.TheVariants.{ClearRegisters, Move};
 
 use crate::course::{go_on, go_on_lifting, go_on_replacing};

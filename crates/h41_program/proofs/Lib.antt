@@ -25,6 +25,7 @@ pub mod Rewritten
 pub mod Rooms
 pub mod RoundTrips
 pub mod SearchSteps
+pub mod ShortLines
 pub mod Sound
 pub mod Walks
 pub mod Windows

@@ -1,10 +1,12 @@
 -- What the functions that read program memory promise one another. No public contract needs this file.
-use Rattle.std.specs.Prelude.{◌≡◌, ℕ, ◌-◌, ◌/◌, MatchBool, List, length}
+use Rattle.std.specs.Prelude.{◌≡◌, ◌≤◌, ℕ, ◌-◌, ◌/◌, MatchBool, List, length, map, min}
+use Rattle.std.specs.List.{range_with_len}
 use Rattle.h41_ram.specs.RegisterMap.{RegisterMap, curtain_of, register_at}
 use Rattle.h41_program.specs.declared.given.Taken.{Taken}
 use Rattle.h41_program.specs.declared.listed_line.ListedLine.{ListedLine}
 use Rattle.h41_program.specs.declared.reading.Found.{Found}
 use Rattle.h41_program.specs.Lines.{is_final_end}
+use Rattle.h41_program.specs.ProgramBytes.{program_byte}
 use Rattle.h41_program.specs.ProgramLines.{NoneFrom, IsFirst, LinesFrom, PositionFrom}
 
 -- the position of the line behind a line, or the byte behind it where no line follows; that of .END. is its own
@@ -27,3 +29,11 @@ BytesHaveNone bytes at = NoneFrom bytes (length bytes) at
 -- the register that has the byte at a position; at the end the one below it
 abbrev pub program_register : RegisterMap → ℕ → List ℕ
 program_register memory position = register_at memory (curtain_of memory - 1 - position / 7)
+
+-- the bytes from a position to another, or the first 18 of them
+abbrev pub bytes_seen : RegisterMap → ℕ → ℕ → List ℕ
+bytes_seen memory at limit = map (program_byte memory) (range_with_len at (min 18 (limit - at)))
+
+-- a byte with which no number begins
+abbrev pub BeginsNoNumber : ℕ → Type 0
+BeginsNoNumber byte = 0x10 ≤ byte → byte ≤ 0x1C → ⊥

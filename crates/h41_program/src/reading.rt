@@ -5,14 +5,15 @@ ghost use Rattle.h41_ram.specs.RegisterMap.{is_sound};
 ghost use Rattle.h41_program.specs.ProgramBytes.{byte_count, program_byte, program_bytes};
 ghost use Rattle.h41_program.specs.ProgramBytes as spec;
 ghost use Rattle.h41_program.specs.ProgramLines.{AnswersFirst, AnswersNext, HasFirst, HasNoLine};
-ghost use Rattle.h41_program.specs.Reading.{program_register, FoundBehind};
+ghost use Rattle.h41_program.specs.Reading.{bytes_seen, program_register, BeginsNoNumber, FoundBehind};
+ghost use Rattle.h41_codes.specs.ByteGrammar.{AnswersLine};
 
 use crate::kinds::is_final_end;
 use crate::listed_line::ListedLine;
 use crate::refusal::ProgramRefusal;
 use arrayvec::ArrayVec;
-use h41_codes::decode;
-use h41_codes::laws::byte_round_trip;
+use h41_codes::laws::{byte_round_trip, first_bytes};
+use h41_codes::{BrokenProgram, Line, decode};
 use h41_digits::Reg;
 use h41_ram::Ram;
 
@@ -89,7 +90,7 @@ fn window<const REGS: usize>(ram: &Ram<REGS>, at: u16, limit: u16) -> Window
     requires limit { limit ≤ byte_count ram.now }
     requires bound { limit < 65000 }
     requires sound { IsTrue (is_sound ram.now) }
-    ensures { result.items ≡ map (program_byte ram.now) (range_with_len at (min 18 (limit - at))) }
+    ensures { result.items ≡ bytes_seen ram.now at limit }
 {
     let mut window = Window::new();
     let mut register = register_of(ram, at);
@@ -100,6 +101,36 @@ fn window<const REGS: usize>(ram: &Ram<REGS>, at: u16, limit: u16) -> Window
         window.push(register.byte(usize::from(6 - position % REGISTER_BYTES)));
     }
     window
+}
+
+/// Whether a byte may be a line of its own: a short label, RCL and STO of a short register, or a function without an operand.
+fn may_be_alone(byte: u8) -> bool
+    ensures { IsTrue result → BeginsNoNumber byte }
+{
+    matches!(byte, 0x01..=0x0F | 0x20..=0x8F)
+}
+
+/// The line that the bytes from a position to another begin with. A line of one byte is read from that byte alone.
+fn decoded<const REGS: usize>(
+    ram: &Ram<REGS>,
+    at: u16,
+    limit: u16,
+) -> Result<(Line, usize), BrokenProgram>
+    requires from { at < limit }
+    requires limit { limit ≤ byte_count ram.now }
+    requires bound { limit < 65000 }
+    requires sound { IsTrue (is_sound ram.now) }
+    ensures { AnswersLine result (bytes_seen ram.now at limit) }
+{
+    byte_round_trip();
+    first_bytes();
+    let byte = byte_at(ram, at);
+    if may_be_alone(byte) {
+        if let Ok(found) = decode(&[byte]) {
+            return Ok(found);
+        }
+    }
+    decode(window(ram, at, limit).as_slice())
 }
 
 /// The byte behind those that a line may take which begins at a position: the last three are taken from their first on alone.
@@ -131,8 +162,7 @@ pub fn first_from<const REGS: usize>(ram: &Ram<REGS>, at: u16) -> Option<Found>
         return None;
     }
     let position = past_nulls(ram, at, last);
-    let window = window(ram, position, line_limit(position, last));
-    match decode(window.as_slice()) {
+    match decoded(ram, position, line_limit(position, last)) {
         Ok((line, count)) => Some(Found {
             listed: ListedLine { position, line },
             behind: position + count as u16,

@@ -10,6 +10,7 @@ pub mod NumberReading
 pub mod Operands
 pub mod Places
 pub mod Profile
+pub mod Readings
 pub mod Results
 pub mod RowEffects
 pub mod RowLaws

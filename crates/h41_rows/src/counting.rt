@@ -5,7 +5,8 @@ ghost use Rattle.h41_decimal.specs.NearestDecimal.{Nearest};
 ghost use Rattle.h41_decimal.specs.Signs.{signed};
 ghost use Rattle.h41_decimal.specs.Units.{one, size, units};
 ghost use Rattle.h41_rows.specs.Counters.{Up, Down, recounted};
-ghost use Rattle.h41_rows.specs.Counting.{count_in, counted_along, with_ones};
+ghost use Rattle.h41_rows.specs.Readings.{IsCounted};
+ghost use Rattle.h41_rows.specs.Counting.{count_in, counted_along};
 
 use h41_decimal::{DecimalFault, Exponent, Mantissa, Sign, Size, Ten};
 
@@ -73,7 +74,7 @@ fn stepped(
     requires few_ones { ones < 10 ^ 9 }
     requires some { 0 < count }
     requires few { count < 100 }
-    ensures { Nearest (with_ones (signed sign ones +ℤ signed direction count) (size fraction)) 1 result }
+    ensures { IsCounted sign ones direction count (size fraction) result }
 {
     if sign == direction {
         joined(sign, ones + count, fraction)

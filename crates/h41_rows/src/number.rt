@@ -1,11 +1,10 @@
 //! The number of a number line.
 
-ghost use Rattle.std.specs.Prelude.{◌≡◌, ◌+◌, ◌-◌, ◌*◌, ◌^◌, ◌<◌, ◌≤◌, List, ◌∷◌, length, take, if◌then◌else◌, IfSome};
-ghost use Rattle.std.specs.List.{list_any, position_or_len};
-ghost use Rattle.h41_codes.specs.declared.characters.Character.{Character as Sort};
+ghost use Rattle.std.specs.Prelude.{◌≡◌, ◌+◌, ◌-◌, ◌*◌, ◌^◌, ◌<◌, ◌≤◌, List, ◌∷◌, length, take, IfSome};
+ghost use Rattle.std.specs.List.{position_or_len};
 ghost use Rattle.h41_rows.specs.Computing.{IsAlways};
 ghost use Rattle.h41_rows.specs.NumberLines as lines;
-ghost use Rattle.h41_rows.specs.NumberReading.{read_count, read_number};
+ghost use Rattle.h41_rows.specs.Readings.{ReadsCount, ReadsOn, biased_in, places_in};
 ghost use Rattle.h41_rows.specs.Values.{Written};
 
 use h41_codes::{Character, Number};
@@ -48,8 +47,8 @@ impl Digits {
     fn read(self, character: Character, most: u8) -> Self
         requires most { most ≤ 10 }
         requires within { self.count ≤ most }
-        ensures number { (rest : List Sort) → read_number most result.number result.count rest ≡ read_number most self.number self.count (character ∷ rest) }
-        ensures count { (rest : List Sort) → read_count most result.count rest ≡ read_count most self.count (character ∷ rest) }
+        ensures number { ReadsOn most self.number self.count character result.number result.count }
+        ensures count { ReadsCount most self.count character result.count }
         ensures within { result.count ≤ most }
     {
         match digit_of(character) {
@@ -86,7 +85,7 @@ fn number_of(text: &[Character]) -> Ten
 
 /// The exponent of the characters behind the E.
 fn exponent_of(text: &[Character]) -> Exponent
-    ensures { result.biased ≡ lines.biased_by (lines.sign_in text.now) (lines.number_from 0 (take 2 (lines.digits_in text.now))) }
+    ensures { result.biased ≡ biased_in text.now }
 {
     let size = first_digits(text, EXPONENT_DIGITS).number as u8;
     match sign_of(text) {
@@ -131,7 +130,7 @@ fn mantissa_digits(text: &[Character], end: usize) -> Digits
 /// How many of the digits that count stand behind the point.
 fn decimal_places(mantissa: &[Character], count: u8) -> u8
     requires { count ≤ 10 }
-    ensures value { result ≡ if list_any lines.is_point mantissa.now then count - lines.whole_digits mantissa.now else 0 }
+    ensures value { result ≡ places_in mantissa.now count }
     ensures bound { result ≤ 10 }
 {
     let point = point_place(mantissa);

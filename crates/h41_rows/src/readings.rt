@@ -1,13 +1,13 @@
 //! What the registers that operands name hold: whole numbers and texts.
 
 ghost use Rattle.std.specs.Prelude.{◌≡◌, ◌<◌, ◌≤◌, ◌/◌, [], ◌∷◌, false, length, map, unsigned_abs};
-ghost use Rattle.std.specs.Result.{result_map_both};
 ghost use Rattle.h41_decimal.specs.Holding as holding;
 ghost use Rattle.h41_decimal.specs.Units.{one, units};
 ghost use Rattle.h41_digits.specs.Register as digits;
 ghost use Rattle.h41_ram.specs.NamedRegisters.{size_of};
 ghost use Rattle.h41_rows.specs.Operands as spec;
 ghost use Rattle.h41_rows.specs.Profile.{is_operand_left_out, is_parameter_left_out};
+ghost use Rattle.h41_rows.specs.Readings.{IsTold, number_found, register_found};
 ghost use Rattle.h41_rows.specs.Wholes.{told};
 
 use crate::fault::LineFault;
@@ -59,7 +59,7 @@ pub(crate) fn operand_number<const REGS: usize>(
     operand: &Operand,
 ) -> Result<u16, LineFault>
     requires { is_operand_left_out operand.now ≡ false }
-    ensures { result ≡ result_map_both told (λ fault. fault) (spec.number_of ram.now operand.now) }
+    ensures { IsTold (spec.number_of ram.now operand.now) result }
 {
     match operand {
         Operand::Direct(parameter) => Ok(u16::from(parameter.number())),
@@ -70,7 +70,7 @@ pub(crate) fn operand_number<const REGS: usize>(
 /// The whole number in the register of a parameter.
 fn number_at<const REGS: usize>(ram: &Ram<REGS>, parameter: Parameter) -> Result<u16, LineFault>
     requires { is_parameter_left_out parameter ≡ false }
-    ensures { result ≡ result_map_both told (λ fault. fault) (spec.then_find (spec.parameter_register ram.now parameter) (spec.whole_at ram.now)) }
+    ensures { IsTold (number_found ram.now parameter) result }
 {
     let address = parameter_register(ram, parameter)?;
     whole_in(ram.read(address))
@@ -96,7 +96,7 @@ fn indirect_register<const REGS: usize>(
     parameter: Parameter,
 ) -> Result<u16, LineFault>
     requires { is_parameter_left_out parameter ≡ false }
-    ensures { result ≡ spec.then_find (spec.then_find (spec.parameter_register ram.now parameter) (spec.whole_at ram.now)) (spec.data_register ram.now) }
+    ensures { result ≡ register_found ram.now parameter }
 {
     let number = number_at(ram, parameter)?;
     numbered_register(ram, number)
@@ -104,7 +104,7 @@ fn indirect_register<const REGS: usize>(
 
 /// The whole number in a register.
 fn whole_in(register: Reg) -> Result<u16, LineFault>
-    ensures { result ≡ result_map_both told (λ fault. fault) (spec.whole_of (holding.worth (holding.holding_of register))) }
+    ensures { IsTold (spec.whole_of (holding.worth (holding.holding_of register))) result }
 {
     match Ten::from_reg(register) {
         Some(number) => Ok(whole(number)),

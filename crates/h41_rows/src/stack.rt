@@ -1,6 +1,6 @@
 //! What stack, LAST X and registers take.
 
-ghost use Rattle.std.specs.Prelude.{ℕ, List, [], ◌∷◌};
+ghost use Rattle.std.specs.Prelude.{ℕ, [], ◌∷◌};
 ghost use Rattle.h41_rows.specs.Computing.{BringsIn, Exchanges, Moved, Stores, Took, dropped, whole_stack};
 ghost use Rattle.h41_rows.specs.Places.{LastX, T, X, Y, Z};
 ghost use Rattle.h41_rows.specs.RowEffects.{takes_of};

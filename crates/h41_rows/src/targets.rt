@@ -5,6 +5,7 @@ ghost use Rattle.std.specs.Result.{result_map_both};
 ghost use Rattle.h41_decimal.specs.Holding.{holding_of, worth};
 ghost use Rattle.h41_rows.specs.Computing.{meant_by};
 ghost use Rattle.h41_rows.specs.Operands as spec;
+ghost use Rattle.h41_rows.specs.Readings.{LeadsTo};
 
 use crate::fault::LineFault;
 use crate::operands::BranchTarget;
@@ -18,7 +19,7 @@ const ALPHA_DATA: u8 = 1;
 
 /// Where a branch goes by what a register holds.
 pub(crate) fn target_in(register: Reg) -> Result<BranchTarget, LineFault>
-    ensures { result_map_both meant_by (λ fault. fault) result ≡ spec.target_of (holding_of register) }
+    ensures { LeadsTo (spec.target_of (holding_of register)) result }
 {
     match Ten::from_reg(register) {
         Some(number) => label(readings::whole(number)),
@@ -28,7 +29,7 @@ pub(crate) fn target_in(register: Reg) -> Result<BranchTarget, LineFault>
 
 /// The local label with a number, as operands read it.
 fn label(number: u16) -> Result<BranchTarget, LineFault>
-    ensures { result_map_both meant_by (λ fault. fault) result ≡ spec.label_of number }
+    ensures { LeadsTo (spec.label_of number) result }
 {
     if number < 100 {
         Ok(BranchTarget::Label(Parameter::new(number as u8)))
@@ -40,7 +41,7 @@ fn label(number: u16) -> Result<BranchTarget, LineFault>
 /// The name that a register holds, or that it holds none.
 fn name_in(register: Reg) -> Result<BranchTarget, LineFault>
     requires { worth (holding_of register) ≡ None }
-    ensures { result_map_both meant_by (λ fault. fault) result ≡ spec.target_of (holding_of register) }
+    ensures { LeadsTo (spec.target_of (holding_of register)) result }
 {
     if register.get(13) == ALPHA_DATA {
         name(readings::after_nulls(&readings::alpha_data(register)))

@@ -1,5 +1,5 @@
 -- What loading leaves, by the answer of program memory.
-use Rattle.std.proofs.Common.{◌≡◌, ℕ, true, List, [], Some, None, Result, Ok, Err, refl, sym, ap, subst, ◌∙◌}
+use Rattle.std.proofs.Common.{◌≡◌, ℕ, List, Some, None, Result, Ok, Err, refl, sym, ap, subst, ◌∙◌}
 use Rattle.h41_focal.specs.LineStep.{FocalState}
 use Rattle.h41_program.specs.declared.refusal.ProgramRefusal as program
 use Rattle.h41_program.specs.Edits as edits

@@ -1,5 +1,5 @@
 -- What is named, by its text.
-use Rattle.std.proofs.Common.{◌≡◌, ℕ, List, Option, Some, None, Result, Ok, Err, refl, sym, ◌∙◌}
+use Rattle.std.proofs.Common.{◌≡◌, ℕ, List, Option, Some, None, Result, Ok, Err, refl}
 use Rattle.std.specs.Prelude.{◌↔◌}
 use Rattle.h41_codes.specs.declared.functions.Function.{Function}
 use Rattle.h41_codes.specs.declared.line.Line.{Line}

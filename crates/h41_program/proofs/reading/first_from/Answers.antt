@@ -1,6 +1,7 @@
-use Rattle.std.proofs.Common.{◌+◌, refl, ◌∙◌, arith}
+use Rattle.std.proofs.Common.{◌+◌, refl, arith}
 use Rattle.std.proofs.lemmas.List.FromFn.{length-map-range_with_len}
 use Rattle.h41_program.specs.ProgramBytes.{byte_count, program_byte}
+use Rattle.h41_program.specs.Reading.{bytes_seen}
 use Rattle.h41_program.proofs.FirstLines.{first_inside}
 use Rattle.h41_program.proofs.Memory.{Looked, looked_first, looked_none}
 use Rattle.h41_program.proofs.Windows.{begins_most}
@@ -14,17 +15,17 @@ returns-then-at-last-clause-none g c first is =
 
 pub overflow_cast-result : goal.overflow_cast-result
 overflow_cast-result g c =
-    let most = begins_most _ _ _ ((c.decode.ensures.line c.in-Ok.line c.in-Ok.count).0 c.in-Ok.is) in
+    let most = begins_most _ _ _ ((c.decoded.ensures c.in-Ok.line c.in-Ok.count).0 c.in-Ok.is) in
     omega (arith, most)
 
 pub overflow_add-result : goal.overflow_add-result
 overflow_add-result g c =
-    let most = begins_most _ _ _ ((c.decode.ensures.line c.in-Ok.line c.in-Ok.count).0 c.in-Ok.is) in
+    let most = begins_most _ _ _ ((c.decoded.ensures c.in-Ok.line c.in-Ok.count).0 c.in-Ok.is) in
     omega (arith, most)
 
 pub returns-in-Ok-clause-first : goal.returns-in-Ok-clause-first
 returns-in-Ok-clause-first g c =
-    let looked : Looked c.args.ram.now c.args.at c.past_nulls-position.result c.final_position-last.result c.line_limit.result c.as_slice.result.now = record {
+    let looked : Looked c.args.ram.now c.args.at c.past_nulls-position.result c.final_position-last.result c.line_limit.result (bytes_seen c.args.ram.now c.past_nulls-position.result c.line_limit.result) = record {
       last_is = c.final_position-last.ensures.value;
       count = c.final_position-last.ensures.count;
       from = c.past_nulls-position.ensures.from;
@@ -33,10 +34,10 @@ returns-in-Ok-clause-first g c =
       stop = c.past_nulls-position.ensures.stop;
       before = c.line_limit.ensures.before;
       behind = c.line_limit.ensures.last;
-      bytes = c.as_slice.ensures.value ∙ c.window-window.ensures;
+      bytes = refl;
     } in
     looked_first c.byte_round_trip.ensures.one c.args.ram.now c.requires c.args.at c.past_nulls-position.result c.final_position-last.result c.line_limit.result
-    c.as_slice.result.now looked c.decode.result c.decode.ensures.line c.in-Ok.line c.in-Ok.count (c.past_nulls-position.result + c.in-Ok.count) c.in-Ok.is refl
+    (bytes_seen c.args.ram.now c.past_nulls-position.result c.line_limit.result) looked c.decoded.result c.decoded.ensures c.in-Ok.line c.in-Ok.count (c.past_nulls-position.result + c.in-Ok.count) c.in-Ok.is refl
 
 pub returns-in-Ok-clause-behind : goal.returns-in-Ok-clause-behind
 returns-in-Ok-clause-behind g c =
@@ -47,7 +48,7 @@ returns-in-Ok-clause-behind g c =
 
 pub returns-in-Err-clause-none : goal.returns-in-Err-clause-none
 returns-in-Err-clause-none g c =
-    let looked : Looked c.args.ram.now c.args.at c.past_nulls-position.result c.final_position-last.result c.line_limit.result c.as_slice.result.now = record {
+    let looked : Looked c.args.ram.now c.args.at c.past_nulls-position.result c.final_position-last.result c.line_limit.result (bytes_seen c.args.ram.now c.past_nulls-position.result c.line_limit.result) = record {
       last_is = c.final_position-last.ensures.value;
       count = c.final_position-last.ensures.count;
       from = c.past_nulls-position.ensures.from;
@@ -56,7 +57,7 @@ returns-in-Err-clause-none g c =
       stop = c.past_nulls-position.ensures.stop;
       before = c.line_limit.ensures.before;
       behind = c.line_limit.ensures.last;
-      bytes = c.as_slice.ensures.value ∙ c.window-window.ensures;
+      bytes = refl;
     } in
     looked_none c.byte_round_trip.ensures.one c.args.ram.now c.requires c.args.at c.past_nulls-position.result c.final_position-last.result c.line_limit.result
-    c.as_slice.result.now looked c.decode.result c.decode.ensures.line c.in-Err.field-0 c.in-Err.is
+    (bytes_seen c.args.ram.now c.past_nulls-position.result c.line_limit.result) looked c.decoded.result c.decoded.ensures c.in-Err.field-0 c.in-Err.is

@@ -1,0 +1,70 @@
+-- A line of one byte is that of all bytes that begin with this byte.
+use Rattle.std.proofs.Common.{◌≡◌, ℕ, suc, ◌+◌, ◌-◌, ◌<◌, List, [], ◌∷◌, ◌++◌, map, take, Ok, Result, sym, ◌∙◌, ap, subst, arith}
+use Rattle.std.proofs.Common.{min}
+use Rattle.std.specs.List.{range_with_len}
+use Rattle.h41_codes.specs.ByteGrammar.{AnswersLine, Begins, GoesOn, IsLine, IsWhole, spelling}
+use Rattle.h41_codes.specs.ByteLaws.{NumberBegins, OneLine}
+use Rattle.h41_codes.specs.declared.line.Line.{Line}
+use Rattle.h41_codes.specs.declared.line.Line.TheVariants.{Number}
+use Rattle.h41_program.proofs.Windows.{begins_least}
+use Rattle.h41_program.specs.ProgramBytes.{program_byte}
+use Rattle.h41_program.specs.Reading.{BeginsNoNumber, bytes_seen}
+use Rattle.h41_ram.specs.RegisterMap.{RegisterMap}
+
+whole_alone : (numbers : NumberBegins) (line : Line) (byte : ℕ) (rest : List ℕ) → IsLine line → byte ∷ [] ≡ spelling line → BeginsNoNumber byte
+    → IsWhole line rest
+whole_alone numbers (Number characters) byte rest valid same other = λ goes.
+    let begun : GoesOn (spelling (Number characters) ++ []) = (numbers (Number characters) [] valid).1 tt in
+    let own : GoesOn (byte ∷ []) = subst (λ (bytes : List ℕ). GoesOn (bytes ++ [])) (sym same) begun in
+    absurd (other own.0 own.1)
+whole_alone numbers line byte rest valid same other = tt
+
+one_byte : (byte : ℕ) (line : Line) (count : ℕ) → count ≡ 1 → take count (byte ∷ []) ≡ spelling line → byte ∷ [] ≡ spelling line
+one_byte byte line count is same = subst (λ (n : ℕ). take n (byte ∷ []) ≡ spelling line) is same
+
+begins_by : (numbers : NumberBegins) (byte : ℕ) (rest : List ℕ) (line : Line) → IsLine line → byte ∷ [] ≡ spelling line → BeginsNoNumber byte
+    → Begins (byte ∷ rest) line 1
+begins_by numbers byte rest line valid same other =
+    record { inside = omega arith; spells = record { valid = valid; same = same }; whole = whole_alone numbers line byte rest valid same other }
+
+pub begins_alone : (numbers : NumberBegins) (byte : ℕ) (rest : List ℕ) (line : Line) (count : ℕ) → BeginsNoNumber byte
+    → Begins (byte ∷ []) line count → Begins (byte ∷ rest) line count
+begins_alone numbers byte rest line count other begins =
+    let least = begins_least (byte ∷ []) line count begins in
+    let inside = begins.inside in
+    let is : count ≡ 1 = omega (arith, least, inside) in
+    subst (λ (n : ℕ). Begins (byte ∷ rest) line n) (sym is)
+    (begins_by numbers byte rest line begins.spells.valid (one_byte byte line count is begins.spells.same) other)
+
+same_found : {E : Type 0} (line other : Line) (count size : ℕ) → ◌≡◌ {A = Result (Line × ℕ) E} (Ok (line, count)) (Ok (other, size))
+    → (line ≡ other) × (count ≡ size)
+same_found line other count size is =
+    let pair : ◌≡◌ {A = Line × ℕ} (line, count) (other, size) = cc in
+    (ap (λ (found : Line × ℕ). found.0) pair, ap (λ (found : Line × ℕ). found.1) pair)
+
+pub answers_alone : {E : Type 0} (one : OneLine) (bytes : List ℕ) (line : Line) (count : ℕ) → Begins bytes line count
+    → AnswersLine {E = E} (Ok (line, count)) bytes
+answers_alone one bytes line count begins = λ other size. (
+  λ is. let same = same_found line other count size is in
+      subst (λ (n : ℕ). Begins bytes other n) same.1 (subst (λ (l : Line). Begins bytes l count) same.0 begins),
+  λ found. let same = one bytes line other count size begins found in ap Ok (λ i. (same.0 i, same.1 i)),
+)
+
+-- the bytes that are seen begin with the first
+pub seen_first : (memory : RegisterMap) (at limit : ℕ) → at < limit
+    → bytes_seen memory at limit ≡ program_byte memory at ∷ map (program_byte memory) (range_with_len (at + 1) (min 18 (limit - at) - 1))
+seen_first memory at limit before =
+    let some : min 18 (limit - at) ≡ suc (min 18 (limit - at) - 1) = omega (arith, before) in
+    ap (λ n. map (program_byte memory) (range_with_len at n)) some
+
+answers_same : {E : Type 0} (found : Result (Line × ℕ) E) (bytes other : List ℕ) → bytes ≡ other → AnswersLine found bytes → AnswersLine found other
+answers_same found bytes other same answers = subst (λ (of : List ℕ). AnswersLine found of) same answers
+
+-- a line that was read of the first byte alone
+pub seen_alone : {E : Type 0} (one : OneLine) (numbers : NumberBegins) (memory : RegisterMap) (at limit byte : ℕ) (line : Line) (count : ℕ) → at < limit
+    → byte ≡ program_byte memory at → BeginsNoNumber byte → Begins (byte ∷ []) line count → AnswersLine {E = E} (Ok (line, count)) (bytes_seen memory at limit)
+seen_alone one numbers memory at limit byte line count before is other begins =
+    let rest : List ℕ = map (program_byte memory) (range_with_len (at + 1) (min 18 (limit - at) - 1)) in
+    let same : byte ∷ rest ≡ bytes_seen memory at limit = ap (λ first. first ∷ rest) is ∙ sym (seen_first memory at limit before) in
+    let alone = begins_alone numbers byte rest line count other begins in
+    answers_same (Ok (line, count)) (byte ∷ rest) (bytes_seen memory at limit) same (answers_alone one (byte ∷ rest) line count alone)

@@ -1,5 +1,8 @@
--- What first bytes stand for, as the functions that read bytes promise it one another. No public contract needs this file.
-use Rattle.std.specs.Prelude.{ℕ, ◌<◌, ◌≤◌, ◌⊎◌, ◌≡◌, ◌+◌, List, [], length, slice_index}
+-- What first bytes stand for, as the functions that read bytes promise it one another. Of public contracts only those of lines
+-- of one byte need this file.
+use Rattle.h41_codes.specs.ByteGrammar.{Spells}
+use Rattle.h41_codes.specs.declared.line.Line.{Line}
+use Rattle.std.specs.Prelude.{ℕ, ◌<◌, ◌≤◌, ◌⊎◌, ◌≡◌, ◌+◌, List, [], ◌∷◌, length, slice_index}
 
 -- a number from the first on and below the second
 abbrev pub IsIn : ℕ → ℕ → ℕ → Type 0
@@ -8,6 +11,10 @@ IsIn low high number = (low ≤ number) × (number < high)
 -- the null, LBL 00 to 14, RCL and STO 00 to 15 and the functions without a parameter
 abbrev pub IsOneByte : ℕ → Type 0
 IsOneByte first = (first < 0x10) ⊎ IsIn 0x20 0x90 first
+
+-- a byte is a line of its own
+abbrev pub IsAlone : ℕ → Type 0
+IsAlone byte = (line : Line) × Spells (byte ∷ []) line
 
 -- functions with an operand, XROM, GTO IND and XEQ IND, GTO 00 to 14
 abbrev pub IsTwoBytes : ℕ → Type 0

@@ -1,9 +1,9 @@
 //! From bytes to the line that they begin with.
-ghost use Rattle.std.specs.Prelude.{◌≡◌, ℕ, ◌+◌, ◌*◌, ◌<◌, ◌≤◌, ◌↔◌, ◌⊎◌, [], ◌∷◌, map, length, take, drop, slice_index, IfOk, OnErr, IfSome, IfNone, IsErr, Ok};
+ghost use Rattle.std.specs.Prelude.{◌≡◌, ℕ, ◌+◌, ◌*◌, ◌<◌, ◌≤◌, ◌↔◌, ◌⊎◌, [], ◌∷◌, map, length, take, drop, slice_index, IfOk, OnErr, IfSome, IfNone, IsErr, IsTrue, Ok};
 ghost use Rattle.h41_codes.specs.ByteGrammar.{spelling, text_bytes, IsBytes, IsLine, Spells, Begins, BeginsNoLine, operand_byte, AnswersLine, link_high, link_low};
 ghost use Rattle.h41_codes.specs.ByteGrammar as grammar;
 ghost use Rattle.h41_codes.specs.Codes as code;
-ghost use Rattle.h41_codes.specs.Heads.{IsOneByte, IsTwoBytes, IsIn, LacksText, IsWholeRun};
+ghost use Rattle.h41_codes.specs.Heads.{IsAlone, IsOneByte, IsTwoBytes, IsIn, LacksText, IsWholeRun};
 
 use crate::characters::{Character, Number, Text};
 use crate::faults::BrokenProgram;
@@ -45,6 +45,32 @@ fn front(bytes: &[u8]) -> Result<(Line, usize), BrokenProgram>
         0xD0..=0xEF => triple(bytes),
         0xF0..=0xFF => text(bytes),
         0xAF | 0xB0 => Err(BrokenProgram),
+    }
+}
+
+/// The line that a byte is of its own: the null, a short label, RCL and STO of a short register, a function without an operand.
+/// `None` for bytes with which other lines begin, numbers among them, or none.
+pub fn one_byte_line(byte: u8) -> Option<Line>
+    ensures some { IfSome result (λ line. IsOneByte byte × Spells (byte ∷ []) line) }
+    ensures none { IfNone result (IsOneByte byte → ⊥) }
+{
+    match byte {
+        0x00..=0x0F | 0x20..=0x8F => Some(one_byte(byte)),
+        _ => None,
+    }
+}
+
+/// Whether a byte is a line of its own, as in `one_byte_line`, without that line.
+pub fn is_one_byte(byte: u8) -> bool
+    ensures which { IsTrue result ↔ IsOneByte byte }
+    ensures line { IsTrue result → IsAlone byte }
+{
+    match byte {
+        0x00..=0x0F | 0x20..=0x8F => {
+            let _line = one_byte(byte);
+            true
+        }
+        _ => false,
     }
 }
 

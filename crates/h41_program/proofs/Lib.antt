@@ -18,6 +18,7 @@ pub mod Mains
 pub mod Memory
 pub mod NewLines
 pub mod Numbers
+pub mod OneByteLines
 pub mod Outcomes
 pub mod Packings
 pub mod Resized

@@ -1,7 +1,10 @@
 -- A line of one byte is that of all bytes that begin with this byte.
-use Rattle.std.proofs.Common.{◌≡◌, ℕ, suc, ◌+◌, ◌-◌, ◌<◌, List, [], ◌∷◌, ◌++◌, map, take, Ok, Result, sym, ◌∙◌, ap, subst, arith}
+use Rattle.std.proofs.Common.{◌≡◌, ℕ, suc, ◌+◌, ◌-◌, ◌<◌, ◌≤◌, List, [], ◌∷◌, ◌++◌, map, take, drop, Ok, Result, sym, ◌∙◌, ap, subst, arith, inl, inr}
 use Rattle.std.proofs.Common.{min}
 use Rattle.std.specs.List.{range_with_len}
+use Rattle.std.proofs.lemmas.List.{length-take, take-take}
+use Rattle.std.proofs.lemmas.List.FromFn.{take-map-range_with_len}
+use Rattle.h41_codes.specs.Heads.{IsOneByte}
 use Rattle.h41_codes.specs.ByteGrammar.{AnswersLine, Begins, GoesOn, IsLine, IsWhole, spelling}
 use Rattle.h41_codes.specs.ByteLaws.{NumberBegins, OneLine}
 use Rattle.h41_codes.specs.declared.line.Line.{Line}
@@ -22,7 +25,7 @@ whole_alone numbers line byte rest valid same other = tt
 one_byte : (byte : ℕ) (line : Line) (count : ℕ) → count ≡ 1 → take count (byte ∷ []) ≡ spelling line → byte ∷ [] ≡ spelling line
 one_byte byte line count is same = subst (λ (n : ℕ). take n (byte ∷ []) ≡ spelling line) is same
 
-begins_by : (numbers : NumberBegins) (byte : ℕ) (rest : List ℕ) (line : Line) → IsLine line → byte ∷ [] ≡ spelling line → BeginsNoNumber byte
+pub begins_by : (numbers : NumberBegins) (byte : ℕ) (rest : List ℕ) (line : Line) → IsLine line → byte ∷ [] ≡ spelling line → BeginsNoNumber byte
     → Begins (byte ∷ rest) line 1
 begins_by numbers byte rest line valid same other =
     record { inside = omega arith; spells = record { valid = valid; same = same }; whole = whole_alone numbers line byte rest valid same other }
@@ -68,3 +71,51 @@ seen_alone one numbers memory at limit byte line count before is other begins =
     let same : byte ∷ rest ≡ bytes_seen memory at limit = ap (λ first. first ∷ rest) is ∙ sym (seen_first memory at limit before) in
     let alone = begins_alone numbers byte rest line count other begins in
     answers_same (Ok (line, count)) (byte ∷ rest) (bytes_seen memory at limit) same (answers_alone one (byte ∷ rest) line count alone)
+
+-- a byte of which a line of its own begins no number
+pub no_number : (byte : ℕ) → IsOneByte byte → BeginsNoNumber byte
+no_number byte (inl low) = λ from to. omega (arith, low, from)
+no_number byte (inr high) = λ from to. omega (arith, high.0, to)
+
+whole_narrow : (numbers : NumberBegins) (line : Line) (byte count : ℕ) (more rest : List ℕ) → IsLine line
+    → take (suc count) (byte ∷ more) ≡ spelling line → BeginsNoNumber byte → IsWhole line rest
+whole_narrow numbers (Number characters) byte count more rest valid same other = λ goes.
+    let begun : GoesOn (spelling (Number characters) ++ []) = (numbers (Number characters) [] valid).1 tt in
+    let own : GoesOn (byte ∷ []) = subst (λ (bytes : List ℕ). GoesOn (bytes ++ [])) (sym same) begun in
+    absurd (other own.0 own.1)
+whole_narrow numbers line byte count more rest valid same other = tt
+
+-- a line that no number is, of the first of bytes, is that of all
+pub begins_narrow : (numbers : NumberBegins) (byte m : ℕ) (more : List ℕ) (line : Line) (count : ℕ) → BeginsNoNumber byte
+    → Begins (take m (byte ∷ more)) line count → Begins (byte ∷ more) line count
+begins_narrow numbers byte m more line count other begins =
+    let least = begins_least (take m (byte ∷ more)) line count begins in
+    let inside = begins.inside in
+    let size = length-take m (byte ∷ more) in
+    let most : count ≤ m = omega (arith, inside, size) in
+    let one : count ≡ suc (count - 1) = omega (arith, least) in
+    let same : take count (byte ∷ more) ≡ spelling line = sym (take-take count m (byte ∷ more) most) ∙ begins.spells.same in
+    record {
+      inside = omega (arith, inside, size);
+      spells = record { valid = begins.spells.valid; same = same };
+      whole = whole_narrow numbers line byte (count - 1) more (drop count (byte ∷ more)) begins.spells.valid
+          (subst (λ (n : ℕ). take n (byte ∷ more) ≡ spelling line) one same) other;
+    }
+
+-- fewer bytes that are seen are the first of more
+seen_fewer : (memory : RegisterMap) (at near limit : ℕ) → near ≤ limit
+    → take (min 18 (near - at)) (bytes_seen memory at limit) ≡ bytes_seen memory at near
+seen_fewer memory at near limit inside =
+    take-map-range_with_len (program_byte memory) at (min 18 (limit - at)) (min 18 (near - at)) (omega (arith, inside))
+
+-- a line that was read of fewer bytes, the first of which begins no number
+pub seen_narrow : {E : Type 0} (one : OneLine) (numbers : NumberBegins) (memory : RegisterMap) (at near limit byte : ℕ) (line : Line) (count : ℕ)
+    → at < limit → near ≤ limit → byte ≡ program_byte memory at → BeginsNoNumber byte
+    → Begins (bytes_seen memory at near) line count → AnswersLine {E = E} (Ok (line, count)) (bytes_seen memory at limit)
+seen_narrow one numbers memory at near limit byte line count before inside is other begins =
+    let rest : List ℕ = map (program_byte memory) (range_with_len (at + 1) (min 18 (limit - at) - 1)) in
+    let same : byte ∷ rest ≡ bytes_seen memory at limit = ap (λ first. first ∷ rest) is ∙ sym (seen_first memory at limit before) in
+    let fewer : bytes_seen memory at near ≡ take (min 18 (near - at)) (byte ∷ rest) =
+    sym (seen_fewer memory at near limit inside) ∙ ap (take (min 18 (near - at))) (sym same) in
+    let narrow = begins_narrow numbers byte (min 18 (near - at)) rest line count other (subst (λ (bytes : List ℕ). Begins bytes line count) fewer begins) in
+    answers_same (Ok (line, count)) (byte ∷ rest) (bytes_seen memory at limit) same (answers_alone one (byte ∷ rest) line count narrow)

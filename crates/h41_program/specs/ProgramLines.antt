@@ -7,9 +7,10 @@ use Rattle.h41_codes.specs.declared.line.Line.TheVariants.{Null}
 use Rattle.h41_ram.specs.RegisterMap.{RegisterMap, is_sound}
 use Rattle.h41_program.specs.declared.listed_line.ListedLine.{ListedLine}
 use Rattle.h41_program.specs.declared.reading.Found.{Found}
+use Rattle.h41_program.specs.declared.reading.Place.{Place}
 use Rattle.h41_program.specs.declared.refusal.ProgramRefusal.{ProgramRefusal}
 use Rattle.h41_program.specs.declared.refusal.ProgramRefusal.TheVariants.{BrokenProgram}
-use Rattle.h41_program.specs.Lines.{is_final_end}
+use Rattle.h41_program.specs.Lines.{is_end, is_final_end}
 use Rattle.h41_program.specs.ProgramBytes.{program_bytes, final_position}
 
 -- the bytes that a line may take which begins at a position: those before the final ones, or these where it begins there
@@ -45,6 +46,14 @@ pub record IsFirst (bytes : List ℕ) (final at : ℕ) (listed : ListedLine) (ne
 -- memory has this line first from a position on, and this byte behind it
 abbrev pub HasFirst : RegisterMap → ℕ → Found → Type 0
 HasFirst memory at found = IsFirst (program_bytes memory) (final_position memory) at found.listed found.behind
+
+-- memory has its first line from a position on here, with this byte behind it, and this is what it ends
+abbrev pub HasPlace : RegisterMap → ℕ → Place → Type 0
+HasPlace memory at place =
+    (line : Line)
+    × HasFirst memory at (record { listed = record { position = place.position; line = line }; behind = place.behind })
+    × (place.ends_program ≡ is_end line)
+    × (place.ends_memory ≡ is_final_end line)
 
 -- memory has no line from a position on
 abbrev pub HasNoLine : RegisterMap → ℕ → Type 0

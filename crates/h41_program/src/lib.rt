@@ -23,7 +23,7 @@ pub use kinds::{is_end, is_final_end, is_inner, is_label, is_named, is_number};
 pub use listed_line::ListedLine;
 pub use loading::{close_last, is_last_open, load};
 pub use numbering::{line_before, line_number, line_numbered};
-pub use reading::{Found, first_from, line_at, next};
+pub use reading::{Found, Place, first_from, line_at, next, place_from};
 pub use refusal::ProgramRefusal;
 pub use searches::{global, local, start_of};
 pub use size::set_size;

@@ -2,18 +2,18 @@
 ghost use Rattle.std.specs.Prelude.{◌≡◌, ◌≢◌, ℕ, ◌+◌, ◌-◌, ◌<◌, ◌≤◌, map, slice_index, min, IsTrue, IfSome, IfNone};
 ghost use Rattle.std.specs.List.{range_with_len};
 ghost use Rattle.h41_ram.specs.RegisterMap.{is_sound};
-ghost use Rattle.h41_program.specs.ProgramBytes.{byte_count, program_byte, program_bytes};
+ghost use Rattle.h41_program.specs.ProgramBytes.{byte_count, final_position, program_byte};
 ghost use Rattle.h41_program.specs.ProgramBytes as spec;
-ghost use Rattle.h41_program.specs.ProgramLines.{AnswersFirst, AnswersNext, HasFirst, HasNoLine};
-ghost use Rattle.h41_program.specs.Reading.{bytes_seen, program_register, BeginsNoNumber, FoundBehind};
+ghost use Rattle.h41_program.specs.ProgramLines.{AnswersFirst, AnswersNext, HasFirst, HasNoLine, HasPlace};
+ghost use Rattle.h41_program.specs.Reading.{bytes_seen, program_register, BeginsNoNumber, FoundBehind, IsPlaceOf};
 ghost use Rattle.h41_codes.specs.ByteGrammar.{AnswersLine};
 
-use crate::kinds::is_final_end;
+use crate::kinds::{is_end, is_final_end};
 use crate::listed_line::ListedLine;
 use crate::refusal::ProgramRefusal;
 use arrayvec::ArrayVec;
 use h41_codes::laws::{byte_round_trip, first_bytes};
-use h41_codes::{BrokenProgram, Line, decode};
+use h41_codes::{BrokenProgram, Line, decode, is_one_byte, one_byte_line};
 use h41_digits::Reg;
 use h41_ram::Ram;
 
@@ -37,6 +37,19 @@ pub struct Found {
     pub listed: ListedLine,
     /// The position of the byte behind the line's last: at most the number of bytes of program memory.
     pub behind: u16,
+}
+
+/// Where a line stands, and what it ends: what a walk needs that looks at no line itself.
+#[derive(Clone, Copy, Debug, PartialEq, Eq)]
+pub struct Place {
+    /// The line's own position.
+    pub position: u16,
+    /// The position of the byte behind the line's last.
+    pub behind: u16,
+    /// Whether it is an `END`; `.END.` is none.
+    pub ends_program: bool,
+    /// Whether it is `.END.`.
+    pub ends_memory: bool,
 }
 
 /// Where the last three bytes of program memory begin.
@@ -103,14 +116,22 @@ fn window<const REGS: usize>(ram: &Ram<REGS>, at: u16, limit: u16) -> Window
     window
 }
 
-/// Whether a byte may be a line of its own: a short label, RCL and STO of a short register, or a function without an operand.
-fn may_be_alone(byte: u8) -> bool
-    ensures { IsTrue result → BeginsNoNumber byte }
+/// How many bytes a line takes at most that a byte begins: told by that byte for lines of two or three bytes and texts, and 18
+/// for all others.
+fn line_most(byte: u8) -> u16
+    ensures least { 1 ≤ result }
+    ensures most { result ≤ 18 }
+    ensures number { result < 18 → BeginsNoNumber byte }
 {
-    matches!(byte, 0x01..=0x0F | 0x20..=0x8F)
+    match byte {
+        0x90..=0xBF | 0xCE | 0xCF => 2,
+        0xD0..=0xEF => 3,
+        0xF0..=0xFF => u16::from(byte - 0xF0) + 1,
+        _ => LINE_MOST,
+    }
 }
 
-/// The line that the bytes from a position to another begin with. A line of one byte is read from that byte alone.
+/// The line that the bytes from a position to another begin with, of as many of them as its first one asks for.
 fn decoded<const REGS: usize>(
     ram: &Ram<REGS>,
     at: u16,
@@ -125,11 +146,27 @@ fn decoded<const REGS: usize>(
     byte_round_trip();
     first_bytes();
     let byte = byte_at(ram, at);
-    if may_be_alone(byte) {
-        if let Ok(found) = decode(&[byte]) {
+    let most = line_most(byte);
+    if most < LINE_MOST {
+        if let Ok(found) = decoded_in(ram, at, limit.min(at + most)) {
             return Ok(found);
         }
     }
+    decoded_in(ram, at, limit)
+}
+
+/// The line that the bytes from a position to another begin with, of the first 18 of them.
+fn decoded_in<const REGS: usize>(
+    ram: &Ram<REGS>,
+    at: u16,
+    limit: u16,
+) -> Result<(Line, usize), BrokenProgram>
+    requires from { at < limit }
+    requires limit { limit ≤ byte_count ram.now }
+    requires bound { limit < 65000 }
+    requires sound { IsTrue (is_sound ram.now) }
+    ensures { AnswersLine result (bytes_seen ram.now at limit) }
+{
     decode(window(ram, at, limit).as_slice())
 }
 
@@ -148,7 +185,7 @@ fn line_limit(position: u16, last: u16) -> u16
 }
 
 /// The first line from a position on, nulls passed over, and the byte behind it; `None` where no line follows. The list goes on
-/// from that byte, except behind `.END.`, its last line.
+/// from that byte, except behind `.END.`, its last line. A line of one byte that stands there is read without a window.
 pub fn first_from<const REGS: usize>(ram: &Ram<REGS>, at: u16) -> Option<Found>
     requires { IsTrue (is_sound ram.now) }
     ensures first { IfSome result (λ found. HasFirst ram.now at found) }
@@ -157,7 +194,34 @@ pub fn first_from<const REGS: usize>(ram: &Ram<REGS>, at: u16) -> Option<Found>
     ensures behind { IfSome result (λ found. found.behind ≤ 2240) }
 {
     byte_round_trip();
+    first_bytes();
     let last = final_position(ram);
+    if at < last {
+        let byte = byte_at(ram, at);
+        if byte != 0 {
+            if let Some(line) = one_byte_line(byte) {
+                return Some(Found {
+                    listed: ListedLine { position: at, line },
+                    behind: at + 1,
+                });
+            }
+        }
+    }
+    first_decoded(ram, at, last)
+}
+
+/// The first line from a position on, nulls passed over, read of a window of bytes.
+fn first_decoded<const REGS: usize>(ram: &Ram<REGS>, at: u16, last: u16) -> Option<Found>
+    requires sound { IsTrue (is_sound ram.now) }
+    requires last { last ≡ final_position ram.now }
+    requires count { last + 3 ≡ byte_count ram.now }
+    requires bound { last ≤ 2237 }
+    ensures first { IfSome result (λ found. HasFirst ram.now at found) }
+    ensures none { IfNone result (HasNoLine ram.now at) }
+    ensures inside { IfSome result (λ found. found.listed.position ≤ 2237) }
+    ensures behind { IfSome result (λ found. found.behind ≤ 2240) }
+{
+    byte_round_trip();
     if at > last {
         return None;
     }
@@ -168,6 +232,44 @@ pub fn first_from<const REGS: usize>(ram: &Ram<REGS>, at: u16) -> Option<Found>
             behind: position + count as u16,
         }),
         Err(_) => None,
+    }
+}
+
+/// Where the first line from a position on stands and what it ends, as `first_from` finds it.
+pub fn place_from<const REGS: usize>(ram: &Ram<REGS>, at: u16) -> Option<Place>
+    requires { IsTrue (is_sound ram.now) }
+    ensures place { IfSome result (λ place. HasPlace ram.now at place) }
+    ensures none { IfNone result (HasNoLine ram.now at) }
+{
+    byte_round_trip();
+    first_bytes();
+    let last = final_position(ram);
+    if at < last {
+        let byte = byte_at(ram, at);
+        if byte != 0 && is_one_byte(byte) {
+            return Some(Place {
+                position: at,
+                behind: at + 1,
+                ends_program: false,
+                ends_memory: false,
+            });
+        }
+    }
+    match first_decoded(ram, at, last) {
+        Some(found) => Some(place_of(&found)),
+        None => None,
+    }
+}
+
+/// The place of a line that was found.
+fn place_of(found: &Found) -> Place
+    ensures { IsPlaceOf found.now result }
+{
+    Place {
+        position: found.listed.position,
+        behind: found.behind,
+        ends_program: is_end(&found.listed.line),
+        ends_memory: is_final_end(found.listed.line),
     }
 }
 
@@ -203,8 +305,8 @@ fn position_behind<const REGS: usize>(ram: &Ram<REGS>, first: Found) -> u16
     if is_final_end(listed.line) {
         return listed.position;
     }
-    match first_from(ram, behind) {
-        Some(second) => second.listed.position,
+    match place_from(ram, behind) {
+        Some(second) => second.position,
         None => behind,
     }
 }

@@ -1,15 +1,13 @@
 //! Where programs begin and labels stand.
 ghost use Rattle.std.specs.Prelude.{◌≡◌, ◌&&◌, nat_lt, IsTrue};
 ghost use Rattle.h41_ram.specs.RegisterMap.{is_sound};
-ghost use Rattle.h41_program.specs.Lines as spec;
 ghost use Rattle.h41_program.specs.ProgramLines.{AnswersOf};
 ghost use Rattle.h41_program.specs.Reading.{AnswersFrom};
 ghost use Rattle.h41_program.specs.Searches.{AnswersLocal, label_in, named_in, position_of, start_in};
 
 use crate::kinds::{is_end, is_final_end, is_label, is_named};
 use crate::laws::one_list;
-use crate::listed_line::ListedLine;
-use crate::reading::{Found, first_from};
+use crate::reading::{Found, Place, first_from, place_from};
 use h41_codes::Parameter;
 use h41_codes::laws::byte_round_trip;
 use h41_ram::Ram;
@@ -22,24 +20,23 @@ pub fn start_of<const REGS: usize>(ram: &Ram<REGS>, at: u16) -> u16
 {
     let mut start = 0;
     let mut position = 0;
-    while let Some(found) = first_from(ram, position) {
-        let Found { listed, behind } = found;
-        if is_final_end(listed.line) {
+    while let Some(place) = place_from(ram, position) {
+        if place.ends_memory {
             return start;
         }
-        if ends_before(&listed, at) {
-            start = behind;
+        if ends_before(&place, at) {
+            start = place.behind;
         }
-        position = behind;
+        position = place.behind;
     }
     start
 }
 
 /// Whether a line is an END before a position.
-fn ends_before(listed: &ListedLine, at: u16) -> bool
-    ensures { result ≡ (spec.is_end listed.now.line && nat_lt listed.now.position at) }
+fn ends_before(place: &Place, at: u16) -> bool
+    ensures { result ≡ (place.now.ends_program && nat_lt place.now.position at) }
 {
-    is_end(&listed.line) && listed.position < at
+    place.ends_program && place.position < at
 }
 
 /// Where the `LBL n` stands that a position finds: the first from there to the END, else the first of its program.

@@ -1,63 +1,9 @@
-use Rattle.std.proofs.Common.{◌+◌, refl, arith}
-use Rattle.std.proofs.lemmas.List.FromFn.{length-map-range_with_len}
-use Rattle.h41_program.specs.ProgramBytes.{byte_count, program_byte}
-use Rattle.h41_program.specs.Reading.{bytes_seen}
-use Rattle.h41_program.proofs.FirstLines.{first_inside}
-use Rattle.h41_program.proofs.Memory.{Looked, looked_first, looked_none}
-use Rattle.h41_program.proofs.Windows.{begins_most}
+use Rattle.h41_program.proofs.OneByteLines.{one_byte_first}
 use Rattle.h41_program.proofs.reading.first_from.Goals as goal
 
-pub returns-then-at-last-clause-none : goal.returns-then-at-last-clause-none
-returns-then-at-last-clause-none g c first is =
-    let inside = first_inside _ _ _ first is in
-    let from = is.from in
-    omega (arith, inside, from, c.final_position-last.ensures.value)
-
-pub overflow_cast-result : goal.overflow_cast-result
-overflow_cast-result g c =
-    let most = begins_most _ _ _ ((c.decoded.ensures c.in-Ok.line c.in-Ok.count).0 c.in-Ok.is) in
-    omega (arith, most)
-
-pub overflow_add-result : goal.overflow_add-result
-overflow_add-result g c =
-    let most = begins_most _ _ _ ((c.decoded.ensures c.in-Ok.line c.in-Ok.count).0 c.in-Ok.is) in
-    omega (arith, most)
-
-pub returns-in-Ok-clause-first : goal.returns-in-Ok-clause-first
-returns-in-Ok-clause-first g c =
-    let looked : Looked c.args.ram.now c.args.at c.past_nulls-position.result c.final_position-last.result c.line_limit.result (bytes_seen c.args.ram.now c.past_nulls-position.result c.line_limit.result) = record {
-      last_is = c.final_position-last.ensures.value;
-      count = c.final_position-last.ensures.count;
-      from = c.past_nulls-position.ensures.from;
-      to = c.past_nulls-position.ensures.to;
-      nulls = c.past_nulls-position.ensures.nulls;
-      stop = c.past_nulls-position.ensures.stop;
-      before = c.line_limit.ensures.before;
-      behind = c.line_limit.ensures.last;
-      bytes = refl;
-    } in
-    looked_first c.byte_round_trip.ensures.one c.args.ram.now c.requires c.args.at c.past_nulls-position.result c.final_position-last.result c.line_limit.result
-    (bytes_seen c.args.ram.now c.past_nulls-position.result c.line_limit.result) looked c.decoded.result c.decoded.ensures c.in-Ok.line c.in-Ok.count (c.past_nulls-position.result + c.in-Ok.count) c.in-Ok.is refl
-
-pub returns-in-Ok-clause-behind : goal.returns-in-Ok-clause-behind
-returns-in-Ok-clause-behind g c =
-    let memory = c.args.ram.now in
-    let inside = (returns-in-Ok-clause-first g c).inside in
-    let last = c.final_position-last.ensures in
-    omega (arith, inside, length-map-range_with_len (program_byte memory) 0 (byte_count memory), last.count, last.bound)
-
-pub returns-in-Err-clause-none : goal.returns-in-Err-clause-none
-returns-in-Err-clause-none g c =
-    let looked : Looked c.args.ram.now c.args.at c.past_nulls-position.result c.final_position-last.result c.line_limit.result (bytes_seen c.args.ram.now c.past_nulls-position.result c.line_limit.result) = record {
-      last_is = c.final_position-last.ensures.value;
-      count = c.final_position-last.ensures.count;
-      from = c.past_nulls-position.ensures.from;
-      to = c.past_nulls-position.ensures.to;
-      nulls = c.past_nulls-position.ensures.nulls;
-      stop = c.past_nulls-position.ensures.stop;
-      before = c.line_limit.ensures.before;
-      behind = c.line_limit.ensures.last;
-      bytes = refl;
-    } in
-    looked_none c.byte_round_trip.ensures.one c.args.ram.now c.requires c.args.at c.past_nulls-position.result c.final_position-last.result c.line_limit.result
-    (bytes_seen c.args.ram.now c.past_nulls-position.result c.line_limit.result) looked c.decoded.result c.decoded.ensures c.in-Err.field-0 c.in-Err.is
+pub returns-in-Some-clause-first : goal.returns-in-Some-clause-first
+returns-in-Some-clause-first g c =
+    let last = c.final_position-last in
+    let found = c.in-Some.ensures.some in
+    one_byte_first c.byte_round_trip.ensures.one c.first_bytes.ensures.number c.args.ram.now c.requires c.args.at last.result c.byte_at-byte.result
+    last.ensures.value last.ensures.count c.if-at-last.true c.byte_at-byte.ensures c.if-byte-ne0.true found.0 c.in-Some.line found.1

@@ -59,7 +59,3 @@ initial = record {
 -- address that of a function's end, the other three 0000; the display stays as it is
 abbrev pub entered : Processor → ℕ → Processor
 entered s address = record initial { pc = address; returns = end_of_function ∷ 0 ∷ 0 ∷ 0 ∷ []; display = s.display }
-
--- with the display off
-abbrev pub with_display_off : Processor → Processor
-with_display_off s = record s { display = false }

@@ -11,10 +11,11 @@ use Rattle.h41_xrom.specs.declared.calculator.Mode.TheVariants as modes
 abbrev pub position_digits : ℕ → List ℕ
 position_digits position = two_digits (position / 100 % 100) ++ two_digits (position % 100)
 
--- the mode, and the address of the next word; while nothing runs the position in program memory
+-- the mode, and the address of the next word while a function runs, else the position in program memory
 abbrev pub position_in : CalculatorState → Mode → List ℕ
 position_in s modes.Idle = codes "Idle " ++ position_digits s.focal.position
-position_in s modes.Micro = codes "Micro " ++ hexadecimal_text 4 s.nut.processor.pc
+position_in s modes.Run = codes "Run " ++ position_digits s.focal.position
+position_in s (modes.Micro caller) = codes "Micro " ++ hexadecimal_text 4 s.nut.processor.pc
 
 abbrev pub position_text : BenchState → List ℕ
 position_text s = position_in s.calculator s.calculator.mode

@@ -12,7 +12,7 @@ use h41_xrom::Mode;
 const CAPACITY: usize = 10;
 
 impl Bench {
-    /// `Micro` and the address of the next word while a function runs, else `Idle` and the position in program memory.
+    /// `Micro` and the address of the next word while a function runs, else `Run` or `Idle` and the position in program memory.
     pub fn position(&self) -> ArrayString<CAPACITY>
         ensures { result.bytes ≡ spec.position_text self.now }
     {
@@ -23,7 +23,11 @@ impl Bench {
                 text.push_str("Idle ");
                 text.push_str(position_digits(calculator.focal().position).as_str());
             }
-            Mode::Micro => {
+            Mode::Run => {
+                text.push_str("Run ");
+                text.push_str(position_digits(calculator.focal().position).as_str());
+            }
+            Mode::Micro(_) => {
                 text.push_str("Micro ");
                 text.push_str(address_digits(calculator.cpu().pc()).as_str());
             }

@@ -16,6 +16,6 @@ pub use h41_debug::Bench;
 pub use h41_ends::{
     FromRead, Input, InputFault, Sink, Source, ToWrite, WriteFault, flush, read_whole, write_whole,
 };
-pub use h41_xrom::{Calculator, CalculatorRefusal, Mode};
+pub use h41_xrom::{Calculator, CalculatorRefusal, Caller, Mode};
 pub use refusal::{Detail, Refusal};
 pub use replies::{Outcome, apply};

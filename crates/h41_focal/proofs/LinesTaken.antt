@@ -8,7 +8,7 @@ use Rattle.h41_codes.specs.declared.line.Line.TheVariants as lines
 use Rattle.h41_codes.specs.declared.line.Operand.{Operand}
 use Rattle.h41_focal.specs.Carrying.{CarriesFound, CarriesRow, FailsAs, Stands, TakesAs, UsesDigits, UsesFlag, UsesAddress}
 use Rattle.h41_focal.specs.LineCalls.{carried_as, left_of, machine_of}
-use Rattle.h41_focal.specs.LineStep.{FailsLine, FailsWith, FocalState, Left, StepsAs, StepsLine, line_as}
+use Rattle.h41_focal.specs.LineStep.{FailsLine, FailsWith, FocalState, Left, Machine, PassesLine, PassesWith, StepsAs, StepsLine, lift_behind, line_as, passed}
 use Rattle.h41_focal.specs.Works.{digits_use_row, flag_use_row, highest_of, register_use_row, row_of_work}
 use Rattle.h41_focal.specs.declared.origin.Origin.{Origin}
 use Rattle.h41_focal.specs.declared.origin.Origin.TheVariants.{Program}
@@ -161,3 +161,46 @@ pub fail_refused :
     → Stands memory focal.position (Err refusal)
     → FailsLine fault (machine_of memory focal) (Err refusal)
 fail_refused fault memory focal refusal stands = fail_refused_by (is_sound memory) fault memory focal refusal (Err refusal) refl stands
+
+-- or passed
+pub line_passed :
+    (memory : RegisterMap) (focal after : FocalState) (line : Line) (next : ℕ)
+    → Stands memory focal.position (Ok (line, next))
+    → machine_of memory after ≡ passed line next (machine_of memory focal)
+    → PassesLine (machine_of memory focal) (Ok (machine_of memory after))
+line_passed memory focal after line next (sound, (first, answers, is), knows) goes =
+    rw sound (Ok first, answers, (next, knows, rw (goes, is) refl))
+
+pass_refused_by :
+    (sound : Bool) (memory : RegisterMap) (focal : FocalState) (refusal : FocalRefusal) (after : Result Machine FocalRefusal)
+    → after ≡ Err refusal
+    → MatchBool sound ((refusal ≡ BrokenProgram) × AnswersFirst memory focal.position (Err program.BrokenProgram)) (refusal ≡ MemoryLost)
+    → MatchBool sound
+    ((first : Result ListedLine refusals.ProgramRefusal) × AnswersFirst memory focal.position first × PassesWith (machine_of memory focal) first after)
+    (after ≡ Err MemoryLost)
+pass_refused_by true memory focal refusal after refused (is, none) = (Err program.BrokenProgram, none, rw (refused, is) refl)
+pass_refused_by false memory focal refusal after refused is = rw (refused, is) refl
+
+pub pass_refused :
+    (memory : RegisterMap) (focal : FocalState) (refusal : FocalRefusal)
+    → Stands memory focal.position (Err refusal)
+    → PassesLine (machine_of memory focal) (Err refusal)
+pass_refused memory focal refusal stands = pass_refused_by (is_sound memory) memory focal refusal (Err refusal) refl stands
+
+-- behind a line that is no XROM line lift stays
+pub lift_kept : (line : Line) (lift : Bool) → ((number entry : ℕ) → line ≡ lines.Module number entry → ⊥) → lift_behind line lift ≡ lift
+lift_kept (lines.Module number entry) lift other = absurd (other number entry refl)
+lift_kept lines.Null lift other = refl
+lift_kept (lines.LocalLabel label) lift other = refl
+lift_kept (lines.Number number) lift other = refl
+lift_kept (lines.Named function name) lift other = refl
+lift_kept (lines.Register function register) lift other = refl
+lift_kept (lines.Plain function) lift other = refl
+lift_kept (lines.WithOperand function operand) lift other = refl
+lift_kept (lines.BranchIndirect branch register) lift other = refl
+lift_kept (lines.ShortGoTo label distance) lift other = refl
+lift_kept (lines.GlobalLabel link key name) lift other = refl
+lift_kept (lines.End link marks) lift other = refl
+lift_kept (lines.FinalEnd link marks) lift other = refl
+lift_kept (lines.BranchTo branch distance backwards label) lift other = refl
+lift_kept (lines.Text text) lift other = refl

@@ -5,8 +5,8 @@ use Rattle.h41_codes.specs.declared.functions.Function.{Function}
 use Rattle.h41_codes.specs.declared.line.Line.{Line}
 use Rattle.h41_codes.specs.declared.line.Line.TheVariants.{Module}
 use Rattle.h41_focal.specs.Courses.{Arrives, Asks, Course, Goes, GoesBack, Halts, HasNoLabel, HasNoLine, How, Passes, Runs, Seeks, Stays, Stepped, StepsFrom, Tells, Typed, TypedFrom, found_at, lost_name, typed_at}
-use Rattle.h41_focal.specs.LineLaws.{FailureIsDetermined, StepIsDetermined, TypedIsDetermined}
-use Rattle.h41_focal.specs.LineStep.{Applies, AppliesTo, AppliesWith, CarriesOut, ComputesIn, Ends, Fails, FailsIn, FailsWith, Left, Machine, StepsAs, TakesLine, Works, answered, caught, done, error_flag, failed, line_as, named_by, placed, worked}
+use Rattle.h41_focal.specs.LineLaws.{FailureIsDetermined, PassingIsDetermined, StepIsDetermined, TypedIsDetermined}
+use Rattle.h41_focal.specs.LineStep.{Applies, AppliesTo, AppliesWith, CarriesOut, ComputesIn, Ends, Fails, FailsIn, FailsWith, Left, Machine, PassesWith, StepsAs, TakesLine, Works, answered, caught, done, error_flag, failed, line_as, named_by, passed, placed, worked}
 use Rattle.h41_focal.specs.Outcomes.{Answer}
 use Rattle.h41_focal.specs.declared.refusal.FocalRefusal.{FocalRefusal}
 use Rattle.h41_focal.specs.declared.refusal.FocalRefusal.TheVariants.{MemoryLost, NotInProfile}
@@ -108,6 +108,25 @@ module _ (same_first : FirstIsDetermined) where
 
   pub failure_determined : FailureIsDetermined
   failure_determined fault machine a b p q = same_failed (is_sound machine.memory) fault machine a b p q
+
+  -- a line that is passed
+  same_beyond : (machine : Machine) (first : Result ListedLine program.ProgramRefusal) (a b : Result Machine FocalRefusal)
+      → PassesWith machine first a → PassesWith machine first b → a ≡ b
+  same_beyond machine (Ok first) a b p q =
+      let same = same_next machine.memory machine.focal.position p.0 q.0 p.1 q.1 in
+      p.2 ∙ ap (λ (next : ℕ). Ok (passed first.line next machine)) same ∙ sym q.2
+  same_beyond machine (Err refusal) a b p q = p ∙ sym q
+
+  same_passed : (sound : Bool) (machine : Machine) (a b : Result Machine FocalRefusal)
+      → MatchBool sound (ByFirst machine (λ first. PassesWith machine first a)) (a ≡ Err MemoryLost)
+      → MatchBool sound (ByFirst machine (λ first. PassesWith machine first b)) (b ≡ Err MemoryLost) → a ≡ b
+  same_passed true machine a b p q =
+      let same = same_line machine.memory machine.focal.position p.0 q.0 p.1 q.1 in
+      same_beyond machine q.0 a b (subst (λ (first : Result ListedLine program.ProgramRefusal). PassesWith machine first a) same p.2) q.2
+  same_passed false machine a b p q = p ∙ sym q
+
+  pub passing_determined : PassingIsDetermined
+  passing_determined machine a b p q = same_passed (is_sound machine.memory) machine a b p q
 
 -- what a row computes, where each value has one register or one fault
 module _ (same_value : ValuesAreDetermined) where

@@ -3,7 +3,7 @@ use Rattle.std.specs.Prelude.{◌≡◌, All, IfOk, List, [], ◌∷◌, None, O
 use Rattle.h41_codes.specs.declared.functions.Function.{Function}
 use Rattle.h41_codes.specs.declared.line.Line.{Line}
 use Rattle.h41_codes.specs.declared.line.Line.TheVariants.{Module}
-use Rattle.h41_focal.specs.LineStep.{FailsLine, Left, Machine, StepsLine, TypesLine}
+use Rattle.h41_focal.specs.LineStep.{FailsLine, Left, Machine, PassesLine, StepsLine, TypesLine}
 use Rattle.h41_focal.specs.declared.refusal.FocalRefusal.{FocalRefusal}
 use Rattle.h41_program.specs.ProgramLines.{AnswersFirst}
 use Rattle.h41_program.specs.declared.listed_line.ListedLine.{ListedLine}
@@ -30,6 +30,11 @@ abbrev pub FailureIsDetermined : Type 0
 FailureIsDetermined =
     (fault : LineFault) (machine : Machine) (carried other : Result Left FocalRefusal)
     → FailsLine fault machine carried → FailsLine fault machine other → carried ≡ other
+
+-- and one that is passed
+abbrev pub PassingIsDetermined : Type 0
+PassingIsDetermined =
+    (machine : Machine) (after other : Result Machine FocalRefusal) → PassesLine machine after → PassesLine machine other → after ≡ other
 
 -- a line whose row goes on to the next one, whatever its operand means in whatever memory. Tests, loops, GTO, XEQ, RTN and END do
 -- not; PROMPT, STOP and OFF do, since only memory and lift are looked at; a line whose operand means nothing in any memory does, since

@@ -199,3 +199,23 @@ FailsLine fault machine carried =
     MatchBool (is_sound machine.memory)
     ((first : Result ListedLine program.ProgramRefusal) × AnswersFirst machine.memory machine.focal.position first × FailsWith fault machine first carried)
     (carried ≡ Err MemoryLost)
+
+-- the line at the position calls a function of a module, which the calculator carries out: the program goes on behind the line. An
+-- XROM line turns lift on, XEQ of a name leaves it (this project's choice); 15 and 14 as above
+abbrev pub lift_behind : Line → Bool → Bool
+lift_behind (Module number entry) lift = true
+lift_behind line lift = lift
+
+abbrev pub passed : Line → ℕ → Machine → Machine
+passed line next machine = placed next (record machine { focal = record machine.focal { lift = lift_behind line machine.focal.lift } })
+
+abbrev pub PassesWith : Machine → Result ListedLine program.ProgramRefusal → Result Machine FocalRefusal → Type 0
+PassesWith machine (Ok first) after =
+    (next : ℕ) × AnswersNext machine.memory machine.focal.position (Ok next) × (after ≡ Ok (passed first.line next machine))
+PassesWith machine (Err refusal) after = after ≡ Err BrokenProgram
+
+abbrev pub PassesLine : Machine → Result Machine FocalRefusal → Type 0
+PassesLine machine after =
+    MatchBool (is_sound machine.memory)
+    ((first : Result ListedLine program.ProgramRefusal) × AnswersFirst machine.memory machine.focal.position first × PassesWith machine first after)
+    (after ≡ Err MemoryLost)

@@ -1,14 +1,14 @@
 //! Lines are carried out: the one at the position, a function in its place, or a typed one.
 
-ghost use Rattle.std.specs.Prelude.{◌≡◌, ℕ, None, Some, IsTrue};
+ghost use Rattle.std.specs.Prelude.{◌≡◌, ℕ, None, Some, IsTrue, OnErr};
 ghost use Rattle.h41_focal.specs.Carrying.{GoesToTarget, KnowsNext, Stands, TakesAs, TakesBranch, TakesNamed, TakesShort};
-ghost use Rattle.h41_focal.specs.LineCalls.{FailsHere, KeepsAll, KeepsElsewhere, Steps, Types};
+ghost use Rattle.h41_focal.specs.LineCalls.{FailsHere, KeepsAll, KeepsElsewhere, GoesPast, Steps, Types};
 ghost use Rattle.h41_program.specs.ProgramLines as program_lines;
 ghost use Rattle.h41_program.specs.ProgramLines.{PositionBehind};
 ghost use Rattle.h41_ram.specs.RegisterMap.{is_sound};
 
 use crate::alpha_lines::text_line;
-use crate::course::fail;
+use crate::course::{fail, go_on, go_on_lifting};
 use crate::focal::Focal;
 use crate::functions::plain;
 use crate::labels::{go_back, to_label, to_name};
@@ -21,7 +21,7 @@ use crate::stack_lines::{be_silent, do_nothing, number_line};
 use h41_codes::{
     Branch, Function, Line, NameFunction, Parameter, RegisterFunction, ShortRegister, Text,
 };
-use h41_program::{Found, ListedLine, first_from, is_final_end};
+use h41_program::{Found, ListedLine, first_from, is_final_end, place_from};
 use h41_ram::Ram;
 use h41_rows::{BranchTarget, LineFault, branch_target, data_address};
 
@@ -67,6 +67,20 @@ pub fn fail_line<const REGS: usize>(
     Ok(fail(ram, focal, Origin::Program(next), fault))
 }
 
+/// The line at the position is passed, since what it calls is carried out elsewhere: on to the next line, with lift behind an
+/// XROM line. 15 and 14 as in `step_line`; nothing is changed then.
+pub fn pass_line<const REGS: usize>(ram: &Ram<REGS>, focal: &mut Focal) -> Result<(), FocalRefusal>
+    ensures line { GoesPast ram.now focal.old focal.new result }
+    ensures unchanged { OnErr result (focal.new ≡ focal.old) }
+{
+    let (line, next) = standing(ram, focal)?;
+    match line {
+        Line::Module(_, _) => go_on_lifting(focal, Origin::Program(next)),
+        _ => go_on(focal, Origin::Program(next)),
+    }
+    Ok(())
+}
+
 /// A typed line is carried out: 15 where memory is not sound, 13 where the line is left out.
 pub fn key_line<const REGS: usize>(
     ram: &mut Ram<REGS>,
@@ -109,8 +123,8 @@ fn position_behind<const REGS: usize>(ram: &Ram<REGS>, listed: ListedLine, behin
     if is_final_end(listed.line) {
         return listed.position;
     }
-    match first_from(ram, behind) {
-        Some(second) => second.listed.position,
+    match place_from(ram, behind) {
+        Some(second) => second.position,
         None => behind,
     }
 }

@@ -1,14 +1,15 @@
 -- Why a step and a load leave nothing open.
-use Rattle.std.proofs.Common.{◌≡◌, ℕ, List, Option, Some, None, Result, Ok, Err, refl, sym, ap, subst, ◌∙◌}
-use Rattle.std.specs.Prelude.{MatchOption, option_map}
+use Rattle.std.proofs.Common.{◌≡◌, ℕ, Bool, true, false, List, Option, Some, None, Result, Ok, Err, refl, sym, ap, subst, ◌∙◌}
+use Rattle.std.specs.Prelude.{MatchBool, MatchOption, option_map}
 use Rattle.std.specs.Result.{result_err, result_unwrap_or}
 use Rattle.h41_codes.specs.declared.functions.Function.{Function}
 use Rattle.h41_codes.specs.declared.line.Line.TheVariants.{Plain}
-use Rattle.h41_focal.specs.LineLaws.{FailureIsDetermined, StepIsDetermined}
-use Rattle.h41_focal.specs.LineStep.{Left, Machine}
+use Rattle.h41_focal.specs.LineLaws.{FailureIsDetermined, PassingIsDetermined, StepIsDetermined}
+use Rattle.h41_focal.specs.LineStep.{Left, Machine, PassesLine}
 use Rattle.h41_focal.specs.Outcomes.{Answer}
 use Rattle.h41_focal.specs.Outcomes as answers
 use Rattle.h41_focal.specs.declared.refusal.FocalRefusal.{FocalRefusal}
+use Rattle.h41_focal.specs.declared.refusal.FocalRefusal.TheVariants as lines
 use Rattle.h41_nut.specs.ProcessorLaws.{MicroIsDetermined}
 use Rattle.h41_pages.specs.FunctionTables.{entry_at, found}
 use Rattle.h41_pages.specs.PageMap.{PageMap}
@@ -23,20 +24,36 @@ use Rattle.h41_xrom.proofs.Named.{text_of}
 use Rattle.h41_xrom.specs.declared.calculator.Mode.{Mode}
 use Rattle.h41_xrom.specs.declared.calculator.Mode.TheVariants as modes
 use Rattle.h41_xrom.specs.declared.refusal.CalculatorRefusal.{CalculatorRefusal}
-use Rattle.h41_xrom.specs.Calculator.{CalculatorState, CarriesHere, RefusesStepIn, StepIn, after_line, after_word, machine_of}
+use Rattle.h41_xrom.specs.Calculator.{CalculatorState, CarriesHere, RefusesLine, RefusesStepIn, StepIn, StepsByLine, after_line, after_word, machine_of}
 use Rattle.h41_xrom.specs.CalculatorLaws as CalculatorLaws
 use Rattle.h41_xrom.specs.CalculatorLaws.{LoadIsDetermined, StepRefusalIsDetermined}
-use Rattle.h41_xrom.specs.Lines.{CallsEntry, CallsName, CarriesNamed, GoesOn, GoesOnFrom, IsNamed, of_line}
+use Rattle.h41_xrom.specs.Lines.{CallsEntry, CallsName, CarriesNamed, Ended, Fails, GoesOn, GoesOnFrom, IsNamed, answered, begun_at, of_line}
 use Rattle.h41_xrom.specs.Programs.{change_refusal, loaded}
+
+-- a function begins
+abbrev Begun : ℕ → Machine → Result Ended FocalRefusal → Type 0
+Begun address machine ended =
+    (after : Result Machine FocalRefusal) × PassesLine machine after × (ended ≡ begun_at address after)
 
 -- a line
 same_function_by : (a b : Function) → Plain a ≡ Plain b → a ≡ b
 same_function_by a b is = cc
 
-module _ (same_step : StepIsDetermined) (same_failure : FailureIsDetermined) (one_line : OneLineOfText) where
-  same_entry : (entry : Option Entry) (machine : Machine) (a b : Result Left FocalRefusal) → CallsEntry entry machine a → CallsEntry entry machine b → a ≡ b
-  same_entry (Some entry) machine a b p q = p ∙ sym q
-  same_entry None machine a b p q = same_failure Nonexistent machine a b p q
+module _ (same_step : StepIsDetermined) (same_failure : FailureIsDetermined) (same_passing : PassingIsDetermined) (one_line : OneLineOfText) where
+  same_failed : (machine : Machine) (a b : Result Ended FocalRefusal) → Fails machine a → Fails machine b → a ≡ b
+  same_failed machine a b (p, p_fails, p_is) (q, q_fails, q_is) =
+      p_is ∙ ap answered (same_failure Nonexistent machine p q p_fails q_fails) ∙ sym q_is
+
+  same_begun : (keystroke : Bool) (address : ℕ) (machine : Machine) (a b : Result Ended FocalRefusal)
+      → MatchBool keystroke (a ≡ Err lines.NotInProfile) (Begun address machine a)
+      → MatchBool keystroke (b ≡ Err lines.NotInProfile) (Begun address machine b) → a ≡ b
+  same_begun true address machine a b p q = p ∙ sym q
+  same_begun false address machine a b (p, p_passes, p_is) (q, q_passes, q_is) =
+      p_is ∙ ap (begun_at address) (same_passing machine p q p_passes q_passes) ∙ sym q_is
+
+  same_entry : (entry : Option Entry) (machine : Machine) (a b : Result Ended FocalRefusal) → CallsEntry entry machine a → CallsEntry entry machine b → a ≡ b
+  same_entry (Some entry) machine a b p q = same_begun entry.keystroke entry.address machine a b p q
+  same_entry None machine a b p q = same_failed machine a b p q
 
   same_function : (name : List ℕ) (a b : Option Function) → IsNamed name a → IsNamed name b → a ≡ b
   same_function name (Some a) (Some b) p q = ap Some (same_function_by a b (one_line name (Plain a) (Plain b) (text_of name a p) (text_of name b q)))
@@ -44,19 +61,20 @@ module _ (same_step : StepIsDetermined) (same_failure : FailureIsDetermined) (on
   same_function name None (Some b) p q = absurd (p b q)
   same_function name None None p q = refl
 
-  same_named : (function : Option Function) (machine : Machine) (a b : Result Left FocalRefusal)
+  same_named : (function : Option Function) (machine : Machine) (a b : Result Ended FocalRefusal)
       → CarriesNamed function machine a → CarriesNamed function machine b → a ≡ b
-  same_named (Some function) machine a b p q = same_step (Some function) machine a b p q
-  same_named None machine a b p q = same_failure Nonexistent machine a b p q
+  same_named (Some function) machine a b (p, p_steps, p_is) (q, q_steps, q_is) =
+      p_is ∙ ap answered (same_step (Some function) machine p q p_steps q_steps) ∙ sym q_is
+  same_named None machine a b p q = same_failed machine a b p q
 
-  same_name : (numbers : Option (ℕ × ℕ)) (pages : PageMap) (name : List ℕ) (machine : Machine) (a b : Result Left FocalRefusal)
+  same_name : (numbers : Option (ℕ × ℕ)) (pages : PageMap) (name : List ℕ) (machine : Machine) (a b : Result Ended FocalRefusal)
       → CallsName numbers pages name machine a → CallsName numbers pages name machine b → a ≡ b
   same_name (Some numbers) pages name machine a b p q = same_entry (entry_at pages numbers.0 numbers.1) machine a b p q
   same_name None pages name machine a b (f, f_named, f_carries) (g, g_named, g_carries) =
       let same : f ≡ g = same_function name f g f_named g_named in
       same_named g machine a b (subst (λ (function : Option Function). CarriesNamed function machine a) same f_carries) g_carries
 
-  same_going : (answer : Answer) (pages : PageMap) (machine : Machine) (left : Left) (a b : Result Left FocalRefusal)
+  same_going : (answer : Answer) (pages : PageMap) (machine : Machine) (left : Left) (a b : Result Ended FocalRefusal)
       → GoesOn pages machine left answer a → GoesOn pages machine left answer b → a ≡ b
   same_going (answers.Calls number entry) pages machine left a b p q = same_entry (entry_at pages number entry) machine a b p q
   same_going (answers.Seeks name) pages machine left a b p q = same_name (found pages name) pages name machine a b p q
@@ -70,34 +88,42 @@ module _ (same_step : StepIsDetermined) (same_failure : FailureIsDetermined) (on
   same_going answers.Runs pages machine left a b p q = p ∙ sym q
   same_going (answers.Failed fault) pages machine left a b p q = p ∙ sym q
 
-  same_from : (own : Result Left FocalRefusal) (pages : PageMap) (machine : Machine) (a b : Result Left FocalRefusal)
+  same_from : (own : Result Left FocalRefusal) (pages : PageMap) (machine : Machine) (a b : Result Ended FocalRefusal)
       → GoesOnFrom pages machine own a → GoesOnFrom pages machine own b → a ≡ b
   same_from (Ok left) pages machine a b p q = same_going left.answer pages machine left a b p q
   same_from (Err refusal) pages machine a b p q = p ∙ sym q
 
-  same_line : (s : CalculatorState) (a b : Result Left FocalRefusal) → CarriesHere s a → CarriesHere s b → a ≡ b
+  same_line : (s : CalculatorState) (a b : Result Ended FocalRefusal) → CarriesHere s a → CarriesHere s b → a ≡ b
   same_line s a b (own, own_steps, own_goes) (other, other_steps, other_goes) =
       let same : own ≡ other = same_step None (machine_of s) own other own_steps other_steps in
       same_from other s.nut.pages (machine_of s) a b (subst (λ (of : Result Left FocalRefusal). GoesOnFrom s.nut.pages (machine_of s) of a) same own_goes) other_goes
 
   -- why a step is refused
+  same_line_refusal : (s : CalculatorState) (a b : Option CalculatorRefusal) → RefusesLine s a → RefusesLine s b → a ≡ b
+  same_line_refusal s a b (p, p_carries, p_is) (q, q_carries, q_is) =
+      p_is ∙ ap (λ (of : Result Ended FocalRefusal). option_map of_line (result_err of)) (same_line s p q p_carries q_carries) ∙ sym q_is
+
   same_refusal : (mode : Mode) (s : CalculatorState) (a b : Option CalculatorRefusal) → RefusesStepIn mode s a → RefusesStepIn mode s b → a ≡ b
-  same_refusal modes.Idle s a b (p, p_carries, p_is) (q, q_carries, q_is) =
-      p_is ∙ ap (λ (of : Result Left FocalRefusal). option_map of_line (result_err of)) (same_line s p q p_carries q_carries) ∙ sym q_is
-  same_refusal modes.Micro s a b p q = p ∙ sym q
+  same_refusal modes.Idle s a b p q = same_line_refusal s a b p q
+  same_refusal modes.Run s a b p q = same_line_refusal s a b p q
+  same_refusal (modes.Micro caller) s a b p q = p ∙ sym q
 
   pub refusal_determined : StepRefusalIsDetermined
   refusal_determined s a b p q = same_refusal s.mode s a b p q
 
-  same_left : (left other : Left) → ◌≡◌ {A = Result Left FocalRefusal} (Ok left) (Ok other) → left ≡ other
-  same_left left other is = cc
+  same_end : (end other : Ended) → ◌≡◌ {A = Result Ended FocalRefusal} (Ok end) (Ok other) → end ≡ other
+  same_end end other is = cc
 
   -- the state that a step leaves
+  same_behind : (s t u : CalculatorState) → StepsByLine s t → StepsByLine s u → t ≡ u
+  same_behind s t u (p, p_carries, p_is) (q, q_carries, q_is) =
+      p_is ∙ ap (after_line s) (same_end p q (same_line s (Ok p) (Ok q) p_carries q_carries)) ∙ sym q_is
+
   module _ (same_micro : MicroIsDetermined) where
     same_state : (mode : Mode) (s t u : CalculatorState) → StepIn mode s t → StepIn mode s u → t ≡ u
-    same_state modes.Idle s t u (p, p_carries, p_is) (q, q_carries, q_is) =
-        p_is ∙ ap (after_line s) (same_left p q (same_line s (Ok p) (Ok q) p_carries q_carries)) ∙ sym q_is
-    same_state modes.Micro s t u p q = p.1 ∙ ap (after_word s) (same_micro s.nut t.nut u.nut p.0 q.0) ∙ sym q.1
+    same_state modes.Idle s t u p q = same_behind s t u p q
+    same_state modes.Run s t u p q = same_behind s t u p q
+    same_state (modes.Micro caller) s t u p q = p.1 ∙ ap (after_word caller s) (same_micro s.nut t.nut u.nut p.0 q.0) ∙ sym q.1
 
     pub step_determined : CalculatorLaws.StepIsDetermined
     step_determined s t u p q = same_state s.mode s t u p q

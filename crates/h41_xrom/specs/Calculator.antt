@@ -7,8 +7,9 @@ use Rattle.std.specs.Result.{result_err}
 use Rattle.h41_nut.specs.declared.refusal.WordRefusal.TheVariants as words
 use Rattle.h41_pages.specs.declared.refusal.PlugRefusal.{PlugRefusal}
 use Rattle.h41_focal.specs.LineStep as focal
-use Rattle.h41_focal.specs.LineStep.{FocalState, Left, Machine}
+use Rattle.h41_focal.specs.LineStep.{FocalState, Machine}
 use Rattle.h41_focal.specs.Outcomes.{Answer}
+use Rattle.h41_focal.specs.Outcomes as answers
 use Rattle.h41_focal.specs.declared.refusal.FocalRefusal.{FocalRefusal}
 use Rattle.h41_ram.specs.RegisterMap as ram
 use Rattle.h41_nut.specs.Processor.{initial, entered}
@@ -17,11 +18,13 @@ use Rattle.h41_nut.specs.declared.keys.Keys.{Keys}
 use Rattle.h41_pages.specs.Addresses.{first_address}
 use Rattle.h41_pages.specs.PageMap as pages
 use Rattle.h41_nut.specs.WordStep.{Nut, nut_of, refused, Micro}
+use Rattle.h41_xrom.specs.declared.calculator.Caller.{Caller}
+use Rattle.h41_xrom.specs.declared.calculator.Caller.TheVariants as callers
 use Rattle.h41_xrom.specs.declared.calculator.Mode.{Mode}
 use Rattle.h41_xrom.specs.declared.calculator.Mode.TheVariants as modes
 use Rattle.h41_xrom.specs.declared.refusal.CalculatorRefusal.{CalculatorRefusal}
 use Rattle.h41_xrom.specs.declared.refusal.CalculatorRefusal.TheVariants.{Word, Busy}
-use Rattle.h41_xrom.specs.Lines.{CarriesLine, of_line}
+use Rattle.h41_xrom.specs.Lines.{Answers, Begins, CarriesLine, Ended, of_line}
 use Rattle.h41_xrom.specs.Messages.{message_after, processor_after}
 
 -- The state of the calculator.
@@ -53,16 +56,27 @@ start = record {
 
 abbrev pub is_idle : Mode → Bool
 is_idle modes.Idle = true
-is_idle modes.Micro = false
+is_idle modes.Run = false
+is_idle (modes.Micro caller) = false
 
--- a call is refused as 24 while a function runs, and else as 8 below address 4000, at 00F0 too: a call is no arrival
+-- what a function that begins goes back to, and where it then is
+abbrev pub caller_in : Mode → Caller
+caller_in modes.Idle = callers.Nothing
+caller_in modes.Run = callers.Program
+caller_in (modes.Micro caller) = caller
+
+abbrev pub mode_of : Caller → Mode
+mode_of callers.Nothing = modes.Idle
+mode_of callers.Program = modes.Run
+
+-- a call is refused as 24 while a program or a function runs, and else as 8 below address 4000, at 00F0 too: a call is no arrival
 abbrev pub call_refusal : CalculatorState → ℕ → Option CalculatorRefusal
 call_refusal s address =
     option_or (then_some (not (is_idle s.mode)) Busy) (then_some (nat_lt address first_address) (Word (words.SystemRom address)))
 
 -- the function at an address runs
 abbrev pub called : ℕ → CalculatorState → CalculatorState
-called address s = record s { nut = record s.nut { processor = entered s.nut.processor address }; mode = modes.Micro }
+called address s = record s { nut = record s.nut { processor = entered s.nut.processor address }; mode = modes.Micro (caller_in s.mode) }
 
 -- this is why words are not plugged; memory that was refused comes last
 abbrev pub RefusesPage : CalculatorState → ℕ → ℕ → List ℕ → PlugRefusal → Type 0
@@ -99,43 +113,66 @@ with_shown answer s = record s {
   message = message_after answer s.message;
 }
 
--- the calculator after a line was carried out, by what it left: the mode stays
-abbrev pub after_line : CalculatorState → Left → CalculatorState
-after_line s left =
-    with_shown left.answer (record s { nut = record s.nut { ram = left.machine.memory }; focal = left.machine.focal })
+-- the calculator with another memory, and with other things that lines work on
+abbrev pub with_machine : Machine → CalculatorState → CalculatorState
+with_machine machine s = record s { nut = record s.nut { ram = machine.memory }; focal = machine.focal }
+
+-- a running program stops at STOP, OFF, PROMPT, a return to nowhere, and a fault
+abbrev pub is_stop : Answer → Bool
+is_stop answers.Stopped = true
+is_stop answers.TurnedOff = true
+is_stop (answers.Prompted text) = true
+is_stop (answers.Failed fault) = true
+is_stop answer = false
+
+-- the calculator behind what a line answers: it is shown, and a program runs on or stops
+abbrev pub after_answer : Answer → CalculatorState → CalculatorState
+after_answer answer s = record (with_shown answer s) { mode = if is_stop answer then modes.Idle else s.mode }
+
+-- the calculator after a line was carried out, by how it ended; or a module's function runs
+abbrev pub after_line : CalculatorState → Ended → CalculatorState
+after_line s (Answers left) = after_answer left.answer (with_machine left.machine s)
+after_line s (Begins machine address) = called address (with_machine machine s)
 
 -- one line, or why it is refused
-abbrev pub CarriesHere : CalculatorState → Result Left FocalRefusal → Type 0
-CarriesHere s carried = CarriesLine s.nut.pages (machine_of s) carried
+abbrev pub CarriesHere : CalculatorState → Result Ended FocalRefusal → Type 0
+CarriesHere s ended = CarriesLine s.nut.pages (machine_of s) ended
 
 -- why a step is refused, or that it is not: a word's refusal while a function runs, else a line's
+abbrev pub RefusesLine : CalculatorState → Option CalculatorRefusal → Type 0
+RefusesLine s why = (ended : Result Ended FocalRefusal) × CarriesHere s ended × (why ≡ option_map of_line (result_err ended))
+
 abbrev pub RefusesStepIn : Mode → CalculatorState → Option CalculatorRefusal → Type 0
-RefusesStepIn modes.Idle s why =
-    (carried : Result Left FocalRefusal) × CarriesHere s carried × (why ≡ option_map of_line (result_err carried))
-RefusesStepIn modes.Micro s why = why ≡ option_map Word (refused s.nut)
+RefusesStepIn modes.Idle s why = RefusesLine s why
+RefusesStepIn modes.Run s why = RefusesLine s why
+RefusesStepIn (modes.Micro caller) s why = why ≡ option_map Word (refused s.nut)
 
 abbrev pub RefusesStep : CalculatorState → Option CalculatorRefusal → Type 0
 RefusesStep s why = RefusesStepIn s.mode s why
 
--- a function ends where it arrives at 00F0, and lift is on then
-abbrev pub mode_at : ℕ → Mode
-mode_at address = if address == end_of_function then modes.Idle else modes.Micro
+-- a function ends where it arrives at 00F0: what called it goes on, and lift is on then
+abbrev pub mode_at : ℕ → Caller → Mode
+mode_at address caller = if address == end_of_function then mode_of caller else modes.Micro caller
 
 abbrev pub lift_at : ℕ → Bool → Bool
 lift_at address lift = if address == end_of_function then true else lift
 
 -- the calculator after a word was carried out
-abbrev pub after_word : CalculatorState → Nut → CalculatorState
-after_word s nut = record s {
+abbrev pub after_word : Caller → CalculatorState → Nut → CalculatorState
+after_word caller s nut = record s {
   nut = nut;
   focal = record s.focal { lift = lift_at nut.processor.pc s.focal.lift };
-  mode = mode_at nut.processor.pc;
+  mode = mode_at nut.processor.pc caller;
 }
 
 -- one step: while a function runs a word, which is its end where it arrives at 00F0; else a line
+abbrev pub StepsByLine : CalculatorState → CalculatorState → Type 0
+StepsByLine s t = (ended : Ended) × CarriesHere s (Ok ended) × (t ≡ after_line s ended)
+
 abbrev pub StepIn : Mode → CalculatorState → CalculatorState → Type 0
-StepIn modes.Idle s t = (left : Left) × CarriesHere s (Ok left) × (t ≡ after_line s left)
-StepIn modes.Micro s t = Micro s.nut t.nut × (t ≡ after_word s t.nut)
+StepIn modes.Idle s t = StepsByLine s t
+StepIn modes.Run s t = StepsByLine s t
+StepIn (modes.Micro caller) s t = Micro s.nut t.nut × (t ≡ after_word caller s t.nut)
 
 abbrev pub Step : CalculatorState → CalculatorState → Type 0
 Step s t = StepIn s.mode s t

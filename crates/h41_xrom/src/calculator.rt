@@ -3,12 +3,12 @@
 ghost use Rattle.std.specs.Prelude.{◌≡◌, None, IfOk, IfErr, OnOk, OnErr, option_map};
 ghost use Rattle.std.specs.Result.{result_err};
 ghost use Rattle.h41_pages.specs.PageMap.{unplug_refusal};
-ghost use Rattle.h41_xrom.specs.Calculator.{RefusesPage, RefusesStep, RefusesStepIn, Step, StepIn, TakesPage, call_refusal, called, restarted, start, with_page, with_shown, without_page};
+ghost use Rattle.h41_xrom.specs.Calculator.{RefusesLine, RefusesPage, RefusesStep, RefusesStepIn, Step, StepIn, StepsByLine, TakesPage, after_answer, call_refusal, called, caller_in, is_stop, mode_of, restarted, start, with_page, with_shown, without_page};
 ghost use Rattle.h41_focal.specs.Outcomes.{answer_of};
-ghost use Rattle.h41_xrom.specs.declared.calculator.Mode.TheVariants.{Idle, Micro};
+ghost use Rattle.h41_xrom.specs.declared.calculator.Mode.TheVariants.{Micro};
 ghost use Rattle.h41_xrom.specs.Programs.{Becomes, Loads, at_program, change_refusal, size_makes};
 
-use crate::lines::carry_line;
+use crate::lines::{LineEnd, carry_line};
 use crate::messages::fault_text;
 use crate::refusal::CalculatorRefusal;
 use h41_focal::{DisplayText, Focal, LineOutcome};
@@ -27,8 +27,42 @@ pub const REGISTERS: usize = 320;
 pub enum Mode {
     /// Nothing runs.
     Idle,
-    /// A function in microcode runs.
-    Micro,
+    /// A keystroke program runs.
+    Run,
+    /// A function in microcode runs, and then what called it goes on.
+    Micro(Caller),
+}
+
+/// What goes on behind a function in microcode.
+#[derive(Clone, Copy, Debug, PartialEq, Eq)]
+pub enum Caller {
+    /// Nothing: it was called while nothing ran.
+    Nothing,
+    /// The keystroke program that called it.
+    Program,
+}
+
+impl Caller {
+    /// What calls a function in a mode.
+    fn in_mode(mode: Mode) -> Self
+        ensures { result ≡ caller_in mode }
+    {
+        match mode {
+            Mode::Idle => Caller::Nothing,
+            Mode::Run => Caller::Program,
+            Mode::Micro(caller) => caller,
+        }
+    }
+
+    /// The mode once the function has ended.
+    fn mode(self) -> Mode
+        ensures { result ≡ mode_of self }
+    {
+        match self {
+            Caller::Nothing => Mode::Idle,
+            Caller::Program => Mode::Run,
+        }
+    }
 }
 
 /// The calculator: processor, memory, pages and keys, and what it does.
@@ -125,7 +159,7 @@ impl Calculator {
         self.message
     }
 
-    /// Begins the function at an address. Refused as 24 while a function runs, and as 8 below address 4000, 00F0 with
+    /// Begins the function at an address. Refused as 24 while a program or a function runs, and as 8 below address 4000, 00F0 with
     /// them: a call is no arrival. Nothing is changed then.
     pub fn call(&mut self, address: u16) -> Result<(), CalculatorRefusal>
         ensures refusal { result_err result ≡ call_refusal self.old address }
@@ -138,9 +172,16 @@ impl Calculator {
         if address < FIRST_ADDRESS {
             return Err(CalculatorRefusal::Word(WordRefusal::SystemRom(address)));
         }
-        self.cpu.enter(address);
-        self.mode = Mode::Micro;
+        self.enter(address);
         Ok(())
+    }
+
+    /// The function at an address runs.
+    fn enter(&mut self, address: u16)
+        ensures { self.new ≡ called address self.old }
+    {
+        self.cpu.enter(address);
+        self.mode = Mode::Micro(Caller::in_mode(self.mode));
     }
 
     /// One step: a word while a function runs, which ends where it arrives at 00F0, and else the line at the position. A word is
@@ -152,20 +193,32 @@ impl Calculator {
         ensures err { OnErr result (self.new ≡ self.old) }
     {
         match self.mode {
-            Mode::Idle => self.step_line(),
-            Mode::Micro => self.step_word(),
+            Mode::Idle | Mode::Run => self.step_line(),
+            Mode::Micro(caller) => self.step_word(caller),
         }
     }
 
-    /// The line at the position, with what it leaves in the display.
+    /// The line at the position, with what it leaves in the display; or a module's function begins.
     fn step_line(&mut self) -> Result<(), CalculatorRefusal>
-        ensures refusal { RefusesStepIn Idle self.old (result_err result) }
-        ensures change { OnOk result (StepIn Idle self.old self.new) }
+        ensures refusal { RefusesLine self.old (result_err result) }
+        ensures change { OnOk result (StepsByLine self.old self.new) }
         ensures err { OnErr result (self.new ≡ self.old) }
     {
-        let outcome = carry_line(&mut self.ram, &mut self.focal, &self.pages)?;
-        self.show(outcome);
+        match carry_line(&mut self.ram, &mut self.focal, &self.pages)? {
+            LineEnd::Answers(outcome) => self.answer(outcome),
+            LineEnd::Begins(address) => self.enter(address),
+        }
         Ok(())
+    }
+
+    /// What a line leaves in the display; a program runs on, or the line stops it.
+    fn answer(&mut self, outcome: LineOutcome)
+        ensures { self.new ≡ after_answer (answer_of outcome) self.old }
+    {
+        if stops(&outcome) {
+            self.mode = Mode::Idle;
+        }
+        self.show(outcome);
     }
 
     /// What a line leaves in the display.
@@ -187,10 +240,10 @@ impl Calculator {
     }
 
     /// One word, while a function runs; lift is on where the function ends.
-    fn step_word(&mut self) -> Result<(), CalculatorRefusal>
-        requires { self.old.mode ≡ Micro }
-        ensures refusal { RefusesStepIn Micro self.old (result_err result) }
-        ensures change { OnOk result (StepIn Micro self.old self.new) }
+    fn step_word(&mut self, caller: Caller) -> Result<(), CalculatorRefusal>
+        requires { self.old.mode ≡ Micro caller }
+        ensures refusal { RefusesStepIn (Micro caller) self.old (result_err result) }
+        ensures change { OnOk result (StepIn (Micro caller) self.old self.new) }
         ensures err { OnErr result (self.new ≡ self.old) }
     {
         step(
@@ -200,14 +253,14 @@ impl Calculator {
             &mut self.keys,
         )?;
         if self.cpu.pc() == END_OF_FUNCTION {
-            self.mode = Mode::Idle;
+            self.mode = caller.mode();
             self.focal.lift = true;
         }
         Ok(())
     }
 
     /// Loads the lines of bytes behind the programs of memory, goes to line 00 of the first of them, and forgets the positions
-    /// to return to; lift and message stay. Refused as 24 while a function runs, as 15 where memory is not sound, as 14 where bytes of memory or of
+    /// to return to; lift and message stay. Refused as 24 while a program or a function runs, as 15 where memory is not sound, as 14 where bytes of memory or of
     /// these are no line or an `.END.` stands before the end of these, as 16 where there is no room. Nothing is changed then.
     pub fn load(&mut self, bytes: &[u8]) -> Result<(), CalculatorRefusal>
         ensures { Loads bytes.now self.old self.new (result_err result) }
@@ -218,7 +271,7 @@ impl Calculator {
         Ok(())
     }
 
-    /// Gives memory so many data registers. Refused as 24 while a function runs, as 15 where memory is not sound, as 17
+    /// Gives memory so many data registers. Refused as 24 while a program or a function runs, as 15 where memory is not sound, as 17
     /// where that leaves no register for `.END.`, as 16 where there is no room. Nothing is changed then.
     pub fn set_size(&mut self, count: u16) -> Result<(), CalculatorRefusal>
         ensures { Becomes (size_makes self.old count) self.old self.new (result_err result) }
@@ -227,7 +280,7 @@ impl Calculator {
         Ok(set_size(&mut self.ram, count)?)
     }
 
-    /// Whether programs can be changed: 24 while a function runs, 15 where memory is not sound.
+    /// Whether programs can be changed: 24 while a program or a function runs, 15 where memory is not sound.
     fn check_change(&self) -> Result<(), CalculatorRefusal>
         ensures { result_err result ≡ change_refusal self.now }
     {
@@ -281,6 +334,19 @@ impl Calculator {
         self.message = None;
         self.mode = Mode::Idle;
     }
+}
+
+/// Whether a program stops at what a line answers.
+fn stops(outcome: &LineOutcome) -> bool
+    ensures { result ≡ is_stop (answer_of outcome.now) }
+{
+    matches!(
+        outcome,
+        LineOutcome::Stopped
+            | LineOutcome::TurnedOff
+            | LineOutcome::Prompted(_)
+            | LineOutcome::Failed(_)
+    )
 }
 
 /// To line 00 of the program that begins at a position, with nowhere to return to; lift stays.

@@ -8,5 +8,5 @@ mod lines;
 mod messages;
 mod refusal;
 
-pub use calculator::{Calculator, Mode, REGISTERS};
+pub use calculator::{Calculator, Caller, Mode, REGISTERS};
 pub use refusal::CalculatorRefusal;

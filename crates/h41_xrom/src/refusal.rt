@@ -22,8 +22,8 @@ pub enum CalculatorRefusal {
     /// 15: memory is not sound.
     #[error("memory is lost")]
     MemoryLost,
-    /// 24: a function is running.
-    #[error("a function is running")]
+    /// 24: a program or a function is running.
+    #[error("a program or a function is running")]
     Busy,
 }
 

@@ -1,0 +1,251 @@
+-- What each key does in each state of the keyboard: the action, and what the keyboard keeps; none where the key is refused, and then
+-- nothing changes. It is a function, so one state and one key have one outcome.
+use Rattle.std.specs.Prelude.{◌≡◌, ℕ, nat_lt, Bool, true, false, not, ◌&&◌, ◌==◌, List, [], ◌∷◌, ◌++◌, length, Option, Some, None, if◌then◌else◌}
+use Rattle.h41_codes.specs.Counts.{text_most}
+use Rattle.h41_codes.specs.declared.characters.Character.{Character}
+use Rattle.h41_codes.specs.declared.functions.Function.{Function}
+use Rattle.h41_codes.specs.declared.functions.Function.TheVariants as functions
+use Rattle.h41_codes.specs.declared.line.Line.{Line}
+use Rattle.h41_codes.specs.declared.line.Line.TheVariants as lines
+use Rattle.h41_keys.specs.Keyboard.{row_of, meaning_of}
+use Rattle.h41_keys.specs.NumberTyping.{with_digit, with_point, with_exponent, with_sign_turned, without_last, kept_within}
+use Rattle.h41_keys.specs.PromptKeys.{prompt_step}
+use Rattle.h41_keys.specs.declared.action.Action.{Action}
+use Rattle.h41_keys.specs.declared.action.Action.TheVariants as actions
+use Rattle.h41_keys.specs.declared.input.Entry.{Entry}
+use Rattle.h41_keys.specs.declared.input.Entry.TheVariants as entries
+use Rattle.h41_keys.specs.declared.input.Flags.{Flags}
+use Rattle.h41_keys.specs.declared.input.Input.{Input}
+use Rattle.h41_keys.specs.declared.input.Mode.{Mode}
+use Rattle.h41_keys.specs.declared.input.Mode.TheVariants as modes
+use Rattle.h41_keys.specs.declared.input.Pressed.{Pressed}
+use Rattle.h41_keys.specs.declared.key.Key.{Key}
+use Rattle.h41_keys.specs.declared.key.Key.TheVariants as keys
+use Rattle.h41_keys.specs.declared.meaning.Meaning.{Meaning}
+use Rattle.h41_keys.specs.declared.meaning.Meaning.TheVariants as meanings
+use Rattle.h41_keys.specs.declared.prompt.Prompt.{Prompt}
+use Rattle.h41_keys.specs.declared.prompt.PromptFunction.{PromptFunction}
+use Rattle.h41_keys.specs.declared.prompt.Typed.{Typed}
+use Rattle.h41_keys.specs.declared.prompt.Typed.TheVariants as typed
+use Rattle.h41_keys.specs.declared.prompt_step.PromptStep.{PromptStep}
+use Rattle.h41_keys.specs.declared.prompt_step.PromptStep.TheVariants as steps
+
+-- an accepted key
+abbrev pub does : Action → Input → Pressed
+does action input = record { action = action; input = input }
+
+-- SHIFT holds for one key; what is being typed from then on, and where that is nothing
+abbrev pub typing : Input → Entry → Input
+typing input entry = record input { shift = false; entry = entry }
+
+abbrev pub ended : Input → Input
+ended input = typing input entries.Nothing
+
+-- a number has ended, a text goes on
+abbrev pub without_number : Entry → Entry
+without_number (entries.Number number) = entries.Nothing
+without_number other = other
+
+-- a line was typed: in program mode it is stored, and ends a text; else it is carried out, and a text goes on
+abbrev pub typed_line : Input → (program_mode : Bool) → Line → Pressed
+typed_line input true line = does (actions.Insert line) (ended input)
+typed_line input false line = does (actions.CarryOut line) (typing input (without_number input.entry))
+
+abbrev pub line_typed : Input → Line → Pressed
+line_typed input line = typed_line input input.program_mode line
+
+abbrev pub function_typed : Input → Function → Pressed
+function_typed input function = line_typed input (lines.Plain function)
+
+-- a prompt as it opens
+abbrev pub opened : PromptFunction → Prompt
+opened function = record { function = function; indirect = false; typed = typed.Nothing }
+
+-- A NUMBER. What was typed of one; where none is being typed that is nothing
+abbrev pub number_in : Entry → List Character
+number_in (entries.Number text) = text
+number_in other = []
+
+-- it begins: outside program mode in X, else as a line
+abbrev pub number_begun : Input → (program_mode : Bool) → List Character → Pressed
+number_begun input true text = does (actions.Insert (lines.Number text)) (typing input (entries.Number text))
+number_begun input false text = does (actions.BeginNumber text) (typing input (entries.Number text))
+
+-- it changes
+abbrev pub number_changed : Input → (program_mode : Bool) → List Character → Pressed
+number_changed input true text = does (actions.Replace (lines.Number text)) (typing input (entries.Number text))
+number_changed input false text = does (actions.ChangeNumber text) (typing input (entries.Number text))
+
+-- its last character was taken, by BACK or by CHS on a sign alone
+abbrev pub number_ended : Input → (program_mode : Bool) → Pressed
+number_ended input true = does actions.Delete (ended input)
+number_ended input false = does actions.EndNumber (ended input)
+
+-- a key that changes a number makes its text longer or shorter; one that changes nothing is accepted too
+abbrev pub number_becomes : Input → (before after : List Character) → Pressed
+number_becomes input before after =
+    if length after == 0 then number_ended input input.program_mode
+    else if length before == 0 then number_begun input input.program_mode after
+    else if length after == length before then does actions.Nothing (typing input input.entry)
+    else number_changed input input.program_mode after
+
+abbrev pub retyped : Input → (before after : List Character) → Pressed
+retyped input before after = number_becomes input before (kept_within before after)
+
+-- a key of numbers, by what it makes of the text
+abbrev pub number_typed : Input → (List Character → List Character) → Pressed
+number_typed input change = retyped input (number_in input.entry) (change (number_in input.entry))
+
+-- CHS and BACK are functions where no number is being typed; in program mode BACK takes the shown line away
+abbrev pub sign_pressed : Input → Entry → Pressed
+sign_pressed input (entries.Number text) = number_typed input with_sign_turned
+sign_pressed input other = function_typed input functions.ChangeSign
+
+abbrev pub clearing : Input → (program_mode : Bool) → Pressed
+clearing input true = does actions.Delete (ended input)
+clearing input false = function_typed input functions.ClearX
+
+abbrev pub back_pressed : Input → Entry → Pressed
+back_pressed input (entries.Number text) = number_becomes input text (without_last text)
+back_pressed input other = clearing input input.program_mode
+
+-- A TEXT FOR ALPHA. In program mode it is a line, which is replaced letter by letter up to 15 bytes
+abbrev pub text_line : Input → (List ℕ → Action) → List ℕ → Pressed
+text_line input act text = does (act text) (typing input (entries.TextLine text))
+
+abbrev pub inserts : List ℕ → Action
+inserts text = actions.Insert (lines.Text text)
+
+abbrev pub replaces : List ℕ → Action
+replaces text = actions.Replace (lines.Text text)
+
+abbrev pub changed_line : Input → List ℕ → Pressed
+changed_line input text = text_line input replaces text
+
+-- a letter. The first clears ALPHA unless it is appended; in a line the append sign 7F stands in front
+abbrev pub letter_typed : Input → (program_mode : Bool) → Entry → ℕ → Pressed
+letter_typed input false entries.Append letter = does (actions.AddLetter letter) (typing input entries.Letters)
+letter_typed input false entries.Letters letter = does (actions.AddLetter letter) (typing input entries.Letters)
+letter_typed input false other letter = does (actions.BeginText letter) (typing input entries.Letters)
+letter_typed input true entries.Append letter = text_line input inserts (0x7F ∷ letter ∷ [])
+letter_typed input true (entries.TextLine text) letter =
+    if nat_lt (length text) text_most then changed_line input (text ++ letter ∷ [])
+    else does actions.Nothing (typing input (entries.TextLine text))
+letter_typed input true other letter = text_line input inserts (letter ∷ [])
+
+-- whether a line has a letter, the append sign apart
+abbrev pub has_letter : List ℕ → Bool
+has_letter [] = false
+has_letter (first ∷ []) = not (first == 0x7F)
+has_letter others = true
+
+-- the line goes with its last letter
+abbrev pub text_shortened : Input → List ℕ → Pressed
+text_shortened input text = if has_letter text then changed_line input text else does actions.Delete (ended input)
+
+-- BACK: a letter goes. Where none was typed, ALPHA is cleared, or in program mode the shown line goes
+abbrev pub letter_taken : Input → (program_mode : Bool) → Entry → Pressed
+letter_taken input false entries.Letters = does actions.TakeLetter (typing input entries.Letters)
+letter_taken input false other = does actions.ClearAlpha (ended input)
+letter_taken input true (entries.TextLine text) = text_shortened input (without_last text)
+letter_taken input true other = does actions.Delete (ended input)
+
+-- SHIFT XEQ: the next letter is appended. In program mode it ends a line's text; else it changes nothing in a text
+abbrev pub append_pressed : Input → (program_mode : Bool) → Entry → Pressed
+append_pressed input false entries.Letters = does actions.Nothing (typing input entries.Letters)
+append_pressed input program_mode other = does actions.Nothing (typing input entries.Append)
+
+-- A KEY WHERE NO PROMPT IS OPEN, by what it means
+-- R/S runs the program, or is the line STOP
+abbrev pub run_pressed : Input → (program_mode : Bool) → Pressed
+run_pressed input true = function_typed input functions.Stop
+run_pressed input false = does actions.Run (ended input)
+
+-- SHIFT holds for the next key; a second takes it back
+abbrev pub shifted : Input → Input
+shifted input = record input { shift = not input.shift }
+
+abbrev pub program_mode_turned : Input → Input
+program_mode_turned input = record (ended input) { program_mode = not input.program_mode }
+
+-- a prompt opens, and ends a number
+abbrev pub asking : Input → PromptFunction → Input
+asking input function = record (typing input (without_number input.entry)) { prompt = Some (opened function) }
+
+abbrev pub acts : Input → Meaning → Option Pressed
+acts input meanings.Nothing = None
+acts input meanings.Shift = Some (does actions.Nothing (shifted input))
+acts input meanings.Alpha = Some (does actions.ToggleAlpha (ended input))
+acts input meanings.Program = Some (does actions.Nothing (program_mode_turned input))
+acts input meanings.Step = Some (does actions.Step (ended input))
+acts input meanings.StepBack = Some (does actions.StepBack (ended input))
+acts input meanings.RunStop = Some (run_pressed input input.program_mode)
+acts input meanings.Back = Some (back_pressed input input.entry)
+acts input meanings.LetterBack = Some (letter_taken input input.program_mode input.entry)
+acts input (meanings.Digit digit) = Some (number_typed input (λ text. with_digit text digit))
+acts input meanings.Point = Some (number_typed input with_point)
+acts input meanings.Exponent = Some (number_typed input with_exponent)
+acts input meanings.Sign = Some (sign_pressed input input.entry)
+acts input (meanings.Function function) = Some (function_typed input function)
+acts input (meanings.Ask function) = Some (does actions.Nothing (asking input function))
+acts input (meanings.Letter letter) = Some (letter_typed input input.program_mode input.entry letter)
+acts input meanings.Append = Some (append_pressed input input.program_mode input.entry)
+
+-- A KEY WHERE A PROMPT IS OPEN
+abbrev pub prompt_ended : Input → Input
+prompt_ended input = record input { shift = false; prompt = None }
+
+abbrev pub stepped : Input → Option PromptStep → Option Pressed
+stepped input (Some (steps.Becomes prompt)) = Some (does actions.Nothing (record input { shift = false; prompt = Some prompt }))
+stepped input (Some steps.Cancels) = Some (does actions.Nothing (prompt_ended input))
+stepped input (Some (steps.Types line)) = Some (line_typed (prompt_ended input) line)
+stepped input (Some steps.GoesToEnd) = Some (does actions.GoToEnd (ended (prompt_ended input)))
+stepped input None = None
+
+-- in a name SHIFT holds for one key as elsewhere; else it is one of the keys of the prompt
+abbrev pub shifts_name : Typed → Meaning → Bool
+shifts_name (typed.Name name) meanings.Shift = true
+shifts_name other meaning = false
+
+abbrev pub in_prompt : Input → Prompt → Key → Option Pressed
+in_prompt input prompt key =
+    if shifts_name prompt.typed (row_of key).plain then acts input meanings.Shift
+    else stepped input (prompt_step prompt prompt.typed input.shift key)
+
+-- A KEY
+abbrev pub by_prompt : Input → Option Prompt → (letters : Bool) → Key → Option Pressed
+by_prompt input (Some prompt) letters key = in_prompt input prompt key
+by_prompt input None letters key = acts input (meaning_of key letters input.shift)
+
+abbrev pub is_back : Key → Bool
+is_back keys.Back = true
+is_back other = false
+
+-- where nothing runs. Where a message is shown, BACK without SHIFT only takes it away
+abbrev pub idle : Input → Key → Flags → Option Pressed
+idle input key flags =
+    if flags.message && not input.shift && is_back key then Some (does actions.Nothing input)
+    else by_prompt input input.prompt flags.alpha key
+
+-- where a program runs R/S stops it; where it or a function in microcode runs, other keys only tell their codes
+abbrev pub while_running : Input → Meaning → Option Pressed
+while_running input meanings.Nothing = None
+while_running input meanings.RunStop = Some (does actions.Stop input)
+while_running input other = Some (does actions.Nothing input)
+
+abbrev pub while_in_microcode : Input → Meaning → Option Pressed
+while_in_microcode input meanings.Nothing = None
+while_in_microcode input other = Some (does actions.Nothing input)
+
+abbrev pub presses : Input → Key → Mode → Flags → Option Pressed
+presses input key modes.Idle flags = idle input key flags
+presses input key modes.Run flags = while_running input (row_of key).plain
+presses input key modes.Micro flags = while_in_microcode input (row_of key).plain
+
+-- a key is accepted with this action, and the keyboard keeps this
+abbrev pub Accepts : Input → Key → Mode → Flags → Action → Input → Type 0
+Accepts before key mode flags action after = presses before key mode flags ≡ Some (does action after)
+
+-- the start: SHIFT and program mode off, nothing typed
+abbrev pub start : Input
+start = record { shift = false; program_mode = false; entry = entries.Nothing; prompt = None }

@@ -1,0 +1,5 @@
+pub mod KeyPress
+pub mod Keyboard
+pub mod NumberTyping
+pub mod PromptKeys
+pub mod Prompts

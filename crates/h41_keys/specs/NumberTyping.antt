@@ -1,0 +1,108 @@
+-- How a number is typed: what each key makes of its characters. Their value is that of a number line with these characters. Up to the
+-- E they are the mantissa's, behind it the exponent's; a sign stands in front of its part.
+use Rattle.std.specs.Prelude.{ℕ, ◌+◌, ◌-◌, nat_lt, nat_le, Bool, true, false, ◌||◌, List, [], ◌∷◌, ◌++◌, length, take, drop, filter, ◌==◌, if◌then◌else◌}
+use Rattle.std.specs.List.{list_any, position_or_len}
+use Rattle.h41_codes.specs.Counts.{number_most}
+use Rattle.h41_codes.specs.declared.characters.Character.{Character}
+use Rattle.h41_codes.specs.declared.characters.Character.TheVariants as characters
+use Rattle.h41_keys.specs.declared.key.Digit.{Digit}
+use Rattle.h41_keys.specs.declared.key.Digit.TheVariants as digits
+
+-- the character of a digit, and its value
+abbrev pub character_of : Digit → Character
+character_of digits.Zero = characters.Zero
+character_of digits.One = characters.One
+character_of digits.Two = characters.Two
+character_of digits.Three = characters.Three
+character_of digits.Four = characters.Four
+character_of digits.Five = characters.Five
+character_of digits.Six = characters.Six
+character_of digits.Seven = characters.Seven
+character_of digits.Eight = characters.Eight
+character_of digits.Nine = characters.Nine
+
+abbrev pub value_of : Digit → ℕ
+value_of digits.Zero = 0
+value_of digits.One = 1
+value_of digits.Two = 2
+value_of digits.Three = 3
+value_of digits.Four = 4
+value_of digits.Five = 5
+value_of digits.Six = 6
+value_of digits.Seven = 7
+value_of digits.Eight = 8
+value_of digits.Nine = 9
+
+abbrev pub is_point : Character → Bool
+is_point characters.Point = true
+is_point other = false
+
+abbrev pub is_exponent : Character → Bool
+is_exponent characters.Exponent = true
+is_exponent other = false
+
+abbrev pub is_minus : Character → Bool
+is_minus characters.Minus = true
+is_minus other = false
+
+abbrev pub is_digit : Character → Bool
+is_digit characters.Point = false
+is_digit characters.Exponent = false
+is_digit characters.Minus = false
+is_digit other = true
+
+-- where the first E stands; where there is none, the place behind the last character
+abbrev pub exponent_place : List Character → ℕ
+exponent_place text = position_or_len is_exponent text
+
+abbrev pub has_exponent : List Character → Bool
+has_exponent text = nat_lt (exponent_place text) (length text)
+
+-- the characters in front of the first E, and those behind it
+abbrev pub mantissa_part : List Character → List Character
+mantissa_part text = take (exponent_place text) text
+
+abbrev pub exponent_part : List Character → List Character
+exponent_part text = drop (exponent_place text + 1) text
+
+abbrev pub count_of_digits : List Character → ℕ
+count_of_digits text = length (filter is_digit text)
+
+-- a digit more where there is room: a mantissa has ten, leading zeros and zeros behind the point included; an exponent two
+abbrev pub has_room : List Character → Bool
+has_room text =
+    if has_exponent text then nat_lt (count_of_digits (exponent_part text)) 2 else nat_lt (count_of_digits text) 10
+
+abbrev pub with_digit : List Character → Digit → List Character
+with_digit text digit = if has_room text then text ++ character_of digit ∷ [] else text
+
+-- one point, in the mantissa
+abbrev pub with_point : List Character → List Character
+with_point text = if list_any is_point text || has_exponent text then text else text ++ characters.Point ∷ []
+
+-- one E; a mantissa without a digit gets a 1
+abbrev pub with_exponent : List Character → List Character
+with_exponent text =
+    if has_exponent text then text
+    else if count_of_digits text == 0 then text ++ characters.One ∷ characters.Exponent ∷ []
+    else text ++ characters.Exponent ∷ []
+
+abbrev pub begins_with_minus : List Character → Bool
+begins_with_minus [] = false
+begins_with_minus (first ∷ rest) = is_minus first
+
+-- CHS puts the sign in front of a part, or takes it away: of the exponent where there is an E, else of the mantissa
+abbrev pub turned : List Character → List Character
+turned part = if begins_with_minus part then drop 1 part else characters.Minus ∷ part
+
+abbrev pub with_sign_turned : List Character → List Character
+with_sign_turned text =
+    if has_exponent text then mantissa_part text ++ characters.Exponent ∷ turned (exponent_part text) else turned text
+
+-- BACK takes the last character
+abbrev pub without_last : {A : Type 0} → List A → List A
+without_last items = take (length items - 1) items
+
+-- a number line has 16 characters. A number that is typed never needs more, so this changes none
+abbrev pub kept_within : List Character → List Character → List Character
+kept_within before after = if nat_le (length after) number_most then after else before

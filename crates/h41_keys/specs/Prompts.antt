@@ -1,0 +1,143 @@
+-- Prompts: what each function takes for its parameter, and how the display shows what is typed of it.
+use Rattle.std.specs.Prelude.{ℕ, ◌+◌, ◌-◌, nat_le, Bool, true, false, ◌&&◌, ◌==◌, List, [], ◌∷◌, ◌++◌, Option, Some, None, if◌then◌else◌, codes}
+use Rattle.h41_codes.specs.Canon.{canonical}
+use Rattle.h41_codes.specs.declared.functions.Branch.{Branch}
+use Rattle.h41_codes.specs.declared.functions.Branch.TheVariants as branches
+use Rattle.h41_codes.specs.declared.functions.NameFunction.TheVariants as namings
+use Rattle.h41_codes.specs.declared.functions.ParameterFunction.{ParameterFunction}
+use Rattle.h41_codes.specs.declared.functions.ParameterFunction.TheVariants as functions
+use Rattle.h41_codes.specs.declared.line.Line.{Line}
+use Rattle.h41_codes.specs.declared.line.Line.TheVariants as lines
+use Rattle.h41_codes.specs.declared.line.Operand.TheVariants.{Direct, Indirect}
+use Rattle.h41_keys.specs.NumberTyping.{value_of}
+use Rattle.h41_keys.specs.declared.prompt.Prompt.{Prompt}
+use Rattle.h41_keys.specs.declared.prompt.PromptFunction.{PromptFunction}
+use Rattle.h41_keys.specs.declared.prompt.PromptFunction.TheVariants as prompts
+use Rattle.h41_keys.specs.declared.prompt.Typed.{Typed}
+use Rattle.h41_keys.specs.declared.prompt.Typed.TheVariants as typed
+
+-- the lines of a function: those with a parameter, or those that go to labels
+pub data Lines : Type 0 where
+  Parameter : ParameterFunction → Lines
+  Branching : Branch → Lines
+
+-- what the table says of a function
+pub record PromptRow : Type 0 where
+  pub name : List ℕ
+  pub lines : Lines
+  -- how many digits it takes; after IND, all take two
+  pub digits : ℕ
+  -- whether IND can stand in front of the parameter
+  pub indirect : Bool
+  -- whether it works on registers, so that those of the stack can be named without IND
+  pub registers : Bool
+  -- whether it takes a name
+  pub named : Bool
+
+-- on registers
+abbrev pub register : List ℕ → ParameterFunction → PromptRow
+register name function =
+    record { name = name; lines = Parameter function; digits = 2; indirect = true; registers = true; named = false }
+
+-- on flags
+abbrev pub flag : List ℕ → ParameterFunction → PromptRow
+flag name function =
+    record { name = name; lines = Parameter function; digits = 2; indirect = true; registers = false; named = false }
+
+-- on a number of digits
+abbrev pub format : List ℕ → ParameterFunction → PromptRow
+format name function =
+    record { name = name; lines = Parameter function; digits = 1; indirect = true; registers = false; named = false }
+
+-- to labels
+abbrev pub branching : List ℕ → Branch → PromptRow
+branching name branch =
+    record { name = name; lines = Branching branch; digits = 2; indirect = true; registers = false; named = true }
+
+-- the table
+abbrev pub prompt_row : PromptFunction → PromptRow
+prompt_row prompts.Execute = branching (codes "XEQ") branches.Execute
+prompt_row prompts.GoTo = branching (codes "GTO") branches.GoTo
+prompt_row prompts.Label =
+    record { name = codes "LBL"; lines = Parameter functions.Label; digits = 2; indirect = false; registers = false; named = true }
+prompt_row prompts.Store = register (codes "STO") functions.Store
+prompt_row prompts.StoreAdd = register (codes "ST+") functions.StoreAdd
+prompt_row prompts.StoreSubtract = register (codes "ST-") functions.StoreSubtract
+prompt_row prompts.StoreMultiply = register (codes "ST*") functions.StoreMultiply
+prompt_row prompts.StoreDivide = register (codes "ST/") functions.StoreDivide
+prompt_row prompts.Recall = register (codes "RCL") functions.Recall
+prompt_row prompts.IncrementSkip = register (codes "ISG") functions.IncrementSkip
+prompt_row prompts.View = register (codes "VIEW") functions.View
+prompt_row prompts.StoreAlpha = register (codes "ASTO") functions.StoreAlpha
+prompt_row prompts.RecallAlpha = register (codes "ARCL") functions.RecallAlpha
+prompt_row prompts.SetFlag = flag (codes "SF") functions.SetFlag
+prompt_row prompts.ClearFlag = flag (codes "CF") functions.ClearFlag
+prompt_row prompts.TestSet = flag (codes "FS?") functions.TestSet
+prompt_row prompts.Fixed = format (codes "FIX") functions.Fixed
+prompt_row prompts.Scientific = format (codes "SCI") functions.Scientific
+prompt_row prompts.Engineering = format (codes "ENG") functions.Engineering
+
+-- how many digits the parameter has
+abbrev pub wanted : PromptFunction → Bool → ℕ
+wanted function true = 2
+wanted function false = (prompt_row function).digits
+
+-- whether the point names a register of the stack
+abbrev pub takes_stack : PromptFunction → Bool → Bool
+takes_stack function true = true
+takes_stack function false = (prompt_row function).registers
+
+-- the line of a function and a parameter, in its shortest spelling
+abbrev pub line_with : Lines → Bool → ℕ → Line
+line_with (Parameter function) false parameter = canonical (lines.WithOperand function (Direct parameter))
+line_with (Parameter function) true parameter = canonical (lines.WithOperand function (Indirect parameter))
+line_with (Branching branch) false parameter = canonical (lines.BranchTo branch 0 false parameter)
+line_with (Branching branch) true parameter = lines.BranchIndirect branch parameter
+
+abbrev pub parameter_line : PromptFunction → Bool → ℕ → Line
+parameter_line function indirect parameter = line_with (prompt_row function).lines indirect parameter
+
+-- one letter A to J is a label of its program, which has a number: A is 102
+abbrev pub is_local_letter : ℕ → Bool
+is_local_letter letter = nat_le 0x41 letter && nat_le letter 0x4A
+
+abbrev pub local_label : ℕ → ℕ
+local_label letter = 102 + (letter - 0x41)
+
+-- other names stand in the line; of functions with a parameter LBL alone has one
+abbrev pub line_naming : Lines → List ℕ → Line
+line_naming (Parameter function) name = lines.GlobalLabel 0 0 name
+line_naming (Branching branches.GoTo) name = lines.Named namings.GoToName name
+line_naming (Branching branches.Execute) name = lines.Named namings.ExecuteName name
+
+-- the line of a function and a name
+abbrev pub name_line : PromptFunction → List ℕ → Line
+name_line function (letter ∷ []) =
+    if is_local_letter letter then parameter_line function false (local_label letter)
+    else line_naming (prompt_row function).lines (letter ∷ [])
+name_line function name = line_naming (prompt_row function).lines name
+
+-- the letter of a register of the stack, and its number
+abbrev pub stack_register : ℕ → Option ℕ
+stack_register letter =
+    if letter == 0x54 then Some 112
+    else if letter == 0x5A then Some 113
+    else if letter == 0x59 then Some 114
+    else if letter == 0x58 then Some 115
+    else if letter == 0x4C then Some 116
+    else None
+
+-- what is typed of the parameter, as the display shows it
+abbrev pub typed_text : PromptFunction → Bool → Typed → List ℕ
+typed_text function indirect typed.Nothing = if wanted function indirect == 1 then codes " _" else codes " __"
+typed_text function indirect (typed.Digit digit) = 0x20 ∷ (0x30 + value_of digit) ∷ 0x5F ∷ []
+typed_text function indirect typed.Stack = codes " ST _"
+typed_text function indirect typed.Point = codes " ._"
+typed_text function indirect (typed.Name name) = 0x20 ∷ 0x22 ∷ (name ++ 0x5F ∷ [])
+
+-- a prompt as the display shows it
+abbrev pub prompt_text : Prompt → List ℕ
+prompt_text prompt =
+    (prompt_row prompt.function).name
+    ++ (if prompt.indirect then codes " IND" else [])
+    ++ typed_text prompt.function prompt.indirect prompt.typed

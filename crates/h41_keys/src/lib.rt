@@ -1,0 +1,24 @@
+//! The keyboard of the HP-41: what each key means in each state. Memory, stack and program are the calculator's: a key
+//! answers an action that is carried out there.
+#![tactic(auto)]
+
+mod action;
+mod input;
+mod key;
+mod letters;
+mod meaning;
+mod number;
+mod pressing;
+mod prompt;
+mod prompt_keys;
+mod prompt_step;
+mod text;
+mod typing;
+
+pub use action::{Action, KeyNotHeld};
+pub use input::{Entry, Flags, Input, Mode, Pressed};
+pub use key::{Digit, Key};
+pub use meaning::Meaning;
+pub use pressing::press;
+pub use prompt::{NAME_MOST, PROMPT_CAPACITY, Prompt, PromptFunction, Typed};
+pub use prompt_step::PromptStep;

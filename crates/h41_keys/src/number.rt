@@ -1,0 +1,280 @@
+//! Numbers that are typed, character by character.
+ghost use Rattle.std.specs.Prelude.{◌≡◌, ◌+◌, ◌≤◌, ◌++◌, ◌∷◌, length, filter, IsTrue};
+ghost use Rattle.std.specs.List.{list_any};
+ghost use Rattle.h41_codes.specs.Counts.{number_most};
+ghost use Rattle.h41_codes.specs.declared.characters.Character.TheVariants as characters;
+ghost use Rattle.h41_keys.specs.KeyPress as press;
+ghost use Rattle.h41_keys.specs.NumberTyping as spec;
+
+use crate::action::Action;
+use crate::input::{Entry, Input, Pressed};
+use crate::key::Digit;
+use crate::typing::{does, ended, typing};
+use h41_codes::{Character, Line, Number};
+
+/// The most characters of a number.
+const NUMBER_MOST: usize = 16;
+
+/// A digit.
+pub(crate) fn digit_typed(input: Input, digit: Digit) -> Pressed
+    ensures { result ≡ press.number_typed input (λ text. spec.with_digit text digit) }
+{
+    let held = input;
+    let text = characters(&held.entry);
+    if has_room(text) {
+        grown(input, text, &[digit.character()])
+    } else {
+        becomes(input, text, text)
+    }
+}
+
+/// The point.
+pub(crate) fn point_typed(input: Input) -> Pressed
+    ensures { result ≡ press.number_typed input spec.with_point }
+{
+    let held = input;
+    let text = characters(&held.entry);
+    if has_point(text) || exponent_place(text) < text.len() {
+        becomes(input, text, text)
+    } else {
+        grown(input, text, &[Character::Point])
+    }
+}
+
+/// EEX.
+pub(crate) fn exponent_typed(input: Input) -> Pressed
+    ensures { result ≡ press.number_typed input spec.with_exponent }
+{
+    let held = input;
+    let text = characters(&held.entry);
+    if exponent_place(text) < text.len() {
+        becomes(input, text, text)
+    } else if count_of_digits(text) == 0 {
+        grown(input, text, &[Character::One, Character::Exponent])
+    } else {
+        grown(input, text, &[Character::Exponent])
+    }
+}
+
+/// CHS, where a number is being typed.
+pub(crate) fn sign_turned(input: Input) -> Pressed
+    ensures { result ≡ press.number_typed input spec.with_sign_turned }
+{
+    let held = input;
+    let text = characters(&held.entry);
+    let end = exponent_place(text);
+    if end < text.len() {
+        let part = &text[end + 1..];
+        if begins_with_minus(part) {
+            spliced(
+                input,
+                text,
+                &text[..end],
+                &[Character::Exponent],
+                &part[1..],
+            )
+        } else {
+            spliced(
+                input,
+                text,
+                &text[..end],
+                &[Character::Exponent, Character::Minus],
+                part,
+            )
+        }
+    } else if begins_with_minus(text) {
+        becomes(input, text, &text[1..])
+    } else {
+        spliced(input, text, &[], &[Character::Minus], text)
+    }
+}
+
+/// BACK, where a number is being typed.
+pub(crate) fn shortened(input: Input, number: &Number) -> Pressed
+    ensures { result ≡ press.number_becomes input number.now (spec.without_last number.now) }
+{
+    let text = number.characters();
+    becomes(input, text, &text[..text.len() - 1])
+}
+
+/// What was typed of a number.
+fn characters(entry: &Entry) -> &[Character]
+    ensures text { result.now ≡ press.number_in entry.now }
+    ensures bound { length result.now ≤ number_most }
+{
+    match entry {
+        Entry::Number(number) => number.characters(),
+        _ => &[],
+    }
+}
+
+/// A number to which more is added.
+fn grown(input: Input, text: &[Character], more: &[Character]) -> Pressed
+    requires text { length text.now ≤ number_most }
+    requires more { length more.now ≤ number_most }
+    ensures { result ≡ press.retyped input text.now (text.now ++ more.now) }
+{
+    let count = text.len() + more.len();
+    if count > NUMBER_MOST {
+        return becomes(input, text, text);
+    }
+    let mut cells = [Character::Zero; NUMBER_MOST];
+    cells[..text.len()].copy_from_slice(text);
+    cells[text.len()..count].copy_from_slice(more);
+    becomes(input, text, &cells[..count])
+}
+
+/// A number that is put together from three parts.
+fn spliced(
+    input: Input,
+    text: &[Character],
+    front: &[Character],
+    more: &[Character],
+    rest: &[Character],
+) -> Pressed
+    requires text { length text.now ≤ number_most }
+    requires front { length front.now ≤ number_most }
+    requires more { length more.now ≤ number_most }
+    requires rest { length rest.now ≤ number_most }
+    ensures { result ≡ press.retyped input text.now (front.now ++ more.now ++ rest.now) }
+{
+    let middle = front.len() + more.len();
+    let count = middle + rest.len();
+    if count > NUMBER_MOST {
+        return becomes(input, text, text);
+    }
+    let mut cells = [Character::Zero; NUMBER_MOST];
+    cells[..front.len()].copy_from_slice(front);
+    cells[front.len()..middle].copy_from_slice(more);
+    cells[middle..count].copy_from_slice(rest);
+    becomes(input, text, &cells[..count])
+}
+
+/// A number whose text becomes another: begun, changed, ended or left as it is.
+fn becomes(input: Input, before: &[Character], after: &[Character]) -> Pressed
+    requires { length after.now ≤ number_most }
+    ensures { result ≡ press.number_becomes input before.now after.now }
+{
+    match Number::new(after) {
+        None => number_ended(input),
+        Some(number) => {
+            if before.is_empty() {
+                number_begun(input, number)
+            } else if after.len() == before.len() {
+                does(Action::Nothing, typing(input, input.entry))
+            } else {
+                number_changed(input, number)
+            }
+        }
+    }
+}
+
+/// A number begins.
+fn number_begun(input: Input, number: Number) -> Pressed
+    ensures { result ≡ press.number_begun input input.program_mode number }
+{
+    let action = if input.program_mode {
+        Action::Insert(Line::Number(number))
+    } else {
+        Action::BeginNumber(number)
+    };
+    does(action, typing(input, Entry::Number(number)))
+}
+
+/// A number changes.
+fn number_changed(input: Input, number: Number) -> Pressed
+    ensures { result ≡ press.number_changed input input.program_mode number }
+{
+    let action = if input.program_mode {
+        Action::Replace(Line::Number(number))
+    } else {
+        Action::ChangeNumber(number)
+    };
+    does(action, typing(input, Entry::Number(number)))
+}
+
+/// A number's last character was taken back.
+fn number_ended(input: Input) -> Pressed
+    ensures { result ≡ press.number_ended input input.program_mode }
+{
+    if input.program_mode {
+        does(Action::Delete, ended(input))
+    } else {
+        does(Action::EndNumber, ended(input))
+    }
+}
+
+/// Whether a number has room for a digit more.
+fn has_room(text: &[Character]) -> bool
+    ensures { result ≡ spec.has_room text.now }
+{
+    let end = exponent_place(text);
+    if end < text.len() {
+        count_of_digits(&text[end + 1..]) < 2
+    } else {
+        count_of_digits(text) < 10
+    }
+}
+
+/// How many digits a text has.
+fn count_of_digits(text: &[Character]) -> usize
+    ensures { result ≡ spec.count_of_digits text.now }
+{
+    let mut count: usize = 0;
+    for character in text {
+        if is_digit(*character) {
+            count += 1;
+        }
+    }
+    count
+}
+
+/// Whether a text has a point.
+fn has_point(text: &[Character]) -> bool
+    ensures { result ≡ list_any spec.is_point text.now }
+{
+    for character in text {
+        if matches!(*character, Character::Point) {
+            return true;
+        }
+    }
+    false
+}
+
+/// Where the first E stands, or the length where there is none.
+fn exponent_place(text: &[Character]) -> usize
+    ensures place { result ≡ spec.exponent_place text.now }
+    ensures bound { result ≤ length text.now }
+{
+    for (index, character) in text.iter().enumerate() {
+        if is_exponent(*character) {
+            return index;
+        }
+    }
+    text.len()
+}
+
+/// Whether a part begins with its sign.
+fn begins_with_minus(part: &[Character]) -> bool
+    ensures value { result ≡ spec.begins_with_minus part.now }
+    ensures some { IsTrue result → 1 ≤ length part.now }
+{
+    !part.is_empty() && matches!(part[0], Character::Minus)
+}
+
+/// Whether a character is the E in front of an exponent.
+fn is_exponent(character: Character) -> bool
+    ensures { result ≡ spec.is_exponent character }
+{
+    matches!(character, Character::Exponent)
+}
+
+/// Whether a character is a digit.
+fn is_digit(character: Character) -> bool
+    ensures { result ≡ spec.is_digit character }
+{
+    !matches!(
+        character,
+        Character::Point | Character::Exponent | Character::Minus
+    )
+}

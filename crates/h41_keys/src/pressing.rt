@@ -1,0 +1,222 @@
+//! What a key does in each state of the keyboard.
+ghost use Rattle.std.specs.Prelude.{◌≡◌, None, IfOk, OnErr};
+ghost use Rattle.h41_keys.specs.Keyboard.{row_of};
+ghost use Rattle.h41_keys.specs.KeyPress as spec;
+
+use crate::action::{Action, KeyNotHeld};
+use crate::input::{Entry, Flags, Input, Mode, Pressed};
+use crate::key::Key;
+use crate::meaning::{Meaning, meaning_of, plain};
+use crate::number::{digit_typed, exponent_typed, point_typed, shortened, sign_turned};
+use crate::prompt::{Prompt, PromptFunction, Typed};
+use crate::prompt_keys::prompt_step;
+use crate::prompt_step::PromptStep;
+use crate::text::{append_pressed, letter_taken, letter_typed};
+use crate::typing::{does, ended, function_typed, line_typed, typing, without_number};
+use h41_codes::{Function, Number};
+
+/// Presses a key: what the calculator has to do, or 18 where the key has no meaning. A key that is refused, here or later
+/// by the calculator, changes nothing: a caller that may still refuse it keeps the input from before.
+pub fn press(input: &mut Input, key: Key, mode: Mode, flags: Flags) -> Result<Action, KeyNotHeld>
+    ensures accepted { IfOk result (λ done. spec.Accepts input.old key mode flags done input.new) }
+    ensures refused { OnErr result (spec.presses input.old key mode flags ≡ None) }
+    ensures unchanged { OnErr result (input.new ≡ input.old) }
+{
+    match pressed(*input, key, mode, flags) {
+        Some(pressed) => {
+            *input = pressed.input;
+            Ok(pressed.action)
+        }
+        None => Err(KeyNotHeld),
+    }
+}
+
+/// What a key leads to.
+fn pressed(input: Input, key: Key, mode: Mode, flags: Flags) -> Option<Pressed>
+    ensures { result ≡ spec.presses input key mode flags }
+{
+    match mode {
+        Mode::Idle => idle(input, key, flags),
+        Mode::Run => while_running(input, plain(key)),
+        Mode::Micro => while_in_microcode(input, plain(key)),
+    }
+}
+
+/// A key where a program runs.
+fn while_running(input: Input, meaning: Meaning) -> Option<Pressed>
+    ensures { result ≡ spec.while_running input meaning }
+{
+    match meaning {
+        Meaning::Nothing => None,
+        Meaning::RunStop => Some(does(Action::Stop, input)),
+        _ => Some(does(Action::Nothing, input)),
+    }
+}
+
+/// A key where a function in microcode runs.
+fn while_in_microcode(input: Input, meaning: Meaning) -> Option<Pressed>
+    ensures { result ≡ spec.while_in_microcode input meaning }
+{
+    match meaning {
+        Meaning::Nothing => None,
+        _ => Some(does(Action::Nothing, input)),
+    }
+}
+
+/// A key where nothing runs.
+fn idle(input: Input, key: Key, flags: Flags) -> Option<Pressed>
+    ensures { result ≡ spec.idle input key flags }
+{
+    if flags.message && !input.shift && matches!(key, Key::Back) {
+        return Some(does(Action::Nothing, input));
+    }
+    let held = input;
+    match held.prompt {
+        Some(prompt) => in_prompt(input, prompt, key),
+        None => acts(input, meaning_of(key, flags.alpha, input.shift)),
+    }
+}
+
+/// A key where a prompt is open.
+fn in_prompt(input: Input, prompt: Prompt, key: Key) -> Option<Pressed>
+    ensures { result ≡ spec.in_prompt input prompt key }
+{
+    if matches!(prompt.typed, Typed::Name(_)) && matches!(plain(key), Meaning::Shift) {
+        acts(input, Meaning::Shift)
+    } else {
+        stepped(input, prompt_step(prompt, input.shift, key))
+    }
+}
+
+/// What becomes of the keyboard with a prompt.
+fn stepped(input: Input, step: Option<PromptStep>) -> Option<Pressed>
+    ensures { result ≡ spec.stepped input step }
+{
+    match step {
+        Some(PromptStep::Becomes(prompt)) => Some(does(
+            Action::Nothing,
+            Input {
+                shift: false,
+                prompt: Some(prompt),
+                ..input
+            },
+        )),
+        Some(PromptStep::Cancels) => Some(does(Action::Nothing, prompt_ended(input))),
+        Some(PromptStep::Types(line)) => Some(line_typed(prompt_ended(input), line)),
+        Some(PromptStep::GoesToEnd) => Some(does(Action::GoToEnd, ended(prompt_ended(input)))),
+        None => None,
+    }
+}
+
+/// The prompt has ended.
+fn prompt_ended(input: Input) -> Input
+    ensures { result ≡ spec.prompt_ended input }
+{
+    Input {
+        shift: false,
+        prompt: None,
+        ..input
+    }
+}
+
+/// A key where no prompt is open, by what it means.
+fn acts(input: Input, meaning: Meaning) -> Option<Pressed>
+    ensures { result ≡ spec.acts input meaning }
+{
+    Some(match meaning {
+        Meaning::Nothing => return None,
+        Meaning::Shift => does(Action::Nothing, shifted(input)),
+        Meaning::Alpha => does(Action::ToggleAlpha, ended(input)),
+        Meaning::Program => does(Action::Nothing, program_mode_turned(input)),
+        Meaning::Step => does(Action::Step, ended(input)),
+        Meaning::StepBack => does(Action::StepBack, ended(input)),
+        Meaning::RunStop => run_pressed(input),
+        Meaning::Back => back_pressed(input),
+        Meaning::LetterBack => letter_taken(input),
+        Meaning::Digit(digit) => digit_typed(input, digit),
+        Meaning::Point => point_typed(input),
+        Meaning::Exponent => exponent_typed(input),
+        Meaning::Sign => sign_pressed(input),
+        Meaning::Function(function) => function_typed(input, function),
+        Meaning::Ask(function) => does(Action::Nothing, asking(input, function)),
+        Meaning::Letter(letter) => letter_typed(input, letter),
+        Meaning::Append => append_pressed(input),
+    })
+}
+
+/// SHIFT.
+fn shifted(input: Input) -> Input
+    ensures { result ≡ spec.shifted input }
+{
+    Input {
+        shift: !input.shift,
+        ..input
+    }
+}
+
+/// PRGM.
+fn program_mode_turned(input: Input) -> Input
+    ensures { result ≡ spec.program_mode_turned input }
+{
+    Input {
+        program_mode: !input.program_mode,
+        ..ended(input)
+    }
+}
+
+/// A prompt opens.
+fn asking(input: Input, function: PromptFunction) -> Input
+    ensures { result ≡ spec.asking input function }
+{
+    Input {
+        prompt: Some(Prompt {
+            function,
+            indirect: false,
+            typed: Typed::Nothing,
+        }),
+        ..typing(input, without_number(input.entry))
+    }
+}
+
+/// R/S.
+fn run_pressed(input: Input) -> Pressed
+    ensures { result ≡ spec.run_pressed input input.program_mode }
+{
+    if input.program_mode {
+        function_typed(input, Function::Stop)
+    } else {
+        does(Action::Run, ended(input))
+    }
+}
+
+/// CHS.
+fn sign_pressed(input: Input) -> Pressed
+    ensures { result ≡ spec.sign_pressed input input.entry }
+{
+    match input.entry {
+        Entry::Number(_) => sign_turned(input),
+        _ => function_typed(input, Function::ChangeSign),
+    }
+}
+
+/// BACK.
+fn back_pressed(input: Input) -> Pressed
+    ensures { result ≡ spec.back_pressed input input.entry }
+{
+    let held = input;
+    match &held.entry {
+        Entry::Number(number) => shortened(input, number),
+        _ => clearing(input),
+    }
+}
+
+/// BACK where no number is being typed.
+fn clearing(input: Input) -> Pressed
+    ensures { result ≡ spec.clearing input input.program_mode }
+{
+    if input.program_mode {
+        does(Action::Delete, ended(input))
+    } else {
+        function_typed(input, Function::ClearX)
+    }
+}

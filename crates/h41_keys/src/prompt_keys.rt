@@ -1,0 +1,266 @@
+//! What each key makes of a prompt.
+ghost use Rattle.std.specs.Prelude.{◌≡◌, ◌<◌, ◌≤◌, [], length, IfSome};
+ghost use Rattle.h41_codes.specs.Counts.{parameter_count};
+ghost use Rattle.h41_keys.specs.Keyboard.{row_of};
+ghost use Rattle.h41_keys.specs.PromptKeys as spec;
+ghost use Rattle.h41_keys.specs.Prompts.{stack_register};
+
+use crate::key::{Digit, Key};
+use crate::letters::{with_letter, without_last};
+use crate::meaning::{Meaning, letter, plain, shifted_letter};
+use crate::prompt::{NAME_MOST, Prompt, PromptFunction, Typed};
+use crate::prompt_step::PromptStep;
+use h41_codes::{Function, Text};
+
+/// What a key makes of a prompt, or nothing where it is refused.
+pub(crate) fn prompt_step(prompt: Prompt, shift: bool, key: Key) -> Option<PromptStep>
+    ensures { result ≡ spec.prompt_step prompt prompt.typed shift key }
+{
+    let held = prompt;
+    match &held.typed {
+        Typed::Nothing => with_nothing(prompt, plain(key)),
+        Typed::Digit(digit) => with_digit_typed(prompt, *digit, plain(key)),
+        Typed::Stack => with_stack_typed(prompt, key),
+        Typed::Point => with_point_typed(prompt, plain(key)),
+        Typed::Name(name) => with_name_typed(prompt, name.characters(), shift, key),
+    }
+}
+
+/// The prompt goes on with this much typed.
+fn goes_on(prompt: Prompt, typed: Typed) -> Option<PromptStep>
+    ensures { result ≡ spec.goes_on prompt typed }
+{
+    Some(PromptStep::Becomes(Prompt { typed, ..prompt }))
+}
+
+/// The parameter is whole.
+fn ends_with(prompt: Prompt, parameter: u8) -> Option<PromptStep>
+    requires { parameter < parameter_count }
+    ensures { result ≡ spec.ends_with prompt parameter }
+{
+    Some(PromptStep::Types(prompt.function.parameter_line(prompt.indirect, parameter)))
+}
+
+/// IND comes, or goes.
+fn turns_indirect(prompt: Prompt) -> Option<PromptStep>
+    ensures { result ≡ spec.turns_indirect prompt }
+{
+    Some(PromptStep::Becomes(Prompt {
+        indirect: !prompt.indirect,
+        ..prompt
+    }))
+}
+
+/// A key where nothing is typed yet.
+fn with_nothing(prompt: Prompt, meaning: Meaning) -> Option<PromptStep>
+    ensures { result ≡ spec.with_nothing prompt meaning }
+{
+    match meaning {
+        Meaning::Digit(digit) => first_digit(prompt, digit),
+        Meaning::Point => first_point(prompt),
+        Meaning::Function(function) => combined(prompt, combining(function)),
+        Meaning::Shift => {
+            if prompt.function.takes_indirect() {
+                turns_indirect(prompt)
+            } else {
+                None
+            }
+        }
+        Meaning::Alpha => {
+            if prompt.function.takes_name() && !prompt.indirect {
+                goes_on(prompt, Typed::Name(no_name()))
+            } else {
+                None
+            }
+        }
+        Meaning::Back => Some(PromptStep::Cancels),
+        _ => None,
+    }
+}
+
+/// A name without a letter.
+fn no_name() -> Text<NAME_MOST>
+    ensures { result ≡ [] }
+{
+    match Text::new(&[]) {
+        Some(name) => name,
+        None => unreachable!(),
+    }
+}
+
+/// The first digit.
+fn first_digit(prompt: Prompt, digit: Digit) -> Option<PromptStep>
+    ensures { result ≡ spec.first_digit prompt digit }
+{
+    if !prompt.indirect && prompt.function.takes_one_digit() {
+        ends_with(prompt, digit.value())
+    } else {
+        goes_on(prompt, Typed::Digit(digit))
+    }
+}
+
+/// The point in front of all.
+fn first_point(prompt: Prompt) -> Option<PromptStep>
+    ensures { result ≡ spec.first_point prompt }
+{
+    if prompt.indirect || prompt.function.takes_registers() {
+        goes_on(prompt, Typed::Stack)
+    } else if matches!(prompt.function, PromptFunction::GoTo) {
+        goes_on(prompt, Typed::Point)
+    } else {
+        None
+    }
+}
+
+/// The function that a sign makes of STO, or nothing for another function.
+fn combining(function: Function) -> Option<PromptFunction>
+    ensures { result ≡ spec.combining function }
+{
+    match function {
+        Function::Add => Some(PromptFunction::StoreAdd),
+        Function::Subtract => Some(PromptFunction::StoreSubtract),
+        Function::Multiply => Some(PromptFunction::StoreMultiply),
+        Function::Divide => Some(PromptFunction::StoreDivide),
+        _ => None,
+    }
+}
+
+/// A sign behind a bare STO.
+fn combined(prompt: Prompt, sign: Option<PromptFunction>) -> Option<PromptStep>
+    ensures { result ≡ spec.combined prompt sign }
+{
+    match sign {
+        Some(function) => {
+            if matches!(prompt.function, PromptFunction::Store) && !prompt.indirect {
+                Some(PromptStep::Becomes(Prompt { function, ..prompt }))
+            } else {
+                None
+            }
+        }
+        None => None,
+    }
+}
+
+/// A key where the first of two digits is typed.
+fn with_digit_typed(prompt: Prompt, first: Digit, meaning: Meaning) -> Option<PromptStep>
+    ensures { result ≡ spec.with_digit_typed prompt first meaning }
+{
+    match meaning {
+        Meaning::Digit(digit) => ends_with(prompt, 10 * first.value() + digit.value()),
+        Meaning::Shift => {
+            if prompt.function.takes_indirect() && !prompt.function.takes_one_digit() {
+                turns_indirect(prompt)
+            } else {
+                None
+            }
+        }
+        Meaning::Back => goes_on(prompt, Typed::Nothing),
+        _ => None,
+    }
+}
+
+/// A key where the point is typed, and a register of the stack comes.
+fn with_stack_typed(prompt: Prompt, key: Key) -> Option<PromptStep>
+    ensures { result ≡ spec.with_stack_typed prompt (row_of key).plain (row_of key).letter }
+{
+    match plain(key) {
+        Meaning::Shift => {
+            if prompt.function.takes_registers() {
+                turns_indirect(prompt)
+            } else {
+                None
+            }
+        }
+        Meaning::Back => goes_on(prompt, Typed::Nothing),
+        _ => lettered(prompt, letter(key)),
+    }
+}
+
+/// A key with a letter where the point is typed.
+fn lettered(prompt: Prompt, meaning: Meaning) -> Option<PromptStep>
+    ensures { result ≡ spec.lettered prompt meaning }
+{
+    match meaning {
+        Meaning::Letter(letter) => match stack_parameter(letter) {
+            Some(parameter) => ends_with(prompt, parameter),
+            None => None,
+        },
+        _ => None,
+    }
+}
+
+/// The number of the stack's register with this letter.
+fn stack_parameter(letter: u8) -> Option<u8>
+    ensures value { result ≡ stack_register letter }
+    ensures bound { IfSome result (λ parameter. parameter < parameter_count) }
+{
+    match letter {
+        b'T' => Some(112),
+        b'Z' => Some(113),
+        b'Y' => Some(114),
+        b'X' => Some(115),
+        b'L' => Some(116),
+        _ => None,
+    }
+}
+
+/// A key where the point of `GTO .` is typed.
+fn with_point_typed(prompt: Prompt, meaning: Meaning) -> Option<PromptStep>
+    ensures { result ≡ spec.with_point_typed prompt meaning }
+{
+    match meaning {
+        Meaning::Point => Some(PromptStep::GoesToEnd),
+        Meaning::Back => goes_on(prompt, Typed::Nothing),
+        _ => None,
+    }
+}
+
+/// A key where a name is typed.
+fn with_name_typed(prompt: Prompt, name: &[u8], shift: bool, key: Key) -> Option<PromptStep>
+    requires { length name.now ≤ NAME_MOST }
+    ensures { result ≡ spec.in_name prompt name.now shift (row_of key) }
+{
+    match (plain(key), shift) {
+        (Meaning::Alpha, _) => name_ended(prompt, name),
+        (Meaning::Back, false) => name_shortened(prompt, name),
+        (_, false) => name_letter(prompt, name, letter(key)),
+        (_, true) => name_letter(prompt, name, shifted_letter(key)),
+    }
+}
+
+/// A letter more of a name.
+fn name_letter(prompt: Prompt, name: &[u8], meaning: Meaning) -> Option<PromptStep>
+    ensures { result ≡ spec.name_letter prompt name.now meaning }
+{
+    match meaning {
+        Meaning::Letter(letter) => match with_letter(name, letter) {
+            Some(longer) => goes_on(prompt, Typed::Name(longer)),
+            None => None,
+        },
+        _ => None,
+    }
+}
+
+/// The end of a name.
+fn name_ended(prompt: Prompt, name: &[u8]) -> Option<PromptStep>
+    requires { length name.now ≤ NAME_MOST }
+    ensures { result ≡ spec.name_ended prompt name.now }
+{
+    if !name.is_empty() && prompt.function.takes_name() {
+        Some(PromptStep::Types(prompt.function.name_line(name)))
+    } else {
+        None
+    }
+}
+
+/// A letter less of a name.
+fn name_shortened(prompt: Prompt, name: &[u8]) -> Option<PromptStep>
+    requires { length name.now ≤ NAME_MOST }
+    ensures { result ≡ spec.name_shortened prompt name.now }
+{
+    if name.is_empty() {
+        Some(PromptStep::Cancels)
+    } else {
+        goes_on(prompt, Typed::Name(without_last(name)))
+    }
+}

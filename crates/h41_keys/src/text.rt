@@ -1,0 +1,127 @@
+//! Texts for ALPHA that are typed letter by letter.
+ghost use Rattle.std.specs.Prelude.{◌≡◌, ◌≤◌, length, true};
+ghost use Rattle.h41_codes.specs.Counts.{text_most};
+ghost use Rattle.h41_keys.specs.KeyPress as press;
+ghost use Rattle.h41_keys.specs.NumberTyping as typed;
+
+use crate::action::Action;
+use crate::input::{Entry, Input, Pressed};
+use crate::letters::{with_letter, without_last};
+use crate::typing::{does, ended, typing};
+use h41_codes::{Line, Text};
+
+/// The append sign: a line with it in front adds the rest to what ALPHA holds.
+const APPEND: u8 = 0x7F;
+
+/// A letter.
+pub(crate) fn letter_typed(input: Input, letter: u8) -> Pressed
+    ensures { result ≡ press.letter_typed input input.program_mode input.entry letter }
+{
+    if input.program_mode {
+        letter_of_line(input, letter)
+    } else {
+        let action = match input.entry {
+            Entry::Append | Entry::Letters => Action::AddLetter(letter),
+            _ => Action::BeginText(letter),
+        };
+        does(action, typing(input, Entry::Letters))
+    }
+}
+
+/// A letter in program mode.
+fn letter_of_line(input: Input, letter: u8) -> Pressed
+    ensures { result ≡ press.letter_typed input true input.entry letter }
+{
+    let held = input;
+    match &held.entry {
+        Entry::Append => line_begun(input, &[APPEND, letter]),
+        Entry::TextLine(text) => match with_letter(text.characters(), letter) {
+            Some(longer) => line_changed(input, longer),
+            None => does(Action::Nothing, typing(input, input.entry)),
+        },
+        _ => line_begun(input, &[letter]),
+    }
+}
+
+/// A line with a text begins.
+fn line_begun(input: Input, letters: &[u8]) -> Pressed
+    requires { length letters.now ≤ text_most }
+    ensures { result ≡ press.text_line input press.inserts letters.now }
+{
+    match Text::new(letters) {
+        Some(text) => does(
+            Action::Insert(Line::Text(text)),
+            typing(input, Entry::TextLine(text)),
+        ),
+        None => unreachable!(),
+    }
+}
+
+/// A line with a text changes.
+fn line_changed(input: Input, text: Text<15>) -> Pressed
+    ensures { result ≡ press.changed_line input text }
+{
+    does(
+        Action::Replace(Line::Text(text)),
+        typing(input, Entry::TextLine(text)),
+    )
+}
+
+/// BACK where letters are written.
+pub(crate) fn letter_taken(input: Input) -> Pressed
+    ensures { result ≡ press.letter_taken input input.program_mode input.entry }
+{
+    if input.program_mode {
+        letter_taken_of_line(input)
+    } else if matches!(input.entry, Entry::Letters) {
+        does(Action::TakeLetter, typing(input, Entry::Letters))
+    } else {
+        does(Action::ClearAlpha, ended(input))
+    }
+}
+
+/// BACK where letters are written, in program mode.
+fn letter_taken_of_line(input: Input) -> Pressed
+    ensures { result ≡ press.letter_taken input true input.entry }
+{
+    let held = input;
+    match &held.entry {
+        Entry::TextLine(text) => shortened(input, text.characters()),
+        _ => does(Action::Delete, ended(input)),
+    }
+}
+
+/// A line with a text loses its last letter.
+fn shortened(input: Input, text: &[u8]) -> Pressed
+    requires { length text.now ≤ text_most }
+    ensures { result ≡ press.text_shortened input (typed.without_last text.now) }
+{
+    let shorter: Text<15> = without_last(text);
+    if has_letter(shorter.characters()) {
+        line_changed(input, shorter)
+    } else {
+        does(Action::Delete, ended(input))
+    }
+}
+
+/// Whether a line has a letter, the append sign apart.
+fn has_letter(text: &[u8]) -> bool
+    ensures { result ≡ press.has_letter text.now }
+{
+    match text {
+        [] => false,
+        [first] => *first != APPEND,
+        _ => true,
+    }
+}
+
+/// SHIFT XEQ where letters are written.
+pub(crate) fn append_pressed(input: Input) -> Pressed
+    ensures { result ≡ press.append_pressed input input.program_mode input.entry }
+{
+    if !input.program_mode && matches!(input.entry, Entry::Letters) {
+        does(Action::Nothing, typing(input, Entry::Letters))
+    } else {
+        does(Action::Nothing, typing(input, Entry::Append))
+    }
+}

@@ -105,7 +105,7 @@ edits_determined one memory change at outcome other gives again = elim gives [
   ]
 ]
 
-pub answers_determined : OneLine → PlacesAreDetermined
+pub answers_determined : {A : Type 0} → OneLine → PlacesAreDetermined A
 answers_determined one answer memory at new result other is again =
     let first = first_determined one (program_bytes memory) (final_position memory) at is.first again.first is.stands again.stands in
     let lines = lists_determined one memory 0 is.lines again.lines is.from again.from in

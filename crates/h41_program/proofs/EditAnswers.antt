@@ -9,11 +9,13 @@ use Rattle.h41_codes.specs.ByteLaws.{ByteRoundTrip, OneLine}
 use Rattle.h41_codes.specs.declared.line.Line.{Line}
 use Rattle.h41_codes.specs.declared.line.Line.TheVariants.{FinalEnd}
 use Rattle.h41_ram.specs.RegisterMap.{RegisterMap, is_sound}
+use Rattle.h41_program.specs.declared.editing.Front.{Front}
 use Rattle.h41_program.specs.declared.listed_line.ListedLine.{ListedLine}
+use Rattle.h41_program.specs.declared.reading.Found.{Found}
 use Rattle.h41_program.specs.declared.refusal.ProgramRefusal.{ProgramRefusal}
 use Rattle.h41_program.specs.declared.refusal.ProgramRefusal.TheVariants.{BrokenProgram}
 use Rattle.h41_program.specs.Edits.{Edits, LeavesChanged, Stands, StandsBefore, StandsNew, before_end, changed_outcome, count_before, edit_outcome, has_line_at, lines_of, position_in_front, position_behind, with_inserted, with_replaced}
-use Rattle.h41_program.specs.EditSteps.{Counts}
+use Rattle.h41_program.specs.EditSteps.{Counts, listed_of}
 use Rattle.h41_program.specs.ProgramLaws.{IsInner}
 use Rattle.h41_program.specs.ProgramBytes.{program_bytes, final_position}
 use Rattle.h41_program.specs.ProgramLines.{FirstFrom, LinesFrom}
@@ -144,6 +146,14 @@ module _ (again : ByteRoundTrip) (one : OneLine) (old new : RegisterMap) (change
       subst (λ (l : ListedLine). Stands new line l.position) (sym (same_found found there (is ∙ left.has.got)))
       (subst (λ (l : Line). Stands new l there.position) left.has.same first)
 
+-- a line that was found
+pub some_found : (o : Option Found) (listed : ListedLine) → listed_of o ≡ Some listed → is_some o ≡ true
+some_found None listed is = absurd (none_is_not_some is)
+  where
+    none_is_not_some : ◌≡◌ {A = Option ListedLine} None (Some listed) → ⊥
+    none_is_not_some same = cc
+some_found (Some found) listed is = refl
+
 -- the answers
 module _ (old new : RegisterMap) (at count : ℕ) (counts : Counts old at count) (listed : List ListedLine) (read : LinesFrom new 0 listed) where
   pub stands_new : (found : ListedLine) → Some found ≡ slice_get listed count → StandsNew old at new found.position
@@ -157,7 +167,7 @@ module _ (old new : RegisterMap) (at count : ℕ) (counts : Counts old at count)
     is = ap position_of is ∙ ap (λ (n : ℕ). position_behind n listed) counts.is;
   }
 
-  pub stands_before : (result : Option ℕ) → result ≡ position_in_front count listed → StandsBefore old at new result
+  pub stands_before : (result : Front) → result ≡ position_in_front count listed → StandsBefore old at new result
   stands_before result is = record {
     first = counts.first;
     lines = counts.lines;

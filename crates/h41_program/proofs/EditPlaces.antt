@@ -1,12 +1,13 @@
 -- Lines counted before a change, and found behind it.
-use Rattle.std.proofs.Common.{◌≡◌, ℕ, zero, suc, ◌+◌, ◌-◌, ◌<◌, ◌≤◌, Bool, false, List, [], ◌∷◌, ◌++◌, length, refl, sym, ◌∙◌, ap, subst, arith, inl, inr, Option, Some, None}
-use Rattle.std.specs.Prelude.{cond, if◌then◌else◌, nat_lt, slice_get}
-use Rattle.std.specs.Option.{option_and_then}
+use Rattle.std.proofs.Common.{◌≡◌, ℕ, zero, suc, ◌+◌, ◌-◌, ◌<◌, ◌≤◌, List, [], ◌∷◌, ◌++◌, length, refl, sym, ◌∙◌, ap, subst, arith, inl, inr, Option, Some}
+use Rattle.std.specs.Prelude.{cond, nat_lt, slice_get}
+use Rattle.std.specs.Option.{option_map_or}
 use Rattle.std.proofs.lemmas.Bool.{cases_Bool, le-ltb, lt-ltb}
 use Rattle.std.proofs.lemmas.List.Sums.{sum_by-append, sum_by-cons, sum_by_push}
+use Rattle.h41_program.specs.declared.editing.Front.TheVariants.{Start}
 use Rattle.h41_program.specs.declared.listed_line.ListedLine.{ListedLine}
-use Rattle.h41_program.specs.Edits.{count_before, position_in_front}
-use Rattle.h41_program.specs.Lines.{is_end, is_final_end}
+use Rattle.h41_program.specs.Edits.{count_before, front_behind, position_in_front}
+use Rattle.h41_program.specs.Lines.{is_final_end}
 use Rattle.h41_program.specs.ProgramLines.{FirstFrom, IsFirst, Reads, behind}
 use Rattle.h41_program.proofs.Walks.{last_rest, more_rest}
 
@@ -58,16 +59,13 @@ count_stops bytes final place at next before rest lines listed is above whole re
     let none = none_before bytes final place at rest (λ first is_first. subst (λ (l : ListedLine). place ≤ l.position) (sym (is.one first is_first)) above) reads in
     sym (ap (count_before place) whole ∙ sum_by-append (counts place) before rest ∙ ap (λ (n : ℕ). count_before place before + n) none ∙ add_zero (count_before place before))
 
--- the last of so many lines
-abbrev inner_position : ListedLine → Option ℕ
-inner_position last = if is_end last.line then None else Some last.position
-
-pub in_front : (count : ℕ) (lines : List ListedLine) (last : ListedLine) → (count ≡ 0 → ⊥) → Some last ≡ slice_get lines (count - 1) → is_end last.line ≡ false
-    → Some last.position ≡ position_in_front count lines
-in_front zero lines last some is other = absurd (some refl)
-in_front (suc n) lines last some is other =
+-- the last of so many lines, where there are some
+pub in_front : (count : ℕ) (lines : List ListedLine) (last : Option ListedLine) → (count ≡ 0 → ⊥) → last ≡ slice_get lines (count - 1)
+    → option_map_or front_behind last (Start 0) ≡ position_in_front count lines
+in_front zero lines last some is = absurd (some refl)
+in_front (suc n) lines last some is =
     let less : suc n - 1 ≡ n = omega arith in
-    sym (ap (λ (b : Bool). if b then None else Some last.position) other) ∙ ap (option_and_then inner_position) (is ∙ ap (slice_get lines) less)
+    ap (λ (o : Option ListedLine). option_map_or front_behind o (Start 0)) (is ∙ ap (slice_get lines) less)
 
 -- the line behind others
 pub get_behind : (before : List ListedLine) (listed : ListedLine) (rest : List ListedLine) → slice_get (before ++ listed ∷ rest) (length before) ≡ Some listed

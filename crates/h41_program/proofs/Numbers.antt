@@ -1,14 +1,14 @@
 -- Lines counted.
 use Rattle.std.proofs.Common.{◌≡◌, ℕ, suc, ◌+◌, ◌-◌, true, false, List, [], ◌∷◌, ◌++◌, length, refl, sym, ◌∙◌, ap, subst, arith, inl, inr, append_assoc, length-append, Option, Some, None}
-use Rattle.std.specs.Prelude.{◌==◌}
+use Rattle.std.specs.Prelude.{◌==◌, ◌||◌}
 use Rattle.std.specs.Option.{option_map}
 use Rattle.std.proofs.lemmas.Bool.{cases_Bool}
 use Rattle.std.proofs.lemmas.Bool.Decides.{nat_tests}
 use Rattle.h41_codes.specs.ByteLaws.{OneLine}
 use Rattle.h41_ram.specs.RegisterMap.{RegisterMap}
 use Rattle.h41_program.specs.declared.listed_line.ListedLine.{ListedLine}
-use Rattle.h41_program.specs.Lines.{is_end}
-use Rattle.h41_program.specs.Numbering.{AnswersProgram, number_in, numbered_in, up_to_end}
+use Rattle.h41_program.specs.Lines.{is_end, is_final_end}
+use Rattle.h41_program.specs.Numbering.{AnswersProgram, end_in, number_in, numbered_in, up_to_end}
 use Rattle.h41_program.specs.ProgramLaws.{OneList}
 use Rattle.h41_program.specs.ProgramLines.{AnswersOf, LinesFrom}
 use Rattle.h41_program.specs.Reading.{AnswersFrom}
@@ -116,6 +116,24 @@ pub left_end : (number left : ℕ) (before : List ListedLine) (listed : ListedLi
     → up_to_end (listed ∷ rest) ≡ listed ∷ [] → place_of number (before ++ listed ∷ rest) ≡ None
 left_end number left before listed rest is other end =
     is (listed ∷ rest) ∙ ap (numbered_in left) end ∙ numbered_other left listed [] other
+
+-- the lines so far end nothing
+abbrev pub Runs : List ListedLine → Type 0
+Runs before = (rest : List ListedLine) → end_in (up_to_end (before ++ rest)) ≡ end_in (up_to_end rest)
+
+end_other : (listed : ListedLine) (rest : List ListedLine) → is_end listed.line ≡ false → is_final_end listed.line ≡ false → end_in (listed ∷ rest) ≡ end_in rest
+end_other listed rest running more = rw (running, more) refl
+
+pub runs_more : (before : List ListedLine) (listed : ListedLine) → Runs before → is_end listed.line ≡ false → is_final_end listed.line ≡ false → Runs (before ++ listed ∷ [])
+runs_more before listed runs running more rest =
+    ap (λ (l : List ListedLine). end_in (up_to_end l)) (append_assoc before (listed ∷ []) rest) ∙ runs (listed ∷ rest)
+    ∙ ap end_in (up_to_end-other listed rest running) ∙ end_other listed (up_to_end rest) running more
+
+pub ends_here : (before : List ListedLine) (listed : ListedLine) (rest : List ListedLine) → Runs before → is_end listed.line || is_final_end listed.line ≡ true
+    → end_in (up_to_end (before ++ listed ∷ rest)) ≡ Some listed.position
+ends_here before listed rest runs here =
+    let first = up_to_end-first listed rest in
+    runs (listed ∷ rest) ∙ ap end_in first.1 ∙ (rw here refl)
 
 -- an answer on the lines from a program's start is one on the program
 pub of_program : {A : Type 0} → OneLine → OneList → (answer : List ListedLine → A) (memory : RegisterMap) (at start : ℕ) (result : A) → AnswersOf (start_in at) memory 0 start

@@ -1,6 +1,7 @@
 -- What the functions that change the list promise one another. No public contract needs this file.
-use Rattle.std.specs.Prelude.{◌≡◌, ℕ, is_some, Bool, true, not, MatchBool, IsOkAnd, ◌&&◌, List, [], Result, Err}
+use Rattle.std.specs.Prelude.{◌≡◌, ℕ, is_some, Bool, true, not, MatchBool, IsOkAnd, ◌&&◌, List, [], Option, Result, Err}
 use Rattle.std.specs.List.{flat_map}
+use Rattle.std.specs.Option.{option_map}
 use Rattle.h41_codes.specs.ByteGrammar.{IsLine}
 use Rattle.h41_codes.specs.declared.line.Line.{Line}
 use Rattle.h41_ram.specs.RegisterMap.{RegisterMap}
@@ -8,6 +9,7 @@ use Rattle.h41_program.specs.declared.editing.Change.{Change}
 use Rattle.h41_program.specs.declared.editing.Change.TheVariants.{Delete, Insert, Replace}
 use Rattle.h41_program.specs.declared.listed_line.ListedLine.{ListedLine}
 use Rattle.h41_program.specs.declared.packer.Packer.{Packer}
+use Rattle.h41_program.specs.declared.reading.Found.{Found}
 use Rattle.h41_program.specs.declared.refusal.ProgramRefusal.{ProgramRefusal}
 use Rattle.h41_program.specs.declared.refusal.ProgramRefusal.TheVariants.{BrokenProgram}
 use Rattle.h41_program.specs.Edits.{answered, before_end, count_before, has_line_at, with_inserted, with_replaced, without_deleted}
@@ -51,6 +53,10 @@ pub record Counts (memory : RegisterMap) (at count : ℕ) : Type 0 where
   pub stands : FirstFrom (program_bytes memory) (final_position memory) at first
   pub from : LinesFrom memory 0 lines
   pub is : count ≡ count_before first.position lines
+
+-- the line that was found, without the byte behind it
+abbrev pub listed_of : Option Found → Option ListedLine
+listed_of found = option_map (λ each. each.listed) found
 
 -- a packer has the changed lines, where the list reaches .END. and has a line at the position
 abbrev pub PacksChanged : RegisterMap → (ListedLine → List Line) → ℕ → Result Packer ProgramRefusal → Type 0

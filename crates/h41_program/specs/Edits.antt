@@ -1,10 +1,12 @@
 -- What lines program memory has after a line was inserted or deleted, or bytes were loaded, and what is answered then.
 use Rattle.std.specs.Prelude.{◌≡◌, ◌⊎◌, ℕ, zero, suc, Bool, false, not, ◌||◌, is_some, ◌&&◌, List, [], ◌∷◌, ◌++◌, map, length, drop, count_by, slice_get, nat_lt, ◌==◌, if◌then◌else◌, Option, Some, None, Result, Ok, Err}
 use Rattle.std.specs.List.{list_all, list_any, flat_map}
-use Rattle.std.specs.Option.{option_and_then, option_map, option_map_or}
+use Rattle.std.specs.Option.{option_map, option_map_or}
 use Rattle.h41_codes.specs.declared.line.Line.{Line}
 use Rattle.h41_codes.specs.declared.line.Line.TheVariants.{End, FinalEnd}
 use Rattle.h41_ram.specs.RegisterMap.{RegisterMap}
+use Rattle.h41_program.specs.declared.editing.Front.{Front}
+use Rattle.h41_program.specs.declared.editing.Front.TheVariants.{Line as LineHere, Start}
 use Rattle.h41_program.specs.declared.listed_line.ListedLine.{ListedLine}
 use Rattle.h41_program.specs.declared.refusal.ProgramRefusal.{ProgramRefusal}
 use Rattle.h41_program.specs.declared.refusal.ProgramRefusal.TheVariants.{BrokenProgram}
@@ -145,13 +147,17 @@ count_before position lines = count_by (λ listed. nat_lt listed.position positi
 abbrev pub position_behind : ℕ → List ListedLine → Option ℕ
 position_behind count listed = position_of (slice_get listed count)
 
--- where the last of so many lines stands: none where there are none, or it is an END and so in another program
-abbrev pub position_in_front : ℕ → List ListedLine → Option ℕ
-position_in_front zero listed = None
-position_in_front (suc count) listed = option_and_then (λ last. if is_end last.line then None else Some last.position) (slice_get listed count)
+-- what is in front of the line behind this one: an END is of another program, and the next begins at the byte behind it
+abbrev pub front_behind : ListedLine → Front
+front_behind last = if is_end last.line then Start (behind last) else LineHere last.position
+
+-- what is in front of the line that has so many before it; the first program begins at 0
+abbrev pub position_in_front : ℕ → List ListedLine → Front
+position_in_front zero listed = Start 0
+position_in_front (suc count) listed = option_map_or front_behind (slice_get listed count) (Start 0)
 
 -- an answer on a changed list: it goes by how many lines stood before the line that a position stands for
-pub record AnswersChanged (answer : ℕ → List ListedLine → Option ℕ) (memory : RegisterMap) (at : ℕ) (new : RegisterMap) (result : Option ℕ) : Type 0 where
+pub record AnswersChanged {A : Type 0} (answer : ℕ → List ListedLine → A) (memory : RegisterMap) (at : ℕ) (new : RegisterMap) (result : A) : Type 0 where
   pub first : ListedLine
   pub lines : List ListedLine
   pub listed : List ListedLine
@@ -168,14 +174,14 @@ StandsNew memory at new position = AnswersChanged position_behind memory at new 
 abbrev pub Stands : RegisterMap → Line → ℕ → Type 0
 Stands memory line position = FirstFrom (program_bytes memory) (final_position memory) position (record { position = position; line = line })
 
--- where the line stands that is then before a deleted one
-abbrev pub StandsBefore : RegisterMap → ℕ → RegisterMap → Option ℕ → Type 0
-StandsBefore memory at new position = AnswersChanged position_in_front memory at new position
+-- where the line stands that is then before a deleted one, or, of a first line, where its program then begins
+abbrev pub StandsBefore : RegisterMap → ℕ → RegisterMap → Front → Type 0
+StandsBefore memory at new front = AnswersChanged position_in_front memory at new front
 
--- no change of the list has two answers
-abbrev pub PlacesAreDetermined : Type 0
-PlacesAreDetermined =
-    (answer : ℕ → List ListedLine → Option ℕ) (memory : RegisterMap) (at : ℕ) (new : RegisterMap) (result other : Option ℕ)
+-- no change of the list has two answers, of whatever type
+abbrev pub PlacesAreDetermined : Type 0 → Type 0
+PlacesAreDetermined A =
+    (answer : ℕ → List ListedLine → A) (memory : RegisterMap) (at : ℕ) (new : RegisterMap) (result other : A)
     → AnswersChanged answer memory at new result → AnswersChanged answer memory at new other → result ≡ other
 
 -- whether a call was done, without its answer

@@ -1,17 +1,17 @@
 //! Lines inserted, replaced and deleted.
-ghost use Rattle.std.specs.Prelude.{◌≡◌, ◌||◌, if◌then◌else◌, slice_get, IsTrue, IfOk, OnOk, Ok, Err};
+ghost use Rattle.std.specs.Prelude.{◌≡◌, ◌||◌, if◌then◌else◌, slice_get, IsTrue, IfOk, IfSome, OnOk, Ok, Err};
 ghost use Rattle.h41_codes.specs.ByteGrammar.{IsLine};
 ghost use Rattle.h41_ram.specs.RegisterMap.{is_sound};
-ghost use Rattle.h41_program.specs.Edits.{Edits, LeavesChanged, Stands, StandsBefore, StandsNew, count_before, done, position_in_front, with_inserted, with_replaced, without_deleted};
-ghost use Rattle.h41_program.specs.EditSteps.{Counts, IsChange, PacksChanged, changed, new_part};
+ghost use Rattle.h41_program.specs.Edits.{Edits, LeavesChanged, Stands, StandsBefore, StandsNew, count_before, done, front_behind, position_in_front, with_inserted, with_replaced, without_deleted};
+ghost use Rattle.h41_program.specs.EditSteps.{Counts, IsChange, PacksChanged, changed, listed_of, new_part};
 ghost use Rattle.h41_program.specs.EditSteps as spec;
 ghost use Rattle.h41_program.specs.Lines.{is_inner};
 ghost use Rattle.h41_program.specs.Packers.{Puts, line_if};
+ghost use Rattle.h41_program.specs.ProgramLines.{behind};
 ghost use Rattle.h41_program.specs.Reading.{AnswersFrom};
 ghost use Rattle.h41_program.specs.declared.refusal.ProgramRefusal.TheVariants.{BrokenProgram};
 
 use crate::kinds::{is_end, is_final_end};
-use crate::listed_line::ListedLine;
 use crate::packer::Packer;
 use crate::ranges::know_ranges;
 use crate::reading::{Found, first_from, line_at};
@@ -29,6 +29,15 @@ enum Change {
     Replace(Line),
     /// It is dropped.
     Delete,
+}
+
+/// What stands in front of the place of a deleted line.
+#[derive(Clone, Copy, Debug, PartialEq, Eq)]
+pub enum Front {
+    /// The line before it in its program stands here.
+    Line(u16),
+    /// It was the first of its program, and what is then its program begins at this byte.
+    Start(u16),
 }
 
 /// Inserts a line, which is neither a null nor `.END.`, before the one that a position stands for; at `.END.` it becomes the
@@ -50,17 +59,14 @@ pub fn insert<const REGS: usize>(
     byte_round_trip();
     know_ranges(&line);
     let count = change_at(ram, before, Change::Insert(line))?;
-    let inserted = line_behind(ram, count).unwrap();
+    let inserted = line_behind(ram, count).unwrap().listed;
     Ok(inserted.position)
 }
 
-/// Deletes the line that a position stands for; `.END.` stays. Answers where the line stands that is then before, or `None`
-/// where its program has none. 14 where the list has no such line or does not reach `.END.`, 16 where the program would pass
-/// below main memory.
-pub fn delete<const REGS: usize>(
-    ram: &mut Ram<REGS>,
-    at: u16,
-) -> Result<Option<u16>, ProgramRefusal>
+/// Deletes the line that a position stands for; `.END.` stays. Answers where the line stands that is then before, or, where the
+/// deleted line was the first of its program, where that program then begins. 14 where the list has no such line or does not
+/// reach `.END.`, 16 where the program would pass below main memory.
+pub fn delete<const REGS: usize>(ram: &mut Ram<REGS>, at: u16) -> Result<Front, ProgramRefusal>
     requires { IsTrue (is_sound ram.old) }
     ensures lines { Edits ram.old ram.new without_deleted at (done result) }
     ensures sound { IsTrue (is_sound ram.new) }
@@ -91,7 +97,7 @@ pub fn replace<const REGS: usize>(
     byte_round_trip();
     know_ranges(&line);
     let count = change_at(ram, at, Change::Replace(line))?;
-    let new = line_behind(ram, count).unwrap();
+    let new = line_behind(ram, count).unwrap().listed;
     Ok(new.position)
 }
 
@@ -134,17 +140,18 @@ fn lines_before<const REGS: usize>(ram: &Ram<REGS>, place: u16) -> u16
     count
 }
 
-/// The line of the list from 0 that has so many lines before it.
-fn line_behind<const REGS: usize>(ram: &Ram<REGS>, count: u16) -> Option<ListedLine>
+/// The line of the list from 0 that has so many lines before it, and the byte behind it.
+fn line_behind<const REGS: usize>(ram: &Ram<REGS>, count: u16) -> Option<Found>
     requires { IsTrue (is_sound ram.now) }
-    ensures { AnswersFrom (λ lines. slice_get lines count) ram.now 0 result }
+    ensures line { AnswersFrom (λ lines. slice_get lines count) ram.now 0 (listed_of result) }
+    ensures behind { IfSome result (λ found. found.behind ≡ behind found.listed) }
 {
     let mut left = count;
     let mut at = 0;
     while let Some(found) = first_from(ram, at) {
         let Found { listed, behind } = found;
         if left == 0 {
-            return Some(listed);
+            return Some(found);
         }
         if is_final_end(listed.line) {
             return None;
@@ -155,19 +162,30 @@ fn line_behind<const REGS: usize>(ram: &Ram<REGS>, count: u16) -> Option<ListedL
     None
 }
 
-/// Where the last of so many lines stands; `None` where there are none, or it is an END.
-fn in_front<const REGS: usize>(ram: &Ram<REGS>, count: u16) -> Option<u16>
+/// What stands in front of the line that has so many before it.
+fn in_front<const REGS: usize>(ram: &Ram<REGS>, count: u16) -> Front
     requires { IsTrue (is_sound ram.now) }
     ensures { AnswersFrom (position_in_front count) ram.now 0 result }
 {
     if count == 0 {
-        return None;
+        return Front::Start(0);
     }
-    let listed = line_behind(ram, count - 1)?;
+    match line_behind(ram, count - 1) {
+        Some(found) => behind_line(&found),
+        None => Front::Start(0),
+    }
+}
+
+/// What stands in front of the line behind another.
+fn behind_line(found: &Found) -> Front
+    requires { found.now.behind ≡ behind found.now.listed }
+    ensures { result ≡ front_behind found.now.listed }
+{
+    let Found { listed, behind } = *found;
     if is_end(&listed.line) {
-        return None;
+        return Front::Start(behind);
     }
-    Some(listed.position)
+    Front::Line(listed.position)
 }
 
 /// The lines of memory before `.END.`, changed at the line at its own position.

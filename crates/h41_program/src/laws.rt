@@ -5,6 +5,7 @@ ghost use Rattle.h41_program.specs.Edits.{PlacesAreDetermined};
 ghost use Rattle.h41_program.specs.LastProgram.{CloseIsRead, ClosedIsNotOpen};
 ghost use Rattle.h41_program.specs.SearchLaws.{AnswersAreDetermined, LineIsOfList, LocalIsDetermined, NextIsOfList, ProgramIsDetermined};
 ghost use Rattle.h41_program.specs.ProgramLaws.{EditsAreDetermined, FirstIsDetermined, GoesOnFromNext, ListsAreDetermined, LoadIsRead, LoadsAreDetermined, OneList, PackingFills, PackingHasFewNulls, PackingRoundTrip, ReadIsDetermined, SizeKeepsLines, StandsForItsLine, WrittenIsRead};
+ghost use Rattle.h41_program.specs.declared.editing.Front.{Front};
 ghost use Rattle.h41_program.specs.declared.refusal.ProgramRefusal.{ProgramRefusal};
 
 use h41_codes::laws::{byte_round_trip, line_or_none};
@@ -69,7 +70,8 @@ pub fn lists_are_determined()
     byte_round_trip();
 }
 
-/// Each search has one answer, over any memory; so have `is_last_open` and the calls that number the lines of a program.
+/// Each search has one answer, over any memory; so have `is_last_open`, `end_of` and the calls that number the lines of a
+/// program.
 pub fn searches_are_determined()
     ensures start { AnswersAreDetermined ℕ }
     ensures local { LocalIsDetermined }
@@ -115,7 +117,8 @@ pub fn loads_are_determined()
 /// `replace` and `delete` promise.
 pub fn edits_are_determined()
     ensures outcome { EditsAreDetermined }
-    ensures answer { PlacesAreDetermined }
+    ensures answer { PlacesAreDetermined (Option ℕ) }
+    ensures front { PlacesAreDetermined Front }
 {
     byte_round_trip();
 }

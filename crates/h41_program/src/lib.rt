@@ -18,12 +18,12 @@ mod rewriting;
 mod searches;
 mod size;
 
-pub use editing::{delete, insert, replace};
+pub use editing::{Front, delete, insert, replace};
 pub use kinds::{is_end, is_final_end, is_inner, is_label, is_named, is_number};
 pub use listed_line::ListedLine;
 pub use loading::{close_last, is_last_open, load};
-pub use numbering::{line_before, line_number, line_numbered};
-pub use reading::{Found, Place, first_from, line_at, next, place_from};
+pub use numbering::{end_of, line_before, line_number, line_numbered};
+pub use reading::{Found, Place, final_position, first_from, line_at, next, place_from};
 pub use refusal::ProgramRefusal;
 pub use searches::{global, local, start_of};
 pub use size::set_size;

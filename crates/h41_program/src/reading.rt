@@ -52,7 +52,8 @@ pub struct Place {
     pub ends_memory: bool,
 }
 
-/// Where the last three bytes of program memory begin.
+/// Where `.END.` begins, in the last three bytes of program memory: so many bytes stand before it. The list of lines ends there,
+/// if not before, at another `.END.` or at bytes that are no line.
 pub fn final_position<const REGS: usize>(ram: &Ram<REGS>) -> u16
     requires { IsTrue (is_sound ram.now) }
     ensures value { result ≡ spec.final_position ram.now }

@@ -7,8 +7,9 @@ ghost use Rattle.h41_ram.specs.RegisterMap.{is_sound};
 use h41_codes::{Function, Line, RegisterFunction, ShortRegister, decode};
 use h41_digits::Reg;
 use h41_program::{
-    ListedLine, ProgramRefusal, close_last, delete, first_from, global, insert, is_last_open,
-    line_at, line_before, line_number, line_numbered, load, next, replace, set_size, start_of,
+    Front, ListedLine, ProgramRefusal, close_last, delete, end_of, final_position, first_from,
+    global, insert, is_last_open, line_at, line_before, line_number, line_numbered, load, next,
+    replace, set_size, start_of,
 };
 use h41_ram::Ram;
 
@@ -17,14 +18,17 @@ enum Step {
     Load(&'static [u8], Result<u16, ProgramRefusal>),
     Insert(u16, &'static [u8], Result<u16, ProgramRefusal>),
     Replace(u16, &'static [u8], Result<u16, ProgramRefusal>),
-    Delete(u16, Result<Option<u16>, ProgramRefusal>),
+    Delete(u16, Result<Front, ProgramRefusal>),
     SetSize(u16, Result<(), ProgramRefusal>),
     Next(u16, Result<u16, ProgramRefusal>),
     StartOf(u16, u16),
+    Final(u16),
     Global(&'static [u8], Option<u16>),
-    /// The number of the line at a position, where the line of a number stands in a position's program, and the line before one.
+    /// The number of the line at a position, where the line of a number stands in a position's program, where that program ends,
+    /// and the line before one.
     Number(u16, Option<u16>),
     Numbered(u16, u16, Option<u16>),
+    EndOf(u16, Option<u16>),
     Before(u16, Option<u16>),
     /// Whether the last program is open, and it is closed.
     Open(Result<bool, ProgramRefusal>),
@@ -90,9 +94,11 @@ fn makes(ram: &mut Ram<320>, step: &Step) -> bool
         Step::SetSize(size, answer) => set_size(ram, *size) == *answer,
         Step::Next(at, answer) => next(ram, *at) == *answer,
         Step::StartOf(at, answer) => start_of(ram, *at) == *answer,
+        Step::Final(answer) => final_position(ram) == *answer,
         Step::Global(name, answer) => global(ram, name) == *answer,
         Step::Number(position, answer) => line_number(ram, *position) == *answer,
         Step::Numbered(at, number, answer) => line_numbered(ram, *at, *number) == *answer,
+        Step::EndOf(at, answer) => end_of(ram, *at) == *answer,
         Step::Before(position, answer) => line_before(ram, *position) == *answer,
         Step::Open(answer) => is_last_open(ram) == *answer,
         Step::Close(answer) => close_last(ram) == *answer,
@@ -150,7 +156,7 @@ static ROWS: [(&str, &[Step]); 12] = [
             Step::SameLine(1, 2),
             Step::Insert(1, &[0x83], Ok(1)),
             Step::Register(0x19B, 0x11_8312_25C0_0020),
-            Step::Delete(1, Ok(Some(0))),
+            Step::Delete(1, Ok(Front::Line(0))),
             Step::Register(0x19B, 0x11_0012_25C0_0020),
             Step::Insert(3, &[0x13], Ok(4)),
             Step::Register(0x19B, 0x11_0012_0013_2500),
@@ -179,6 +185,9 @@ static ROWS: [(&str, &[Step]); 12] = [
             Step::Numbered(0, 3, None),
             Step::Numbered(5, 0, None),
             Step::Numbered(5, 3, Some(11)),
+            Step::EndOf(1, Some(1)),
+            Step::EndOf(2, Some(11)),
+            Step::Final(11),
             Step::Before(4, None),
             Step::Before(5, Some(4)),
             Step::Before(6, None),
@@ -203,14 +212,14 @@ static ROWS: [(&str, &[Step]); 12] = [
         "packing moves lines, and a deleted line may be its program's first",
         &[
             Step::Load(&[0x25, 0xC0, 0x00, 0x00, 0x26, 0x27], Ok(0)),
-            Step::Delete(4, Ok(None)),
-            Step::Delete(1, Ok(Some(0))),
-            Step::Delete(0, Ok(None)),
+            Step::Delete(4, Ok(Front::Start(4))),
+            Step::Delete(1, Ok(Front::Line(0))),
+            Step::Delete(0, Ok(Front::Start(0))),
             Step::Write(0x19B, 0x00_2526_00C0_0020),
             Step::Insert(2, &[0x83], Ok(1)),
             Step::Replace(2, &[0x90, 0x11], Ok(2)),
             Step::Register(0x19B, 0x25_8390_11C0_0020),
-            Step::Delete(4, Ok(Some(2))),
+            Step::Delete(4, Ok(Front::Line(2))),
         ],
     ),
     (
@@ -228,6 +237,7 @@ static ROWS: [(&str, &[Step]); 12] = [
             Step::Load(&[0x25; 8], Ok(0)),
             Step::Write(0x19B, 0x25_0000_AF25_2525),
             Step::Next(0, Ok(1)),
+            Step::EndOf(0, None),
             Step::Insert(0, &[0x83], Err(ProgramRefusal::BrokenProgram)),
             Step::Register(0x19B, 0x25_0000_AF25_2525),
         ],

@@ -1,6 +1,7 @@
-use Rattle.std.proofs.Common.{◌≡◌, Some, refl, sym, ◌∙◌}
+use Rattle.std.proofs.Common.{sym, ◌∙◌, ap}
 use Rattle.h41_program.specs.Edits.{with_inserted}
-use Rattle.h41_program.proofs.EditAnswers.{inserted_puts, leaves_new, stands_new, stands_there}
+use Rattle.h41_program.specs.EditSteps.{listed_of}
+use Rattle.h41_program.proofs.EditAnswers.{inserted_puts, leaves_new, some_found, stands_new, stands_there}
 use Rattle.h41_program.proofs.Inner.{inner_line}
 use Rattle.h41_program.proofs.editing.insert.Goals as goal
 
@@ -9,8 +10,7 @@ unwrap-inserted-requires g c =
     let puts = inserted_puts c.args.line (inner_line c.args.line c.requires.inner c.know_ranges.ensures) in
     let left = leaves_new c.byte_round_trip.ensures.again c.byte_round_trip.ensures.one c.args.ram.now c.change_at.new.ram (with_inserted c.args.line) c.args.before
     c.in_ok-count.count c.args.line c.requires.sound puts c.in_ok-count.ensures.lines c.in_ok-count.ensures.count in
-    let some : c.line_behind.result ≡ Some left.has.there = c.line_behind.ensures left.leaves.listed left.leaves.read ∙ left.has.got in
-    rw some refl
+    some_found c.line_behind.result left.has.there (c.line_behind.ensures.line left.leaves.listed left.leaves.read ∙ left.has.got)
 
 pub returns-clause-read : goal.returns-clause-read
 returns-clause-read g c =
@@ -22,8 +22,8 @@ returns-clause-read g c =
 pub returns-clause-answer : goal.returns-clause-answer
 returns-clause-answer g c =
     let leaves = returns-clause-read g c in
-    stands_new c.args.ram.now c.change_at.new.ram c.args.before c.in_ok-count.count c.in_ok-count.ensures.count leaves.listed leaves.read c.unwrap-inserted.result
-    (sym c.unwrap-inserted.ensures ∙ c.line_behind.ensures leaves.listed leaves.read)
+    stands_new c.args.ram.now c.change_at.new.ram c.args.before c.in_ok-count.count c.in_ok-count.ensures.count leaves.listed leaves.read c.unwrap-inserted.result.listed
+    (sym (ap listed_of c.unwrap-inserted.ensures) ∙ c.line_behind.ensures.line leaves.listed leaves.read)
 
 pub returns-clause-stands : goal.returns-clause-stands
 returns-clause-stands g c =
@@ -31,5 +31,5 @@ returns-clause-stands g c =
     let left = leaves_new c.byte_round_trip.ensures.again c.byte_round_trip.ensures.one c.args.ram.now c.change_at.new.ram (with_inserted c.args.line) c.args.before
     c.in_ok-count.count c.args.line c.requires.sound puts c.in_ok-count.ensures.lines c.in_ok-count.ensures.count in
     stands_there c.byte_round_trip.ensures.again c.byte_round_trip.ensures.one c.args.ram.now c.change_at.new.ram (with_inserted c.args.line) c.args.before
-    c.in_ok-count.count c.args.line c.in_ok-count.ensures.sound left c.unwrap-inserted.result
-    (sym c.unwrap-inserted.ensures ∙ c.line_behind.ensures left.leaves.listed left.leaves.read)
+    c.in_ok-count.count c.args.line c.in_ok-count.ensures.sound left c.unwrap-inserted.result.listed
+    (sym (ap listed_of c.unwrap-inserted.ensures) ∙ c.line_behind.ensures.line left.leaves.listed left.leaves.read)

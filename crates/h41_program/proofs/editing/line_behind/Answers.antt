@@ -10,8 +10,8 @@ use Rattle.h41_program.proofs.editing.line_behind.Goals as goal
 pub loop-found-init : goal.loop-found-init
 loop-found-init g c = ([], up_to_none (program_bytes c.args.ram.now) (final_position c.args.ram.now) 0, omega arith)
 
-pub returns-then-left-eq0 : goal.returns-then-left-eq0
-returns-then-left-eq0 g c lines from =
+pub returns-then-left-eq0-clause-line : goal.returns-then-left-eq0-clause-line
+returns-then-left-eq0-clause-line g c lines from =
     let memory = c.args.ram.now in
     let found = c.in-Some.found in
     let before = c.loop-found.invariant in
@@ -21,8 +21,8 @@ returns-then-left-eq0 g c lines from =
     let number : length before.0 ≡ c.args.count = omega (arith, before.2, c.if-left-eq0.true) in
     sym (ap (λ (l : List ListedLine). slice_get l c.args.count) whole ∙ ap (slice_get (before.0 ++ found.listed ∷ rest.0)) (sym number) ∙ get_behind before.0 found.listed rest.0)
 
-pub returns-then-is_final_end : goal.returns-then-is_final_end
-returns-then-is_final_end g c lines from =
+pub returns-then-is_final_end-clause-line : goal.returns-then-is_final_end-clause-line
+returns-then-is_final_end-clause-line g c lines from =
     let memory = c.args.ram.now in
     let found = c.in-Some.found in
     let before = c.loop-found.invariant in
@@ -44,8 +44,8 @@ loop-found-preserved g c =
       omega (arith, size, before.2, c.if-left-eq0.false),
     )
 
-pub returns : goal.returns
-returns g c lines from =
+pub returns-clause-line : goal.returns-clause-line
+returns-clause-line g c lines from =
     let memory = c.args.ram.now in
     let before = c.loop-found.invariant in
     let whole = ends_none (program_bytes memory) (final_position memory) 0 c.loop-found.at before.0 lines before.1 c.in_default.ensures.none (from.sound c.requires) in

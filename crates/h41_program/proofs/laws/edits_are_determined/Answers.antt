@@ -6,3 +6,6 @@ returns-clause-outcome c = edits_determined c.byte_round_trip.ensures.one
 
 pub returns-clause-answer : goal.returns-clause-answer
 returns-clause-answer c = answers_determined c.byte_round_trip.ensures.one
+
+pub returns-clause-front : goal.returns-clause-front
+returns-clause-front c = answers_determined c.byte_round_trip.ensures.one

@@ -1,6 +1,6 @@
 //! The registers of the processor, its states at the start, and what its words do to them, family by family.
 
-ghost use Rattle.std.specs.Prelude.{◌≡◌, ◌^◌, ◌<◌, false};
+ghost use Rattle.std.specs.Prelude.{◌≡◌, ◌^◌, ◌<◌, false, true};
 ghost use Rattle.h41_nut.specs.Processor.{initial, entered};
 ghost use Rattle.h41_nut.specs.RegisterWords.{with_display};
 
@@ -118,6 +118,13 @@ impl Cpu {
         ensures { self.new ≡ with_display false self.old }
     {
         self.display = false;
+    }
+
+    /// The display goes on, as each key turns it.
+    pub fn turn_display_on(&mut self)
+        ensures { self.new ≡ with_display true self.old }
+    {
+        self.display = true;
     }
 
     /// The register A.

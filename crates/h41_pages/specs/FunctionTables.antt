@@ -1,7 +1,7 @@
 -- The functions of a module, as HP's modules list them: word 0 of a page is its XROM number, word 1 how many entries it
 -- has, and two words an entry follow. A microcode function's name stands before the words of the function. All of it is
 -- read in bank 1. What counts as a name, and what a number or a count out of range means, are this project's choices.
-use Rattle.std.specs.Prelude.{ℕ, ◌+◌, ◌-◌, ◌*◌, ◌/◌, ◌%◌, ◌^◌, Bool, false, ◌&&◌, List, [], ◌∷◌, map, find, min, slice_index, nat_lt, nat_le, ◌==◌, bytes_eq, if◌then◌else◌, Option, Some, None, option_map, option_and_then}
+use Rattle.std.specs.Prelude.{ℕ, ◌+◌, ◌-◌, ◌*◌, ◌/◌, ◌%◌, ◌^◌, ◌<◌, ◌≤◌, Bool, false, ◌&&◌, List, [], ◌∷◌, map, find, min, slice_index, nat_lt, nat_le, ◌==◌, bytes_eq, if◌then◌else◌, Option, Some, None, option_map, option_and_then}
 use Rattle.std.specs.Bool.{then_some}
 use Rattle.std.specs.List.{flat_map, range_with_len}
 use Rattle.std.specs.Option.{option_map_or}
@@ -95,6 +95,10 @@ found_in name functions = option_map numbers_of (find (is_named name) functions)
 
 abbrev pub found : PageMap → List ℕ → Option (ℕ × ℕ)
 found pages name = found_in name (functions pages)
+
+-- the numbers that a function can have: its module's is 1 to 31, its entry's 0 to 63
+abbrev pub AreNumbers : ℕ × ℕ → Type 0
+AreNumbers numbers = (1 ≤ numbers.0) × (numbers.0 < 32) × (numbers.1 < 64)
 
 -- the lowest page with a number in its word 0
 abbrev pub is_numbered : ℕ → Option PageImage → Bool

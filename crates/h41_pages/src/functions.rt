@@ -84,9 +84,11 @@ impl Pages {
         }
     }
 
-    /// The two numbers of the function with a name: the first that has it, by page, then entry.
+    /// The two numbers of the function with a name: the first that has it, by page, then entry. They are 1 to 31, and 0
+    /// to 63.
     pub fn find(&self, name: &[u8]) -> Option<(u8, u8)>
-        ensures { result ≡ spec.found self.now name.now }
+        ensures found { result ≡ spec.found self.now name.now }
+        ensures bound { IfSome result spec.AreNumbers }
     {
         for page in 0..PAGES {
             if let Some(numbers) = self.find_at(page, name) {
@@ -99,7 +101,8 @@ impl Pages {
     /// The same of one page.
     fn find_at(&self, page: usize, name: &[u8]) -> Option<(u8, u8)>
         requires { page < 16 }
-        ensures { result ≡ spec.found_in name.now (spec.functions_at self.now page) }
+        ensures found { result ≡ spec.found_in name.now (spec.functions_at self.now page) }
+        ensures bound { IfSome result spec.AreNumbers }
     {
         match self.image(page, Bank::First) {
             None => None,
@@ -240,7 +243,8 @@ impl Image {
 
     /// The two numbers of the function with a name: the first that has it.
     fn find(&self, name: &[u8]) -> Option<(u8, u8)>
-        ensures { result ≡ spec.found_in name.now (spec.functions_of self.now.words) }
+        ensures found { result ≡ spec.found_in name.now (spec.functions_of self.now.words) }
+        ensures bound { IfSome result spec.AreNumbers }
     {
         let count = self.entry_count();
         for entry in 0..count {

@@ -31,15 +31,15 @@ loop-entry-preserved c =
     c.loop-entry.invariant
     ∙ later c.args.self.now.words c.args.name.now c.loop-entry.entry below (sym c.is_named.ensures ∙ c.if-is_named.false)
 
-pub returns-then-is_named : goal.returns-then-is_named
-returns-then-is_named c =
+pub returns-then-is_named-clause-found : goal.returns-then-is_named-clause-found
+returns-then-is_named-clause-found c =
     let below : c.loop-entry.entry < entry_count c.args.self.now.words = omega (arith, c.entry_count-count.ensures.count, c.loop-entry-test.true) in
     let found = c.loop-entry.invariant
     ∙ here c.args.self.now.words c.args.name.now c.loop-entry.entry below (sym c.is_named.ensures ∙ c.if-is_named.true) in
     ap (λ number. Some (number, c.loop-entry.entry)) c.number.ensures ∙ sym found
 
-pub returns : goal.returns
-returns c =
+pub returns-clause-found : goal.returns-clause-found
+returns-clause-found c =
     let words = c.args.self.now.words in
     let past : entry_count words ≤ c.loop-entry.entry = omega (arith, c.entry_count-count.ensures.count, c.loop-entry-test.false) in
     sym (c.loop-entry.invariant ∙ ap (found_in c.args.name.now) (map-none (function_in words) c.loop-entry.entry (entry_count words) past))

@@ -29,14 +29,14 @@ loop-page-init c = ap (λ pages. found_in c.args.name.now (flat_map (functions_a
 pub loop-page-preserved : goal.loop-page-preserved
 loop-page-preserved c =
     c.loop-page.invariant
-    ∙ later c.args.self.now c.args.name.now c.loop-page.page c.loop-page-test.true (sym c.find_at.ensures ∙ c.in_default.is)
+    ∙ later c.args.self.now c.args.name.now c.loop-page.page c.loop-page-test.true (sym c.find_at.ensures.found ∙ c.in_default.is)
 
-pub returns-in-Some : goal.returns-in-Some
-returns-in-Some c =
+pub returns-in-Some-clause-found : goal.returns-in-Some-clause-found
+returns-in-Some-clause-found c =
     sym (c.loop-page.invariant
-    ∙ here c.args.self.now c.args.name.now c.in-Some.numbers c.loop-page.page c.loop-page-test.true (sym c.in-Some.ensures))
+    ∙ here c.args.self.now c.args.name.now c.in-Some.numbers c.loop-page.page c.loop-page-test.true (sym c.in-Some.ensures.found))
 
-pub returns : goal.returns
-returns c =
+pub returns-clause-found : goal.returns-clause-found
+returns-clause-found c =
     sym (c.loop-page.invariant
     ∙ ap (found_in c.args.name.now) (flat_map-none (functions_at c.args.self.now) c.loop-page.page 16 c.loop-page-test.false))

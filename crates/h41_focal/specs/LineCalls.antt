@@ -2,7 +2,7 @@
 use Rattle.std.specs.Prelude.{◌≡◌, IfOk, IsTrue, OnErr, Option, Result, Ok, Err}
 use Rattle.h41_codes.specs.declared.functions.Function.{Function}
 use Rattle.h41_codes.specs.declared.line.Line.{Line}
-use Rattle.h41_focal.specs.LineStep.{FailsLine, FocalState, Left, Machine, PassesLine, StepsLine, TypesLine}
+use Rattle.h41_focal.specs.LineStep.{FailsLine, FailsTyped, FocalState, Left, Machine, PassesLine, StepsLine, TypesLine}
 use Rattle.h41_focal.specs.Outcomes.{answer_of, is_elsewhere}
 use Rattle.h41_focal.specs.declared.outcome.LineOutcome.{LineOutcome}
 use Rattle.h41_focal.specs.declared.refusal.FocalRefusal.{FocalRefusal}
@@ -32,6 +32,10 @@ Steps function memory focal new after result = StepsLine function (machine_of me
 -- the line at the position fails
 abbrev pub FailsHere : LineFault → Call
 FailsHere fault memory focal new after result = FailsLine fault (machine_of memory focal) (carried_as new after result)
+
+-- a typed line fails
+abbrev pub FailsHereTyped : LineFault → Call
+FailsHereTyped fault memory focal new after result = FailsTyped fault (machine_of memory focal) (carried_as new after result)
 
 -- the line at the position is passed, since what it calls is carried out elsewhere: memory stays
 abbrev pub gone_as : RegisterMap → FocalState → Result (Unit {0}) FocalRefusal → Result Machine FocalRefusal

@@ -200,6 +200,11 @@ FailsLine fault machine carried =
     ((first : Result ListedLine program.ProgramRefusal) × AnswersFirst machine.memory machine.focal.position first × FailsWith fault machine first carried)
     (carried ≡ Err MemoryLost)
 
+-- a typed line fails, as where what it calls is nowhere: 15 as above
+abbrev pub FailsTyped : LineFault → Machine → Result Left FocalRefusal → Type 0
+FailsTyped fault machine carried =
+    MatchBool (is_sound machine.memory) (FailsIn Typed machine fault carried) (carried ≡ Err MemoryLost)
+
 -- the line at the position calls a function of a module, which the calculator carries out: the program goes on behind the line. An
 -- XROM line turns lift on, XEQ of a name leaves it (this project's choice); 15 and 14 as above
 abbrev pub lift_behind : Line → Bool → Bool

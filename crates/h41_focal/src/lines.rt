@@ -2,7 +2,7 @@
 
 ghost use Rattle.std.specs.Prelude.{◌≡◌, ℕ, None, Some, IsTrue, OnErr};
 ghost use Rattle.h41_focal.specs.Carrying.{GoesToTarget, KnowsNext, Stands, TakesAs, TakesBranch, TakesNamed, TakesShort};
-ghost use Rattle.h41_focal.specs.LineCalls.{FailsHere, KeepsAll, KeepsElsewhere, GoesPast, Steps, Types};
+ghost use Rattle.h41_focal.specs.LineCalls.{FailsHere, FailsHereTyped, KeepsAll, KeepsElsewhere, GoesPast, Steps, Types};
 ghost use Rattle.h41_program.specs.ProgramLines as program_lines;
 ghost use Rattle.h41_program.specs.ProgramLines.{PositionBehind};
 ghost use Rattle.h41_ram.specs.RegisterMap.{is_sound};
@@ -65,6 +65,21 @@ pub fn fail_line<const REGS: usize>(
 {
     let (_, next) = standing(ram, focal)?;
     Ok(fail(ram, focal, Origin::Program(next), fault))
+}
+
+/// A typed line fails, as where what it calls is nowhere: its fault is answered, or flag 25 is cleared. 15 as in `step_line`.
+pub fn fail_typed<const REGS: usize>(
+    ram: &mut Ram<REGS>,
+    focal: &mut Focal,
+    fault: LineFault,
+) -> Result<LineOutcome, FocalRefusal>
+    ensures line { FailsHereTyped fault ram.old focal.old ram.new focal.new result }
+    ensures unchanged { KeepsAll ram.old focal.old ram.new focal.new result }
+{
+    if !ram.is_sound() {
+        return Err(FocalRefusal::MemoryLost);
+    }
+    Ok(fail(ram, focal, Origin::Typed, fault))
 }
 
 /// The line at the position is passed, since what it calls is carried out elsewhere: on to the next line, with lift behind an

@@ -7,7 +7,7 @@ use h41_rows::LineFault;
 pub type DisplayText = ArrayString<80>;
 
 /// What is to be done once a line was carried out.
-#[derive(Drop)]
+#[derive(Clone, Copy)]
 pub enum LineOutcome {
     /// Nothing: the program goes on.
     Done,

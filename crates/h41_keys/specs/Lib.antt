@@ -3,3 +3,4 @@ pub mod Keyboard
 pub mod NumberTyping
 pub mod PromptKeys
 pub mod Prompts
+pub mod StoredLines

@@ -2,6 +2,7 @@
 ghost use Rattle.std.specs.Prelude.{◌≡◌, None, IfOk, OnErr};
 ghost use Rattle.h41_keys.specs.Keyboard.{row_of};
 ghost use Rattle.h41_keys.specs.KeyPress as spec;
+ghost use Rattle.h41_keys.specs.StoredLines.{StoresLine};
 
 use crate::action::{Action, KeyNotHeld};
 use crate::input::{Entry, Flags, Input, Mode, Pressed};
@@ -21,6 +22,7 @@ pub fn press(input: &mut Input, key: Key, mode: Mode, flags: Flags) -> Result<Ac
     ensures accepted { IfOk result (λ done. spec.Accepts input.old key mode flags done input.new) }
     ensures refused { OnErr result (spec.presses input.old key mode flags ≡ None) }
     ensures unchanged { OnErr result (input.new ≡ input.old) }
+    ensures stored { IfOk result (λ action. StoresLine action) }
 {
     match pressed(*input, key, mode, flags) {
         Some(pressed) => {

@@ -1,0 +1,4 @@
+mod Edited
+mod GoneToEnd
+mod OneAnswer
+mod Shown

@@ -1,0 +1,276 @@
+-- Why what a position shows, each move and each change have one answer.
+use Rattle.std.proofs.Common.{◌≡◌, ℕ, Bool, true, false, List, Option, Some, None, Result, Ok, Err, sym, ap, ◌∙◌, subst, inl, inr}
+use Rattle.std.specs.Prelude.{MatchBool}
+use Rattle.std.specs.Option.{option_map}
+use Rattle.h41_codes.specs.declared.line.Line.{Line}
+use Rattle.h41_editor.specs.Changes.{Changed, Deletes, DeletesLine, DeletesShown, Inserts, InsertsBy, Replaces, ShowsFront, ShowsNew, showing_line, shown_in_front}
+use Rattle.h41_editor.specs.EditorLaws.{ChangeIsDetermined, MoveIsDetermined, NumberedIsDetermined, TextIsDetermined}
+use Rattle.h41_editor.specs.Moves.{EndsBy, GoesToEnd, ShowsAt, ShowsBefore, ShowsBeforeLine, ShowsBehind, ShowsEnd, ShowsInFront, ShowsNext, ShowsStart, at_line_00, is_last, returns_kept, shown_end}
+use Rattle.h41_editor.specs.NumberedLines.{Numbers, with_number}
+use Rattle.h41_editor.specs.ProgramText.{ShowsLine, line_00_text, text_of, unknown_text}
+use Rattle.h41_editor.specs.declared.numbered.NumberedLine.{NumberedLine}
+use Rattle.h41_focal.specs.LineStep.{Machine, placed}
+use Rattle.h41_program.specs.Edits.{EditGives, PlacesAreDetermined, before_end, close_behind, position_behind, position_in_front, with_inserted, with_replaced, without_deleted}
+use Rattle.h41_program.specs.LastProgram.{open_in}
+use Rattle.h41_program.specs.Lines.{is_final_end}
+use Rattle.h41_program.specs.Numbering.{before_in, end_in, number_in}
+use Rattle.h41_program.specs.ProgramBytes.{final_position, program_bytes}
+use Rattle.h41_program.specs.ProgramLaws.{EditsAreDetermined, FirstIsDetermined, ListsAreDetermined}
+use Rattle.h41_program.specs.ProgramLines.{AnswersFirst, AnswersNext, AnswersOf, PositionBehind, PositionFrom, behind}
+use Rattle.h41_program.specs.SearchLaws.{AnswersAreDetermined, ProgramIsDetermined}
+use Rattle.h41_program.specs.Searches.{start_in}
+use Rattle.h41_program.specs.declared.editing.Front.{Front}
+use Rattle.h41_program.specs.declared.listed_line.ListedLine.{ListedLine}
+use Rattle.h41_program.specs.declared.refusal.ProgramRefusal.{ProgramRefusal}
+use Rattle.h41_ram.specs.RegisterMap.{RegisterMap, is_sound}
+
+-- what a key leaves, or its refusal
+abbrev Moved : Type 0
+Moved = Result Machine ProgramRefusal
+
+-- the next line is shown
+abbrev GoesOn : Machine → Moved → Type 0
+GoesOn machine moved = (next : ℕ) × AnswersNext machine.memory machine.focal.position (Ok next) × (moved ≡ Ok (placed next machine))
+
+-- what holds of the line at the position, or of there being none
+abbrev ByFirst : Machine → (Result ListedLine ProgramRefusal → Type 0) → Type 0
+ByFirst machine holds = (first : Result ListedLine ProgramRefusal) × AnswersFirst machine.memory machine.focal.position first × holds first
+
+-- lines and positions, where no bytes have two first lines
+module _ (same_first : FirstIsDetermined) where
+  same_line : (memory : RegisterMap) (at : ℕ) (a b : Result ListedLine ProgramRefusal) → AnswersFirst memory at a → AnswersFirst memory at b → a ≡ b
+  same_line memory at (Ok first) (Ok other) p q =
+      ap (λ (line : ListedLine). Ok line) (same_first (program_bytes memory) (final_position memory) at first other p q)
+  same_line memory at (Ok first) (Err refusal) p q = absurd (q.1 first p)
+  same_line memory at (Err refusal) (Ok other) p q = absurd (p.1 other q)
+  same_line memory at (Err refusal) (Err other) p q = ap (λ (why : ProgramRefusal). Err why) (p.0 ∙ sym q.0)
+
+  same_from : (memory : RegisterMap) (at a b : ℕ) → PositionFrom memory at a → PositionFrom memory at b → a ≡ b
+  same_from memory at a b p q = elim p [
+    | inl first ↦ elim q [
+      | inl other ↦
+          let same = same_first (program_bytes memory) (final_position memory) at first.0 other.0 first.1 other.1 in
+          first.2 ∙ ap (λ (line : ListedLine). line.position) same ∙ sym other.2
+      | inr none ↦ absurd (none.0 first.0 first.1)
+    ]
+    | inr none ↦ elim q [
+      | inl other ↦ absurd (none.0 other.0 other.1)
+      | inr again ↦ none.1 ∙ sym again.1
+    ]
+  ]
+
+  same_behind : (last : Bool) (memory : RegisterMap) (first : ListedLine) (a b : ℕ)
+      → MatchBool last (a ≡ first.position) (PositionFrom memory (behind first) a)
+      → MatchBool last (b ≡ first.position) (PositionFrom memory (behind first) b) → a ≡ b
+  same_behind true memory first a b p q = p ∙ sym q
+  same_behind false memory first a b p q = same_from memory (behind first) a b p q
+
+  same_next : (memory : RegisterMap) (at a b : ℕ) → AnswersNext memory at (Ok a) → AnswersNext memory at (Ok b) → a ≡ b
+  same_next memory at a b p q =
+      let same = same_first (program_bytes memory) (final_position memory) at p.0 q.0 p.1 q.1 in
+      same_behind (is_final_end q.0.line) memory q.0 a b (subst (λ (line : ListedLine). PositionBehind memory line a) same p.2) q.2
+
+-- line 00, where each program has one start
+module _ (same_start : AnswersAreDetermined ℕ) where
+  same_shown_start : (machine : Machine) (a b : Moved) → ShowsStart machine a → ShowsStart machine b → a ≡ b
+  same_shown_start machine a b p q =
+      let same = same_start machine.memory (start_in machine.focal.position) 0 p.0 q.0 p.1 q.1 in
+      p.2 ∙ ap (λ (start : ℕ). Ok (at_line_00 start machine)) same ∙ sym q.2
+
+-- the line that a position stands for, and the text, where besides each line has one number
+module _ (same_first : FirstIsDetermined) (same_program : ProgramIsDetermined (Option ℕ)) where
+  same_number : (memory : RegisterMap) (first : Result ListedLine ProgramRefusal) (a b : Option NumberedLine)
+      → Numbers memory first a → Numbers memory first b → a ≡ b
+  same_number memory (Ok first) a b p q =
+      let same = same_program memory (number_in first.position) first.position p.0 q.0 p.1 q.1 in
+      p.2 ∙ ap (λ (number : Option ℕ). option_map (with_number first) number) same ∙ sym q.2
+  same_number memory (Err refusal) a b p q = p ∙ sym q
+
+  pub numbered_determined : NumberedIsDetermined
+  numbered_determined memory at a b p q =
+      let same = same_line same_first memory at p.0 q.0 p.1 q.1 in
+      same_number memory q.0 a b (subst (λ (first : Result ListedLine ProgramRefusal). Numbers memory first a) same p.2) q.2
+
+  same_shown : (machine : Machine) (a b : List ℕ) → ShowsLine machine a → ShowsLine machine b → a ≡ b
+  same_shown machine a b p q =
+      p.2 ∙ ap text_of (numbered_determined machine.memory machine.focal.position p.0 q.0 p.1 q.1) ∙ sym q.2
+
+  same_in_sound : (at_line_00 : Bool) (machine : Machine) (a b : List ℕ)
+      → MatchBool at_line_00 (a ≡ line_00_text machine.memory) (ShowsLine machine a)
+      → MatchBool at_line_00 (b ≡ line_00_text machine.memory) (ShowsLine machine b) → a ≡ b
+  same_in_sound true machine a b p q = p ∙ sym q
+  same_in_sound false machine a b p q = same_shown machine a b p q
+
+  same_text : (sound : Bool) (machine : Machine) (a b : List ℕ)
+      → MatchBool sound (MatchBool machine.focal.at_line_00 (a ≡ line_00_text machine.memory) (ShowsLine machine a)) (a ≡ unknown_text)
+      → MatchBool sound (MatchBool machine.focal.at_line_00 (b ≡ line_00_text machine.memory) (ShowsLine machine b)) (b ≡ unknown_text) → a ≡ b
+  same_text true machine a b p q = same_in_sound machine.focal.at_line_00 machine a b p q
+  same_text false machine a b p q = p ∙ sym q
+
+  pub text_determined : TextIsDetermined
+  text_determined machine a b p q = same_text (is_sound machine.memory) machine a b p q
+
+-- SST
+module _ (same_first : FirstIsDetermined) (same_start : AnswersAreDetermined ℕ) where
+  same_onward : (last : Bool) (machine : Machine) (a b : Moved)
+      → MatchBool last (ShowsStart machine a) (GoesOn machine a) → MatchBool last (ShowsStart machine b) (GoesOn machine b) → a ≡ b
+  same_onward true machine a b p q = same_shown_start same_start machine a b p q
+  same_onward false machine a b p q =
+      let same = same_next same_first machine.memory machine.focal.position p.0 q.0 p.1 q.1 in
+      p.2 ∙ ap (λ (next : ℕ). Ok (placed next machine)) same ∙ sym q.2
+
+  same_shown_behind : (machine : Machine) (first : Result ListedLine ProgramRefusal) (a b : Moved)
+      → ShowsBehind machine first a → ShowsBehind machine first b → a ≡ b
+  same_shown_behind machine (Ok first) a b p q = same_onward (is_last first) machine a b p q
+  same_shown_behind machine (Err refusal) a b p q = p ∙ sym q
+
+  same_step : (at_line_00 : Bool) (machine : Machine) (a b : Moved)
+      → MatchBool at_line_00 (a ≡ Ok (placed machine.focal.position machine)) (ByFirst machine (λ first. ShowsBehind machine first a))
+      → MatchBool at_line_00 (b ≡ Ok (placed machine.focal.position machine)) (ByFirst machine (λ first. ShowsBehind machine first b)) → a ≡ b
+  same_step true machine a b p q = p ∙ sym q
+  same_step false machine a b p q =
+      let same = same_line same_first machine.memory machine.focal.position p.0 q.0 p.1 q.1 in
+      same_shown_behind machine q.0 a b (subst (λ (first : Result ListedLine ProgramRefusal). ShowsBehind machine first a) same p.2) q.2
+
+  pub next_determined : MoveIsDetermined ShowsNext
+  next_determined machine a b p q = same_step machine.focal.at_line_00 machine a b p q
+
+-- BST
+module _ (same_first : FirstIsDetermined) (same_start : AnswersAreDetermined ℕ) (same_program : ProgramIsDetermined (Option ℕ)) where
+  same_shown_end : (machine : Machine) (first : ListedLine) (a b : Moved) → ShowsEnd machine first a → ShowsEnd machine first b → a ≡ b
+  same_shown_end machine first a b p q =
+      p.2 ∙ ap (shown_end machine) (same_program machine.memory end_in first.position p.0 q.0 p.1 q.1) ∙ sym q.2
+
+  same_shown_at : (machine : Machine) (before : Option ℕ) (a b : Moved) → ShowsAt machine before a → ShowsAt machine before b → a ≡ b
+  same_shown_at machine (Some position) a b p q = p ∙ sym q
+  same_shown_at machine None a b p q = same_shown_start same_start machine a b p q
+
+  same_in_front : (machine : Machine) (first : ListedLine) (a b : Moved) → ShowsInFront machine first a → ShowsInFront machine first b → a ≡ b
+  same_in_front machine first a b p q =
+      let same = same_program machine.memory (before_in first.position) first.position p.0 q.0 p.1 q.1 in
+      same_shown_at machine q.0 a b (subst (λ (before : Option ℕ). ShowsAt machine before a) same p.2) q.2
+
+  same_back : (at_line_00 : Bool) (machine : Machine) (first : ListedLine) (a b : Moved)
+      → MatchBool at_line_00 (ShowsEnd machine first a) (ShowsInFront machine first a)
+      → MatchBool at_line_00 (ShowsEnd machine first b) (ShowsInFront machine first b) → a ≡ b
+  same_back true machine first a b p q = same_shown_end machine first a b p q
+  same_back false machine first a b p q = same_in_front machine first a b p q
+
+  same_before_line : (machine : Machine) (numbered : Option NumberedLine) (a b : Moved)
+      → ShowsBeforeLine machine numbered a → ShowsBeforeLine machine numbered b → a ≡ b
+  same_before_line machine (Some numbered) a b p q = same_back machine.focal.at_line_00 machine numbered.listed a b p q
+  same_before_line machine None a b p q = p ∙ sym q
+
+  pub before_determined : MoveIsDetermined ShowsBefore
+  before_determined machine a b p q =
+      let same = numbered_determined same_first same_program machine.memory machine.focal.position p.0 q.0 p.1 q.1 in
+      same_before_line machine q.0 a b (subst (λ (numbered : Option NumberedLine). ShowsBeforeLine machine numbered a) same p.2) q.2
+
+-- GTO . .
+module _ (same_lines : ListsAreDetermined) (same_start : AnswersAreDetermined ℕ) where
+  same_end : (machine : Machine) (lines : List ListedLine) (closed : Changed) (a b : Moved)
+      → EndsBy machine lines closed a → EndsBy machine lines closed b → a ≡ b
+  same_end machine lines (Ok closed) a b p q =
+      let same = same_start closed.0 (start_in (final_position closed.0)) 0 p.0 q.0 p.1 q.1 in
+      p.2
+      ∙ ap
+      (λ (start : ℕ). Ok (record {
+        memory = closed.0;
+        focal = record machine.focal { position = start; at_line_00 = true; returns = returns_kept (open_in lines) machine.focal.returns };
+      }))
+      same
+      ∙ sym q.2
+  same_end machine lines (Err refusal) a b p q = p ∙ sym q
+
+  pub end_determined : MoveIsDetermined GoesToEnd
+  end_determined machine a b p q =
+      let same = same_lines machine.memory 0 p.0 q.0 p.1 q.1 in
+      same_end machine q.0 (close_behind machine.memory (before_end q.0)) a b
+      (subst (λ (lines : List ListedLine). EndsBy machine lines (close_behind machine.memory (before_end lines)) a) same p.2) q.2
+
+-- a new line
+module _ (same_edit : EditsAreDetermined) (same_place : PlacesAreDetermined (Option ℕ)) where
+  same_position : (position other : ℕ) → Some position ≡ Some other → position ≡ other
+  same_position position other is = cc
+
+  same_new : (machine : Machine) (at : ℕ) (changed : Changed) (a b : Moved) → ShowsNew machine at changed a → ShowsNew machine at changed b → a ≡ b
+  same_new machine at (Ok changed) a b p q =
+      let same = same_place position_behind machine.memory at changed.0 (Some p.0) (Some q.0) p.1 q.1 in
+      p.2 ∙ ap (λ (position : ℕ). Ok (showing_line machine changed.0 position)) (same_position p.0 q.0 same) ∙ sym q.2
+  same_new machine at (Err refusal) a b p q = p ∙ sym q
+
+  pub replacement_determined : ChangeIsDetermined Replaces
+  replacement_determined line machine a b p q =
+      let same = same_edit machine.memory (with_replaced line) machine.focal.position p.0 q.0 p.1 q.1 in
+      same_new machine machine.focal.position q.0 a b (subst (λ (changed : Changed). ShowsNew machine machine.focal.position changed a) same p.2) q.2
+
+  -- a line that is inserted
+  module _ (same_first : FirstIsDetermined) (same_start : AnswersAreDetermined ℕ) (same_program : ProgramIsDetermined (Option ℕ)) where
+    same_behind_shown : (last : Bool) (machine : Machine) (shown : ListedLine) (a b : ℕ)
+        → MatchBool last (a ≡ shown.position) (AnswersNext machine.memory machine.focal.position (Ok a))
+        → MatchBool last (b ≡ shown.position) (AnswersNext machine.memory machine.focal.position (Ok b)) → a ≡ b
+    same_behind_shown true machine shown a b p q = p ∙ sym q
+    same_behind_shown false machine shown a b p q = same_next same_first machine.memory machine.focal.position a b p q
+
+    same_point : (at_line_00 : Bool) (machine : Machine) (shown : ListedLine) (a b : ℕ)
+        → MatchBool at_line_00 (AnswersOf (start_in machine.focal.position) machine.memory 0 a)
+        (MatchBool (is_last shown) (a ≡ shown.position) (AnswersNext machine.memory machine.focal.position (Ok a)))
+        → MatchBool at_line_00 (AnswersOf (start_in machine.focal.position) machine.memory 0 b)
+        (MatchBool (is_last shown) (b ≡ shown.position) (AnswersNext machine.memory machine.focal.position (Ok b))) → a ≡ b
+    same_point true machine shown a b p q = same_start machine.memory (start_in machine.focal.position) 0 a b p q
+    same_point false machine shown a b p q = same_behind_shown (is_last shown) machine shown a b p q
+
+    same_insertion : (line : Line) (machine : Machine) (before : ℕ) (c d : Changed) (a b : Moved)
+        → EditGives machine.memory (with_inserted line) before c → EditGives machine.memory (with_inserted line) before d
+        → ShowsNew machine before c a → ShowsNew machine before d b → a ≡ b
+    same_insertion line machine before c d a b p q shows again =
+        let same = same_edit machine.memory (with_inserted line) before c d p q in
+        same_new machine before d a b (subst (λ (changed : Changed). ShowsNew machine before changed a) same shows) again
+
+    same_inserted : (line : Line) (machine : Machine) (numbered : Option NumberedLine) (a b : Moved)
+        → InsertsBy line machine numbered a → InsertsBy line machine numbered b → a ≡ b
+    same_inserted line machine (Some numbered) a b (m, m_at, c, c_gives, c_shows) (n, n_at, d, d_gives, d_shows) =
+        let same : m ≡ n = same_point machine.focal.at_line_00 machine numbered.listed m n m_at n_at in
+        let gives = subst (λ (at : ℕ). EditGives machine.memory (with_inserted line) at c) same c_gives in
+        let shows = subst (λ (at : ℕ). ShowsNew machine at c a) same c_shows in
+        same_insertion line machine n c d a b gives d_gives shows d_shows
+    same_inserted line machine None a b p q = p ∙ sym q
+
+    pub insertion_determined : ChangeIsDetermined Inserts
+    insertion_determined line machine a b p q =
+        let same = numbered_determined same_first same_program machine.memory machine.focal.position p.0 q.0 p.1 q.1 in
+        same_inserted line machine q.0 a b (subst (λ (numbered : Option NumberedLine). InsertsBy line machine numbered a) same p.2) q.2
+
+-- BACK
+module _ (same_edit : EditsAreDetermined) (same_front : PlacesAreDetermined Front) (same_first : FirstIsDetermined) where
+  same_shown_front : (machine : Machine) (changed : Changed) (a b : Moved) → ShowsFront machine changed a → ShowsFront machine changed b → a ≡ b
+  same_shown_front machine (Ok changed) a b p q =
+      let same = same_front position_in_front machine.memory machine.focal.position changed.0 p.0 q.0 p.1 q.1 in
+      p.2 ∙ ap (λ (front : Front). Ok (shown_in_front machine changed.0 front)) same ∙ sym q.2
+  same_shown_front machine (Err refusal) a b p q = p ∙ sym q
+
+  same_taken : (machine : Machine) (a b : Moved) → DeletesShown machine a → DeletesShown machine b → a ≡ b
+  same_taken machine a b p q =
+      let same = same_edit machine.memory without_deleted machine.focal.position p.0 q.0 p.1 q.1 in
+      same_shown_front machine q.0 a b (subst (λ (changed : Changed). ShowsFront machine changed a) same p.2) q.2
+
+  same_unless_final : (final : Bool) (machine : Machine) (a b : Moved)
+      → MatchBool final (a ≡ Ok machine) (DeletesShown machine a) → MatchBool final (b ≡ Ok machine) (DeletesShown machine b) → a ≡ b
+  same_unless_final true machine a b p q = p ∙ sym q
+  same_unless_final false machine a b p q = same_taken machine a b p q
+
+  same_deleted : (machine : Machine) (first : Result ListedLine ProgramRefusal) (a b : Moved)
+      → DeletesLine machine first a → DeletesLine machine first b → a ≡ b
+  same_deleted machine (Ok first) a b p q = same_unless_final (is_final_end first.line) machine a b p q
+  same_deleted machine (Err refusal) a b p q = p ∙ sym q
+
+  same_deletion : (at_line_00 : Bool) (machine : Machine) (a b : Moved)
+      → MatchBool at_line_00 (a ≡ Ok machine) (ByFirst machine (λ first. DeletesLine machine first a))
+      → MatchBool at_line_00 (b ≡ Ok machine) (ByFirst machine (λ first. DeletesLine machine first b)) → a ≡ b
+  same_deletion true machine a b p q = p ∙ sym q
+  same_deletion false machine a b p q =
+      let same = same_line same_first machine.memory machine.focal.position p.0 q.0 p.1 q.1 in
+      same_deleted machine q.0 a b (subst (λ (first : Result ListedLine ProgramRefusal). DeletesLine machine first a) same p.2) q.2
+
+  pub deletion_determined : MoveIsDetermined Deletes
+  deletion_determined machine a b p q = same_deletion machine.focal.at_line_00 machine a b p q

@@ -1,0 +1,44 @@
+//! Laws of program mode: each is the contract of a function with nothing to do but to call the laws it rests on.
+
+ghost use Rattle.h41_editor.specs.Changes.{Deletes, Inserts, Replaces};
+ghost use Rattle.h41_editor.specs.EditorLaws.{ChangeIsDetermined, MoveIsDetermined, NumberedIsDetermined, TextIsDetermined};
+ghost use Rattle.h41_editor.specs.Moves.{GoesToEnd, ShowsBefore, ShowsNext};
+
+use h41_program::laws::{edits_are_determined, lists_are_determined, searches_are_determined};
+
+/// A position stands for one line with one number, or for none.
+pub fn numbered_is_determined()
+    ensures { NumberedIsDetermined }
+{
+    lists_are_determined();
+    searches_are_determined();
+}
+
+/// SST, BST and `GTO . .` have one outcome each.
+pub fn moves_are_determined()
+    ensures next { MoveIsDetermined ShowsNext }
+    ensures before { MoveIsDetermined ShowsBefore }
+    ensures end { MoveIsDetermined GoesToEnd }
+{
+    lists_are_determined();
+    searches_are_determined();
+}
+
+/// A line that is inserted, one that comes in the place of another and BACK have one outcome each.
+pub fn changes_are_determined()
+    ensures insertion { ChangeIsDetermined Inserts }
+    ensures replacement { ChangeIsDetermined Replaces }
+    ensures deletion { MoveIsDetermined Deletes }
+{
+    lists_are_determined();
+    searches_are_determined();
+    edits_are_determined();
+}
+
+/// The display shows one text.
+pub fn text_is_determined()
+    ensures { TextIsDetermined }
+{
+    lists_are_determined();
+    searches_are_determined();
+}

@@ -8,7 +8,7 @@ use Rattle.h41_program.specs.Rewriting.{HasOutcome}
 use Rattle.h41_ram.specs.RegisterMap.{RegisterMap}
 use Rattle.h41_xrom.specs.declared.refusal.CalculatorRefusal.{CalculatorRefusal}
 use Rattle.h41_xrom.specs.declared.refusal.CalculatorRefusal.TheVariants.{Program}
-use Rattle.h41_xrom.specs.Calculator.{CalculatorState}
+use Rattle.h41_xrom.specs.Calculator.{CalculatorState, not_typing}
 use Rattle.h41_xrom.specs.Programs.{Loads, at_program, change_refusal, with_memory, with_program}
 
 -- the calculator with another memory, and another place in it
@@ -39,18 +39,18 @@ load_failed bytes from s memory why is accepted loads = failed_by bytes from s m
 -- and one that is done
 done_by : (bytes : List ℕ) (from s : CalculatorState) (memory : RegisterMap) (position : ℕ) (after : FocalState) (outcome : Result (RegisterMap × ℕ) program.ProgramRefusal)
     → from ≡ s → after ≡ at_program position from.focal → None ≡ change_refusal s → LoadGives from.nut.ram bytes outcome
-    → HasOutcome from.nut.ram memory (Ok position) outcome → Loads bytes s (with_place memory after from) None
+    → HasOutcome from.nut.ram memory (Ok position) outcome → Loads bytes s (not_typing (with_place memory after from)) None
 done_by bytes from s memory position after (Ok made) is place accepted given gives =
     let done : Ok position ≡ Ok made.1 = gives.0 in
     let same : position ≡ made.1 = cc in
     let there : after ≡ at_program made.1 s.focal = place ∙ (λ i. at_program (same i) (is i).focal) in (
-      Ok (with_program made.0 made.1 s),
+      Ok (with_program made.0 made.1 (not_typing s)),
       rw (sym accepted) (Ok made, subst (λ (of : CalculatorState). LoadGives of.nut.ram bytes (Ok made)) is given, refl),
-      (λ i. with_place (gives.1 i) (there i) (is i), refl),
+      (λ i. not_typing (with_place (gives.1 i) (there i) (is i)), refl),
     )
 done_by bytes from s memory position after (Err other) is place accepted given gives = let never : Ok position ≡ Err other = gives.0 in cc
 
 pub load_done : (bytes : List ℕ) (from s : CalculatorState) (memory : RegisterMap) (position : ℕ) (after : FocalState) → from ≡ s
     → after ≡ at_program position from.focal → None ≡ change_refusal s → edits.Loads from.nut.ram memory bytes (Ok position)
-    → Loads bytes s (with_place memory after from) None
+    → Loads bytes s (not_typing (with_place memory after from)) None
 load_done bytes from s memory position after is place accepted loads = done_by bytes from s memory position after loads.0 is place accepted loads.1 loads.2

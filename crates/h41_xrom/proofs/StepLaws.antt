@@ -4,8 +4,9 @@ use Rattle.std.specs.Prelude.{MatchBool, MatchOption, option_map}
 use Rattle.std.specs.Result.{result_err, result_unwrap_or}
 use Rattle.h41_codes.specs.declared.functions.Function.{Function}
 use Rattle.h41_codes.specs.declared.line.Line.TheVariants.{Plain}
-use Rattle.h41_focal.specs.LineLaws.{FailureIsDetermined, PassingIsDetermined, StepIsDetermined}
-use Rattle.h41_focal.specs.LineStep.{Left, Machine, PassesLine}
+use Rattle.h41_focal.specs.LineLaws.{FailureIsDetermined, PassingIsDetermined, StepIsDetermined, TypedIsDetermined}
+use Rattle.h41_focal.specs.Courses.{Typed}
+use Rattle.h41_focal.specs.LineStep.{FailsIn, Left, Machine, line_as}
 use Rattle.h41_focal.specs.Outcomes.{Answer}
 use Rattle.h41_focal.specs.Outcomes as answers
 use Rattle.h41_focal.specs.declared.refusal.FocalRefusal.{FocalRefusal}
@@ -17,86 +18,117 @@ use Rattle.h41_pages.specs.declared.functions.Entry.{Entry}
 use Rattle.h41_program.specs.declared.refusal.ProgramRefusal as program
 use Rattle.h41_program.specs.Edits.{LoadGives}
 use Rattle.h41_program.specs.ProgramLaws.{LoadsAreDetermined}
-use Rattle.h41_ram.specs.RegisterMap.{RegisterMap}
+use Rattle.h41_ram.specs.RegisterMap.{RegisterMap, is_sound}
 use Rattle.h41_rows.specs.declared.fault.LineFault.TheVariants.{Nonexistent}
 use Rattle.h41_text.specs.TextLaws.{OneLineOfText}
 use Rattle.h41_xrom.proofs.Named.{text_of}
 use Rattle.h41_xrom.specs.declared.calculator.Mode.{Mode}
 use Rattle.h41_xrom.specs.declared.calculator.Mode.TheVariants as modes
 use Rattle.h41_xrom.specs.declared.refusal.CalculatorRefusal.{CalculatorRefusal}
-use Rattle.h41_xrom.specs.Calculator.{CalculatorState, CarriesHere, RefusesLine, RefusesStepIn, StepIn, StepsByLine, after_line, after_word, machine_of}
+use Rattle.h41_xrom.specs.Calculator.{CalculatorState, CarriesHere, RefusesLine, RefusesStepIn, StepIn, StepsByLine, after_line, after_word, machine_of, not_typing}
 use Rattle.h41_xrom.specs.CalculatorLaws as CalculatorLaws
 use Rattle.h41_xrom.specs.CalculatorLaws.{LoadIsDetermined, StepRefusalIsDetermined}
-use Rattle.h41_xrom.specs.Lines.{CallsEntry, CallsName, CarriesNamed, Ended, Fails, GoesOn, GoesOnFrom, IsNamed, answered, begun_at, of_line}
+use Rattle.h41_xrom.specs.Lines.{CallsEntry, CallsName, CarriesFrom, CarriesLine, CarriesNamed, Ended, Fails, FailsFrom, GoesOn, GoesOnFrom, IsNamed, PassesFrom, answered, begun_at, of_line}
+use Rattle.h41_xrom.specs.declared.lines.Source.{Source}
+use Rattle.h41_xrom.specs.declared.lines.Source.TheVariants as sources
 use Rattle.h41_xrom.specs.Programs.{change_refusal, loaded}
 
 -- a function begins
-abbrev Begun : ℕ → Machine → Result Ended FocalRefusal → Type 0
-Begun address machine ended =
-    (after : Result Machine FocalRefusal) × PassesLine machine after × (ended ≡ begun_at address after)
+abbrev Begun : Source → ℕ → Machine → Result Ended FocalRefusal → Type 0
+Begun source address machine ended =
+    (after : Result Machine FocalRefusal) × PassesFrom source machine after × (ended ≡ begun_at address after)
 
 -- a line
 same_function_by : (a b : Function) → Plain a ≡ Plain b → a ≡ b
 same_function_by a b is = cc
 
-module _ (same_step : StepIsDetermined) (same_failure : FailureIsDetermined) (same_passing : PassingIsDetermined) (one_line : OneLineOfText) where
-  same_failed : (machine : Machine) (a b : Result Ended FocalRefusal) → Fails machine a → Fails machine b → a ≡ b
-  same_failed machine a b (p, p_fails, p_is) (q, q_fails, q_is) =
-      p_is ∙ ap answered (same_failure Nonexistent machine p q p_fails q_fails) ∙ sym q_is
+-- a typed line that fails
+same_fault : (machine : Machine) (a b : Result Left FocalRefusal)
+    → FailsIn Typed machine Nonexistent a → FailsIn Typed machine Nonexistent b → a ≡ b
+same_fault machine a b (p, p_fails, p_is) (q, q_fails, q_is) = p_is ∙ ap Ok (p_fails ∙ sym q_fails) ∙ sym q_is
 
-  same_begun : (keystroke : Bool) (address : ℕ) (machine : Machine) (a b : Result Ended FocalRefusal)
-      → MatchBool keystroke (a ≡ Err lines.NotInProfile) (Begun address machine a)
-      → MatchBool keystroke (b ≡ Err lines.NotInProfile) (Begun address machine b) → a ≡ b
-  same_begun true address machine a b p q = p ∙ sym q
-  same_begun false address machine a b (p, p_passes, p_is) (q, q_passes, q_is) =
-      p_is ∙ ap (begun_at address) (same_passing machine p q p_passes q_passes) ∙ sym q_is
+same_typed_fault : (sound : Bool) (machine : Machine) (a b : Result Left FocalRefusal)
+    → MatchBool sound (FailsIn Typed machine Nonexistent a) (a ≡ Err lines.MemoryLost)
+    → MatchBool sound (FailsIn Typed machine Nonexistent b) (b ≡ Err lines.MemoryLost) → a ≡ b
+same_typed_fault true machine a b p q = same_fault machine a b p q
+same_typed_fault false machine a b p q = p ∙ sym q
 
-  same_entry : (entry : Option Entry) (machine : Machine) (a b : Result Ended FocalRefusal) → CallsEntry entry machine a → CallsEntry entry machine b → a ≡ b
-  same_entry (Some entry) machine a b p q = same_begun entry.keystroke entry.address machine a b p q
-  same_entry None machine a b p q = same_failed machine a b p q
+module _ (same_step : StepIsDetermined) (same_typing : TypedIsDetermined) (same_failure : FailureIsDetermined) (same_passing : PassingIsDetermined) (one_line : OneLineOfText) where
+  same_carried : (source : Source) (function : Option Function) (machine : Machine) (a b : Result Left FocalRefusal)
+      → CarriesFrom source function machine a → CarriesFrom source function machine b → a ≡ b
+  same_carried sources.Program function machine a b p q = same_step function machine a b p q
+  same_carried (sources.Keys line) function machine a b p q = same_typing (line_as function line) machine a b p q
 
-  same_function : (name : List ℕ) (a b : Option Function) → IsNamed name a → IsNamed name b → a ≡ b
+  same_failing : (source : Source) (machine : Machine) (a b : Result Left FocalRefusal) → FailsFrom source machine a → FailsFrom source machine b → a ≡ b
+  same_failing sources.Program machine a b p q = same_failure Nonexistent machine a b p q
+  same_failing (sources.Keys line) machine a b p q = same_typed_fault (is_sound machine.memory) machine a b p q
+
+  same_passed : (source : Source) (machine : Machine) (a b : Result Machine FocalRefusal) → PassesFrom source machine a → PassesFrom source machine b → a ≡ b
+  same_passed sources.Program machine a b p q = same_passing machine a b p q
+  same_passed (sources.Keys line) machine a b p q = p ∙ sym q
+
+  same_failed : (source : Source) (machine : Machine) (a b : Result Ended FocalRefusal) → Fails source machine a → Fails source machine b → a ≡ b
+  same_failed source machine a b (p, p_fails, p_is) (q, q_fails, q_is) =
+      p_is ∙ ap answered (same_failing source machine p q p_fails q_fails) ∙ sym q_is
+
+  same_begun : (keystroke : Bool) (source : Source) (address : ℕ) (machine : Machine) (a b : Result Ended FocalRefusal)
+      → MatchBool keystroke (a ≡ Err lines.NotInProfile) (Begun source address machine a)
+      → MatchBool keystroke (b ≡ Err lines.NotInProfile) (Begun source address machine b) → a ≡ b
+  same_begun true source address machine a b p q = p ∙ sym q
+  same_begun false source address machine a b (p, p_passes, p_is) (q, q_passes, q_is) =
+      p_is ∙ ap (begun_at address) (same_passed source machine p q p_passes q_passes) ∙ sym q_is
+
+  same_entry : (source : Source) (entry : Option Entry) (machine : Machine) (a b : Result Ended FocalRefusal)
+      → CallsEntry source entry machine a → CallsEntry source entry machine b → a ≡ b
+  same_entry source (Some entry) machine a b p q = same_begun entry.keystroke source entry.address machine a b p q
+  same_entry source None machine a b p q = same_failed source machine a b p q
+
+  pub same_function : (name : List ℕ) (a b : Option Function) → IsNamed name a → IsNamed name b → a ≡ b
   same_function name (Some a) (Some b) p q = ap Some (same_function_by a b (one_line name (Plain a) (Plain b) (text_of name a p) (text_of name b q)))
   same_function name (Some a) None p q = absurd (q a p)
   same_function name None (Some b) p q = absurd (p b q)
   same_function name None None p q = refl
 
-  same_named : (function : Option Function) (machine : Machine) (a b : Result Ended FocalRefusal)
-      → CarriesNamed function machine a → CarriesNamed function machine b → a ≡ b
-  same_named (Some function) machine a b (p, p_steps, p_is) (q, q_steps, q_is) =
-      p_is ∙ ap answered (same_step (Some function) machine p q p_steps q_steps) ∙ sym q_is
-  same_named None machine a b p q = same_failed machine a b p q
+  same_named : (source : Source) (function : Option Function) (machine : Machine) (a b : Result Ended FocalRefusal)
+      → CarriesNamed source function machine a → CarriesNamed source function machine b → a ≡ b
+  same_named source (Some function) machine a b (p, p_steps, p_is) (q, q_steps, q_is) =
+      p_is ∙ ap answered (same_carried source (Some function) machine p q p_steps q_steps) ∙ sym q_is
+  same_named source None machine a b p q = same_failed source machine a b p q
 
-  same_name : (numbers : Option (ℕ × ℕ)) (pages : PageMap) (name : List ℕ) (machine : Machine) (a b : Result Ended FocalRefusal)
-      → CallsName numbers pages name machine a → CallsName numbers pages name machine b → a ≡ b
-  same_name (Some numbers) pages name machine a b p q = same_entry (entry_at pages numbers.0 numbers.1) machine a b p q
-  same_name None pages name machine a b (f, f_named, f_carries) (g, g_named, g_carries) =
+  same_name : (source : Source) (numbers : Option (ℕ × ℕ)) (pages : PageMap) (name : List ℕ) (machine : Machine) (a b : Result Ended FocalRefusal)
+      → CallsName source numbers pages name machine a → CallsName source numbers pages name machine b → a ≡ b
+  same_name source (Some numbers) pages name machine a b p q = same_entry source (entry_at pages numbers.0 numbers.1) machine a b p q
+  same_name source None pages name machine a b (f, f_named, f_carries) (g, g_named, g_carries) =
       let same : f ≡ g = same_function name f g f_named g_named in
-      same_named g machine a b (subst (λ (function : Option Function). CarriesNamed function machine a) same f_carries) g_carries
+      same_named source g machine a b (subst (λ (function : Option Function). CarriesNamed source function machine a) same f_carries) g_carries
 
-  same_going : (answer : Answer) (pages : PageMap) (machine : Machine) (left : Left) (a b : Result Ended FocalRefusal)
-      → GoesOn pages machine left answer a → GoesOn pages machine left answer b → a ≡ b
-  same_going (answers.Calls number entry) pages machine left a b p q = same_entry (entry_at pages number entry) machine a b p q
-  same_going (answers.Seeks name) pages machine left a b p q = same_name (found pages name) pages name machine a b p q
-  same_going answers.Done pages machine left a b p q = p ∙ sym q
-  same_going answers.Stopped pages machine left a b p q = p ∙ sym q
-  same_going answers.TurnedOff pages machine left a b p q = p ∙ sym q
-  same_going (answers.Viewed text) pages machine left a b p q = p ∙ sym q
-  same_going (answers.Prompted text) pages machine left a b p q = p ∙ sym q
-  same_going answers.Cleared pages machine left a b p q = p ∙ sym q
-  same_going (answers.Answered holds) pages machine left a b p q = p ∙ sym q
-  same_going answers.Runs pages machine left a b p q = p ∙ sym q
-  same_going (answers.Failed fault) pages machine left a b p q = p ∙ sym q
+  same_going : (source : Source) (answer : Answer) (pages : PageMap) (machine : Machine) (left : Left) (a b : Result Ended FocalRefusal)
+      → GoesOn source pages machine left answer a → GoesOn source pages machine left answer b → a ≡ b
+  same_going source (answers.Calls number entry) pages machine left a b p q = same_entry source (entry_at pages number entry) machine a b p q
+  same_going source (answers.Seeks name) pages machine left a b p q = same_name source (found pages name) pages name machine a b p q
+  same_going source answers.Done pages machine left a b p q = p ∙ sym q
+  same_going source answers.Stopped pages machine left a b p q = p ∙ sym q
+  same_going source answers.TurnedOff pages machine left a b p q = p ∙ sym q
+  same_going source (answers.Viewed text) pages machine left a b p q = p ∙ sym q
+  same_going source (answers.Prompted text) pages machine left a b p q = p ∙ sym q
+  same_going source answers.Cleared pages machine left a b p q = p ∙ sym q
+  same_going source (answers.Answered holds) pages machine left a b p q = p ∙ sym q
+  same_going source answers.Runs pages machine left a b p q = p ∙ sym q
+  same_going source (answers.Failed fault) pages machine left a b p q = p ∙ sym q
 
-  same_from : (own : Result Left FocalRefusal) (pages : PageMap) (machine : Machine) (a b : Result Ended FocalRefusal)
-      → GoesOnFrom pages machine own a → GoesOnFrom pages machine own b → a ≡ b
-  same_from (Ok left) pages machine a b p q = same_going left.answer pages machine left a b p q
-  same_from (Err refusal) pages machine a b p q = p ∙ sym q
+  same_from : (source : Source) (own : Result Left FocalRefusal) (pages : PageMap) (machine : Machine) (a b : Result Ended FocalRefusal)
+      → GoesOnFrom source pages machine own a → GoesOnFrom source pages machine own b → a ≡ b
+  same_from source (Ok left) pages machine a b p q = same_going source left.answer pages machine left a b p q
+  same_from source (Err refusal) pages machine a b p q = p ∙ sym q
 
-  same_line : (s : CalculatorState) (a b : Result Ended FocalRefusal) → CarriesHere s a → CarriesHere s b → a ≡ b
-  same_line s a b (own, own_steps, own_goes) (other, other_steps, other_goes) =
-      let same : own ≡ other = same_step None (machine_of s) own other own_steps other_steps in
-      same_from other s.nut.pages (machine_of s) a b (subst (λ (of : Result Left FocalRefusal). GoesOnFrom s.nut.pages (machine_of s) of a) same own_goes) other_goes
+  pub line_determined : (source : Source) (pages : PageMap) (machine : Machine) (a b : Result Ended FocalRefusal)
+      → CarriesLine source pages machine a → CarriesLine source pages machine b → a ≡ b
+  line_determined source pages machine a b (own, own_steps, own_goes) (other, other_steps, other_goes) =
+      let same : own ≡ other = same_carried source None machine own other own_steps other_steps in
+      same_from source other pages machine a b (subst (λ (of : Result Left FocalRefusal). GoesOnFrom source pages machine of a) same own_goes) other_goes
+
+  same_line : (s : CalculatorState) (a b : Result Ended FocalRefusal) → CarriesHere sources.Program s a → CarriesHere sources.Program s b → a ≡ b
+  same_line s a b p q = line_determined sources.Program s.nut.pages (machine_of s) a b p q
 
   -- why a step is refused
   same_line_refusal : (s : CalculatorState) (a b : Option CalculatorRefusal) → RefusesLine s a → RefusesLine s b → a ≡ b
@@ -117,7 +149,7 @@ module _ (same_step : StepIsDetermined) (same_failure : FailureIsDetermined) (sa
   -- the state that a step leaves
   same_behind : (s t u : CalculatorState) → StepsByLine s t → StepsByLine s u → t ≡ u
   same_behind s t u (p, p_carries, p_is) (q, q_carries, q_is) =
-      p_is ∙ ap (after_line s) (same_end p q (same_line s (Ok p) (Ok q) p_carries q_carries)) ∙ sym q_is
+      p_is ∙ ap (after_line (not_typing s)) (same_end p q (same_line s (Ok p) (Ok q) p_carries q_carries)) ∙ sym q_is
 
   module _ (same_micro : MicroIsDetermined) where
     same_state : (mode : Mode) (s t u : CalculatorState) → StepIn mode s t → StepIn mode s u → t ≡ u

@@ -1,5 +1,5 @@
--- The calculator: its state, its mode, a call, pages, and single steps. All of it is this project's choice, but for what words and
--- lines do.
+-- The calculator: its state, its mode, a call, pages, and single steps. All of it is this project's choice, but for what words, lines
+-- and keys do.
 use Rattle.std.specs.Prelude.{◌≡◌, ℕ, Bool, true, false, not, nat_lt, ◌==◌, if◌then◌else◌, Option, None, List, option_map, Result, Ok}
 use Rattle.std.specs.Bool.{then_some}
 use Rattle.std.specs.Option.{option_or}
@@ -11,6 +11,9 @@ use Rattle.h41_focal.specs.LineStep.{FocalState, Machine}
 use Rattle.h41_focal.specs.Outcomes.{Answer}
 use Rattle.h41_focal.specs.Outcomes as answers
 use Rattle.h41_focal.specs.declared.refusal.FocalRefusal.{FocalRefusal}
+use Rattle.h41_keys.specs.KeyPress as keyboard
+use Rattle.h41_keys.specs.declared.input.Entry.TheVariants as entries
+use Rattle.h41_keys.specs.declared.input.Input.{Input}
 use Rattle.h41_ram.specs.RegisterMap as ram
 use Rattle.h41_nut.specs.Processor.{initial, entered}
 use Rattle.h41_nut.specs.Addresses.{end_of_function}
@@ -26,6 +29,8 @@ use Rattle.h41_xrom.specs.declared.refusal.CalculatorRefusal.{CalculatorRefusal}
 use Rattle.h41_xrom.specs.declared.refusal.CalculatorRefusal.TheVariants.{Word, Busy}
 use Rattle.h41_xrom.specs.Lines.{Answers, Begins, CarriesLine, Ended, of_line}
 use Rattle.h41_xrom.specs.Messages.{message_after, processor_after}
+use Rattle.h41_xrom.specs.declared.lines.Source.{Source}
+use Rattle.h41_xrom.specs.declared.lines.Source.TheVariants.{Program}
 
 -- The state of the calculator.
 pub record CalculatorState : Type 0 where
@@ -33,7 +38,9 @@ pub record CalculatorState : Type 0 where
   pub nut : Nut
   -- what lines work on, beside memory
   pub focal : FocalState
-  -- the text that the display shows before ALPHA and X, where there is one
+  -- what the keyboard keeps: SHIFT, program mode, a prompt, and the number or text that is being typed
+  pub input : Input
+  -- the text that the display shows before all else, where there is one
   pub message : Option (List ℕ)
   pub mode : Mode
 
@@ -45,11 +52,13 @@ registers = 320
 abbrev pub no_key : Keys
 no_key = record { ky = 0; flag = false }
 
--- nothing is plugged, nothing runs, there is no message, and memory has an empty program, at whose line 00 the calculator stands
+-- nothing is plugged, nothing runs, nothing is typed, there is no message, and memory has an empty program, at whose line 00 the
+-- calculator stands
 abbrev pub start : CalculatorState
 start = record {
   nut = nut_of initial (ram.start registers) pages.no_pages no_key;
   focal = focal.start;
+  input = keyboard.start;
   message = None;
   mode = modes.Idle;
 }
@@ -74,9 +83,17 @@ abbrev pub call_refusal : CalculatorState → ℕ → Option CalculatorRefusal
 call_refusal s address =
     option_or (then_some (not (is_idle s.mode)) Busy) (then_some (nat_lt address first_address) (Word (words.SystemRom address)))
 
+-- no number and no text is being typed any more; a prompt, SHIFT and program mode stay
+abbrev pub not_typing : CalculatorState → CalculatorState
+not_typing s = record s { input = record s.input { entry = entries.Nothing } }
+
 -- the function at an address runs
+abbrev pub entering : ℕ → CalculatorState → CalculatorState
+entering address s = record s { nut = record s.nut { processor = entered s.nut.processor address }; mode = modes.Micro (caller_in s.mode) }
+
+-- by a call
 abbrev pub called : ℕ → CalculatorState → CalculatorState
-called address s = record s { nut = record s.nut { processor = entered s.nut.processor address }; mode = modes.Micro (caller_in s.mode) }
+called address s = entering address (not_typing s)
 
 -- this is why words are not plugged; memory that was refused comes last
 abbrev pub RefusesPage : CalculatorState → ℕ → ℕ → List ℕ → PlugRefusal → Type 0
@@ -117,30 +134,31 @@ with_shown answer s = record s {
 abbrev pub with_machine : Machine → CalculatorState → CalculatorState
 with_machine machine s = record s { nut = record s.nut { ram = machine.memory }; focal = machine.focal }
 
--- a running program stops at STOP, OFF, PROMPT, a return to nowhere, and a fault
-abbrev pub is_stop : Answer → Bool
-is_stop answers.Stopped = true
-is_stop answers.TurnedOff = true
-is_stop (answers.Prompted text) = true
-is_stop (answers.Failed fault) = true
-is_stop answer = false
+-- a running program stops at STOP, OFF, PROMPT, a return to nowhere, and a fault; a typed line that went to a label has it run
+abbrev pub mode_after : Answer → Mode → Mode
+mode_after answers.Stopped mode = modes.Idle
+mode_after answers.TurnedOff mode = modes.Idle
+mode_after (answers.Prompted text) mode = modes.Idle
+mode_after (answers.Failed fault) mode = modes.Idle
+mode_after answers.Runs mode = modes.Run
+mode_after answer mode = mode
 
--- the calculator behind what a line answers: it is shown, and a program runs on or stops
+-- the calculator behind what a line answers: it is shown, and a program runs on, stops or begins
 abbrev pub after_answer : Answer → CalculatorState → CalculatorState
-after_answer answer s = record (with_shown answer s) { mode = if is_stop answer then modes.Idle else s.mode }
+after_answer answer s = record (with_shown answer s) { mode = mode_after answer s.mode }
 
 -- the calculator after a line was carried out, by how it ended; or a module's function runs
 abbrev pub after_line : CalculatorState → Ended → CalculatorState
 after_line s (Answers left) = after_answer left.answer (with_machine left.machine s)
-after_line s (Begins machine address) = called address (with_machine machine s)
+after_line s (Begins machine address) = entering address (with_machine machine s)
 
 -- one line, or why it is refused
-abbrev pub CarriesHere : CalculatorState → Result Ended FocalRefusal → Type 0
-CarriesHere s ended = CarriesLine s.nut.pages (machine_of s) ended
+abbrev pub CarriesHere : Source → CalculatorState → Result Ended FocalRefusal → Type 0
+CarriesHere source s ended = CarriesLine source s.nut.pages (machine_of s) ended
 
 -- why a step is refused, or that it is not: a word's refusal while a function runs, else a line's
 abbrev pub RefusesLine : CalculatorState → Option CalculatorRefusal → Type 0
-RefusesLine s why = (ended : Result Ended FocalRefusal) × CarriesHere s ended × (why ≡ option_map of_line (result_err ended))
+RefusesLine s why = (ended : Result Ended FocalRefusal) × CarriesHere Program s ended × (why ≡ option_map of_line (result_err ended))
 
 abbrev pub RefusesStepIn : Mode → CalculatorState → Option CalculatorRefusal → Type 0
 RefusesStepIn modes.Idle s why = RefusesLine s why
@@ -165,9 +183,10 @@ after_word caller s nut = record s {
   mode = mode_at nut.processor.pc caller;
 }
 
--- one step: while a function runs a word, which is its end where it arrives at 00F0; else a line
+-- one step: while a function runs a word, which is its end where it arrives at 00F0; else a line, with which a number or text that is being
+-- typed ends
 abbrev pub StepsByLine : CalculatorState → CalculatorState → Type 0
-StepsByLine s t = (ended : Ended) × CarriesHere s (Ok ended) × (t ≡ after_line s ended)
+StepsByLine s t = (ended : Ended) × CarriesHere Program s (Ok ended) × (t ≡ after_line (not_typing s) ended)
 
 abbrev pub StepIn : Mode → CalculatorState → CalculatorState → Type 0
 StepIn modes.Idle s t = StepsByLine s t

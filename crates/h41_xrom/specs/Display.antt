@@ -1,10 +1,19 @@
 -- What the display shows. The order of the cases is the Owner's Handbook's.
-use Rattle.std.specs.Prelude.{ℕ, List, [], not, if◌then◌else◌}
-use Rattle.std.specs.Option.{option_map_or}
+use Rattle.std.specs.Prelude.{◌≡◌, ℕ, List, [], ◌++◌, codes, MatchBool, if◌then◌else◌, Option, Some, None}
+use Rattle.h41_codes.specs.declared.characters.Character.{Character}
+use Rattle.h41_codes.specs.declared.line.Line.TheVariants.{Number}
+use Rattle.h41_editor.specs.ProgramText.{ShowsProgram}
+use Rattle.h41_focal.specs.LineStep.{Machine}
+use Rattle.h41_keys.specs.Prompts.{prompt_text}
+use Rattle.h41_keys.specs.declared.input.Entry.{Entry}
+use Rattle.h41_keys.specs.declared.input.Entry.TheVariants as entries
+use Rattle.h41_keys.specs.declared.prompt.Prompt.{Prompt}
+use Rattle.h41_lines.specs.Characters.{characters_text}
 use Rattle.h41_ram.specs.RegisterMap.{RegisterMap, flag_of, register_at}
 use Rattle.h41_show.specs.DisplayFormat.{format_of}
 use Rattle.h41_show.specs.RegisterText.{alpha_text, register_text}
-use Rattle.h41_xrom.specs.Calculator.{CalculatorState}
+use Rattle.h41_text.specs.LineText.{line_text}
+use Rattle.h41_xrom.specs.Calculator.{CalculatorState, machine_of}
 
 -- the flag that brings ALPHA into the display, and the address of X
 abbrev pub alpha_flag : ℕ
@@ -13,12 +22,51 @@ alpha_flag = 48
 abbrev pub x_address : ℕ
 x_address = 3
 
--- what memory shows: ALPHA with flag 48, and else X in the display format
-abbrev pub memory_text : RegisterMap → List ℕ
-memory_text memory =
-    if flag_of memory alpha_flag then alpha_text memory
-    else register_text (format_of memory) (register_at memory x_address)
+-- what stands behind a number or a line that is being typed
+abbrev pub cursor : List ℕ
+cursor = codes "_"
 
--- the first that applies: nothing while the display is off, the message, and else what memory shows
-abbrev pub display_text : CalculatorState → List ℕ
-display_text s = if not s.nut.processor.display then [] else option_map_or (λ text. text) s.message (memory_text s.nut.ram)
+-- a number that is being typed shows as the line that it would be
+abbrev pub typed_number : List Character → List ℕ
+typed_number text = line_text (Number text) ++ cursor
+
+-- X in the display format, or that number
+abbrev pub x_text : RegisterMap → Entry → List ℕ
+x_text memory (entries.Number text) = typed_number text
+x_text memory entry = register_text (format_of memory) (register_at memory x_address)
+
+-- ALPHA with flag 48, and else X
+abbrev pub entry_text : RegisterMap → Entry → List ℕ
+entry_text memory entry = if flag_of memory alpha_flag then alpha_text memory else x_text memory entry
+
+-- a line of a program that is being typed
+abbrev pub cursor_of : Entry → List ℕ
+cursor_of (entries.Number text) = cursor
+cursor_of (entries.TextLine text) = cursor
+cursor_of entry = []
+
+abbrev pub ShowsShownLine : Machine → Entry → List ℕ → Type 0
+ShowsShownLine machine entry text = (shown : List ℕ) × ShowsProgram machine shown × (text ≡ shown ++ cursor_of entry)
+
+-- in program mode the line, and else ALPHA or X
+abbrev pub ShowsEntry : CalculatorState → List ℕ → Type 0
+ShowsEntry s text =
+    MatchBool s.input.program_mode (ShowsShownLine (machine_of s) s.input.entry text) (text ≡ entry_text s.nut.ram s.input.entry)
+
+-- the function that waits for its parameter, by its characters
+abbrev pub shown_prompt : Prompt → List ℕ
+shown_prompt prompt = characters_text (prompt_text prompt)
+
+abbrev pub ShowsPrompt : CalculatorState → Option Prompt → List ℕ → Type 0
+ShowsPrompt s (Some prompt) text = text ≡ shown_prompt prompt
+ShowsPrompt s None text = ShowsEntry s text
+
+-- the message
+abbrev pub ShowsMessage : CalculatorState → Option (List ℕ) → List ℕ → Type 0
+ShowsMessage s (Some message) text = text ≡ message
+ShowsMessage s None text = ShowsPrompt s s.input.prompt text
+
+-- the first that applies: nothing while the display is off, the message, a prompt, in program mode the line, ALPHA with flag 48, the number that
+-- is being typed, and else X in the display format
+abbrev pub ShowsDisplay : CalculatorState → List ℕ → Type 0
+ShowsDisplay s text = MatchBool s.nut.processor.display (ShowsMessage s s.message text) (text ≡ [])

@@ -1,6 +1,8 @@
 pub mod Calculator
 pub mod CalculatorLaws
 pub mod Display
+pub mod KeyActions
+pub mod KeyCalls
 pub mod LineCalls
 pub mod Lines
 pub mod Messages

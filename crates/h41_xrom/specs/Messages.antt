@@ -1,5 +1,5 @@
 -- What a line leaves in the display.
-use Rattle.std.specs.Prelude.{ℕ, false, List, Option, Some, None, codes}
+use Rattle.std.specs.Prelude.{ℕ, Bool, true, false, List, Option, Some, None, codes}
 use Rattle.h41_focal.specs.Outcomes.{Answer}
 use Rattle.h41_focal.specs.Outcomes as answers
 use Rattle.h41_nut.specs.Processor.{Processor}
@@ -14,6 +14,11 @@ fault_text DataError = codes "DATA ERROR"
 fault_text OutOfRange = codes "OUT OF RANGE"
 fault_text Nonexistent = codes "NONEXISTENT"
 
+-- the answer of a test that was typed
+abbrev pub test_text : Bool → List ℕ
+test_text true = codes "YES"
+test_text false = codes "NO"
+
 -- the message after a line: its own, none where the display is cleared, and else the one from before
 abbrev pub message_after : Answer → Option (List ℕ) → Option (List ℕ)
 message_after (answers.Viewed text) message = Some text
@@ -23,9 +28,9 @@ message_after answers.Cleared message = None
 message_after answers.Done message = message
 message_after answers.Stopped message = message
 message_after answers.TurnedOff message = message
--- what only a typed line answers, and what is looked up, leave it
-message_after (answers.Answered holds) message = message
+message_after (answers.Answered holds) message = Some (test_text holds)
 message_after answers.Runs message = message
+-- what is looked up leaves it
 message_after (answers.Calls number entry) message = message
 message_after (answers.Seeks name) message = message
 

@@ -10,7 +10,7 @@ use Rattle.h41_program.specs.Size.{size_outcome}
 use Rattle.h41_ram.specs.RegisterMap.{RegisterMap, is_sound}
 use Rattle.h41_xrom.specs.declared.refusal.CalculatorRefusal.{CalculatorRefusal}
 use Rattle.h41_xrom.specs.declared.refusal.CalculatorRefusal.TheVariants.{Program, MemoryLost, Busy}
-use Rattle.h41_xrom.specs.Calculator.{CalculatorState, is_idle}
+use Rattle.h41_xrom.specs.Calculator.{CalculatorState, is_idle, not_typing}
 
 -- programs are changed while nothing runs, else 24, and where memory is sound, else 15
 abbrev pub change_refusal : CalculatorState → Option CalculatorRefusal
@@ -25,15 +25,15 @@ abbrev pub at_program : ℕ → FocalState → FocalState
 at_program position focal = record focal { position = position; at_line_00 = true; returns = [] }
 
 abbrev pub with_program : RegisterMap → ℕ → CalculatorState → CalculatorState
-with_program memory position s = record s { nut = record s.nut { ram = memory }; focal = at_program position s.focal }
+with_program memory position s = record (with_memory memory s) { focal = at_program position s.focal }
 
--- what a change of program memory makes of the calculator, or why it is refused
+-- what a change of program memory makes of the calculator, where no number and no text is being typed any more; or why it is refused
 abbrev pub loaded : CalculatorState → Result (RegisterMap × ℕ) program.ProgramRefusal → Result CalculatorState CalculatorRefusal
-loaded s (Ok outcome) = Ok (with_program outcome.0 outcome.1 s)
+loaded s (Ok outcome) = Ok (with_program outcome.0 outcome.1 (not_typing s))
 loaded s (Err why) = Err (Program why)
 
 abbrev pub resized : CalculatorState → Result (RegisterMap × Unit {0}) program.ProgramRefusal → Result CalculatorState CalculatorRefusal
-resized s (Ok outcome) = Ok (with_memory outcome.0 s)
+resized s (Ok outcome) = Ok (with_memory outcome.0 (not_typing s))
 resized s (Err why) = Err (Program why)
 
 -- bytes are loaded behind the programs of memory, or refused: 24, 15, and then as their lines are, 14 or 16

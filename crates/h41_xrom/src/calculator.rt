@@ -3,21 +3,30 @@
 ghost use Rattle.std.specs.Prelude.{◌≡◌, None, IfOk, IfErr, OnOk, OnErr, option_map};
 ghost use Rattle.std.specs.Result.{result_err};
 ghost use Rattle.h41_pages.specs.PageMap.{unplug_refusal};
-ghost use Rattle.h41_xrom.specs.Calculator.{RefusesLine, RefusesPage, RefusesStep, RefusesStepIn, Step, StepIn, StepsByLine, TakesPage, after_answer, call_refusal, called, caller_in, is_stop, mode_of, restarted, start, with_page, with_shown, without_page};
+ghost use Rattle.h41_xrom.specs.Calculator.{RefusesLine, RefusesPage, RefusesStep, RefusesStepIn, Step, StepIn, StepsByLine, TakesPage, after_answer, call_refusal, called, caller_in, entering, mode_after, mode_of, not_typing, restarted, start, with_page, with_shown, without_page};
+ghost use Rattle.h41_xrom.specs.KeyActions as keys;
+ghost use Rattle.h41_xrom.specs.KeyCalls.{after_effect, after_end};
+ghost use Rattle.h41_xrom.specs.KeyCalls as keys_calls;
+ghost use Rattle.h41_keys.specs.declared.input.Entry.TheVariants as entries;
 ghost use Rattle.h41_focal.specs.Outcomes.{answer_of};
 ghost use Rattle.h41_xrom.specs.declared.calculator.Mode.TheVariants.{Micro};
 ghost use Rattle.h41_xrom.specs.Programs.{Becomes, Loads, at_program, change_refusal, size_makes};
 
-use crate::lines::{LineEnd, carry_line};
-use crate::messages::fault_text;
+use crate::acting::{Effect, act};
+use crate::lines::{LineEnd, Source, carry_line};
+use crate::messages::{fault_text, test_text};
 use crate::refusal::CalculatorRefusal;
 use h41_focal::{DisplayText, Focal, LineOutcome};
+use h41_keys::{Action, Entry, Flags, Input, Key, press};
 use h41_nut::{Cpu, END_OF_FUNCTION, Keys, WordRefusal, step};
 use h41_pages::{FIRST_ADDRESS, Pages, PlugRefusal, UnplugRefusal};
 use h41_program::{load, set_size};
 use h41_ram::Ram;
 use std::alloc::{AllocError, Global};
 use std::marker::Model;
+
+/// The flag that brings ALPHA into the display.
+pub const ALPHA_FLAG: usize = 48;
 
 /// How many registers main memory has.
 pub const REGISTERS: usize = 320;
@@ -74,7 +83,9 @@ pub struct Calculator {
     keys: Keys,
     /// What lines work on, beside memory.
     focal: Focal,
-    /// The text that the display shows before ALPHA and X, where there is one.
+    /// What the keyboard keeps from key to key.
+    input: Input,
+    /// The text that the display shows before all else, where there is one.
     message: Option<DisplayText>,
     mode: Mode,
 }
@@ -89,6 +100,7 @@ impl Model for Calculator {
     ghost view = { λ all. record {
       nut = nut_of all.cpu all.ram all.pages all.keys;
       focal = all.focal;
+      input = all.input;
       message = option_map (λ text. text.bytes) all.message;
       mode = all.mode;
     } };
@@ -105,6 +117,7 @@ impl Calculator {
             pages: Pages::new(alloc)?,
             keys: Keys::new(),
             focal: Focal::new(),
+            input: Input::new(),
             message: None,
             mode: Mode::Idle,
         })
@@ -152,7 +165,14 @@ impl Calculator {
         &self.focal
     }
 
-    /// The text that the display shows before ALPHA and X, where there is one.
+    /// What the keyboard keeps from key to key: SHIFT, program mode, a prompt, and the number or text that is being typed.
+    pub fn input(&self) -> &Input
+        ensures { result.now ≡ self.now.input }
+    {
+        &self.input
+    }
+
+    /// The text that the display shows before all else, where there is one.
     pub fn message(&self) -> Option<DisplayText>
         ensures { option_map (λ text. text.bytes) result ≡ self.now.message }
     {
@@ -172,13 +192,21 @@ impl Calculator {
         if address < FIRST_ADDRESS {
             return Err(CalculatorRefusal::Word(WordRefusal::SystemRom(address)));
         }
+        self.end_entry();
         self.enter(address);
         Ok(())
     }
 
+    /// No number and no text is being typed any more.
+    fn end_entry(&mut self)
+        ensures { self.new ≡ not_typing self.old }
+    {
+        self.input.entry = Entry::Nothing;
+    }
+
     /// The function at an address runs.
     fn enter(&mut self, address: u16)
-        ensures { self.new ≡ called address self.old }
+        ensures { self.new ≡ entering address self.old }
     {
         self.cpu.enter(address);
         self.mode = Mode::Micro(Caller::in_mode(self.mode));
@@ -204,20 +232,36 @@ impl Calculator {
         ensures change { OnOk result (StepsByLine self.old self.new) }
         ensures err { OnErr result (self.new ≡ self.old) }
     {
-        match carry_line(&mut self.ram, &mut self.focal, &self.pages)? {
+        match carry_line(
+            &mut self.ram,
+            &mut self.focal,
+            &self.pages,
+            &Source::Program,
+        ) {
+            Ok(end) => {
+                self.end_entry();
+                self.end_line(end);
+                Ok(())
+            }
+            Err(refusal) => Err(refusal.into()),
+        }
+    }
+
+    /// What a line that ended leaves in the display, or the function runs that begins.
+    fn end_line(&mut self, end: LineEnd)
+        ensures { self.new ≡ after_end end self.old }
+    {
+        match end {
             LineEnd::Answers(outcome) => self.answer(outcome),
             LineEnd::Begins(address) => self.enter(address),
         }
-        Ok(())
     }
 
-    /// What a line leaves in the display; a program runs on, or the line stops it.
+    /// What a line leaves in the display; a program runs on, or the line stops it or has it run.
     fn answer(&mut self, outcome: LineOutcome)
         ensures { self.new ≡ after_answer (answer_of outcome) self.old }
     {
-        if stops(&outcome) {
-            self.mode = Mode::Idle;
-        }
+        self.mode = mode_behind(self.mode, &outcome);
         self.show(outcome);
     }
 
@@ -229,13 +273,107 @@ impl Calculator {
             LineOutcome::Viewed(text) | LineOutcome::Prompted(text) => self.message = Some(text),
             LineOutcome::Cleared => self.message = None,
             LineOutcome::Failed(fault) => self.message = Some(fault_text(fault)),
+            LineOutcome::Answered(holds) => self.message = Some(test_text(holds)),
             LineOutcome::TurnedOff => self.cpu.turn_display_off(),
             LineOutcome::Done
             | LineOutcome::Stopped
-            | LineOutcome::Answered(_)
             | LineOutcome::Runs
             | LineOutcome::Calls(_, _)
             | LineOutcome::Seeks(_) => {}
+        }
+    }
+
+    /// Presses a key. Refused, in this order, as 18 where it has no meaning in the state that the keyboard is in, and while nothing
+    /// runs as 15 where memory is not sound, as 14 where bytes are no line or a program has no line at the position, as 13 where
+    /// a line is not carried out, as 16 where there is no room; nothing is changed then. Every key that is accepted tells its code,
+    /// sets the key flag and turns the display on, and while nothing runs it takes a message away.
+    pub fn key(&mut self, key: Key) -> Result<(), CalculatorRefusal>
+        ensures { keys.Presses key self.old self.new (result_err result) }
+    {
+        let mut input = self.input;
+        match press(&mut input, key, self.waits(), self.key_flags()) {
+            Ok(action) => self.accept(key, input, action),
+            Err(refusal) => Err(refusal.into()),
+        }
+    }
+
+    /// A key that has a meaning is done, or refused.
+    fn accept(&mut self, key: Key, input: Input, action: Action) -> Result<(), CalculatorRefusal>
+        requires { keys_calls.IsAccepted self.old action }
+        ensures { keys_calls.Accepts key input action self.old self.new (result_err result) }
+    {
+        self.check_memory()?;
+        match act(
+            &mut self.ram,
+            &mut self.focal,
+            &self.pages,
+            input.program_mode,
+            action,
+        ) {
+            Ok(effect) => {
+                self.tell(key, input);
+                self.finish(effect);
+                Ok(())
+            }
+            Err(refusal) => Err(refusal),
+        }
+    }
+
+    /// Whether a key can be done: 15 while nothing runs and memory is not sound.
+    fn check_memory(&self) -> Result<(), CalculatorRefusal>
+        ensures { result_err result ≡ keys.key_refusal self.now }
+    {
+        if self.mode == Mode::Idle && !self.ram.is_sound() {
+            return Err(CalculatorRefusal::MemoryLost);
+        }
+        Ok(())
+    }
+
+    /// What runs, as the keyboard needs to know it.
+    fn waits(&self) -> h41_keys::Mode
+        ensures { result ≡ keys.waiting self.now.mode }
+    {
+        match self.mode {
+            Mode::Idle => h41_keys::Mode::Idle,
+            Mode::Run => h41_keys::Mode::Run,
+            Mode::Micro(_) => h41_keys::Mode::Micro,
+        }
+    }
+
+    /// What else decides what a key means.
+    fn key_flags(&self) -> Flags
+        ensures { result ≡ keys.flags_of self.now }
+    {
+        Flags {
+            alpha: self.ram.flag(ALPHA_FLAG),
+            message: self.message.is_some(),
+        }
+    }
+
+    /// A key that is accepted tells its code, sets the key flag and turns the display on; while nothing runs the message goes.
+    fn tell(&mut self, key: Key, input: Input)
+        ensures { self.new ≡ keys.told key input self.old }
+    {
+        self.keys = Keys {
+            ky: key.code(),
+            flag: true,
+        };
+        self.cpu.turn_display_on();
+        self.input = input;
+        if self.mode == Mode::Idle {
+            self.message = None;
+        }
+    }
+
+    /// What is left to do of a key's action.
+    fn finish(&mut self, effect: Effect)
+        ensures { self.new ≡ after_effect effect self.old }
+    {
+        match effect {
+            Effect::Nothing => {}
+            Effect::Line(end) => self.end_line(end),
+            Effect::Stops => self.mode = Mode::Idle,
+            Effect::Starts => self.mode = Mode::Run,
         }
     }
 
@@ -268,6 +406,7 @@ impl Calculator {
         self.check_change()?;
         let position = load(&mut self.ram, bytes)?;
         go_to_program(&mut self.focal, position);
+        self.input.entry = Entry::Nothing;
         Ok(())
     }
 
@@ -277,7 +416,9 @@ impl Calculator {
         ensures { Becomes (size_makes self.old count) self.old self.new (result_err result) }
     {
         self.check_change()?;
-        Ok(set_size(&mut self.ram, count)?)
+        set_size(&mut self.ram, count)?;
+        self.end_entry();
+        Ok(())
     }
 
     /// Whether programs can be changed: 24 while a program or a function runs, 15 where memory is not sound.
@@ -331,22 +472,24 @@ impl Calculator {
         self.pages.choose_first_banks();
         self.keys = Keys::new();
         self.focal = Focal::new();
+        self.input = Input::new();
         self.message = None;
         self.mode = Mode::Idle;
     }
 }
 
-/// Whether a program stops at what a line answers.
-fn stops(outcome: &LineOutcome) -> bool
-    ensures { result ≡ is_stop (answer_of outcome.now) }
+/// The mode behind what a line answers.
+fn mode_behind(mode: Mode, outcome: &LineOutcome) -> Mode
+    ensures { result ≡ mode_after (answer_of outcome.now) mode }
 {
-    matches!(
-        outcome,
+    match outcome {
         LineOutcome::Stopped
-            | LineOutcome::TurnedOff
-            | LineOutcome::Prompted(_)
-            | LineOutcome::Failed(_)
-    )
+        | LineOutcome::TurnedOff
+        | LineOutcome::Prompted(_)
+        | LineOutcome::Failed(_) => Mode::Idle,
+        LineOutcome::Runs => Mode::Run,
+        _ => mode,
+    }
 }
 
 /// To line 00 of the program that begins at a position, with nowhere to return to; lift stays.

@@ -1,43 +1,114 @@
 //! What the display shows.
 
-ghost use Rattle.std.specs.Prelude.{◌≡◌};
+ghost use Rattle.std.specs.Prelude.{◌≡◌, ◌≤◌, ◌++◌, length};
+ghost use Rattle.arrayvec.specs.ArrayString.{array_string_len};
+ghost use Rattle.h41_focal.specs.LineCalls.{machine_of};
+ghost use Rattle.h41_lines.specs.Characters.{characters_text};
 ghost use Rattle.h41_xrom.specs.Display as spec;
-ghost use Rattle.h41_xrom.specs.Display.{display_text};
+ghost use Rattle.h41_xrom.specs.Display.{ShowsDisplay};
 
-use crate::calculator::Calculator;
+use crate::calculator::{ALPHA_FLAG, Calculator};
 use arrayvec::ArrayString;
-use h41_ram::Ram;
+use h41_codes::{Line, Number};
+use h41_editor::program_text;
+use h41_focal::Focal;
+use h41_keys::{Entry, Input, Prompt};
+use h41_lines::characters::character_text;
+use h41_ram::{Ram, StatusRegister};
 use h41_show::{Format, TEXT_CAPACITY, alpha_text, register_text};
+use h41_text::write_line;
 
-/// The flag that brings ALPHA into the display.
-const ALPHA: usize = 48;
-
-/// The number of X among the status registers.
-const X: usize = 3;
+/// What stands behind a number or a line that is being typed.
+const CURSOR: &str = "_";
 
 impl Calculator {
-    /// The text of the display, the first that applies: none while the display is off, the message, ALPHA with flag 48, and
-    /// else X in the display format.
+    /// The text of the display, the first that applies: none while the display is off, the message, a prompt, in program mode the
+    /// line, ALPHA with flag 48, the number that is being typed, and else X in the display format.
     pub fn display(&self) -> ArrayString<TEXT_CAPACITY>
-        ensures { result.bytes ≡ display_text self.now }
+        ensures { ShowsDisplay self.now result.bytes }
     {
         if !self.cpu().display() {
             return ArrayString::new();
         }
-        match self.message() {
-            Some(message) => message,
-            None => memory_text(self.ram()),
+        if let Some(message) = self.message() {
+            return message;
+        }
+        let input = self.input();
+        match input.prompt {
+            Some(prompt) => prompt_text(&prompt),
+            None if input.program_mode => shown_line(self.ram(), self.focal(), input.entry),
+            None => entry_text(self.ram(), input.entry),
         }
     }
 }
 
-/// What memory shows: ALPHA with flag 48, and else X in the display format.
-fn memory_text<const REGS: usize>(ram: &Ram<REGS>) -> ArrayString<TEXT_CAPACITY>
-    ensures { result.bytes ≡ spec.memory_text ram.now }
+/// The function that waits for its parameter.
+fn prompt_text(prompt: &Prompt) -> ArrayString<TEXT_CAPACITY>
+    ensures { result.bytes ≡ spec.shown_prompt prompt.now }
 {
-    if ram.flag(ALPHA) {
-        alpha_text(ram)
-    } else {
-        register_text(ram.status(X), Format::from_flags(ram))
+    let mut text = ArrayString::new();
+    push_characters(&mut text, &prompt.text());
+    text
+}
+
+/// Appends characters, 18 at most.
+fn push_characters(text: &mut ArrayString<TEXT_CAPACITY>, characters: &[u8])
+    requires room { array_string_len text.old ≡ 0 }
+    requires few { length characters.now ≤ 18 }
+    ensures { text.new.bytes ≡ text.old.bytes ++ characters_text characters.now }
+{
+    for character in characters {
+        text.push_str(character_text(*character).as_str());
     }
+}
+
+/// In program mode the line, with what stands behind it while it is being typed.
+fn shown_line<const REGS: usize>(
+    ram: &Ram<REGS>,
+    focal: &Focal,
+    entry: Entry,
+) -> ArrayString<TEXT_CAPACITY>
+    ensures { spec.ShowsShownLine (machine_of ram.now focal.now) entry result.bytes }
+{
+    let mut text = ArrayString::new();
+    text.push_str(program_text(ram, focal).as_str());
+    text.push_str(cursor_of(entry));
+    text
+}
+
+/// What stands behind a line of a program, by what is being typed.
+fn cursor_of(entry: Entry) -> &'static str
+    ensures text { result.now ≡ spec.cursor_of entry }
+    ensures fits { length result.now ≤ 1 }
+{
+    match entry {
+        Entry::Number(_) | Entry::TextLine(_) => CURSOR,
+        Entry::Nothing | Entry::Append | Entry::Letters => "",
+    }
+}
+
+/// ALPHA with flag 48, the number that is being typed, and else X in the display format.
+fn entry_text<const REGS: usize>(ram: &Ram<REGS>, entry: Entry) -> ArrayString<TEXT_CAPACITY>
+    ensures { result.bytes ≡ spec.entry_text ram.now entry }
+{
+    if ram.flag(ALPHA_FLAG) {
+        return alpha_text(ram);
+    }
+    match entry {
+        Entry::Number(number) => typed_number(number),
+        _ => register_text(
+            ram.status_register(StatusRegister::X),
+            Format::from_flags(ram),
+        ),
+    }
+}
+
+/// A number that is being typed, as the line that it would be.
+fn typed_number(number: Number) -> ArrayString<TEXT_CAPACITY>
+    ensures { result.bytes ≡ spec.typed_number number }
+{
+    let mut text = ArrayString::new();
+    text.push_str(write_line(Line::Number(number)).as_str());
+    text.push_str(CURSOR);
+    text
 }

@@ -1,10 +1,12 @@
 //! Laws of the calculator: each is the contract of a function with nothing to do but to call the laws it rests on.
 
-ghost use Rattle.h41_xrom.specs.CalculatorLaws.{LoadIsDetermined, StepIsDetermined, StepRefusalIsDetermined};
+ghost use Rattle.h41_xrom.specs.CalculatorLaws.{DisplayIsDetermined, KeyIsDetermined, LoadIsDetermined, StepIsDetermined, StepRefusalIsDetermined};
 
+use h41_editor::laws::{changes_are_determined, moves_are_determined, text_is_determined};
 use h41_focal::laws::line_is_determined;
 use h41_nut::laws::micro_is_determined;
-use h41_program::laws::loads_are_determined;
+use h41_program::laws::{loads_are_determined, searches_are_determined};
+use h41_rows::laws::values_are_determined;
 use h41_text::laws::line_text_round_trip;
 
 /// One single step is determined: whether it is refused, its refusal, and the state that it leaves.
@@ -22,4 +24,23 @@ pub fn load_is_determined()
     ensures { LoadIsDetermined }
 {
     loads_are_determined();
+}
+
+/// A key is determined: whether it is refused, its refusal, and the state that it leaves.
+pub fn key_is_determined()
+    ensures { KeyIsDetermined }
+{
+    line_is_determined();
+    line_text_round_trip();
+    moves_are_determined();
+    changes_are_determined();
+    searches_are_determined();
+    values_are_determined();
+}
+
+/// The display shows one text.
+pub fn display_is_determined()
+    ensures { DisplayIsDetermined }
+{
+    text_is_determined();
 }

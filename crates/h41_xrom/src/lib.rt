@@ -1,12 +1,15 @@
 //! The whole calculator: processor, memory, pages, keys and keystroke programs, and what it does.
 #![tactic(auto)]
 
+mod acting;
 mod calculator;
 mod display;
 pub mod laws;
 mod lines;
 mod messages;
 mod refusal;
+mod storing;
+mod typing;
 
 pub use calculator::{Calculator, Caller, Mode, REGISTERS};
 pub use refusal::CalculatorRefusal;

@@ -1,4 +1,4 @@
-//! What faults are shown as.
+//! What faults and the answers of tests are shown as.
 
 ghost use Rattle.std.specs.Prelude.{◌≡◌};
 ghost use Rattle.h41_xrom.specs.Messages as spec;
@@ -16,5 +16,14 @@ pub fn fault_text(fault: LineFault) -> DisplayText
         LineFault::OutOfRange => "OUT OF RANGE",
         LineFault::Nonexistent => "NONEXISTENT",
     });
+    text
+}
+
+/// The answer of a test that was typed.
+pub fn test_text(holds: bool) -> DisplayText
+    ensures { result.bytes ≡ spec.test_text holds }
+{
+    let mut text = DisplayText::new();
+    text.push_str(if holds { "YES" } else { "NO" });
     text
 }

@@ -3,6 +3,7 @@
 ghost use Rattle.std.specs.Prelude.{◌≡◌};
 
 use h41_focal::FocalRefusal;
+use h41_keys::KeyNotHeld;
 use h41_nut::WordRefusal;
 use h41_program::ProgramRefusal;
 use thiserror::Error;
@@ -22,6 +23,9 @@ pub enum CalculatorRefusal {
     /// 15: memory is not sound.
     #[error("memory is lost")]
     MemoryLost,
+    /// 18: the key has no meaning in the state that the keyboard is in.
+    #[error("the key has no meaning here")]
+    KeyNotHeld,
     /// 24: a program or a function is running.
     #[error("a program or a function is running")]
     Busy,
@@ -35,6 +39,17 @@ impl From<WordRefusal> for CalculatorRefusal {
 
     fn from(refusal: WordRefusal) -> Self {
         CalculatorRefusal::Word(refusal)
+    }
+}
+
+impl From<KeyNotHeld> for CalculatorRefusal {
+    ghost use Rattle.std.specs.Prelude.{◌≡◌};
+    ghost use Rattle.h41_xrom.specs.declared.refusal.CalculatorRefusal.TheVariants as variants;
+
+    ghost from_gives = { λ refusal own. own ≡ variants.KeyNotHeld };
+
+    fn from(_refusal: KeyNotHeld) -> Self {
+        CalculatorRefusal::KeyNotHeld
     }
 }
 

@@ -1,0 +1,163 @@
+-- Why a key leaves nothing open.
+use Rattle.std.proofs.Common.{◌≡◌, ℕ, Bool, true, false, List, Option, Some, None, Result, Ok, Err, sym, ap, subst, ◌∙◌}
+use Rattle.std.specs.Prelude.{MatchBool, MatchOption}
+use Rattle.std.specs.Result.{result_err, result_unwrap_or}
+use Rattle.h41_codes.specs.declared.characters.Character.{Character}
+use Rattle.h41_codes.specs.declared.functions.Function.{Function}
+use Rattle.h41_codes.specs.declared.functions.Function.TheVariants.{ClearX}
+use Rattle.h41_codes.specs.declared.functions.NameFunction.TheVariants.{ExecuteName, GoToName, Wordless}
+use Rattle.h41_codes.specs.declared.line.Line.{Line}
+use Rattle.h41_codes.specs.declared.line.Line.TheVariants as lines
+use Rattle.h41_editor.specs.Changes.{Deletes, Inserts, Replaces}
+use Rattle.h41_editor.specs.EditorLaws.{ChangeIsDetermined, MoveIsDetermined}
+use Rattle.h41_editor.specs.Moves.{GoesToEnd, ShowsBefore, ShowsNext}
+use Rattle.h41_focal.specs.LineLaws.{FailureIsDetermined, PassingIsDetermined, StepIsDetermined, TypedIsDetermined}
+use Rattle.h41_focal.specs.LineStep.{Machine}
+use Rattle.h41_keys.specs.declared.action.Action.{Action}
+use Rattle.h41_keys.specs.declared.action.Action.TheVariants as actions
+use Rattle.h41_keys.specs.declared.input.Input.{Input}
+use Rattle.h41_keys.specs.declared.input.Pressed.{Pressed}
+use Rattle.h41_keys.specs.declared.key.Key.{Key}
+use Rattle.h41_pages.specs.FunctionTables.{found}
+use Rattle.h41_pages.specs.PageMap.{PageMap}
+use Rattle.h41_program.specs.SearchLaws.{AnswersAreDetermined}
+use Rattle.h41_program.specs.Searches.{named_in, position_of}
+use Rattle.h41_program.specs.declared.listed_line.ListedLine.{ListedLine}
+use Rattle.h41_program.specs.declared.refusal.ProgramRefusal.{ProgramRefusal}
+use Rattle.h41_ram.specs.RegisterMap.{RegisterMap}
+use Rattle.h41_rows.specs.RowLaws.{ValuesAreDetermined}
+use Rattle.h41_rows.specs.Values.{Computes, Written}
+use Rattle.h41_rows.specs.declared.fault.LineFault.{LineFault}
+use Rattle.h41_text.specs.TextLaws.{OneLineOfText}
+use Rattle.h41_xrom.proofs.StepLaws.{line_determined, same_function}
+use Rattle.h41_xrom.specs.Calculator.{CalculatorState, machine_of}
+use Rattle.h41_xrom.specs.CalculatorLaws.{KeyIsDetermined}
+use Rattle.h41_xrom.specs.KeyActions.{Acts, BeginsNumber, Carries, ChangesNumber, Edits, Effect, IsStoredAs, KeyMakes, Leaves, StoredElsewhere, StoredFunction, StoredName, StoresLine, begun, changed, edit_effect, finished, key_refusal, line_effect, pressed, told}
+use Rattle.h41_xrom.specs.declared.lines.Source.{Source}
+use Rattle.h41_xrom.specs.declared.lines.Source.TheVariants as sources
+use Rattle.h41_xrom.specs.declared.refusal.CalculatorRefusal.{CalculatorRefusal}
+
+-- what an action makes
+abbrev Made : Type 0
+Made = Result Effect CalculatorRefusal
+
+-- a change of the program, or a move
+same_edit : (Edit : Machine → Result Machine ProgramRefusal → Type 0) (same : MoveIsDetermined Edit) (machine : Machine) (a b : Made)
+    → Edits Edit machine a → Edits Edit machine b → a ≡ b
+same_edit Edit same machine a b (p, p_edits, p_is) (q, q_edits, q_is) = p_is ∙ ap edit_effect (same machine p q p_edits q_edits) ∙ sym q_is
+
+-- a number that is typed
+same_register : (register other : List ℕ) → ◌≡◌ {A = Result (List ℕ) LineFault} (Ok register) (Ok other) → register ≡ other
+same_register register other is = cc
+
+module _ (same_value : ValuesAreDetermined) where
+  same_written : (text : List Character) (memory : RegisterMap) (register other : List ℕ)
+      → Computes (Written text) memory 0 (Ok register) → Computes (Written text) memory 0 (Ok other) → register ≡ other
+  same_written text memory register other p q = same_register register other (same_value (Written text) memory 0 (Ok register) (Ok other) p q)
+
+  same_beginning : (text : List Character) (machine : Machine) (a b : Made) → BeginsNumber text machine a → BeginsNumber text machine b → a ≡ b
+  same_beginning text machine a b (p, p_computes, p_is) (q, q_computes, q_is) =
+      p_is ∙ ap (λ (of : List ℕ). Ok (Leaves (begun machine of))) (same_written text machine.memory p q p_computes q_computes) ∙ sym q_is
+
+  same_change : (text : List Character) (machine : Machine) (a b : Made) → ChangesNumber text machine a → ChangesNumber text machine b → a ≡ b
+  same_change text machine a b (p, p_computes, p_is) (q, q_computes, q_is) =
+      p_is ∙ ap (λ (of : List ℕ). Ok (Leaves (changed machine of))) (same_written text machine.memory p q p_computes q_computes) ∙ sym q_is
+
+module _ (same_step : StepIsDetermined) (same_typing : TypedIsDetermined) (same_failure : FailureIsDetermined) (same_passing : PassingIsDetermined) (one_line : OneLineOfText) where
+  -- a line that is carried out
+  same_carry : (source : Source) (pages : PageMap) (machine : Machine) (a b : Made) → Carries source pages machine a → Carries source pages machine b → a ≡ b
+  same_carry source pages machine a b (p, p_carries, p_is) (q, q_carries, q_is) =
+      p_is ∙ ap line_effect (line_determined same_step same_typing same_failure same_passing one_line source pages machine p q p_carries q_carries) ∙ sym q_is
+
+  -- the line that is stored
+  same_stored_function : (function : Option Function) (line a b : Line) → StoredFunction line function a → StoredFunction line function b → a ≡ b
+  same_stored_function (Some function) line a b p q = p ∙ sym q
+  same_stored_function None line a b p q = p ∙ sym q
+
+  same_elsewhere : (numbers : Option (ℕ × ℕ)) (line : Line) (name : List ℕ) (a b : Line)
+      → StoredElsewhere line name numbers a → StoredElsewhere line name numbers b → a ≡ b
+  same_elsewhere (Some numbers) line name a b p q = p ∙ sym q
+  same_elsewhere None line name a b (f, f_named, f_stored) (g, g_named, g_stored) =
+      let same : f ≡ g = same_function same_step same_typing same_failure same_passing one_line name f g f_named g_named in
+      same_stored_function g line a b (subst (λ (function : Option Function). StoredFunction line function a) same f_stored) g_stored
+
+  same_stored_name : (label : Option ℕ) (pages : PageMap) (line : Line) (name : List ℕ) (a b : Line)
+      → StoredName pages line name label a → StoredName pages line name label b → a ≡ b
+  same_stored_name (Some position) pages line name a b p q = p ∙ sym q
+  same_stored_name None pages line name a b p q = same_elsewhere (found pages name) line name a b p q
+
+  module _ (same_search : AnswersAreDetermined (Option ℕ)) where
+    same_stored : (line : Line) (pages : PageMap) (memory : RegisterMap) (a b : Line) → IsStoredAs pages memory line a → IsStoredAs pages memory line b → a ≡ b
+    same_stored (lines.Named ExecuteName name) pages memory a b (p, p_answers, p_stored) (q, q_answers, q_stored) =
+        let same : p ≡ q = same_search memory (λ (listed : List ListedLine). position_of (named_in name listed)) 0 p q p_answers q_answers in
+        same_stored_name q pages (lines.Named ExecuteName name) name a b
+        (subst (λ (label : Option ℕ). StoredName pages (lines.Named ExecuteName name) name label a) same p_stored) q_stored
+    same_stored (lines.Named GoToName name) pages memory a b p q = p ∙ sym q
+    same_stored (lines.Named Wordless name) pages memory a b p q = p ∙ sym q
+    same_stored lines.Null pages memory a b p q = p ∙ sym q
+    same_stored (lines.LocalLabel label) pages memory a b p q = p ∙ sym q
+    same_stored (lines.Number text) pages memory a b p q = p ∙ sym q
+    same_stored (lines.Register function register) pages memory a b p q = p ∙ sym q
+    same_stored (lines.Plain function) pages memory a b p q = p ∙ sym q
+    same_stored (lines.WithOperand function operand) pages memory a b p q = p ∙ sym q
+    same_stored (lines.Module number entry) pages memory a b p q = p ∙ sym q
+    same_stored (lines.BranchIndirect branch register) pages memory a b p q = p ∙ sym q
+    same_stored (lines.ShortGoTo label distance) pages memory a b p q = p ∙ sym q
+    same_stored (lines.GlobalLabel link key name) pages memory a b p q = p ∙ sym q
+    same_stored (lines.End link marks) pages memory a b p q = p ∙ sym q
+    same_stored (lines.FinalEnd link marks) pages memory a b p q = p ∙ sym q
+    same_stored (lines.BranchTo branch distance backwards label) pages memory a b p q = p ∙ sym q
+    same_stored (lines.Text text) pages memory a b p q = p ∙ sym q
+
+    module _ (same_next : MoveIsDetermined ShowsNext) (same_before : MoveIsDetermined ShowsBefore) (same_ending : MoveIsDetermined GoesToEnd) (same_insertion : ChangeIsDetermined Inserts) (same_replacement : ChangeIsDetermined Replaces) (same_deletion : MoveIsDetermined Deletes) (same_value : ValuesAreDetermined) where
+      same_storing : (pages : PageMap) (line : Line) (machine : Machine) (a b : Made) → StoresLine pages line machine a → StoresLine pages line machine b → a ≡ b
+      same_storing pages line machine a b (p, p_stored, p_edits) (q, q_stored, q_edits) =
+          let same : p ≡ q = same_stored line pages machine.memory p q p_stored q_stored in
+          same_edit (Inserts q) (same_insertion q) machine a b (subst (λ (of : Line). Edits (Inserts of) machine a) same p_edits) q_edits
+
+      -- SST
+      same_single : (program_mode : Bool) (pages : PageMap) (machine : Machine) (a b : Made)
+          → MatchBool program_mode (Edits ShowsNext machine a) (Carries sources.Program pages machine a)
+          → MatchBool program_mode (Edits ShowsNext machine b) (Carries sources.Program pages machine b) → a ≡ b
+      same_single true pages machine a b p q = same_edit ShowsNext same_next machine a b p q
+      same_single false pages machine a b p q = same_carry sources.Program pages machine a b p q
+
+      -- each action
+      same_act : (action : Action) (pages : PageMap) (program_mode : Bool) (machine : Machine) (a b : Made)
+          → Acts pages program_mode action machine a → Acts pages program_mode action machine b → a ≡ b
+      same_act actions.Nothing pages program_mode machine a b p q = p ∙ sym q
+      same_act actions.Stop pages program_mode machine a b p q = p ∙ sym q
+      same_act actions.Run pages program_mode machine a b p q = p ∙ sym q
+      same_act actions.Step pages program_mode machine a b p q = same_single program_mode pages machine a b p q
+      same_act actions.StepBack pages program_mode machine a b p q = same_edit ShowsBefore same_before machine a b p q
+      same_act actions.GoToEnd pages program_mode machine a b p q = same_edit GoesToEnd same_ending machine a b p q
+      same_act (actions.CarryOut line) pages program_mode machine a b p q = same_carry (sources.Keys line) pages machine a b p q
+      same_act (actions.Insert line) pages program_mode machine a b p q = same_storing pages line machine a b p q
+      same_act (actions.Replace line) pages program_mode machine a b p q = same_edit (Replaces line) (same_replacement line) machine a b p q
+      same_act actions.Delete pages program_mode machine a b p q = same_edit Deletes same_deletion machine a b p q
+      same_act (actions.BeginNumber text) pages program_mode machine a b p q = same_beginning same_value text machine a b p q
+      same_act (actions.ChangeNumber text) pages program_mode machine a b p q = same_change same_value text machine a b p q
+      same_act actions.EndNumber pages program_mode machine a b p q = same_carry (sources.Keys (lines.Plain ClearX)) pages machine a b p q
+      same_act actions.ToggleAlpha pages program_mode machine a b p q = p ∙ sym q
+      same_act (actions.BeginText letter) pages program_mode machine a b p q = p ∙ sym q
+      same_act (actions.AddLetter letter) pages program_mode machine a b p q = p ∙ sym q
+      same_act actions.TakeLetter pages program_mode machine a b p q = p ∙ sym q
+      same_act actions.ClearAlpha pages program_mode machine a b p q = p ∙ sym q
+
+      -- what a key makes
+      same_made : (why : Option CalculatorRefusal) (s : CalculatorState) (key : Key) (action : Action) (input : Input) (a b : Result CalculatorState CalculatorRefusal)
+          → MatchOption why ((effect : Made) × Acts s.nut.pages input.program_mode action (machine_of s) effect × (a ≡ finished (told key input s) effect)) (λ why. a ≡ Err why)
+          → MatchOption why ((effect : Made) × Acts s.nut.pages input.program_mode action (machine_of s) effect × (b ≡ finished (told key input s) effect)) (λ why. b ≡ Err why) → a ≡ b
+      same_made None s key action input a b p q =
+          p.2 ∙ ap (finished (told key input s)) (same_act action s.nut.pages input.program_mode (machine_of s) p.0 q.0 p.1 q.1) ∙ sym q.2
+      same_made (Some why) s key action input a b p q = p ∙ sym q
+
+      same_key : (of : Option Pressed) (s : CalculatorState) (key : Key) (a b : Result CalculatorState CalculatorRefusal)
+          → KeyMakes s key of a → KeyMakes s key of b → a ≡ b
+      same_key None s key a b p q = p ∙ sym q
+      same_key (Some of) s key a b p q = same_made (key_refusal s) s key of.action of.input a b p q
+
+      pub key_determined : KeyIsDetermined
+      key_determined key s t u a b p q =
+          let made : p.0 ≡ q.0 = same_key (pressed s key) s key p.0 q.0 p.1 q.1 in
+          (p.2.0 ∙ ap (λ (of : Result CalculatorState CalculatorRefusal). result_unwrap_or of s) made ∙ sym q.2.0, p.2.1 ∙ ap result_err made ∙ sym q.2.1)

@@ -1,0 +1,105 @@
+-- A key that is pressed, by what the keyboard answers: while a program or a function runs it does nothing but to stop a program.
+use Rattle.std.proofs.Common.{◌≡◌, Option, Some, None, Err, refl, sym, subst, ap, ◌∙◌}
+use Rattle.h41_keys.specs.Keyboard.{row_of}
+use Rattle.h41_keys.specs.KeyPress as keyboard
+use Rattle.h41_keys.specs.KeyPress.{does, presses}
+use Rattle.h41_keys.specs.declared.action.Action.{Action}
+use Rattle.h41_keys.specs.declared.action.Action.TheVariants as actions
+use Rattle.h41_keys.specs.declared.input.Flags.{Flags}
+use Rattle.h41_keys.specs.declared.input.Input.{Input}
+use Rattle.h41_keys.specs.declared.input.Mode as keyboard_mode
+use Rattle.h41_keys.specs.declared.input.Pressed.{Pressed}
+use Rattle.h41_keys.specs.declared.key.Key.{Key}
+use Rattle.h41_keys.specs.declared.meaning.Meaning.{Meaning}
+use Rattle.h41_keys.specs.declared.meaning.Meaning.TheVariants as means
+use Rattle.h41_xrom.specs.Calculator.{CalculatorState}
+use Rattle.h41_xrom.specs.KeyActions.{Presses, flags_of, pressed, waiting}
+use Rattle.h41_xrom.specs.KeyCalls.{Accepts, IsQuiet}
+use Rattle.h41_xrom.specs.declared.calculator.Mode.{Mode}
+use Rattle.h41_xrom.specs.declared.calculator.Mode.TheVariants as modes
+use Rattle.h41_xrom.specs.declared.calculator.Caller.{Caller}
+use Rattle.h41_xrom.specs.declared.refusal.CalculatorRefusal.{CalculatorRefusal}
+use Rattle.h41_xrom.specs.declared.refusal.CalculatorRefusal.TheVariants.{KeyNotHeld}
+
+-- the action of what a key leads to
+same_action : (own action : Action) (input after : Input) → ◌≡◌ {A = Option Pressed} (Some (does own input)) (Some (does action after)) → own ≡ action
+same_action own action input after is =
+    let same : does own input ≡ does action after = cc in ap (λ (of : Pressed). of.action) same
+
+quiet_by : (mode : Mode) (own action : Action) (input after : Input) → IsQuiet mode own
+    → ◌≡◌ {A = Option Pressed} (Some (does own input)) (Some (does action after)) → IsQuiet mode action
+quiet_by mode own action input after quiet is = subst (IsQuiet mode) (same_action own action input after is) quiet
+
+never : (mode : Mode) (action : Action) (after : Input) → ◌≡◌ {A = Option Pressed} None (Some (does action after)) → IsQuiet mode action
+never mode action after is = absurd (let no : ⊥ = cc in no)
+
+-- while a program runs
+quiet_in_run : (meaning : Meaning) (input : Input) (action : Action) (after : Input)
+    → keyboard.while_running input meaning ≡ Some (does action after) → IsQuiet modes.Run action
+quiet_in_run means.Nothing input action after is = never modes.Run action after is
+quiet_in_run means.Shift input action after is = quiet_by modes.Run actions.Nothing action input after tt is
+quiet_in_run means.Alpha input action after is = quiet_by modes.Run actions.Nothing action input after tt is
+quiet_in_run means.Program input action after is = quiet_by modes.Run actions.Nothing action input after tt is
+quiet_in_run means.Step input action after is = quiet_by modes.Run actions.Nothing action input after tt is
+quiet_in_run means.StepBack input action after is = quiet_by modes.Run actions.Nothing action input after tt is
+quiet_in_run means.RunStop input action after is = quiet_by modes.Run actions.Stop action input after tt is
+quiet_in_run means.Back input action after is = quiet_by modes.Run actions.Nothing action input after tt is
+quiet_in_run means.LetterBack input action after is = quiet_by modes.Run actions.Nothing action input after tt is
+quiet_in_run (means.Digit it) input action after is = quiet_by modes.Run actions.Nothing action input after tt is
+quiet_in_run means.Point input action after is = quiet_by modes.Run actions.Nothing action input after tt is
+quiet_in_run means.Exponent input action after is = quiet_by modes.Run actions.Nothing action input after tt is
+quiet_in_run means.Sign input action after is = quiet_by modes.Run actions.Nothing action input after tt is
+quiet_in_run (means.Function it) input action after is = quiet_by modes.Run actions.Nothing action input after tt is
+quiet_in_run (means.Ask it) input action after is = quiet_by modes.Run actions.Nothing action input after tt is
+quiet_in_run (means.Letter it) input action after is = quiet_by modes.Run actions.Nothing action input after tt is
+quiet_in_run means.Append input action after is = quiet_by modes.Run actions.Nothing action input after tt is
+
+-- while a function runs
+quiet_in_micro : (caller : Caller) (meaning : Meaning) (input : Input) (action : Action) (after : Input)
+    → keyboard.while_in_microcode input meaning ≡ Some (does action after) → IsQuiet (modes.Micro caller) action
+quiet_in_micro caller means.Nothing input action after is = never (modes.Micro caller) action after is
+quiet_in_micro caller means.Shift input action after is = quiet_by (modes.Micro caller) actions.Nothing action input after tt is
+quiet_in_micro caller means.Alpha input action after is = quiet_by (modes.Micro caller) actions.Nothing action input after tt is
+quiet_in_micro caller means.Program input action after is = quiet_by (modes.Micro caller) actions.Nothing action input after tt is
+quiet_in_micro caller means.Step input action after is = quiet_by (modes.Micro caller) actions.Nothing action input after tt is
+quiet_in_micro caller means.StepBack input action after is = quiet_by (modes.Micro caller) actions.Nothing action input after tt is
+quiet_in_micro caller means.RunStop input action after is = quiet_by (modes.Micro caller) actions.Nothing action input after tt is
+quiet_in_micro caller means.Back input action after is = quiet_by (modes.Micro caller) actions.Nothing action input after tt is
+quiet_in_micro caller means.LetterBack input action after is = quiet_by (modes.Micro caller) actions.Nothing action input after tt is
+quiet_in_micro caller (means.Digit it) input action after is = quiet_by (modes.Micro caller) actions.Nothing action input after tt is
+quiet_in_micro caller means.Point input action after is = quiet_by (modes.Micro caller) actions.Nothing action input after tt is
+quiet_in_micro caller means.Exponent input action after is = quiet_by (modes.Micro caller) actions.Nothing action input after tt is
+quiet_in_micro caller means.Sign input action after is = quiet_by (modes.Micro caller) actions.Nothing action input after tt is
+quiet_in_micro caller (means.Function it) input action after is = quiet_by (modes.Micro caller) actions.Nothing action input after tt is
+quiet_in_micro caller (means.Ask it) input action after is = quiet_by (modes.Micro caller) actions.Nothing action input after tt is
+quiet_in_micro caller (means.Letter it) input action after is = quiet_by (modes.Micro caller) actions.Nothing action input after tt is
+quiet_in_micro caller means.Append input action after is = quiet_by (modes.Micro caller) actions.Nothing action input after tt is
+
+quiet : (mode : Mode) (input : Input) (key : Key) (flags : Flags) (action : Action) (after : Input)
+    → presses input key (waiting mode) flags ≡ Some (does action after) → IsQuiet mode action
+quiet modes.Idle input key flags action after is = tt
+quiet modes.Run input key flags action after is = quiet_in_run (row_of key).plain input action after is
+quiet (modes.Micro caller) input key flags action after is = quiet_in_micro caller (row_of key).plain input action after is
+
+-- what the keyboard was asked
+asked : (from s : CalculatorState) (key : Key) (mode : keyboard_mode.Mode) (flags : Flags) → from ≡ s → mode ≡ waiting s.mode → flags ≡ flags_of s
+    → presses from.input key mode flags ≡ pressed s key
+asked from s key mode flags is waits held = λ i. presses (is i).input key (waits i) (held i)
+
+pub key_quiet : (input : Input) (s : CalculatorState) (key : Key) (mode : keyboard_mode.Mode) (flags : Flags) (action : Action) (after : Input)
+    → mode ≡ waiting s.mode → keyboard.Accepts input key mode flags action after → IsQuiet s.mode action
+key_quiet input s key mode flags action after waits accepts =
+    quiet s.mode input key flags action after (ap (λ (of : keyboard_mode.Mode). presses input key of flags) (sym waits) ∙ accepts)
+
+-- it has no meaning
+pub key_unknown : (from s : CalculatorState) (key : Key) (mode : keyboard_mode.Mode) (flags : Flags) (why : CalculatorRefusal)
+    → from ≡ s → mode ≡ waiting s.mode → flags ≡ flags_of s → presses from.input key mode flags ≡ None → why ≡ KeyNotHeld → Presses key s s (Some why)
+key_unknown from s key mode flags why is waits held none same =
+    (Err KeyNotHeld, rw (sym (asked from s key mode flags is waits held) ∙ none) refl, (refl, ap Some same))
+
+-- it has one
+pub key_known : (from s t : CalculatorState) (key : Key) (mode : keyboard_mode.Mode) (flags : Flags) (action : Action) (after : Input) (refusal : Option CalculatorRefusal)
+    → from ≡ s → mode ≡ waiting s.mode → flags ≡ flags_of s → keyboard.Accepts from.input key mode flags action after → Accepts key after action s t refusal
+    → Presses key s t refusal
+key_known from s t key mode flags action after refusal is waits held accepts (made, makes, becomes) =
+    (made, rw (sym (asked from s key mode flags is waits held) ∙ accepts) makes, becomes)

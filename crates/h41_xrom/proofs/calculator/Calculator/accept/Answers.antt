@@ -1,0 +1,20 @@
+use Rattle.std.proofs.Common.{ap, ◌∙◌}
+use Rattle.std.proofs.lemmas.Result.{err_from_is_err_and}
+use Rattle.h41_xrom.proofs.Keying.{key_done, key_failed, key_lost}
+use Rattle.h41_xrom.specs.KeyCalls.{after_effect}
+use Rattle.h41_xrom.proofs.calculator.Calculator.accept.Goals as goal
+
+pub returns-in_err-check_memory : goal.returns-in_err-check_memory
+returns-in_err-check_memory c =
+    let p = err_from_is_err_and c.from_residual.result c.from_residual.ensures.1 in
+    rw (p.1, p.2) (key_lost c.args.key c.args.input c.args.action c.args.self.now _ (c.in_err-check_memory.ensures))
+
+pub returns-in-Ok : goal.returns-in-Ok
+returns-in-Ok c =
+    key_done c.args.key c.args.input c.args.action _ c.args.self.now _ c.act.new.ram c.act.new.focal c.in-Ok.effect c.self.view_is (c.in_ok-check_memory.ensures)
+    (c.in-Ok.ensures).effect (c.finish.ensures ∙ ap (after_effect c.in-Ok.effect) c.tell.ensures)
+
+pub returns-in-Err : goal.returns-in-Err
+returns-in-Err c =
+    key_failed c.args.key c.args.input c.args.action _ c.args.self.now c.act.new.ram c.act.new.focal c.in-Err.refusal c.self.view_is
+    (c.in_ok-check_memory.ensures) (c.in-Err.ensures).effect (c.in-Err.ensures).unchanged

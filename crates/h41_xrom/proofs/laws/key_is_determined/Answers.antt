@@ -1,0 +1,16 @@
+use Rattle.h41_xrom.proofs.KeyLaws.{key_determined}
+use Rattle.h41_xrom.proofs.laws.key_is_determined.Goals as goal
+
+pub returns : goal.returns
+returns c =
+    key_determined c.line_is_determined.ensures.step c.line_is_determined.ensures.typed c.line_is_determined.ensures.failure
+    c.line_is_determined.ensures.passing
+    c.line_text_round_trip.ensures.one
+    c.searches_are_determined.ensures.global
+    c.moves_are_determined.ensures.next
+    c.moves_are_determined.ensures.before
+    c.moves_are_determined.ensures.end
+    c.changes_are_determined.ensures.insertion
+    c.changes_are_determined.ensures.replacement
+    c.changes_are_determined.ensures.deletion
+    c.values_are_determined.ensures

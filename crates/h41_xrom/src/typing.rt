@@ -1,0 +1,95 @@
+//! What numbers and letters that are typed make of memory. Nothing more is to be done then.
+
+ghost use Rattle.std.specs.Prelude.{◌≡◌, [], ◌∷◌, ◌++◌, take};
+ghost use Rattle.h41_ram.specs.RegisterMap.{alpha_of};
+ghost use Rattle.h41_xrom.specs.KeyActions.{with_letters, with_text};
+ghost use Rattle.h41_xrom.specs.KeyCalls as calls;
+ghost use Rattle.h41_xrom.specs.declared.acting.Effect.TheVariants.{Nothing};
+
+use crate::acting::Effect;
+use h41_codes::Number;
+use h41_focal::Focal;
+use h41_ram::{ALPHA_LENGTH, Ram};
+use h41_rows::{append_text, bring_in, replace_text, written};
+
+/// The flag that a number sets which is typed.
+const NUMBER_FLAG: usize = 22;
+
+/// The flag that letters set which are typed.
+const TEXT_FLAG: usize = 23;
+
+/// The flag that brings ALPHA into the display.
+const ALPHA_FLAG: usize = 48;
+
+/// A number comes into X as it begins; the stack is lifted first where lift is on, which it is then.
+pub fn begin_number<const REGS: usize>(
+    ram: &mut Ram<REGS>,
+    focal: &mut Focal,
+    number: &Number,
+) -> Effect
+    ensures memory { calls.Begins number.now ram.old focal.old ram.new focal.new }
+    ensures effect { result ≡ Nothing }
+{
+    bring_in(ram, written(number), focal.lift);
+    ram.set_flag(NUMBER_FLAG, true);
+    focal.lift = true;
+    Effect::Nothing
+}
+
+/// The number in X changes.
+pub fn change_number<const REGS: usize>(ram: &mut Ram<REGS>, number: &Number) -> Effect
+    ensures memory { calls.Changes number.now ram.old ram.new }
+    ensures effect { result ≡ Nothing }
+{
+    bring_in(ram, written(number), false);
+    Effect::Nothing
+}
+
+/// ALPHA is shown and written, or no longer.
+pub fn toggle_alpha<const REGS: usize>(ram: &mut Ram<REGS>) -> Effect
+    ensures memory { ram.new ≡ calls.with_alpha_toggled ram.old }
+    ensures effect { result ≡ Nothing }
+{
+    let on = !ram.flag(ALPHA_FLAG);
+    ram.set_flag(ALPHA_FLAG, on);
+    Effect::Nothing
+}
+
+/// A letter is the first of ALPHA.
+pub fn begin_text<const REGS: usize>(ram: &mut Ram<REGS>, letter: u8) -> Effect
+    ensures memory { ram.new ≡ with_letters ram.old (letter ∷ []) }
+    ensures effect { result ≡ Nothing }
+{
+    replace_text(ram, &[letter]);
+    ram.set_flag(TEXT_FLAG, true);
+    Effect::Nothing
+}
+
+/// A letter comes behind what ALPHA holds.
+pub fn add_letter<const REGS: usize>(ram: &mut Ram<REGS>, letter: u8) -> Effect
+    ensures memory { ram.new ≡ with_letters ram.old (alpha_of ram.old ++ letter ∷ []) }
+    ensures effect { result ≡ Nothing }
+{
+    append_text(ram, &[letter]);
+    ram.set_flag(TEXT_FLAG, true);
+    Effect::Nothing
+}
+
+/// ALPHA's last character goes.
+pub fn take_letter<const REGS: usize>(ram: &mut Ram<REGS>) -> Effect
+    ensures memory { ram.new ≡ with_text ram.old (take 23 (alpha_of ram.old)) }
+    ensures effect { result ≡ Nothing }
+{
+    let alpha = ram.alpha();
+    replace_text(ram, &alpha[..ALPHA_LENGTH - 1]);
+    Effect::Nothing
+}
+
+/// ALPHA is cleared.
+pub fn clear_alpha<const REGS: usize>(ram: &mut Ram<REGS>) -> Effect
+    ensures memory { ram.new ≡ with_text ram.old [] }
+    ensures effect { result ≡ Nothing }
+{
+    replace_text(ram, &[]);
+    Effect::Nothing
+}

@@ -1,6 +1,9 @@
 pub mod BlockLines
 pub mod BlocksDetermined
+pub mod ClosedBlocks
 pub mod DeckItems
 pub mod Filling
+pub mod KeyWords
+pub mod KeysInCells
 pub mod ProgramTextLines
 pub mod WordValues

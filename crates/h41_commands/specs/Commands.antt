@@ -2,6 +2,8 @@
 -- wrong. The language is this project's own.
 use Rattle.std.specs.Prelude.{ℕ, Bool, true, false, List, [], ◌∷◌, if◌then◌else◌, Option, Some, None, is_some, Result, Ok, Err, codes, bytes_eq}
 use Rattle.std.specs.Option.{option_map_or}
+use Rattle.h41_keys.specs.declared.key.Key.{Key}
+use Rattle.h41_keys.specs.Keyboard.{key_named}
 use Rattle.h41_commands.specs.declared.commands.Command.{Command}
 use Rattle.h41_commands.specs.declared.commands.Command.TheVariants.{Plug, Load, Unplug, Size, Reset, Call, Step, Show}
 use Rattle.h41_commands.specs.declared.commands.Command.TheVariants as commands
@@ -9,6 +11,8 @@ use Rattle.h41_commands.specs.declared.commands.BlockKind.{BlockKind}
 use Rattle.h41_commands.specs.declared.commands.BlockKind.TheVariants.{Page, Program}
 use Rattle.h41_commands.specs.declared.commands.PageKind.{PageKind}
 use Rattle.h41_commands.specs.declared.commands.PageKind.TheVariants.{Words, Image, Asm}
+use Rattle.h41_commands.specs.declared.commands.PlainKind.{PlainKind}
+use Rattle.h41_commands.specs.declared.commands.PlainKind.TheVariants as plain
 use Rattle.h41_commands.specs.declared.commands.ProgramKind.{ProgramKind}
 use Rattle.h41_commands.specs.declared.commands.ProgramKind.TheVariants.{Bytes, Text}
 use Rattle.h41_commands.specs.declared.commands.View.{View}
@@ -77,6 +81,20 @@ step_command [] = Ok (Step 1)
 step_command (count ∷ []) = and_then (number_up_to most_steps 10 count) (λ count. Ok (Step count))
 step_command operands = Err BadCommand
 
+-- the key that a word names
+abbrev pub key_of : List ℕ → Result Key LineRefusal
+key_of name = option_map_or (λ key. Ok key) (key_named name) (Err BadCommand)
+
+-- the keys that words name, in their order
+abbrev pub keys_of : List (List ℕ) → Result (List Key) LineRefusal
+keys_of [] = Ok []
+keys_of (name ∷ names) = and_then (key_of name) (λ key. and_then (keys_of names) (λ keys. Ok (key ∷ keys)))
+
+-- key NAME ..
+abbrev pub key_command : List (List ℕ) → Result Command LineRefusal
+key_command [] = Err BadCommand
+key_command names = and_then (keys_of names) (λ keys. Ok (commands.Key keys))
+
 -- list hhhh n
 abbrev pub listing_of : ℕ → List ℕ → Result Command LineRefusal
 listing_of address count = and_then (count_up_to most_words count) (λ count. Ok (commands.List address count))
@@ -136,21 +154,36 @@ abbrev pub opening_command : BlockKind → List (List ℕ) → Result Command Li
 opening_command (Page kind) operands = plug_command kind operands
 opening_command (Program kind) operands = load_command kind operands
 
--- how the words behind the name of a command that opens no block are read
-abbrev pub commands_by_name : List (List ℕ × (List (List ℕ) → Result Command LineRefusal))
-commands_by_name =
-    (codes "unplug", unplug_command)
-    ∷ (codes "size", size_command)
-    ∷ (codes "reset", reset_command)
-    ∷ (codes "call", call_command)
-    ∷ (codes "step", step_command)
-    ∷ (codes "list", list_command)
-    ∷ (codes "show", show_command)
+-- the commands that open no block, by their first words
+abbrev pub plain_by_name : List (List ℕ × PlainKind)
+plain_by_name =
+    (codes "unplug", plain.Unplug)
+    ∷ (codes "size", plain.Size)
+    ∷ (codes "reset", plain.Reset)
+    ∷ (codes "call", plain.Call)
+    ∷ (codes "step", plain.Step)
+    ∷ (codes "list", plain.List)
+    ∷ (codes "show", plain.Show)
+    ∷ (codes "key", plain.Key)
     ∷ []
 
+unfoldable pub plain_of_word : List ℕ → Option PlainKind
+plain_of_word name = named_in plain_by_name name
+
+-- how the words behind its name are read
+abbrev pub read_plain : PlainKind → List (List ℕ) → Result Command LineRefusal
+read_plain plain.Unplug operands = unplug_command operands
+read_plain plain.Size operands = size_command operands
+read_plain plain.Reset operands = reset_command operands
+read_plain plain.Call operands = call_command operands
+read_plain plain.Step operands = step_command operands
+read_plain plain.List operands = list_command operands
+read_plain plain.Show operands = show_command operands
+read_plain plain.Key operands = key_command operands
+
 -- the command of a line that opens no block, by its first word
-unfoldable pub plain_command : List ℕ → List (List ℕ) → Result Command LineRefusal
-plain_command name operands = option_map_or (λ read. read operands) (named_in commands_by_name name) (Err BadCommand)
+abbrev pub plain_command : List ℕ → List (List ℕ) → Result Command LineRefusal
+plain_command name operands = option_map_or (λ kind. read_plain kind operands) (plain_of_word name) (Err BadCommand)
 
 -- the command of a line, by the kind of the block that its first word opens
 abbrev pub command_by : Option BlockKind → List ℕ → List (List ℕ) → Result Command LineRefusal

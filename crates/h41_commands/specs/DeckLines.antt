@@ -9,6 +9,10 @@ longest_line = 200
 abbrev pub is_long : List ℕ → Bool
 is_long line = nat_lt longest_line (length line)
 
+-- the most keys that a line can name: behind 'key' each takes a blank and a byte at least
+abbrev pub most_keys : ℕ
+most_keys = 98
+
 -- a line that says nothing: a blank one, or a comment, whose first byte is '#'
 abbrev pub is_skipped : List ℕ → Bool
 is_skipped line = length (words_of line) == 0 || slice_index line 0 == 35

@@ -2,6 +2,9 @@
 
 ghost use Rattle.std.specs.Prelude.{◌≡◌};
 
+use crate::commands::keys::Keys;
+
+pub mod keys;
 pub mod number;
 pub mod parse;
 
@@ -48,6 +51,51 @@ impl BlockKind {
             b"asm" => Some(BlockKind::Page(PageKind::Asm)),
             b"load" => Some(BlockKind::Program(ProgramKind::Bytes)),
             b"program" => Some(BlockKind::Program(ProgramKind::Text)),
+            _ => None,
+        }
+    }
+}
+
+/// The commands that open no block.
+#[derive(Clone, Copy, Debug, PartialEq, Eq)]
+pub(crate) enum PlainKind {
+    /// `unplug`.
+    Unplug,
+    /// `size`.
+    Size,
+    /// `reset`.
+    Reset,
+    /// `call`.
+    Call,
+    /// `step`.
+    Step,
+    /// `list`.
+    List,
+    /// `show`.
+    Show,
+    /// `key`.
+    Key,
+}
+
+impl PlainKind {
+    ghost use Rattle.std.specs.Prelude.{◌≤◌, length, IsSome};
+    ghost use Rattle.h41_commands.specs.Commands.{plain_of_word};
+
+    /// The command whose first word this is; nothing where it is that of none.
+    #[tactic(auto, unfolding(crate::specs::Commands::plain_of_word))]
+    pub(crate) fn of_word(word: &[u8]) -> Option<Self>
+        ensures kind { result ≡ plain_of_word word.now }
+        ensures long { IsSome result → 3 ≤ length word.now }
+    {
+        match word {
+            b"unplug" => Some(PlainKind::Unplug),
+            b"size" => Some(PlainKind::Size),
+            b"reset" => Some(PlainKind::Reset),
+            b"call" => Some(PlainKind::Call),
+            b"step" => Some(PlainKind::Step),
+            b"list" => Some(PlainKind::List),
+            b"show" => Some(PlainKind::Show),
+            b"key" => Some(PlainKind::Key),
             _ => None,
         }
     }
@@ -107,6 +155,8 @@ pub enum Command {
     },
     /// `show WHAT`: prints a view.
     Show(View),
+    /// `key NAME ..`: presses keys in turn.
+    Key(Keys),
 }
 
 impl Command {

@@ -1,11 +1,11 @@
 //! The items of a deck, one at a time.
 
 ghost use Rattle.std.specs.List.{after_first, before_first, list_any};
-ghost use Rattle.std.specs.Prelude.{◌≡◌, [], is_some, IfOk, OnOk};
+ghost use Rattle.std.specs.Prelude.{◌≡◌, ◌≤◌, [], length, is_some, IfOk, OnOk};
 ghost use Rattle.h41_commands.specs.Blocks.{HasTaken};
 ghost use Rattle.h41_commands.specs.Entries.{IfTaken, NextOf, TakesSome, given, left};
 ghost use Rattle.h41_commands.specs.Items.{opened_block, spelled_by};
-ghost use Rattle.h41_commands.specs.DeckLines.{is_end};
+ghost use Rattle.h41_commands.specs.DeckLines.{is_end, longest_line};
 
 use crate::blocks::Block;
 use crate::commands::Command;
@@ -41,19 +41,22 @@ pub fn next_item(alloc: Global, rest: &mut Lines<'_>) -> Result<Option<Item>, Al
 
 /// The command of one line.
 fn line_item(alloc: Global, line: &[u8]) -> Item
+    requires { length line.now ≤ longest_line }
     ensures { given result ≡ spelled_by line.now [] }
 {
     match parse(line) {
-        Ok(command) => Item::Given(Entry {
-            command,
-            block: Block::new(alloc, command),
-        }),
+        Ok(command) => {
+            let held = command;
+            let block = Block::new(alloc, held);
+            Item::Given(Entry { command, block })
+        }
         Err(refusal) => Item::Refused(refusal),
     }
 }
 
 /// The item of a block by its first line; takes the block's other lines.
 fn block_item(alloc: Global, first: &[u8], rest: &mut Lines<'_>) -> Result<Item, AllocError>
+    requires { length first.now ≤ longest_line }
     ensures item { IfOk result (λ item. given item ≡ opened_block first.now (left rest.old)) }
     ensures rest { OnOk result (left rest.new ≡ after_first is_end (left rest.old)) }
 {

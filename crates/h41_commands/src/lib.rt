@@ -11,6 +11,7 @@ mod refusal;
 
 pub use blocks::Block;
 pub use blocks::page_words::PAGE_WORDS;
+pub use commands::keys::Keys;
 pub use commands::parse::parse;
 pub use commands::{BlockKind, Command, PageKind, ProgramKind, View};
 pub use item::{Entry, Item};

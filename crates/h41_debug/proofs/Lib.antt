@@ -1,1 +1,2 @@
+pub mod KeysInTurn
 pub mod StepsInTurn

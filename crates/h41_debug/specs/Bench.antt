@@ -1,7 +1,9 @@
--- The bench: its state, and single steps in turn.
-use Rattle.std.specs.Prelude.{◌≡◌, ℕ, zero, suc, Option, Some, None, MatchOption}
+-- The bench: its state, single steps in turn, and keys in turn.
+use Rattle.std.specs.Prelude.{◌≡◌, ℕ, zero, suc, List, [], ◌∷◌, Option, Some, None, MatchOption}
+use Rattle.h41_keys.specs.declared.key.Key.{Key}
 use Rattle.h41_xrom.specs.Calculator.{CalculatorState, RefusesStep, Step}
 use Rattle.h41_xrom.specs.Calculator as calculator
+use Rattle.h41_xrom.specs.KeyActions.{Presses}
 use Rattle.h41_xrom.specs.declared.refusal.CalculatorRefusal.{CalculatorRefusal}
 
 -- The state of the bench.
@@ -22,3 +24,10 @@ Steps zero s t refusal = (t ≡ s) × (refusal ≡ None)
 Steps (suc count) s t refusal =
     (why : Option CalculatorRefusal) × RefusesStep s.calculator why
     × MatchOption why ((next : CalculatorState) × Step s.calculator next × Steps count (with_calculator next s) t refusal) (λ why. (t ≡ s) × (refusal ≡ Some why))
+
+-- keys in turn, up to the first that is refused, and its refusal; that key changes nothing
+abbrev pub PressesInTurn : List Key → BenchState → BenchState → Option CalculatorRefusal → Type 0
+PressesInTurn [] s t refusal = (t ≡ s) × (refusal ≡ None)
+PressesInTurn (key ∷ keys) s t refusal =
+    (next : CalculatorState) × (why : Option CalculatorRefusal) × Presses key s.calculator next why
+    × MatchOption why (PressesInTurn keys (with_calculator next s) t refusal) (λ why. (t ≡ with_calculator next s) × (refusal ≡ Some why))

@@ -3,8 +3,9 @@
 ghost use Rattle.std.specs.Prelude.{◌≡◌, IfOk};
 ghost use Rattle.std.specs.Result.{result_err};
 ghost use Rattle.std.specs.Borrow.{sem};
-ghost use Rattle.h41_debug.specs.Bench.{Steps, start};
+ghost use Rattle.h41_debug.specs.Bench.{PressesInTurn, Steps, start};
 
+use h41_keys::Key;
 use h41_xrom::{Calculator, CalculatorRefusal};
 use std::alloc::{AllocError, Global};
 use std::marker::Model;
@@ -56,6 +57,16 @@ impl Bench {
     {
         for _step in 0..count {
             self.calculator.step()?;
+        }
+        Ok(())
+    }
+
+    /// Presses keys in turn, up to the first that is refused.
+    pub fn press(&mut self, keys: &[Key]) -> Result<(), CalculatorRefusal>
+        ensures { PressesInTurn keys.now self.old self.new (result_err result) }
+    {
+        for key in keys {
+            self.calculator.key(*key)?;
         }
         Ok(())
     }

@@ -13,11 +13,11 @@ use Rattle.h41_commands.specs.Items.{Spelled}
 use Rattle.h41_commands.specs.Items as items
 use Rattle.h41_lines.specs.Lines.{lines}
 use Rattle.h41_debug.specs.Bench.{BenchState, start, with_calculator}
-use Rattle.h41_debug.specs.BenchLaws.{StepsAreDetermined}
+use Rattle.h41_debug.specs.BenchLaws.{PressesAreDetermined, StepsAreDetermined}
 use Rattle.h41_program.specs.ProgramLaws.{ListsAreDetermined}
 use Rattle.h41_xrom.specs.declared.refusal.CalculatorRefusal.{CalculatorRefusal}
 use Rattle.h41_xrom.specs.Calculator.{CalculatorState}
-use Rattle.h41_xrom.specs.CalculatorLaws.{LoadIsDetermined}
+use Rattle.h41_xrom.specs.CalculatorLaws.{DisplayIsDetermined, LoadIsDetermined}
 use Rattle.h41_xrom.specs.Programs.{Becomes, Loads, size_makes}
 use Rattle.h41_deck.specs.declared.refusal.Refusal.{Refusal}
 use Rattle.h41_deck.specs.declared.refusal.Refusal.TheVariants.{Calculator}
@@ -25,7 +25,7 @@ use Rattle.h41_deck.specs.Answers.{Answer, ends_by, printed, says_or_ends}
 use Rattle.h41_deck.specs.Deck.{AnswersInTurn, DeckDeterminesOutcome, DeckDeterminesText, FirstTextIsFront, LongDeckDeterminesText, commands_of, commands_within, outcome_of}
 use Rattle.h41_deck.specs.ProgramListing.{listed_line}
 use Rattle.h41_deck.specs.Replies.{Calls, ItemReply, LoadsBytes, PlugsWords, Reply}
-use Rattle.h41_deck.specs.Views.{Shows}
+use Rattle.h41_deck.specs.Views.{Shows, line_of}
 
 -- a relation of the calculator's that leaves nothing open
 abbrev Leaves : Type 1
@@ -50,7 +50,7 @@ same_plug page writable (Ok words) s t u a b p q = (p.0 ∙ sym q.0, p.1 ∙ sym
 same_plug page writable (Err why) s t u a b p q = (p.0 ∙ sym q.0, p.1 ∙ sym q.1)
 
 module _ (same_steps : StepsAreDetermined) (same_load : LoadIsDetermined) (same_filling : FillingIsDetermined)
-    (same_meaning : MeaningIsDetermined) (same_list : ListsAreDetermined) where
+    (same_meaning : MeaningIsDetermined) (same_list : ListsAreDetermined) (same_keys : PressesAreDetermined) (same_display : DisplayIsDetermined) where
   -- what is loaded
   same_bytes : (bytes : Result (List ℕ) LineRefusal) (s t u : BenchState) (a b : Answer) → LoadsBytes bytes s t a → LoadsBytes bytes s u b → (t ≡ u) × (a ≡ b)
   same_bytes (Ok bytes) s t u a b p q = same_call (Loads bytes) (same_load bytes) s t u a b p q
@@ -66,7 +66,8 @@ module _ (same_steps : StepsAreDetermined) (same_load : LoadIsDetermined) (same_
   same_view views.Stack s a b p q = p ∙ sym q
   same_view views.Flags s a b p q = p ∙ sym q
   same_view views.Alpha s a b p q = p ∙ sym q
-  same_view views.Display s a b p q = p ∙ sym q
+  same_view views.Display s a b p q =
+      p.2 ∙ ap (λ (text : List ℕ). Ok (line_of text)) (same_display s.calculator p.0 q.0 p.1 q.1) ∙ sym q.2
   same_view views.Position s a b p q = p ∙ sym q
   same_view (views.Image page) s a b p q = p ∙ sym q
   same_view views.Functions s a b p q = p ∙ sym q
@@ -84,6 +85,9 @@ module _ (same_steps : StepsAreDetermined) (same_load : LoadIsDetermined) (same_
   same_reply (commands.Call address) values s t u a b p q = (p.0 ∙ sym q.0, p.1 ∙ sym q.1)
   same_reply (commands.Step count) values s t u a b p q =
       let both = same_steps count s t u p.0 q.0 p.1 q.1 in
+      (both.0, p.2 ∙ ap (λ (why : Option CalculatorRefusal). ends_by (option_map Calculator why)) both.1 ∙ sym q.2)
+  same_reply (commands.Key keys) values s t u a b p q =
+      let both = same_keys keys s t u p.0 q.0 p.1 q.1 in
       (both.0, p.2 ∙ ap (λ (why : Option CalculatorRefusal). ends_by (option_map Calculator why)) both.1 ∙ sym q.2)
   same_reply (commands.List address count) values s t u a b p q = (p.0 ∙ sym q.0, p.1 ∙ sym q.1)
   same_reply (commands.Show view) values s t u a b p q =

@@ -11,7 +11,7 @@ use Rattle.h41_nut.specs.declared.refusal.WordRefusal.TheVariants.{UndefinedWord
 use Rattle.h41_program.specs.declared.refusal.ProgramRefusal as program
 use Rattle.h41_program.specs.declared.refusal.ProgramRefusal.TheVariants.{BrokenProgram, NoRoom, SizeTooLarge}
 use Rattle.h41_xrom.specs.declared.refusal.CalculatorRefusal.{CalculatorRefusal}
-use Rattle.h41_xrom.specs.declared.refusal.CalculatorRefusal.TheVariants.{Word, NotInProfile, Program, MemoryLost, Busy}
+use Rattle.h41_xrom.specs.declared.refusal.CalculatorRefusal.TheVariants.{Word, NotInProfile, Program, MemoryLost, KeyNotHeld, Busy}
 use Rattle.h41_deck.specs.declared.refusal.line.Detail.{Detail}
 use Rattle.h41_deck.specs.declared.refusal.line.Detail.TheVariants as details
 use Rattle.h41_deck.specs.declared.refusal.Refusal.{Refusal}
@@ -41,6 +41,7 @@ calculator_name (Word refusal) = word_name refusal
 calculator_name NotInProfile = codes "13 NotInProfile"
 calculator_name (Program refusal) = program_name refusal
 calculator_name MemoryLost = codes "15 MemoryLost"
+calculator_name KeyNotHeld = codes "18 KeyNotHeld"
 calculator_name Busy = codes "24 Busy"
 
 -- a source's

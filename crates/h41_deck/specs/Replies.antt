@@ -3,14 +3,14 @@ use Rattle.std.specs.Prelude.{◌≡◌, ℕ, Bool, true, false, List, Option, S
 use Rattle.h41_commands.specs.declared.commands.PageKind.{PageKind}
 use Rattle.h41_commands.specs.declared.commands.ProgramKind.{ProgramKind}
 use Rattle.h41_commands.specs.declared.commands.Command.{Command}
-use Rattle.h41_commands.specs.declared.commands.Command.TheVariants.{Plug, Load, Unplug, Size, Reset, Call, Step, Show}
+use Rattle.h41_commands.specs.declared.commands.Command.TheVariants.{Plug, Load, Unplug, Size, Reset, Call, Key, Step, Show}
 use Rattle.h41_commands.specs.declared.commands.Command.TheVariants as commands
 use Rattle.h41_commands.specs.declared.refusal.LineRefusal.{LineRefusal}
 use Rattle.h41_commands.specs.Blocks.{filled}
 use Rattle.h41_commands.specs.Items.{Spelled}
 use Rattle.h41_commands.specs.PageBlocks.{Fills}
 use Rattle.h41_commands.specs.ProgramBlocks.{Means}
-use Rattle.h41_debug.specs.Bench.{BenchState, Steps, with_calculator}
+use Rattle.h41_debug.specs.Bench.{BenchState, PressesInTurn, Steps, with_calculator}
 use Rattle.h41_xrom.specs.declared.refusal.CalculatorRefusal.{CalculatorRefusal}
 use Rattle.h41_xrom.specs.Calculator.{CalculatorState, with_page, without_page, restarted, call_refusal, called}
 use Rattle.h41_xrom.specs.Programs.{Becomes, Loads, size_makes}
@@ -83,6 +83,9 @@ Reply Reset values s t answer = (t ≡ with_calculator (restarted s.calculator) 
 -- call hhhh: the function runs, or 24 or 8
 Reply (Call address) values s t answer =
     ChangesUnless (option_map Calculator (call_refusal s.calculator address)) (with_calculator (called address s.calculator) s) s t answer
+-- key NAME ..: keys in turn up to the first refusal
+Reply (Key keys) values s t answer =
+    (refusal : Option CalculatorRefusal) × PressesInTurn keys s t refusal × (answer ≡ ends_by (option_map Calculator refusal))
 -- step [n]: single steps up to the first refusal
 Reply (Step count) values s t answer =
     (refusal : Option CalculatorRefusal) × Steps count s t refusal × (answer ≡ ends_by (option_map Calculator refusal))
@@ -104,6 +107,7 @@ takes_memory (Unplug page) = false
 takes_memory (Size count) = false
 takes_memory Reset = false
 takes_memory (Call address) = false
+takes_memory (Key keys) = false
 takes_memory (Step count) = false
 takes_memory (commands.List address count) = true
 takes_memory (Show view) = true

@@ -17,7 +17,7 @@ use Rattle.h41_deck.specs.declared.refusal.Refusal.{Refusal}
 use Rattle.h41_debug.specs.Bench.{BenchState}
 use Rattle.h41_debug.specs.Positions.{position_text}
 use Rattle.h41_show.specs.RegisterText.{alpha_text}
-use Rattle.h41_xrom.specs.Display.{display_text}
+use Rattle.h41_xrom.specs.Display.{ShowsDisplay}
 use Rattle.h41_deck.specs.Answers.{text_unless}
 use Rattle.h41_deck.specs.Pages.{image_refusal}
 use Rattle.h41_lines.specs.Characters.{two_digits}
@@ -94,7 +94,7 @@ Shows (Register address) s made = made ≡ Ok (register_line s.calculator.nut.ra
 Shows Stack s made = made ≡ Ok (stack_text s.calculator.nut.ram)
 Shows Flags s made = made ≡ Ok (flags_line s.calculator.nut.ram)
 Shows Alpha s made = made ≡ Ok (line_of (alpha_text s.calculator.nut.ram))
-Shows Display s made = made ≡ Ok (line_of (display_text s.calculator))
+Shows Display s made = (shown : List ℕ) × ShowsDisplay s.calculator shown × (made ≡ Ok (line_of shown))
 Shows Position s made = made ≡ Ok (line_of (position_text s))
 Shows Lines s made = (listing : List ℕ) × ListsProgram s.calculator.nut.ram listing × (made ≡ Ok listing)
 Shows (Image page) s made = made ≡ image_view s.calculator.nut.pages page

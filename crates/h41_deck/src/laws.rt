@@ -3,9 +3,9 @@
 ghost use Rattle.h41_deck.specs.Deck.{DeckDeterminesOutcome, DeckDeterminesText, FirstTextIsFront, LongDeckDeterminesText};
 
 use h41_commands::laws::blocks_are_determined;
-use h41_debug::laws::steps_are_determined;
+use h41_debug::laws::{presses_are_determined, steps_are_determined};
 use h41_program::laws::lists_are_determined;
-use h41_xrom::laws::load_is_determined;
+use h41_xrom::laws::{display_is_determined, load_is_determined};
 
 /// A deck determines its text, whether a refusal is printed, and where it is too long the text that is printed all the same. The
 /// replies to some first commands are a front of its text.
@@ -19,4 +19,6 @@ pub fn deck_is_determined()
     load_is_determined();
     blocks_are_determined();
     lists_are_determined();
+    presses_are_determined();
+    display_is_determined();
 }

@@ -10,7 +10,7 @@ mod replies;
 pub use deck::run_deck;
 pub use fault::{CommandFault, Fault};
 pub use h41_commands::{
-    Block, BlockKind, Command, LineRefusal, PageKind, ProgramKind, View, parse,
+    Block, BlockKind, Command, Keys, LineRefusal, PageKind, ProgramKind, View, parse,
 };
 pub use h41_debug::Bench;
 pub use h41_ends::{

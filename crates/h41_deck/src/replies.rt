@@ -17,7 +17,7 @@ use crate::fault::CommandFault;
 use crate::refusal::Refusal;
 use crate::replies::listing::listed;
 use crate::replies::view::shown;
-use h41_commands::{Block, Command, PAGE_WORDS};
+use h41_commands::{Block, Command, Keys, PAGE_WORDS};
 use h41_debug::Bench;
 use h41_ends::{Sink, WriteFault, write_whole};
 use h41_pages::PlugRefusal;
@@ -136,6 +136,7 @@ fn say_alone<W: Sink>(
         Command::Size(count) => Ok(size(bench, count)),
         Command::Reset => Ok(reset(bench)),
         Command::Call(address) => Ok(call(bench, address)),
+        Command::Key(keys) => Ok(press(bench, &keys)),
         Command::Step(count) => Ok(step(bench, count)),
         Command::List { address, count } => {
             let listing = listed(alloc, bench.calculator().pages(), address, count)?;
@@ -250,6 +251,16 @@ fn call(bench: &mut Bench, address: u16) -> Option<Refusal>
     ensures { Reply (commands.Call address) [] bench.old bench.new (ends_by result) }
 {
     match bench.calculator_mut().call(address) {
+        Ok(()) => None,
+        Err(refusal) => Some(Refusal::Calculator(refusal)),
+    }
+}
+
+/// Keys in turn, up to the first that is refused, and why that is.
+fn press(bench: &mut Bench, keys: &Keys) -> Option<Refusal>
+    ensures { Reply (commands.Key keys.now) [] bench.old bench.new (ends_by result) }
+{
+    match bench.press(keys.as_slice()) {
         Ok(()) => None,
         Err(refusal) => Some(Refusal::Calculator(refusal)),
     }

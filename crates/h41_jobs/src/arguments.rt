@@ -101,6 +101,7 @@ A deck is a text file of commands, one a line. Such as:
   size n        sets the number of data registers
   reset         begins anew; pages stay plugged
   call hhhh     begins the function at an address
+  key NAME ..   presses keys in turn, by what is printed on them
   step [n]      carries out n of its instructions, one where n is missing
   list hhhh n   prints n words from an address on, as instructions
   show cpu      prints the processor

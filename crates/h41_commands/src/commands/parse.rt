@@ -1,13 +1,16 @@
 //! The command that a line's words spell.
 
-ghost use Rattle.std.specs.Prelude.{◌≡◌};
-ghost use Rattle.h41_commands.specs.Commands.{call_command, load_command, reset_command, size_command, unplug_command, is_opening, opening_command, parsed, plain_command, plug_at, plug_command, show_command, step_command, view_named, view_of, list_command};
+ghost use Rattle.std.specs.Prelude.{◌≡◌, ◌≤◌, ◌+◌, ◌*◌, length};
+ghost use Rattle.h41_commands.specs.Commands.{call_command, read_plain, key_command, load_command, reset_command, size_command, unplug_command, is_opening, opening_command, parsed, plain_command, plug_at, plug_command, show_command, step_command, view_named, view_of, list_command};
 ghost use Rattle.h41_lines.specs.Words.{words_of};
+ghost use Rattle.h41_commands.specs.DeckLines.{longest_line, most_keys};
 ghost use Rattle.h41_commands.specs.Numbers as spec;
 
+use crate::commands::keys::Keys;
 use crate::commands::number::{count_up_to, hexadecimal, number_up_to};
-use crate::commands::{BlockKind, Command, PageKind, ProgramKind, View};
+use crate::commands::{BlockKind, Command, PageKind, PlainKind, ProgramKind, View};
 use crate::refusal::LineRefusal;
+use h41_keys::Key;
 use h41_lines::words::LineWords;
 
 /// The most single steps of one command.
@@ -20,8 +23,9 @@ const MOST_REGISTERS: u32 = 9_999;
 const MOST_WORDS: u32 = 4_096;
 
 /// The command of a line: 50 BadCommand where its words are no command's, and else 51 BadNumber where a number is
-/// wrong.
+/// wrong. The line is not too long.
 pub fn parse(line: &[u8]) -> Result<Command, LineRefusal>
+    requires { length line.now ≤ longest_line }
     ensures { result ≡ parsed (words_of line.now) }
 {
     let mut words = LineWords::new(line);
@@ -55,19 +59,30 @@ fn with_block(kind: BlockKind, operands: LineWords<'_>) -> Result<Command, LineR
 }
 
 /// The command of a line that opens none, by its first word and those behind it.
-#[tactic(auto, unfolding(crate::specs::Commands::plain_command))]
 fn without_block(name: &[u8], operands: LineWords<'_>) -> Result<Command, LineRefusal>
+    requires { length name.now + 2 * length (words_of operands.rest.now) ≤ longest_line }
     ensures { result ≡ plain_command name.now (words_of operands.entry.rest.now) }
 {
-    match name {
-        b"unplug" => unplug(operands),
-        b"size" => size(operands),
-        b"reset" => reset(operands),
-        b"call" => call(operands),
-        b"step" => step(operands),
-        b"list" => list(operands),
-        b"show" => show(operands),
-        _ => Err(LineRefusal::BadCommand),
+    match PlainKind::of_word(name) {
+        Some(kind) => plain(kind, operands),
+        None => Err(LineRefusal::BadCommand),
+    }
+}
+
+/// The command of a line that opens none, by its kind and the words behind its name.
+fn plain(kind: PlainKind, operands: LineWords<'_>) -> Result<Command, LineRefusal>
+    requires { length (words_of operands.rest.now) ≤ most_keys }
+    ensures { result ≡ read_plain kind (words_of operands.entry.rest.now) }
+{
+    match kind {
+        PlainKind::Unplug => unplug(operands),
+        PlainKind::Size => size(operands),
+        PlainKind::Reset => reset(operands),
+        PlainKind::Call => call(operands),
+        PlainKind::Step => step(operands),
+        PlainKind::List => list(operands),
+        PlainKind::Show => show(operands),
+        PlainKind::Key => key(operands),
     }
 }
 
@@ -184,6 +199,24 @@ fn show(operands: LineWords<'_>) -> Result<Command, LineRefusal>
     ensures { result ≡ show_command (words_of operands.entry.rest.now) }
 {
     Ok(Command::Show(view(operands)?))
+}
+
+/// `key NAME ..`.
+fn key(operands: LineWords<'_>) -> Result<Command, LineRefusal>
+    requires { length (words_of operands.rest.now) ≤ most_keys }
+    ensures { result ≡ key_command (words_of operands.entry.rest.now) }
+{
+    let mut keys = Keys::new();
+    for name in operands {
+        match Key::named(name) {
+            Some(key) => keys.push(key),
+            None => return Err(LineRefusal::BadCommand),
+        }
+    }
+    if keys.as_slice().is_empty() {
+        return Err(LineRefusal::BadCommand);
+    }
+    Ok(Command::Key(keys))
 }
 
 /// The view that the words behind `show` name.

@@ -42,6 +42,7 @@ fn calculator_heading(refusal: CalculatorRefusal) -> &'static str
         CalculatorRefusal::NotInProfile => "! 13 NotInProfile",
         CalculatorRefusal::Program(refusal) => program_heading(refusal),
         CalculatorRefusal::MemoryLost => "! 15 MemoryLost",
+        CalculatorRefusal::KeyNotHeld => "! 18 KeyNotHeld",
         CalculatorRefusal::Busy => "! 24 Busy",
     }
 }

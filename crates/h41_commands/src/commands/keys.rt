@@ -1,0 +1,67 @@
+//! The keys of a command.
+
+ghost use Rattle.std.specs.Prelude.{◌≡◌, ◌≤◌, ◌<◌, ◌++◌, [], ◌∷◌, length};
+ghost use Rattle.h41_commands.specs.DeckLines.{most_keys};
+
+use h41_keys::Key;
+use std::marker::Model;
+
+/// The most keys of one command.
+const MOST_KEYS: usize = 98;
+
+/// The keys that one command presses, in their order.
+#[derive(Clone, Copy, Debug, PartialEq, Eq)]
+pub struct Keys {
+    cells: [Key; MOST_KEYS],
+    count: usize,
+}
+
+impl Model for Keys {
+    ghost use Rattle.std.specs.Prelude.{List, length, take};
+    ghost use Rattle.h41_codes.specs.Cells.{filled, Keeps, filled_again, count_again};
+    ghost use Rattle.h41_commands.specs.DeckLines.{most_keys};
+    ghost use Rattle.h41_keys.specs.declared.key.Key.{Key as AnyKey};
+    ghost use Rattle.h41_keys.specs.declared.key.Key.TheVariants.{On};
+
+    ghost Value = { List AnyKey };
+
+    ghost view = { λ keys. take keys.count keys.cells };
+
+    ghost invariant = { λ keys. Keeps On most_keys keys.count keys.cells };
+
+    ghost inverse = { λ keys. record { cells = filled On most_keys keys; count = length keys } };
+
+    ghost inverse_ok = { λ keys h i. record {
+      cells = filled_again On most_keys keys.count keys.cells h.0 h.1 h.2 i;
+      count = count_again most_keys keys.count keys.cells h.0 h.1 i;
+    } };
+}
+
+impl Keys {
+    /// No keys yet.
+    pub(crate) fn new() -> Self
+        ensures { result ≡ [] }
+    {
+        Keys {
+            cells: [Key::On; MOST_KEYS],
+            count: 0,
+        }
+    }
+
+    /// Puts a key behind the others.
+    pub(crate) fn push(&mut self, key: Key)
+        requires { length self.old < most_keys }
+        ensures { self.new ≡ self.old ++ key ∷ [] }
+    {
+        self.cells[self.count] = key;
+        self.count += 1;
+    }
+
+    /// The keys, at most 98.
+    pub fn as_slice(&self) -> &[Key]
+        ensures value { result.now ≡ self.now }
+        ensures bound { length self.now ≤ most_keys }
+    {
+        &self.cells[..self.count]
+    }
+}

@@ -13,8 +13,7 @@ pub fn clear_data<const REGS: usize>(ram: &mut Ram<REGS>)
     let first = usize::from(ram.curtain())
         .saturating_sub(MAIN_START)
         .min(REGS);
-    let mut main = ram.main_memory();
-    let registers = &mut main[..];
-    registers[first..].fill(Reg::zero());
-    ram.set_main_memory(main);
+    for place in first..REGS {
+        ram.write((MAIN_START + place) as u16, Reg::zero());
+    }
 }

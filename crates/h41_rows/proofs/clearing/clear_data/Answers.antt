@@ -1,13 +1,22 @@
-use Rattle.std.proofs.Common.{◌≡◌, ◌-◌, min, List, ℕ, ap, ◌∙◌, length, arith}
+use Rattle.std.proofs.Common.{◌≡◌, ◌-◌, min, length, ap, ◌∙◌, arith}
 use Rattle.h41_ram.specs.RegisterMap.{curtain_of}
-use Rattle.h41_rows.proofs.ClearedData.{filled}
+use Rattle.h41_rows.proofs.ClearedData.{cleared_all, cleared_more, cleared_none, partly_cleared}
 use Rattle.h41_rows.proofs.clearing.clear_data.Goals as goal
+
+pub loop-place-init : goal.loop-place-init
+loop-place-init g c = record { memory = cleared_none c.args.ram.now c.min-first.result }
+
+pub loop-place-preserved : goal.loop-place-preserved
+loop-place-preserved g c = record {
+  memory = cleared_more c.args.ram.now c.loop-place.ram c.write.new.self c.min-first.result c.loop-place.place c.zero.result c.loop-place.auto.place
+      (omega (arith, c.loop-place-test.true, c.curtain.ensures.memory.main)) c.loop-place.invariant.memory c.zero.ensures c.write.ensures;
+}
 
 pub returns : goal.returns
 returns g c =
     let memory = c.args.ram.now in
     let first : c.min-first.result ≡ min (curtain_of memory - 192) (length memory.main) =
     omega (arith, c.min-first.ensures, c.saturating_sub.ensures, c.from.ensures, c.curtain.ensures.value, c.curtain.ensures.memory.main) in
-    c.set_main_memory.ensures.main
-    ∙ ap (λ (m : List (List ℕ)). record memory { main = m })
-    (filled memory c.min-first.result c.main_memory-main.result c.fill.new.self c.zero.result c.main_memory-main.ensures first c.zero.ensures (c.fill.ensures.after (λ y e. e)))
+    let last : c.loop-place.place ≡ length memory.main =
+    omega (arith, c.min-first.ensures, c.loop-place-test.false, c.loop-place.auto.place-end, c.curtain.ensures.memory.main) in
+    c.loop-place.invariant.memory ∙ ap (partly_cleared memory c.min-first.result) last ∙ cleared_all memory c.min-first.result first

@@ -5,7 +5,9 @@ use Rattle.std.specs.Option.{option_map_or}
 use Rattle.h41_keys.specs.declared.key.Key.{Key}
 use Rattle.h41_keys.specs.Keyboard.{key_named}
 use Rattle.h41_commands.specs.declared.commands.Command.{Command}
-use Rattle.h41_commands.specs.declared.commands.Command.TheVariants.{Plug, Load, Unplug, Size, Reset, Call, Step, Show}
+use Rattle.h41_commands.specs.declared.commands.BreakPlace.{BreakPlace}
+use Rattle.h41_commands.specs.declared.commands.BreakPlace.TheVariants.{Line, Word}
+use Rattle.h41_commands.specs.declared.commands.Command.TheVariants.{Plug, Load, Unplug, Size, Reset, Call, Step, Run, Trace, Break, Unbreak, Show}
 use Rattle.h41_commands.specs.declared.commands.Command.TheVariants as commands
 use Rattle.h41_commands.specs.declared.commands.BlockKind.{BlockKind}
 use Rattle.h41_commands.specs.declared.commands.BlockKind.TheVariants.{Page, Program}
@@ -34,6 +36,10 @@ most_steps = 9999999
 -- the greatest number that size takes; one above 319 is refused as 17 when it is carried out
 abbrev pub most_registers : ℕ
 most_registers = 9999
+
+-- the greatest position of a breakpoint
+abbrev pub most_position : ℕ
+most_position = 9999
 
 -- the most words of one listing
 abbrev pub most_words : ℕ
@@ -80,6 +86,26 @@ abbrev pub step_command : List (List ℕ) → Result Command LineRefusal
 step_command [] = Ok (Step 1)
 step_command (count ∷ []) = and_then (number_up_to most_steps 10 count) (λ count. Ok (Step count))
 step_command operands = Err BadCommand
+
+-- run n and trace n: so many steps at most
+abbrev pub counted_command : (ℕ → Command) → List (List ℕ) → Result Command LineRefusal
+counted_command command (count ∷ []) = and_then (number_up_to most_steps 10 count) (λ count. Ok (command count))
+counted_command command operands = Err BadCommand
+
+-- where a breakpoint stands: w hhhh, l n
+abbrev pub place_by : List ℕ → List ℕ → Result BreakPlace LineRefusal
+place_by kind number =
+    if bytes_eq kind (codes "w") then and_then (hexadecimal 4 number) (λ address. Ok (Word address))
+    else (if bytes_eq kind (codes "l") then and_then (number_up_to most_position 10 number) (λ position. Ok (Line position))
+    else Err BadCommand)
+
+abbrev pub break_place : List (List ℕ) → Result BreakPlace LineRefusal
+break_place (kind ∷ number ∷ []) = place_by kind number
+break_place operands = Err BadCommand
+
+-- break and unbreak, and a place
+abbrev pub placed_command : (BreakPlace → Command) → List (List ℕ) → Result Command LineRefusal
+placed_command command operands = and_then (break_place operands) (λ place. Ok (command place))
 
 -- the key that a word names
 abbrev pub key_of : List ℕ → Result Key LineRefusal
@@ -162,6 +188,10 @@ plain_by_name =
     ∷ (codes "reset", plain.Reset)
     ∷ (codes "call", plain.Call)
     ∷ (codes "step", plain.Step)
+    ∷ (codes "run", plain.Run)
+    ∷ (codes "trace", plain.Trace)
+    ∷ (codes "break", plain.Break)
+    ∷ (codes "unbreak", plain.Unbreak)
     ∷ (codes "list", plain.List)
     ∷ (codes "show", plain.Show)
     ∷ (codes "key", plain.Key)
@@ -177,6 +207,10 @@ read_plain plain.Size operands = size_command operands
 read_plain plain.Reset operands = reset_command operands
 read_plain plain.Call operands = call_command operands
 read_plain plain.Step operands = step_command operands
+read_plain plain.Run operands = counted_command Run operands
+read_plain plain.Trace operands = counted_command Trace operands
+read_plain plain.Break operands = placed_command Break operands
+read_plain plain.Unbreak operands = placed_command Unbreak operands
 read_plain plain.List operands = list_command operands
 read_plain plain.Show operands = show_command operands
 read_plain plain.Key operands = key_command operands

@@ -69,6 +69,14 @@ pub(crate) enum PlainKind {
     Call,
     /// `step`.
     Step,
+    /// `run`.
+    Run,
+    /// `trace`.
+    Trace,
+    /// `break`.
+    Break,
+    /// `unbreak`.
+    Unbreak,
     /// `list`.
     List,
     /// `show`.
@@ -93,12 +101,25 @@ impl PlainKind {
             b"reset" => Some(PlainKind::Reset),
             b"call" => Some(PlainKind::Call),
             b"step" => Some(PlainKind::Step),
+            b"run" => Some(PlainKind::Run),
+            b"trace" => Some(PlainKind::Trace),
+            b"break" => Some(PlainKind::Break),
+            b"unbreak" => Some(PlainKind::Unbreak),
             b"list" => Some(PlainKind::List),
             b"show" => Some(PlainKind::Show),
             b"key" => Some(PlainKind::Key),
             _ => None,
         }
     }
+}
+
+/// Where a breakpoint stands.
+#[derive(Clone, Copy, Debug, PartialEq, Eq)]
+pub enum BreakPlace {
+    /// `w hhhh`: at the word at an address, while a function runs.
+    Word(u16),
+    /// `l n`: at the line at a position in program memory, 0 to 9,999, while no function runs.
+    Line(u16),
 }
 
 /// What `show` prints.
@@ -148,6 +169,14 @@ pub enum Command {
     Call(u16),
     /// `step [n]`: n single steps, 0 to 9,999,999, one where no number is given.
     Step(u32),
+    /// `run n`: single steps, at most n, 0 to 9,999,999, up to the first reason to stop.
+    Run(u32),
+    /// `trace n`: n single steps, 0 to 9,999,999, each told before it is made.
+    Trace(u32),
+    /// `break w hhhh`, `break l n`: sets a breakpoint.
+    Break(BreakPlace),
+    /// `unbreak w hhhh`, `unbreak l n`: takes a breakpoint away.
+    Unbreak(BreakPlace),
     /// `list hhhh n`: prints the listing of n words, 1 to 4,096, of one page from an address on.
     List {
         address: u16,

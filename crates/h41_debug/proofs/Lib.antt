@@ -1,2 +1,5 @@
+pub mod BreakpointSets
 pub mod KeysInTurn
+pub mod Runs
 pub mod StepsInTurn
+pub mod Tracing

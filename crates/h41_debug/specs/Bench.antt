@@ -5,18 +5,29 @@ use Rattle.h41_xrom.specs.Calculator.{CalculatorState, RefusesStep, Step}
 use Rattle.h41_xrom.specs.Calculator as calculator
 use Rattle.h41_xrom.specs.KeyActions.{Presses}
 use Rattle.h41_xrom.specs.declared.refusal.CalculatorRefusal.{CalculatorRefusal}
+use Rattle.h41_debug.specs.Breakpoints.{BreakpointSet, no_breakpoints, with_breakpoint, without_breakpoint}
+use Rattle.h41_debug.specs.declared.breakpoint.Breakpoint.{Breakpoint}
 
 -- The state of the bench.
 pub record BenchState : Type 0 where
   pub calculator : CalculatorState
+  -- those that are set
+  pub breakpoints : BreakpointSet
 
--- the calculator's start
+-- the calculator's start, and no breakpoints
 abbrev pub start : BenchState
-start = record { calculator = calculator.start }
+start = record { calculator = calculator.start; breakpoints = no_breakpoints }
 
 -- the bench with another calculator
 abbrev pub with_calculator : CalculatorState → BenchState → BenchState
 with_calculator c s = record s { calculator = c }
+
+-- with a breakpoint that is set, and without it
+abbrev pub with_set : Breakpoint → BenchState → BenchState
+with_set breakpoint s = record s { breakpoints = with_breakpoint breakpoint s.breakpoints }
+
+abbrev pub without_set : Breakpoint → BenchState → BenchState
+without_set breakpoint s = record s { breakpoints = without_breakpoint breakpoint s.breakpoints }
 
 -- so many single steps, up to the first that is refused, and its refusal
 abbrev pub Steps : ℕ → BenchState → BenchState → Option CalculatorRefusal → Type 0

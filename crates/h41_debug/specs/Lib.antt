@@ -1,4 +1,8 @@
 pub mod Bench
 pub mod BenchLaws
+pub mod Breakpoints
 pub mod Lending
 pub mod Positions
+pub mod Run
+pub mod Running
+pub mod Traces

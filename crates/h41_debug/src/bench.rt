@@ -1,10 +1,13 @@
 //! The bench: the calculator, and what its user may do with it.
 
-ghost use Rattle.std.specs.Prelude.{◌≡◌, IfOk};
+ghost use Rattle.std.specs.Prelude.{◌≡◌, IfOk, OnErr, OnOk, is_err};
 ghost use Rattle.std.specs.Result.{result_err};
 ghost use Rattle.std.specs.Borrow.{sem};
-ghost use Rattle.h41_debug.specs.Bench.{PressesInTurn, Steps, start};
+ghost use Rattle.h41_debug.specs.Bench.{PressesInTurn, Steps, start, with_calculator, with_set, without_set};
+ghost use Rattle.h41_debug.specs.Breakpoints.{is_set, lacks_breakpoint, refuses_breakpoint};
+ghost use Rattle.h41_xrom.specs.Calculator.{RefusesStep, Step};
 
+use crate::breakpoint::{BreakFull, Breakpoint, Breakpoints, NoBreak};
 use h41_keys::Key;
 use h41_xrom::{Calculator, CalculatorRefusal};
 use std::alloc::{AllocError, Global};
@@ -14,25 +17,33 @@ use std::marker::Model;
 #[derive(Drop)]
 pub struct Bench {
     calculator: Calculator,
+    breakpoints: Breakpoints,
 }
 
 impl Model for Bench {
+    ghost use Rattle.std.specs.Coded.{codes};
+    ghost use Rattle.std.specs.FinSet as set;
     ghost use Rattle.h41_debug.specs.Bench.{BenchState};
+    ghost use Rattle.h41_debug.specs.Breakpoints.{breakpoint_cmp};
+    ghost use Rattle.h41_debug.specs.contracts.breakpoint.Breakpoint as member;
 
     ghost Value = { BenchState };
 
-    ghost view = { λ bench. record { calculator = bench.calculator } };
+    ghost coded = { Prim.hlevel (codes, set.code {R = breakpoint_cmp} member.the_row.coded) };
+
+    ghost view = { λ bench. record { calculator = bench.calculator; breakpoints = bench.breakpoints } };
 }
 
 impl Bench {
     ghost use Rattle.h41_debug.specs.Lending.{LendsCalculator};
 
-    /// Nothing is plugged, and nothing runs. 21 where memory is refused.
+    /// Nothing is plugged, nothing runs, and no breakpoint is set. 21 where memory is refused.
     pub fn new(alloc: Global) -> Result<Self, AllocError>
         ensures { IfOk result (λ bench. bench ≡ start) }
     {
         Ok(Bench {
             calculator: Calculator::new(alloc)?,
+            breakpoints: Breakpoints::new(),
         })
     }
 
@@ -49,6 +60,16 @@ impl Bench {
         ensures value { result.now ≡ self.old.calculator }
     {
         &mut self.calculator
+    }
+
+    /// One single step. What is refused changes nothing.
+    pub fn step(&mut self) -> Result<(), CalculatorRefusal>
+        ensures refusal { RefusesStep self.old.calculator (result_err result) }
+        ensures change { OnOk result (Step self.old.calculator self.new.calculator) }
+        ensures others { self.new ≡ with_calculator self.new.calculator self.old }
+        ensures err { OnErr result (self.new ≡ self.old) }
+    {
+        self.calculator.step()
     }
 
     /// So many single steps, up to the first that is refused.
@@ -69,5 +90,29 @@ impl Bench {
             self.calculator.key(*key)?;
         }
         Ok(())
+    }
+    /// Whether a breakpoint is set.
+    pub fn has_breakpoint(&self, breakpoint: Breakpoint) -> bool
+        ensures { result ≡ is_set self.now.breakpoints breakpoint }
+    {
+        self.breakpoints.contains(breakpoint)
+    }
+
+    /// Sets a breakpoint; one that is set stays so. 19 where it is not, and 16 others are; nothing is changed then.
+    pub fn break_at(&mut self, breakpoint: Breakpoint) -> Result<(), BreakFull>
+        ensures refusal { is_err result ≡ refuses_breakpoint self.old.breakpoints breakpoint }
+        ensures change { OnOk result (self.new ≡ with_set breakpoint self.old) }
+        ensures err { OnErr result (self.new ≡ self.old) }
+    {
+        self.breakpoints.insert(breakpoint)
+    }
+
+    /// Takes a breakpoint away. 20 where it is not set; nothing is changed then.
+    pub fn unbreak(&mut self, breakpoint: Breakpoint) -> Result<(), NoBreak>
+        ensures refusal { is_err result ≡ lacks_breakpoint self.old.breakpoints breakpoint }
+        ensures change { OnOk result (self.new ≡ without_set breakpoint self.old) }
+        ensures err { OnErr result (self.new ≡ self.old) }
+    {
+        self.breakpoints.remove(breakpoint)
     }
 }

@@ -1,7 +1,8 @@
 //! Laws of the bench: each is the contract of a function with nothing to do but to call the laws it rests on.
 
-ghost use Rattle.h41_debug.specs.BenchLaws.{PressesAreDetermined, StepsAreDetermined};
+ghost use Rattle.h41_debug.specs.BenchLaws.{PressesAreDetermined, RunsAddUp, RunsAreDetermined, StepsAreDetermined, StepsAreTraced, TracesAreDetermined, TracesAreSteps};
 
+use h41_program::laws::{lists_are_determined, one_list};
 use h41_xrom::laws::{key_is_determined, step_is_determined};
 
 /// So many single steps are determined: whether one is refused, its refusal, and the state that they leave.
@@ -17,3 +18,37 @@ pub fn presses_are_determined()
 {
     key_is_determined();
 }
+
+/// A run is determined: how many steps it makes, the state that it leaves, and why it stops.
+pub fn runs_are_determined()
+    ensures { RunsAreDetermined }
+{
+    step_is_determined();
+}
+
+/// Where a run ended by its limit, one that goes on from there makes the two one run of both limits.
+pub fn runs_add_up()
+    ensures { RunsAddUp }
+{
+    step_is_determined();
+}
+
+/// A trace is determined: its lines, the state that it leaves, whether a step is refused, and as what.
+pub fn traces_are_determined()
+    ensures { TracesAreDetermined }
+{
+    step_is_determined();
+    lists_are_determined();
+}
+
+/// Steps that were begun can be traced to their end.
+pub fn steps_are_traced()
+    ensures { StepsAreTraced }
+{
+    one_list();
+}
+
+/// A trace makes its steps, and leaves what they leave.
+pub fn traces_are_steps()
+    ensures { TracesAreSteps }
+{}

@@ -1,9 +1,15 @@
-//! What a user may do with the calculator: single steps, and where it is.
+//! What a user may do with the calculator: single steps, keys in turn, runs up to a breakpoint, and where it is.
 #![tactic(auto)]
 
 mod bench;
+mod breakpoint;
 pub mod laws;
 mod position;
+mod run;
+mod trace;
 
 pub use bench::Bench;
+pub use breakpoint::{BreakFull, Breakpoint, Breakpoints, NoBreak};
 pub use position::position_digits;
+pub use run::Stop;
+pub use trace::TRACE_CAPACITY;

@@ -123,7 +123,7 @@ pub show_said : (command : Command) (values : List ℕ) (view : View) (s : Bench
 show_said command values view s made spelt shows = rw spelt (refl, text_in made, shows, refl)
 
 -- a front of what is to be written, and then no more
-part_longer : (old new : Option (List ℕ)) (text more : List ℕ) → AppendsPart old new text → AppendsPart old new (text ++ more)
+pub part_longer : (old new : Option (List ℕ)) (text more : List ℕ) → AppendsPart old new text → AppendsPart old new (text ++ more)
 part_longer old new text more part = (
   part.0,
   omega (arith, length-append text more),
@@ -153,7 +153,7 @@ ends_reply item s t old mid new refusal outcome said is ending = record {
   outcome_is = is;
 }
 
-later_part : (old mid new : Option (List ℕ)) (text ending : List ℕ) → Appends old mid text → AppendsPart mid new ending → AppendsPart old new (text ++ ending)
+pub later_part : (old mid new : Option (List ℕ)) (text ending : List ℕ) → Appends old mid text → AppendsPart mid new ending → AppendsPart old new (text ++ ending)
 later_part old mid new text ending first part = (
   length text + part.0,
   omega (arith, part.1, length-append text ending),

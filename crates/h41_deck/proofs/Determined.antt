@@ -13,7 +13,8 @@ use Rattle.h41_commands.specs.Items.{Spelled}
 use Rattle.h41_commands.specs.Items as items
 use Rattle.h41_lines.specs.Lines.{lines}
 use Rattle.h41_debug.specs.Bench.{BenchState, start, with_calculator}
-use Rattle.h41_debug.specs.BenchLaws.{PressesAreDetermined, StepsAreDetermined}
+use Rattle.h41_debug.specs.BenchLaws.{PressesAreDetermined, RunsAreDetermined, StepsAreDetermined, TracesAreDetermined}
+use Rattle.h41_debug.specs.declared.run.Stop.{Stop}
 use Rattle.h41_program.specs.ProgramLaws.{ListsAreDetermined}
 use Rattle.h41_xrom.specs.declared.refusal.CalculatorRefusal.{CalculatorRefusal}
 use Rattle.h41_xrom.specs.Calculator.{CalculatorState}
@@ -21,10 +22,11 @@ use Rattle.h41_xrom.specs.CalculatorLaws.{DisplayIsDetermined, LoadIsDetermined}
 use Rattle.h41_xrom.specs.Programs.{Becomes, Loads, size_makes}
 use Rattle.h41_deck.specs.declared.refusal.Refusal.{Refusal}
 use Rattle.h41_deck.specs.declared.refusal.Refusal.TheVariants.{Calculator}
-use Rattle.h41_deck.specs.Answers.{Answer, ends_by, printed, says_or_ends}
+use Rattle.h41_deck.specs.Answers.{Answer, ends_by, printed, says_and_ends, says_or_ends}
 use Rattle.h41_deck.specs.Deck.{AnswersInTurn, DeckDeterminesOutcome, DeckDeterminesText, FirstTextIsFront, LongDeckDeterminesText, commands_of, commands_within, outcome_of}
 use Rattle.h41_deck.specs.ProgramListing.{listed_line}
 use Rattle.h41_deck.specs.Replies.{Calls, ItemReply, LoadsBytes, PlugsWords, Reply}
+use Rattle.h41_deck.specs.Runs.{ran}
 use Rattle.h41_deck.specs.Views.{Shows, line_of}
 
 -- a relation of the calculator's that leaves nothing open
@@ -50,7 +52,8 @@ same_plug page writable (Ok words) s t u a b p q = (p.0 ∙ sym q.0, p.1 ∙ sym
 same_plug page writable (Err why) s t u a b p q = (p.0 ∙ sym q.0, p.1 ∙ sym q.1)
 
 module _ (same_steps : StepsAreDetermined) (same_load : LoadIsDetermined) (same_filling : FillingIsDetermined)
-    (same_meaning : MeaningIsDetermined) (same_list : ListsAreDetermined) (same_keys : PressesAreDetermined) (same_display : DisplayIsDetermined) where
+    (same_meaning : MeaningIsDetermined) (same_list : ListsAreDetermined) (same_keys : PressesAreDetermined) (same_display : DisplayIsDetermined)
+    (same_run : RunsAreDetermined) (same_trace : TracesAreDetermined) where
   -- what is loaded
   same_bytes : (bytes : Result (List ℕ) LineRefusal) (s t u : BenchState) (a b : Answer) → LoadsBytes bytes s t a → LoadsBytes bytes s u b → (t ≡ u) × (a ≡ b)
   same_bytes (Ok bytes) s t u a b p q = same_call (Loads bytes) (same_load bytes) s t u a b p q
@@ -86,6 +89,17 @@ module _ (same_steps : StepsAreDetermined) (same_load : LoadIsDetermined) (same_
   same_reply (commands.Step count) values s t u a b p q =
       let both = same_steps count s t u p.0 q.0 p.1 q.1 in
       (both.0, p.2 ∙ ap (λ (why : Option CalculatorRefusal). ends_by (option_map Calculator why)) both.1 ∙ sym q.2)
+  same_reply (commands.Run limit) values s t u a b p q =
+      let all = same_run limit s t u p.0 q.0 p.1 q.1 p.2 q.2 in
+      (all.0, p.3 ∙ ap (λ (made : ℕ). ran made p.1) all.1 ∙ ap (λ (why : Stop). ran q.0 why) all.2 ∙ sym q.3)
+  same_reply (commands.Trace count) values s t u a b p q =
+      let all = same_trace count s t u p.0 q.0 p.1 q.1 p.2 q.2 in (
+        all.0,
+        p.3 ∙ ap (λ (lines : List ℕ). says_and_ends lines (option_map Calculator p.1)) all.1
+            ∙ ap (λ (why : Option CalculatorRefusal). says_and_ends q.0 (option_map Calculator why)) all.2 ∙ sym q.3,
+      )
+  same_reply (commands.Break place) values s t u a b p q = (p.0 ∙ sym q.0, p.1 ∙ sym q.1)
+  same_reply (commands.Unbreak place) values s t u a b p q = (p.0 ∙ sym q.0, p.1 ∙ sym q.1)
   same_reply (commands.Key keys) values s t u a b p q =
       let both = same_keys keys s t u p.0 q.0 p.1 q.1 in
       (both.0, p.2 ∙ ap (λ (why : Option CalculatorRefusal). ends_by (option_map Calculator why)) both.1 ∙ sym q.2)

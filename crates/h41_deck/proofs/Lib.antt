@@ -6,4 +6,5 @@ pub mod ImageLines
 pub mod Plugging
 pub mod ProgramWalks
 pub mod Ranges
+pub mod Running
 pub mod WholeDecks

@@ -12,6 +12,10 @@ pub record Answer : Type 0 where
 abbrev pub ends_by : Option Refusal → Answer
 ends_by refusal = record { text = []; refusal = refusal }
 
+-- a text, and then a refusal where there is one
+abbrev pub says_and_ends : List ℕ → Option Refusal → Answer
+says_and_ends text refusal = record { text = text; refusal = refusal }
+
 abbrev pub says : List ℕ → Answer
 says text = record { text = text; refusal = None }
 

@@ -9,5 +9,6 @@ pub mod Pages
 pub mod ProgramListing
 pub mod Refusals
 pub mod Replies
+pub mod Runs
 pub mod Views
 pub mod Writing

@@ -15,7 +15,7 @@ use Rattle.h41_xrom.specs.declared.refusal.CalculatorRefusal.TheVariants.{Word, 
 use Rattle.h41_deck.specs.declared.refusal.line.Detail.{Detail}
 use Rattle.h41_deck.specs.declared.refusal.line.Detail.TheVariants as details
 use Rattle.h41_deck.specs.declared.refusal.Refusal.{Refusal}
-use Rattle.h41_deck.specs.declared.refusal.Refusal.TheVariants.{NoSuchPage, Occupied, NotPlugged, Calculator, Line, OutOfMemory, ReadFault, WriteFault}
+use Rattle.h41_deck.specs.declared.refusal.Refusal.TheVariants.{NoSuchPage, Occupied, NotPlugged, Calculator, Line, BreakFull, NoBreak, OutOfMemory, ReadFault, WriteFault}
 use Rattle.h41_deck.specs.declared.fault.Fault.{Fault}
 use Rattle.h41_deck.specs.declared.fault.Fault.TheVariants as faults
 
@@ -70,6 +70,8 @@ number_and_name Occupied = codes "02 Occupied"
 number_and_name NotPlugged = codes "03 NotPlugged"
 number_and_name (Calculator refusal) = calculator_name refusal
 number_and_name (Line refusal) = line_name refusal
+number_and_name BreakFull = codes "19 BreakFull"
+number_and_name NoBreak = codes "20 NoBreak"
 number_and_name OutOfMemory = codes "21 OutOfMemory"
 number_and_name ReadFault = codes "22 ReadFault"
 number_and_name WriteFault = codes "23 WriteFault"

@@ -8,7 +8,9 @@ use Rattle.h41_commands.specs.declared.commands.Command.{Command}
 use Rattle.h41_commands.specs.Blocks.{TakenBlock, judgement}
 use Rattle.h41_commands.specs.Items.{Spelled, with_values}
 use Rattle.h41_debug.specs.Bench.{BenchState}
+use Rattle.h41_debug.specs.Traces.{TellsStep, traced_line}
 use Rattle.h41_ends.specs.Ends.{AppendsPart}
+use Rattle.h41_ends.specs.declared.fault.WriteFault as fault
 use Rattle.h41_pages.specs.PageMap.{PageMap}
 use Rattle.h41_commands.specs.declared.commands.View.{View}
 use Rattle.h41_deck.specs.declared.fault.CommandFault.{CommandFault}
@@ -36,7 +38,7 @@ pub record Replies (item : Spelled) (s t : BenchState) (old new : Option (List �
   pub written : Appends old new (printed answer)
   pub outcome_is : outcome ≡ outcome_in answer.refusal
 
--- what is printed until the bench is in this state: every command does all it does before it prints
+-- what is printed of a command that leaves the bench so: what a command does to the bench does not hang on its writer
 abbrev pub PrintsUntil : Spelled → BenchState → BenchState → List ℕ → Type 0
 PrintsUntil item s t text = (answer : Answer) × ItemReply item s t answer × (text ≡ printed answer)
 
@@ -76,6 +78,15 @@ Says result command block s t contents old new = LeavesText result (item_of comm
 -- a command without a block does so whatever values a block would have
 abbrev pub SaysAlone : {W : Type 0} → Result (Option Refusal) CommandFault → Command → BenchState → BenchState → (W → Option (List ℕ)) → W → W → Type 0
 SaysAlone result command s t contents old new = (values : List ℕ) → LeavesText result (Ok (command, values)) s t contents old new
+
+-- the same of a command that writes without memory
+abbrev pub WritesAlone : {W : Type 0} → Result (Option Refusal) fault.WriteFault → Command → BenchState → BenchState → (W → Option (List ℕ)) → W → W → Type 0
+WritesAlone (Ok refusal) command s t contents old new = (values : List ℕ) → SaysText (Ok (command, values)) s t (contents old) (contents new) refusal
+WritesAlone (Err failed) command s t contents old new = (values : List ℕ) → RepliesInPart (Ok (command, values)) s t (contents old) (contents new)
+
+-- the line of a trace that tells of the next step
+abbrev pub TellsLine : BenchState → List ℕ → Type 0
+TellsLine s line = (text : List ℕ) × TellsStep s text × (line ≡ traced_line text)
 
 -- what was made: a text or its refusal, and the text alone
 abbrev pub text_in : Result (Vec ℕ Global) Refusal → Result (List ℕ) Refusal

@@ -3,7 +3,9 @@
 ghost use Rattle.h41_deck.specs.Deck.{DeckDeterminesOutcome, DeckDeterminesText, FirstTextIsFront, LongDeckDeterminesText};
 
 use h41_commands::laws::blocks_are_determined;
-use h41_debug::laws::{presses_are_determined, steps_are_determined};
+use h41_debug::laws::{
+    presses_are_determined, runs_are_determined, steps_are_determined, traces_are_determined,
+};
 use h41_program::laws::lists_are_determined;
 use h41_xrom::laws::{display_is_determined, load_is_determined};
 
@@ -20,5 +22,7 @@ pub fn deck_is_determined()
     blocks_are_determined();
     lists_are_determined();
     presses_are_determined();
+    runs_are_determined();
+    traces_are_determined();
     display_is_determined();
 }

@@ -27,6 +27,10 @@ pub enum Refusal {
     Calculator(CalculatorRefusal),
     /// 4, 30 to 35, 41 and 50 to 53: its lines are refused. 4: words that leave their page.
     Line(LineRefusal),
+    /// 19: 16 other breakpoints are set.
+    BreakFull,
+    /// 20: the breakpoint is not set.
+    NoBreak,
     /// 21: no memory is left.
     OutOfMemory,
     /// 22: the input cannot be read, or is too long.

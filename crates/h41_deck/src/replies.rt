@@ -16,6 +16,7 @@ ghost use Rattle.h41_deck.specs.Writing.{Acts, SaysAlone, Says, EndsAs, IsRefusa
 use crate::fault::CommandFault;
 use crate::refusal::Refusal;
 use crate::replies::listing::listed;
+use crate::replies::running::{run, set_break, trace, unbreak};
 use crate::replies::view::shown;
 use h41_commands::{Block, Command, Keys, PAGE_WORDS};
 use h41_debug::Bench;
@@ -30,6 +31,7 @@ mod listing;
 mod memory;
 mod processor;
 mod program;
+mod running;
 mod view;
 
 /// The bank of a page that a deck's blocks fill.
@@ -138,6 +140,10 @@ fn say_alone<W: Sink>(
         Command::Call(address) => Ok(call(bench, address)),
         Command::Key(keys) => Ok(press(bench, &keys)),
         Command::Step(count) => Ok(step(bench, count)),
+        Command::Run(limit) => Ok(run(bench, limit, writer)?),
+        Command::Trace(count) => Ok(trace(bench, count, writer)?),
+        Command::Break(place) => Ok(set_break(bench, place)),
+        Command::Unbreak(place) => Ok(unbreak(bench, place)),
         Command::List { address, count } => {
             let listing = listed(alloc, bench.calculator().pages(), address, count)?;
             Ok(say_made(listing, writer)?)

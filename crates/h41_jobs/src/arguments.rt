@@ -70,7 +70,7 @@ impl Ending {
 const ORIGIN: u16 = 0x8000;
 
 /// The version, and the kit that proves it, as `rt version` prints it.
-const VERSION: &str = "0.1.0, proved with rattle-kit-13b logic dac8208d650f15bf";
+const VERSION: &str = "0.1.0, proved with rattle-kit-13f logic dac8208d650f15bf";
 
 /// What a wrong origin is answered with.
 const WRONG_ORIGIN: &str = "error: the origin has not four hexadecimal digits\n";
@@ -102,7 +102,13 @@ A deck is a text file of commands, one a line. Such as:
   reset         begins anew; pages stay plugged
   call hhhh     begins the function at an address
   key NAME ..   presses keys in turn, by what is printed on them
-  step [n]      carries out n of its instructions, one where n is missing
+  step [n]      carries out n instructions or lines, one where n is missing
+  run n         the same up to a reason to stop, which it tells
+  trace n       the same as step, and tells each before it is made
+  break w hhhh  sets a breakpoint at a word of a function
+  break l n     sets one at a line of a program, by its position
+  unbreak w hhhh  takes the breakpoint at a word away
+  unbreak l n   takes the one at a line away
   list hhhh n   prints n words from an address on, as instructions
   show cpu      prints the processor
   show ram hhh  prints the register at an address in memory

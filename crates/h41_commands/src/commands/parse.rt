@@ -1,20 +1,24 @@
 //! The command that a line's words spell.
 
 ghost use Rattle.std.specs.Prelude.{◌≡◌, ◌≤◌, ◌+◌, ◌*◌, length};
-ghost use Rattle.h41_commands.specs.Commands.{call_command, read_plain, key_command, load_command, reset_command, size_command, unplug_command, is_opening, opening_command, parsed, plain_command, plug_at, plug_command, show_command, step_command, view_named, view_of, list_command};
+ghost use Rattle.h41_commands.specs.Commands.{break_place, call_command, place_by, placed_command, read_plain, key_command, load_command, reset_command, size_command, unplug_command, is_opening, opening_command, parsed, plain_command, counted_command, plug_at, plug_command, show_command, step_command, view_named, view_of, list_command};
 ghost use Rattle.h41_lines.specs.Words.{words_of};
 ghost use Rattle.h41_commands.specs.DeckLines.{longest_line, most_keys};
 ghost use Rattle.h41_commands.specs.Numbers as spec;
+ghost use Rattle.h41_commands.specs.declared.commands.Command.TheVariants as commands;
 
 use crate::commands::keys::Keys;
 use crate::commands::number::{count_up_to, hexadecimal, number_up_to};
-use crate::commands::{BlockKind, Command, PageKind, PlainKind, ProgramKind, View};
+use crate::commands::{BlockKind, BreakPlace, Command, PageKind, PlainKind, ProgramKind, View};
 use crate::refusal::LineRefusal;
 use h41_keys::Key;
 use h41_lines::words::LineWords;
 
 /// The most single steps of one command.
 const MOST_STEPS: u32 = 9_999_999;
+
+/// The greatest position of a breakpoint.
+const MOST_POSITION: u32 = 9_999;
 
 /// The greatest number that `size` takes.
 const MOST_REGISTERS: u32 = 9_999;
@@ -80,6 +84,10 @@ fn plain(kind: PlainKind, operands: LineWords<'_>) -> Result<Command, LineRefusa
         PlainKind::Reset => reset(operands),
         PlainKind::Call => call(operands),
         PlainKind::Step => step(operands),
+        PlainKind::Run => run(operands),
+        PlainKind::Trace => trace(operands),
+        PlainKind::Break => set_break(operands),
+        PlainKind::Unbreak => unbreak(operands),
         PlainKind::List => list(operands),
         PlainKind::Show => show(operands),
         PlainKind::Key => key(operands),
@@ -176,6 +184,64 @@ fn step(mut operands: LineWords<'_>) -> Result<Command, LineRefusal>
     match (operands.next(), operands.next()) {
         (None, _) => Ok(Command::Step(1)),
         (Some(count), None) => Ok(Command::Step(number_up_to(MOST_STEPS, 10, count)?)),
+        _ => Err(LineRefusal::BadCommand),
+    }
+}
+
+/// `run n`.
+fn run(mut operands: LineWords<'_>) -> Result<Command, LineRefusal>
+    ensures { result ≡ counted_command commands.Run (words_of operands.entry.rest.now) }
+{
+    match (operands.next(), operands.next()) {
+        (Some(count), None) => Ok(Command::Run(number_up_to(MOST_STEPS, 10, count)?)),
+        _ => Err(LineRefusal::BadCommand),
+    }
+}
+
+/// `trace n`.
+fn trace(mut operands: LineWords<'_>) -> Result<Command, LineRefusal>
+    ensures { result ≡ counted_command commands.Trace (words_of operands.entry.rest.now) }
+{
+    match (operands.next(), operands.next()) {
+        (Some(count), None) => Ok(Command::Trace(number_up_to(MOST_STEPS, 10, count)?)),
+        _ => Err(LineRefusal::BadCommand),
+    }
+}
+
+/// `break w hhhh` and `break l n`.
+fn set_break(operands: LineWords<'_>) -> Result<Command, LineRefusal>
+    ensures { result ≡ placed_command commands.Break (words_of operands.entry.rest.now) }
+{
+    Ok(Command::Break(break_place(operands)?))
+}
+
+/// `unbreak w hhhh` and `unbreak l n`.
+fn unbreak(operands: LineWords<'_>) -> Result<Command, LineRefusal>
+    ensures { result ≡ placed_command commands.Unbreak (words_of operands.entry.rest.now) }
+{
+    Ok(Command::Unbreak(break_place(operands)?))
+}
+
+/// The place of a breakpoint.
+fn break_place(mut operands: LineWords<'_>) -> Result<BreakPlace, LineRefusal>
+    ensures { result ≡ break_place (words_of operands.entry.rest.now) }
+{
+    match (operands.next(), operands.next(), operands.next()) {
+        (Some(kind), Some(number), None) => place_by(kind, number),
+        _ => Err(LineRefusal::BadCommand),
+    }
+}
+
+/// The place of a breakpoint, by the word for its kind and its number.
+fn place_by(kind: &[u8], number: &[u8]) -> Result<BreakPlace, LineRefusal>
+    ensures { result ≡ place_by kind.now number.now }
+{
+    match kind {
+        b"w" => Ok(BreakPlace::Word(hexadecimal(4, 4, number)?)),
+        b"l" => {
+            let position = number_up_to(MOST_POSITION, 10, number)? as u16;
+            Ok(BreakPlace::Line(position))
+        }
         _ => Err(LineRefusal::BadCommand),
     }
 }

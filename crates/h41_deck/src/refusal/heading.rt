@@ -25,6 +25,8 @@ impl Refusal {
             Refusal::NotPlugged => "! 03 NotPlugged",
             Refusal::Calculator(refusal) => calculator_heading(refusal),
             Refusal::Line(refusal) => line_heading(refusal),
+            Refusal::BreakFull => "! 19 BreakFull",
+            Refusal::NoBreak => "! 20 NoBreak",
             Refusal::OutOfMemory => "! 21 OutOfMemory",
             Refusal::ReadFault => "! 22 ReadFault",
             Refusal::WriteFault => "! 23 WriteFault",

@@ -8,3 +8,9 @@ unfolding plain_of_word
 returns-in-unplug-clause-kind c =
     let same : c.args.word.now ≡ codes "unplug" = text_from_reads c.args.word.now (codes "unplug") (omega arith) (search rules) in
     rw same refl
+
+pub returns-in-unbreak-clause-kind : goal.returns-in-unbreak-clause-kind
+unfolding plain_of_word
+returns-in-unbreak-clause-kind c =
+    let same : c.args.word.now ≡ codes "unbreak" = text_from_reads c.args.word.now (codes "unbreak") (omega arith) (search rules) in
+    rw same refl

@@ -6,5 +6,5 @@ use Rattle.h41_debug.proofs.bench.Bench.steps.Given as goal
 -- the steps that are left, from here on, are the steps from the start on
 abbrev pub invariant-loop-step : goal.invariant-loop-step
 invariant-loop-step l =
-    (t : BenchState) (refusal : Option CalculatorRefusal) → Steps (l.fn.count - l._step) (record { calculator = l.self-inside.calculator }) t refusal
+    (t : BenchState) (refusal : Option CalculatorRefusal) → Steps (l.fn.count - l._step) (record { calculator = l.self-inside.calculator; breakpoints = l.self-inside.breakpoints }) t refusal
     → Steps l.fn.count l.fn.self t refusal

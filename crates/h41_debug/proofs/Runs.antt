@@ -1,0 +1,294 @@
+-- Runs: how single steps make one, why it leaves nothing open, and how two make one.
+use Rattle.std.proofs.Common.{◌≡◌, ◌<◌, ◌≤◌, ◌⊎◌, ℕ, zero, suc, ◌+◌, ◌-◌, inl, inr, Bool, true, false, Option, Some, None, refl, sym, ap, subst, ◌∙◌, zero-add, arith}
+use Rattle.std.specs.Prelude.{MatchOption, if◌then◌else◌, nat_lt}
+use borrow.Author.Tests.{ltb-true, ltb-false}
+use Rattle.h41_xrom.specs.declared.refusal.CalculatorRefusal.{CalculatorRefusal}
+use Rattle.h41_xrom.specs.Calculator.{CalculatorState, RefusesStep, Step, is_idle}
+use Rattle.h41_xrom.specs.CalculatorLaws.{StepIsDetermined, StepRefusalIsDetermined}
+use Rattle.h41_debug.specs.Bench.{BenchState, Steps, with_calculator}
+use Rattle.h41_debug.specs.BenchLaws.{RunsAddUp, RunsAreDetermined}
+use Rattle.h41_debug.specs.Breakpoints.{is_set}
+use Rattle.h41_debug.specs.Run.{Run, StopsFor, place_of, turn_of}
+use Rattle.h41_debug.specs.Running.{stop_at}
+use Rattle.h41_debug.specs.declared.run.Stop.{Stop}
+use Rattle.h41_debug.specs.declared.run.Stop.TheVariants.{Break, Idle, Limit, Refused}
+use Rattle.h41_debug.proofs.StepsInTurn.{steps_determined}
+
+-- the first of some steps, none of them refused, and the others
+First : ℕ → BenchState → BenchState → Type 0
+First count s t = (mid : CalculatorState) × Step s.calculator mid × Steps count (with_calculator mid s) t None
+
+by_why : (count : ℕ) (s t : BenchState) (why : Option CalculatorRefusal) → RefusesStep s.calculator why
+    → MatchOption why ((mid : CalculatorState) × Step s.calculator mid × Steps count (with_calculator mid s) t None) (λ why. (t ≡ s) × (None ≡ Some why))
+    → RefusesStep s.calculator None × First count s t
+unfolding First
+by_why count s t None accepted rest = (accepted, rest)
+by_why count s t (Some why) refused rest = let none : None ≡ Some why = rest.1 in cc
+
+first_step : (count : ℕ) (s t : BenchState) → Steps (suc count) s t None → RefusesStep s.calculator None × First count s t
+first_step count s t steps = by_why count s t steps.0 steps.1 steps.2
+
+-- steps that follow others
+pub steps_add : (count more : ℕ) (s t u : BenchState) (refusal : Option CalculatorRefusal) → Steps count s t None → Steps more t u refusal
+    → Steps (count + more) s u refusal
+unfolding First
+steps_add zero more s t u refusal steps rest =
+    subst (λ k. Steps k s u refusal) (sym (zero-add more)) (subst (λ (from : BenchState). Steps more from u refusal) steps.0 rest)
+steps_add (suc count) more s t u refusal steps rest =
+    let first = first_step count s t steps in
+    let sum : suc (count + more) ≡ suc count + more = omega arith in
+    subst (λ k. Steps k s u refusal) sum
+    (None, first.0, (first.1.0, first.1.1, steps_add count more (with_calculator first.1.0 s) t u refusal first.1.2 rest))
+
+pub steps_split : (count more : ℕ) (s u : BenchState) → Steps (count + more) s u None
+    → (t : BenchState) × Steps count s t None × Steps more t u None
+unfolding First
+steps_split zero more s u steps = (s, (refl, refl), subst (λ k. Steps k s u None) (zero-add more) steps)
+steps_split (suc count) more s u steps =
+    let sum : suc count + more ≡ suc (count + more) = omega arith in
+    let first = first_step (count + more) s u (subst (λ k. Steps k s u None) sum steps) in
+    let rest = steps_split count more (with_calculator first.1.0 s) u first.1.2 in
+    (rest.0, (None, first.0, (first.1.0, first.1.1, rest.1)), rest.2)
+
+pub one_step : (s : BenchState) (next : CalculatorState) → RefusesStep s.calculator None → Step s.calculator next → Steps 1 s (with_calculator next s) None
+one_step s next accepted step = (None, accepted, (next, step, (refl, refl)))
+
+-- no reason to stop after fewer steps
+abbrev pub NoneBefore : ℕ → ℕ → BenchState → Type 0
+NoneBefore limit made s = (fewer : ℕ) (u : BenchState) (other : Stop) → fewer < made → Steps fewer s u None → StopsFor limit fewer u other → ⊥
+
+-- a run that goes on: so many steps were made, and but for the limit and a refusal there is no reason to stop
+pub record GoesOn (limit made : ℕ) (s t : BenchState) : Type 0 where
+  pub steps : Steps made s t None
+  pub running : is_idle t.calculator.mode ≡ false
+  pub clear : 1 ≤ made → is_set t.breakpoints (place_of t.calculator) ≡ false
+  pub before : NoneBefore limit made s
+
+pub begins : (limit : ℕ) (s : BenchState) → is_idle s.calculator.mode ≡ false → GoesOn limit 0 s s
+begins limit s running = record {
+  steps = (refl, refl);
+  running = running;
+  clear = λ some. absurd (omega (arith, some));
+  before = λ fewer u other below _ _. absurd (omega (arith, below));
+}
+
+-- a run of nothing
+pub stays_idle : (limit : ℕ) (s : BenchState) → is_idle s.calculator.mode ≡ true → Run limit s s 0 Idle
+stays_idle limit s idle = record {
+  steps = (refl, refl);
+  stops = idle;
+  first = λ other below _. absurd (omega (arith, below));
+  least = λ fewer u other below _ _. absurd (omega (arith, below));
+}
+
+-- why a reason that is asked for before another does not hold
+module _ (limit made : ℕ) (t : BenchState) (running : is_idle t.calculator.mode ≡ false) where
+  not_idle : (other : Stop) → turn_of other < 1 → StopsFor limit made t other → ⊥
+  not_idle Idle below holds = let idle : is_idle t.calculator.mode ≡ true = holds in cc
+  not_idle Break below holds = absurd (omega (arith, below))
+  not_idle Limit below holds = absurd (omega (arith, below))
+  not_idle (Refused why) below holds = absurd (omega (arith, below))
+
+  module _ (clear : 1 ≤ made → is_set t.breakpoints (place_of t.calculator) ≡ false) where
+    not_broken : (other : Stop) → turn_of other < 2 → StopsFor limit made t other → ⊥
+    not_broken Idle below holds = let idle : is_idle t.calculator.mode ≡ true = holds in cc
+    not_broken Break below holds =
+        let set : is_set t.breakpoints (place_of t.calculator) ≡ true = holds.1 in
+        let free : is_set t.breakpoints (place_of t.calculator) ≡ false = clear holds.0 in cc
+    not_broken Limit below holds = absurd (omega (arith, below))
+    not_broken (Refused why) below holds = absurd (omega (arith, below))
+
+    not_limited : (made ≡ limit → ⊥) → (other : Stop) → turn_of other < 3 → StopsFor limit made t other → ⊥
+    not_limited short Idle below holds = let idle : is_idle t.calculator.mode ≡ true = holds in cc
+    not_limited short Break below holds = not_broken Break (omega arith) holds
+    not_limited short Limit below holds = short holds
+    not_limited short (Refused why) below holds = absurd (omega (arith, below))
+
+-- it ends at its limit, or where a step is refused
+pub ends_at_limit : (limit : ℕ) (s t : BenchState) → GoesOn limit limit s t → Run limit s t limit Limit
+ends_at_limit limit s t on = record {
+  steps = on.steps;
+  stops = refl;
+  first = not_broken limit limit t on.running on.clear;
+  least = on.before;
+}
+
+pub ends_refused : (limit made : ℕ) (s t : BenchState) (why : CalculatorRefusal) → GoesOn limit made s t → made < limit
+    → RefusesStep t.calculator (Some why) → Run limit s t made (Refused why)
+ends_refused limit made s t why on below refused = record {
+  steps = on.steps;
+  stops = refused;
+  first = not_limited limit made t on.running on.clear (λ same. omega (arith, same, below));
+  least = on.before;
+}
+
+-- what a reason behind a step says
+stop_none : (idle set : Bool) → (if idle then Some Idle else (if set then Some Break else None)) ≡ None → (idle ≡ false) × (set ≡ false)
+stop_none true set is = cc
+stop_none false true is = cc
+stop_none false false is = (refl, refl)
+
+stop_some : (idle set : Bool) (why : Stop) → (if idle then Some Idle else (if set then Some Break else None)) ≡ Some why
+    → ((idle ≡ true) × (why ≡ Idle)) ⊎ ((idle ≡ false) × (set ≡ true) × (why ≡ Break))
+stop_some true set why is = let same : Idle ≡ why = cc in inl (refl, sym same)
+stop_some false true why is = let same : Break ≡ why = cc in inr (refl, refl, sym same)
+stop_some false false why is = cc
+
+-- numbers of which neither is below the other, and one that is below another or goes on from it
+equal_counts : (a b : ℕ) → (a < b → ⊥) → (b < a → ⊥) → a ≡ b
+equal_counts a b least most = omega (arith, least, most)
+
+before_or_from : (a b : ℕ) → (a < b) ⊎ ((k : ℕ) × (a ≡ b + k))
+before_or_from a b = elim (nat_lt a b) as (λ less. nat_lt a b ≡ less → (a < b) ⊎ ((k : ℕ) × (a ≡ b + k))) [
+  | true ↦ λ less. inl (ltb-true _ _ less)
+  | false ↦ λ less. inr (a - b, omega (arith, ltb-false _ _ less))
+] refl
+
+below_or_at : (a b : ℕ) → a < b + 1 → (a < b) ⊎ (a ≡ b)
+below_or_at a b under = elim (before_or_from a b) [ inl less ↦ inl less | inr from ↦ inr (omega (arith, from.1)) ]
+
+module _ (same_refusal : StepRefusalIsDetermined) (same_step : StepIsDetermined) where
+  -- where a step is made, there was no reason to stop
+  none_here : (limit made : ℕ) (s t : BenchState) → GoesOn limit made s t → made < limit → RefusesStep t.calculator None
+      → (other : Stop) → StopsFor limit made t other → ⊥
+  none_here limit made s t on below accepted (Refused why) holds =
+      let two : None ≡ Some why = same_refusal t.calculator None (Some why) accepted holds in cc
+  none_here limit made s t on below accepted Idle holds = not_broken limit made t on.running on.clear Idle (omega arith) holds
+  none_here limit made s t on below accepted Break holds = not_broken limit made t on.running on.clear Break (omega arith) holds
+  none_here limit made s t on below accepted Limit holds = omega (arith, holds, below)
+
+  none_more : (limit made : ℕ) (s t : BenchState) → GoesOn limit made s t → made < limit → RefusesStep t.calculator None → NoneBefore limit (made + 1) s
+  none_more limit made s t on below accepted fewer u other under steps holds =
+      elim (below_or_at fewer made under) [
+        | inl less ↦ on.before fewer u other less steps holds
+        | inr same ↦
+            let here : t ≡ u = (steps_determined same_refusal same_step made s t u None None on.steps (subst (λ k. Steps k s u None) same steps)).0 in
+            none_here limit made s t on below accepted other
+            (subst (λ (at : BenchState). StopsFor limit made at other) (sym here) (subst (λ k. StopsFor limit k u other) same holds))
+      ]
+
+  -- one more step, and what follows of what it leaves
+  made_more : (limit made : ℕ) (s t next : BenchState) → GoesOn limit made s t → RefusesStep t.calculator None → Step t.calculator next.calculator
+      → next ≡ with_calculator next.calculator t → Steps (made + 1) s next None
+  made_more limit made s t next on accepted step others =
+      subst (λ (to : BenchState). Steps (made + 1) s to None) (sym others)
+      (steps_add made 1 s t (with_calculator next.calculator t) None on.steps (one_step t next.calculator accepted step))
+
+  pub goes_on : (limit made : ℕ) (s t next : BenchState) → GoesOn limit made s t → made < limit → RefusesStep t.calculator None → Step t.calculator next.calculator
+      → next ≡ with_calculator next.calculator t → stop_at next ≡ None → GoesOn limit (made + 1) s next
+  goes_on limit made s t next on below accepted step others stop =
+      let free = stop_none (is_idle next.calculator.mode) (is_set next.breakpoints (place_of next.calculator)) stop in record {
+        steps = made_more limit made s t next on accepted step others;
+        running = free.0;
+        clear = λ some. free.1;
+        before = none_more limit made s t on below accepted;
+      }
+
+  pub stops : (limit made : ℕ) (s t next : BenchState) (why : Stop) → GoesOn limit made s t → made < limit → RefusesStep t.calculator None → Step t.calculator next.calculator
+      → next ≡ with_calculator next.calculator t → stop_at next ≡ Some why → Run limit s next (made + 1) why
+  stops limit made s t next why on below accepted step others stop =
+      let steps = made_more limit made s t next on accepted step others in
+      let before = none_more limit made s t on below accepted in
+      elim (stop_some (is_idle next.calculator.mode) (is_set next.breakpoints (place_of next.calculator)) why stop) [
+        | inl idle ↦ subst (λ (of : Stop). Run limit s next (made + 1) of) (sym idle.1) (record {
+          steps = steps;
+          stops = idle.0;
+          first = λ other under _. absurd (omega (arith, under));
+          least = before;
+        })
+        | inr broken ↦ subst (λ (of : Stop). Run limit s next (made + 1) of) (sym broken.2) (record {
+          steps = steps;
+          stops = (omega arith, broken.1);
+          first = not_idle limit (made + 1) next broken.0;
+          least = before;
+        })
+      ]
+
+  -- one run and another from the same state
+  same_stop : (limit made : ℕ) (t : BenchState) (why other : Stop) → turn_of why ≡ turn_of other → StopsFor limit made t why → StopsFor limit made t other → why ≡ other
+  same_stop limit made t Idle Idle turn p q = refl
+  same_stop limit made t Break Break turn p q = refl
+  same_stop limit made t Limit Limit turn p q = refl
+  same_stop limit made t (Refused why) (Refused other) turn p q =
+      let same : Some why ≡ Some other = same_refusal t.calculator (Some why) (Some other) p q in
+      let inner : why ≡ other = cc in ap Refused inner
+  same_stop limit made t Idle Break turn p q = absurd (omega (arith, turn))
+  same_stop limit made t Idle Limit turn p q = absurd (omega (arith, turn))
+  same_stop limit made t Idle (Refused other) turn p q = absurd (omega (arith, turn))
+  same_stop limit made t Break Idle turn p q = absurd (omega (arith, turn))
+  same_stop limit made t Break Limit turn p q = absurd (omega (arith, turn))
+  same_stop limit made t Break (Refused other) turn p q = absurd (omega (arith, turn))
+  same_stop limit made t Limit Idle turn p q = absurd (omega (arith, turn))
+  same_stop limit made t Limit Break turn p q = absurd (omega (arith, turn))
+  same_stop limit made t Limit (Refused other) turn p q = absurd (omega (arith, turn))
+  same_stop limit made t (Refused why) Idle turn p q = absurd (omega (arith, turn))
+  same_stop limit made t (Refused why) Break turn p q = absurd (omega (arith, turn))
+  same_stop limit made t (Refused why) Limit turn p q = absurd (omega (arith, turn))
+
+  not_longer : (limit : ℕ) (s t u : BenchState) (made count : ℕ) (why other : Stop) → Run limit s t made why → Run limit s u count other → made < count → ⊥
+  not_longer limit s t u made count why other p q below = q.least made t why below p.steps p.stops
+
+  pub runs_determined : RunsAreDetermined
+  runs_determined limit s t u made count why other p q =
+      let least : made < count → ⊥ = not_longer limit s t u made count why other p q in
+      let most : count < made → ⊥ = not_longer limit s u t count made other why q p in
+      let counts : made ≡ count = equal_counts made count least most in
+      let later : Steps made s u None = subst (λ k. Steps k s u None) (sym counts) q.steps in
+      let states : t ≡ u = (steps_determined same_refusal same_step made s t u None None p.steps later).0 in
+      let here : StopsFor limit made t other = subst (λ (at : BenchState). StopsFor limit made at other) (sym states) (subst (λ k. StopsFor limit k u other) (sym counts) q.stops) in
+      let there : StopsFor limit count u why = subst (λ (at : BenchState). StopsFor limit count at why) states (subst (λ k. StopsFor limit k t why) counts p.stops) in
+      let early : turn_of other < turn_of why → ⊥ = λ below. p.first other below here in
+      let late : turn_of why < turn_of other → ⊥ = λ below. q.first why below there in
+      (states, counts, same_stop limit made t why other (equal_counts (turn_of why) (turn_of other) late early) p.stops here)
+
+  -- two runs make one
+  module _ (limit more : ℕ) (s t u : BenchState) (made count : ℕ) (why : Stop) (one : Run limit s t made Limit) (two : Run more t u count why) where
+    onward : (k : ℕ) (x : BenchState) (other : Stop) → StopsFor more k x other → StopsFor (limit + more) (made + k) x other
+    onward k x Idle holds = holds
+    onward k x Break holds = (omega (arith, holds.0), holds.1)
+    onward k x Limit holds = omega (arith, holds, one.stops)
+    onward k x (Refused refusal) holds = holds
+
+    no_break : (x : BenchState) → x ≡ t → StopsFor (limit + more) made x Break → ⊥
+    no_break x same holds = one.first Break (omega arith) (holds.0, subst (λ (at : BenchState). is_set at.breakpoints (place_of at.calculator) ≡ true) same holds.1)
+
+    back_at_break : (k : ℕ) (x : BenchState) → Steps k t x None → StopsFor (limit + more) (made + k) x Break → StopsFor more k x Break
+    back_at_break zero x steps holds = absurd (no_break x steps.0 (omega (arith, holds.0), holds.1))
+    back_at_break (suc k) x steps holds = (omega arith, holds.1)
+
+    back : (k : ℕ) (x : BenchState) (other : Stop) → Steps k t x None → StopsFor (limit + more) (made + k) x other → StopsFor more k x other
+    back k x Idle steps holds = holds
+    back k x Break steps holds = back_at_break k x steps holds
+    back k x Limit steps holds = omega (arith, holds, one.stops)
+    back k x (Refused refusal) steps holds = holds
+
+    early : (fewer : ℕ) (v : BenchState) (other : Stop) → fewer < made → StopsFor (limit + more) fewer v other → StopsFor limit fewer v other
+    early fewer v Idle below holds = holds
+    early fewer v Break below holds = holds
+    early fewer v Limit below holds = absurd (omega (arith, holds, below, one.stops))
+    early fewer v (Refused refusal) below holds = holds
+
+    later : (k : ℕ) (v : BenchState) (other : Stop) → k < count → Steps (made + k) s v None → StopsFor (limit + more) (made + k) v other → ⊥
+    later k v other below steps holds =
+        let parts = steps_split made k s v steps in
+        let same : parts.0 ≡ t = (steps_determined same_refusal same_step made s parts.0 t None None parts.1 one.steps).0 in
+        let rest : Steps k t v None = subst (λ (from : BenchState). Steps k from v None) same parts.2 in
+        two.least k v other below rest (back k v other rest holds)
+
+    sooner : (fewer : ℕ) (v : BenchState) (other : Stop) → fewer < made + count → Steps fewer s v None → StopsFor (limit + more) fewer v other → ⊥
+    sooner fewer v other below steps holds =
+        elim (before_or_from fewer made) [
+          | inl less ↦ one.least fewer v other less steps (early fewer v other less holds)
+          | inr from ↦ later from.0 v other (omega (arith, from.1, below)) (subst (λ k. Steps k s v None) from.1 steps) (subst (λ k. StopsFor (limit + more) k v other) from.1 holds)
+        ]
+
+    pub two_runs : Run (limit + more) s u (made + count) why
+    two_runs = record {
+      steps = steps_add made count s t u None one.steps two.steps;
+      stops = onward count u why two.stops;
+      first = λ other below holds. two.first other below (back count u other two.steps holds);
+      least = sooner;
+    }
+
+  pub runs_added : RunsAddUp
+  runs_added limit more s t u made count why one two = two_runs limit more s t u made count why one two

@@ -1,0 +1,30 @@
+-- What private functions promise one another of runs and breakpoints. A reader of the promises can leave it out.
+use Rattle.std.specs.Prelude.{◌≡◌, ◌==◌, Bool, false, List, length, Option, Some, None, if◌then◌else◌}
+use Rattle.std.specs.FinSet.{from_list, len}
+use Rattle.h41_xrom.specs.Calculator.{is_idle}
+use Rattle.h41_debug.specs.Bench.{BenchState}
+use Rattle.h41_debug.specs.Breakpoints.{BreakpointSet, is_set}
+use Rattle.h41_debug.specs.Run.{place_of}
+use Rattle.h41_debug.specs.declared.breakpoint.Breakpoint.{Breakpoint}
+use Rattle.h41_debug.specs.declared.breakpoint.Breakpoint.TheVariants.{Line, Word}
+use Rattle.h41_debug.specs.declared.run.Stop.{Stop}
+use Rattle.h41_debug.specs.declared.run.Stop.TheVariants.{Break, Idle}
+
+-- why a run stops behind a step, but for its limit and a refusal
+abbrev pub stop_at : BenchState → Option Stop
+stop_at s =
+    if is_idle s.calculator.mode then Some Idle else (if is_set s.breakpoints (place_of s.calculator) then Some Break else None)
+
+-- whether two breakpoints are the same: of one kind, with one number
+abbrev pub is_same : Breakpoint → Breakpoint → Bool
+is_same (Word address) (Word other) = address == other
+is_same (Word address) (Line position) = false
+is_same (Line position) (Word address) = false
+is_same (Line position) (Line other) = position == other
+
+-- a set by the list of its members, each once
+abbrev pub set_of : List Breakpoint → BreakpointSet
+set_of members = from_list members
+
+abbrev pub IsEachOnce : List Breakpoint → Type 0
+IsEachOnce members = len (set_of members) ≡ length members

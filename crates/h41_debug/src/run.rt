@@ -1,0 +1,79 @@
+//! Runs: single steps up to a reason to stop.
+
+ghost use Rattle.std.specs.Prelude.{◌≡◌, false};
+ghost use Rattle.h41_debug.specs.Run.{Run, place_of};
+ghost use Rattle.h41_debug.specs.Running.{stop_at};
+ghost use Rattle.h41_xrom.specs.Calculator.{is_idle};
+
+use crate::bench::Bench;
+use crate::breakpoint::Breakpoint;
+use h41_xrom::laws::step_is_determined;
+use h41_xrom::{CalculatorRefusal, Mode};
+
+/// Why a run stops.
+#[derive(Clone, Copy, Debug, PartialEq, Eq)]
+pub enum Stop {
+    /// Nothing runs.
+    Idle,
+    /// A breakpoint is set where the calculator is.
+    Break,
+    /// As many steps were made as may be.
+    Limit,
+    /// The next step is refused.
+    Refused(CalculatorRefusal),
+}
+
+impl Bench {
+    /// Single steps, at most `limit`, up to the first reason to stop, which are asked for in this order: nothing runs, a breakpoint is set
+    /// where the calculator then is, `limit` steps were made, the next step is refused. Tells how many steps were made, and the
+    /// reason. A breakpoint where the run begins does not stop it; a step that is refused changes nothing.
+    pub fn run(&mut self, limit: u32) -> (u32, Stop)
+        ensures { Run limit self.old self.new result.0 result.1 }
+    {
+        if self.calculator().mode() == Mode::Idle {
+            return (0, Stop::Idle);
+        }
+        self.run_on(limit)
+    }
+
+    /// The same, where something runs.
+    fn run_on(&mut self, limit: u32) -> (u32, Stop)
+        requires { is_idle self.old.calculator.mode ≡ false }
+        ensures { Run limit self.old self.new result.0 result.1 }
+    {
+        step_is_determined();
+        for made in 0..limit {
+            if let Err(refusal) = self.step() {
+                return (made, Stop::Refused(refusal));
+            }
+            if let Some(stop) = self.stop() {
+                return (made + 1, stop);
+            }
+        }
+        (limit, Stop::Limit)
+    }
+
+    /// Why a run stops behind a step, whatever its limit.
+    fn stop(&self) -> Option<Stop>
+        ensures { result ≡ stop_at self.now }
+    {
+        if self.calculator().mode() == Mode::Idle {
+            Some(Stop::Idle)
+        } else if self.has_breakpoint(self.place()) {
+            Some(Stop::Break)
+        } else {
+            None
+        }
+    }
+
+    /// The breakpoint that stands where the calculator is.
+    fn place(&self) -> Breakpoint
+        ensures { result ≡ place_of self.now.calculator }
+    {
+        let calculator = self.calculator();
+        match calculator.mode() {
+            Mode::Idle | Mode::Run => Breakpoint::Line(calculator.focal().position),
+            Mode::Micro(_) => Breakpoint::Word(calculator.cpu().pc()),
+        }
+    }
+}

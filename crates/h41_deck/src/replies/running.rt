@@ -1,0 +1,140 @@
+//! Runs, traces and breakpoints.
+
+ghost use Rattle.std.specs.Prelude.{◌≡◌, ◌≤◌, [], false, length, OnErr, OnOk, true};
+ghost use Rattle.h41_commands.specs.declared.commands.Command.TheVariants as commands;
+ghost use Rattle.h41_deck.specs.Answers.{ends_by};
+ghost use Rattle.h41_deck.specs.Replies.{Reply};
+ghost use Rattle.h41_deck.specs.Runs as spec;
+ghost use Rattle.h41_deck.specs.Writing.{TellsLine, WritesAlone};
+
+use crate::refusal::Refusal;
+use arrayvec::ArrayString;
+use h41_commands::BreakPlace;
+use h41_debug::laws::steps_are_traced;
+use h41_debug::{Bench, Breakpoint, Stop, TRACE_CAPACITY};
+use h41_ends::{Sink, WriteFault, write_whole};
+use itoa::Buffer;
+
+/// The most bytes of what `run` prints: `ran`, ten digits, `Refused`, two blanks and LF.
+const RAN: usize = 24;
+
+/// The most bytes of a line of a trace.
+const TRACED: usize = TRACE_CAPACITY + 1;
+
+/// A run of at most so many steps. Writes how many it made and why it stopped, and tells its refusal where that is why.
+pub fn run<W: Sink>(
+    bench: &mut Bench,
+    limit: u32,
+    writer: &mut W,
+) -> Result<Option<Refusal>, WriteFault>
+    requires { W.failed writer.old ≡ false }
+    ensures text { WritesAlone result (commands.Run limit) bench.old bench.new W.contents writer.old writer.new }
+    ensures clear { OnOk result (W.failed writer.new ≡ false) }
+    ensures mark { OnErr result (W.failed writer.new ≡ true) }
+{
+    let (made, stop) = bench.run(limit);
+    write_whole(writer, ran_text(made, stop).as_str().as_bytes())?;
+    Ok(stop_refusal(stop))
+}
+
+/// How many steps a run made, and why it stopped.
+fn ran_text(made: u32, stop: Stop) -> ArrayString<RAN>
+    ensures { result.bytes ≡ spec.ran_text made stop }
+{
+    let mut text = ArrayString::new();
+    text.push_str("ran ");
+    text.push_str(Buffer::new().format(made));
+    text.push_str(" ");
+    text.push_str(stop_name(stop));
+    text.push_str("\n");
+    text
+}
+
+/// Why a run stopped, in a word.
+fn stop_name(stop: Stop) -> &'static str
+    ensures text { result.now ≡ spec.stop_name stop }
+    ensures short { length result.now ≤ 7 }
+{
+    match stop {
+        Stop::Idle => "Idle",
+        Stop::Break => "Break",
+        Stop::Limit => "Limit",
+        Stop::Refused(_) => "Refused",
+    }
+}
+
+/// The refusal that a run stopped for.
+fn stop_refusal(stop: Stop) -> Option<Refusal>
+    ensures { result ≡ spec.stop_refusal stop }
+{
+    match stop {
+        Stop::Refused(refusal) => Some(Refusal::Calculator(refusal)),
+        Stop::Idle | Stop::Break | Stop::Limit => None,
+    }
+}
+
+/// So many single steps, up to the first that is refused, and why that is. Before each is made it is told. Where a line cannot be
+/// written, no more are, but the steps that are left are made: what a command does to the bench does not hang on its writer.
+pub fn trace<W: Sink>(
+    bench: &mut Bench,
+    count: u32,
+    writer: &mut W,
+) -> Result<Option<Refusal>, WriteFault>
+    requires { W.failed writer.old ≡ false }
+    ensures text { WritesAlone result (commands.Trace count) bench.old bench.new W.contents writer.old writer.new }
+    ensures clear { OnOk result (W.failed writer.new ≡ false) }
+    ensures mark { OnErr result (W.failed writer.new ≡ true) }
+{
+    steps_are_traced();
+    for made in 0..count {
+        let line = traced_line(bench);
+        if let Err(fault) = write_whole(writer, line.as_str().as_bytes()) {
+            let _ = bench.steps(count - made);
+            return Err(fault);
+        }
+        if let Err(refusal) = bench.step() {
+            return Ok(Some(Refusal::Calculator(refusal)));
+        }
+    }
+    Ok(None)
+}
+
+/// The line that tells of the next step.
+fn traced_line(bench: &Bench) -> ArrayString<TRACED>
+    ensures { TellsLine bench.now result.bytes }
+{
+    let mut line = ArrayString::new();
+    line.push_str(bench.trace_line().as_str());
+    line.push_str("\n");
+    line
+}
+
+/// Sets a breakpoint, or tells why not.
+pub fn set_break(bench: &mut Bench, place: BreakPlace) -> Option<Refusal>
+    ensures { Reply (commands.Break place) [] bench.old bench.new (ends_by result) }
+{
+    match bench.break_at(breakpoint_at(place)) {
+        Ok(()) => None,
+        Err(_) => Some(Refusal::BreakFull),
+    }
+}
+
+/// Takes a breakpoint away, or tells why not.
+pub fn unbreak(bench: &mut Bench, place: BreakPlace) -> Option<Refusal>
+    ensures { Reply (commands.Unbreak place) [] bench.old bench.new (ends_by result) }
+{
+    match bench.unbreak(breakpoint_at(place)) {
+        Ok(()) => None,
+        Err(_) => Some(Refusal::NoBreak),
+    }
+}
+
+/// The breakpoint that a command names.
+fn breakpoint_at(place: BreakPlace) -> Breakpoint
+    ensures { result ≡ spec.breakpoint_at place }
+{
+    match place {
+        BreakPlace::Word(address) => Breakpoint::Word(address),
+        BreakPlace::Line(position) => Breakpoint::Line(position),
+    }
+}

@@ -1,15 +1,15 @@
-"""A model of the calculator as far as keys reach: which of them are refused in which state, and what the others do. It is written
-by docs/KEYBOARD.md, docs/LINES.md and docs/PROGRAMS.md and shares nothing with the crates. It takes the commands of a deck and
-answers the lines that the program has to print for them, so `.ci/keys` compares the two.
+"""A model of the calculator as far as keys reach: which of them are refused in which state, and what the others do. It is
+written by docs/KEYBOARD.md, docs/LINES.md and docs/PROGRAMS.md and shares nothing with the crates. It takes the commands of a
+deck and answers the lines that the program has to print for them: `.ci/keys` compares the two.
 
-Of decks it knows `reset`, `program` blocks, `key`, `step`, `call` of a function that is NOPs and a RTN, and the views that the
-decks of `.ci/keys` have. Memory always has room here and is sound.
+Of decks it knows `reset`, one `program` block, `key`, `step`, `call` of a function that is NOPs and a RTN, and the views that
+the decks of `.ci/keys` have. Memory always has room here and is sound.
 """
 import re
 from decimal import Decimal
 
 from keyboard import KEYS
-from registers import (PI, Fault, counted, holds, nearest, number, of_two, of_x, register_digits, register_text, typed)
+from registers import PI, Fault, counted, holds, number, of_two, of_x, register_digits, register_text, typed
 
 KEY_NOT_HELD, NOT_IN_PROFILE = "! 18 KeyNotHeld", "! 13 NotInProfile"
 
@@ -241,7 +241,7 @@ class Calculator:
             self.go_top(index)
 
     def label(self, operand, behind):
-        """The line of a label: a name, the last in memory; else the first from a line on to the END, or from the program's start."""
+        """The line of a label: of a name the last in memory, else the first from a line on, or from the program's start."""
         wanted = f"LBL {operand}"
         if operand.startswith('"'):
             found = [index for index, line in enumerate(self.lines) if line == wanted][-1:]
@@ -663,14 +663,14 @@ class Calculator:
             self.flags = (self.flags - {36, 37, 38, 39, 40, 41}) | {36 + bit for bit in range(4) if digits & 8 >> bit}
             self.flags |= {"FIX": {40}, "SCI": set(), "ENG": {41}}[name]
         elif name in ("+", "-", "*", "/"):
-            result = of_two(name, y, x)
+            result = of_two(name, y, x, self.flags)
             stack.update(X=result, Y=stack["Z"], Z=stack["T"], L=x)
         elif name == "%":
-            stack.update(X=of_two(name, y, x), L=x)
+            stack.update(X=of_two(name, y, x, self.flags), L=x)
         elif name in ("X^2", "SQRT", "1/X"):
-            stack.update(X=of_x(name, x), L=x)
+            stack.update(X=of_x(name, x, self.flags), L=x)
         elif name == "CHS":
-            stack["X"] = of_x(name, x)
+            stack["X"] = of_x(name, x, self.flags)
         elif name == "ENTER^":
             stack.update(T=stack["Z"], Z=y, Y=x)
         elif name == "CLX":
@@ -710,10 +710,10 @@ class Calculator:
             self.put(place, changed)
             return not skips
         else:
-            self.put(place, nearest(of_two(name[2], value, self.stack["X"])))
+            self.put(place, of_two(name[2], value, self.stack["X"], self.flags))
         return None
 
 
 # The functions of the calculator that a name can call, as far as the decks have them.
-FUNCTIONS = LEFT_OUT | {"+", "-", "*", "/", "%", "X^2", "SQRT", "1/X", "CHS", "ENTER^", "CLX", "X<>Y", "RDN", "PI", "LASTX", "X=Y?",
-                        "X<=Y?", "X>Y?", "X=0?", "CLA", "AVIEW", "BEEP", "RTN", "STOP"}
+FUNCTIONS = LEFT_OUT | {"+", "-", "*", "/", "%", "X^2", "SQRT", "1/X", "CHS", "ENTER^", "CLX", "X<>Y", "RDN", "PI", "LASTX",
+                        "X=Y?", "X<=Y?", "X>Y?", "X=0?", "CLA", "AVIEW", "BEEP", "RTN", "STOP"}

@@ -1,5 +1,5 @@
-"""What the model of the keyboard computes with: what registers hold, how the display shows it, and the lines that change it. It
-is written by docs/NUMBERS.md and docs/LINES.md, shares nothing with the crates, and has what the decks of `.ci/keys` need.
+"""What the model of the calculator computes with: what registers hold, how the display shows it, and what lines make of it.
+It is written by docs/NUMBERS.md and docs/LINES.md, shares nothing with the crates, and has what the decks of `.ci/keys` need.
 
 A register holds a number, a Decimal of at most ten digits, or ALPHA data, a text of at most six characters.
 """
@@ -16,10 +16,12 @@ class Fault(Exception):
     """A line's fault: the message that the display shows."""
 
 
-def nearest(exact):
-    """The ten-digit number nearest to an exact one, halves away from zero."""
+def nearest(exact, bounded):
+    """The ten-digit number nearest to an exact one, halves away from zero; beyond the greatest that one, if it is bounded."""
     rounded = TEN_DIGITS.plus(exact)
     if rounded and rounded.adjusted() > 99:
+        if bounded:
+            return GREATEST.copy_sign(exact)
         raise Fault("OUT OF RANGE")
     return rounded if rounded and rounded.adjusted() >= -99 else Decimal(0)
 
@@ -89,25 +91,25 @@ def number(value):
     return value
 
 
-def of_two(operation, y, x):
-    """What a line makes of Y and X, or of a register and X."""
+def of_two(operation, y, x, flags):
+    """What a line makes of Y and X, or of a register and X; flag 24 bounds it."""
     y, x = number(y), number(x)
     if operation == "/" and not x:
         raise Fault("DATA ERROR")
     exact = {"+": MANY_DIGITS.add, "-": MANY_DIGITS.subtract, "*": MANY_DIGITS.multiply, "/": MANY_DIGITS.divide,
              "%": lambda of, rate: MANY_DIGITS.multiply(of, rate).scaleb(-2)}[operation]
-    return nearest(exact(y, x))
+    return nearest(exact(y, x), 24 in flags)
 
 
-def of_x(operation, x):
-    """What a line makes of X alone."""
+def of_x(operation, x, flags):
+    """What a line makes of X alone; flag 24 bounds it."""
     x = number(x)
     if operation == "CHS":
         return -x if x else x
     if operation == "1/X" and not x or operation == "SQRT" and x < 0:
         raise Fault("DATA ERROR")
     return nearest({"1/X": lambda: MANY_DIGITS.divide(Decimal(1), x), "SQRT": lambda: MANY_DIGITS.sqrt(x),
-                    "X^2": lambda: MANY_DIGITS.multiply(x, x)}[operation]())
+                    "X^2": lambda: MANY_DIGITS.multiply(x, x)}[operation](), 24 in flags)
 
 
 def holds(test, y, x):
@@ -119,7 +121,7 @@ def holds(test, y, x):
 
 
 def counted(value):
-    """What ISG makes of a counter, and whether it then skips: a number iiiii.fffcc is counted up by cc, by 1 where that is 0."""
+    """What ISG makes of a counter, and whether it then skips: iiiii.fffcc is counted up by cc, by 1 where that is 0."""
     value = number(value)
     whole = value.to_integral_value(ROUND_DOWN)
     part = abs(value) - abs(whole)

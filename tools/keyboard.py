@@ -1,5 +1,5 @@
-"""The keys of the calculator: what is printed on each, above it and below it, and its code. The picture of docs/KEYBOARD.md and
-docs/keyboard.svg are made of this table, and `.ci/keys` judges by it what each key does."""
+"""The keys of the calculator: what is printed on each, above it and below it, and its code. The picture in docs/KEYBOARD.md
+and docs/keyboard.svg are made of this table, and `.ci/keys` judges by it what each key does."""
 from typing import NamedTuple, Optional
 
 
@@ -56,13 +56,14 @@ def letter_text(key):
 
 
 def picture():
-    """The keyboard in characters, as docs/KEYBOARD.md shows it: of each row the functions after SHIFT, the keys, the letters."""
+    """The keyboard in characters, as docs/KEYBOARD.md shows it: of each row functions after SHIFT, keys, and letters."""
     def line(texts):
         return "  ".join(text.center(9) for text in texts).rstrip()
 
     parts = []
     for row in ROWS:
-        lines = [line(key.shifted or "" for key in row), line(f"[{key.name.center(7)}]" for key in row), line(map(letter_text, row))]
+        lines = [line(key.shifted or "" for key in row), line(f"[{key.name.center(7)}]" for key in row),
+                 line(map(letter_text, row))]
         parts.append("".join(f"{text}\n" for text in lines if text))
     return "\n".join(parts)
 
@@ -91,8 +92,8 @@ def escaped(text):
 
 
 def places(row):
-    """The middle of each key of a row, and its width. Rows of four fill the width of five: ENTER is two keys wide, and the keys
-    below stand further apart."""
+    """The middle of each key of a row, and its width. Rows of four fill the width of five: ENTER is two keys wide, and the
+    other rows stand further apart."""
     if len(row) == 5:
         return [(MARGIN + COLUMN * (at + 0.5), KEY_WIDTH) for at in range(5)]
     if row[0].name == "ENTER":
@@ -101,7 +102,7 @@ def places(row):
 
 
 def drawn(key, middle, width, top):
-    """A key: its function after SHIFT above it, its name on it, and below it its letter at the left and its code at the right."""
+    """A key: its function after SHIFT above it, its name on it, and below it its letter and, at the right, its code."""
     def text(kind, x, y, words):
         return f'<text class="{kind}" x="{x:g}" y="{y:g}">{escaped(words)}</text>' if words else ""
 
@@ -122,7 +123,8 @@ def svg():
              f"<style>{STYLE}</style>",
              f'<rect width="{WIDTH}" height="{height}" fill="#fff"/>',
              f'<text class="head left" x="{MARGIN}" y="26">'
-             '<tspan class="shifted" dx="0">above a key: after SHIFT</tspan><tspan class="letter" dx="24">below it: its letter</tspan>'
+             '<tspan class="shifted">above a key: after SHIFT</tspan>'
+             '<tspan class="letter" dx="24">below it: its letter</tspan>'
              '<tspan class="code" dx="24" style="font-size: 13px">and its code, in hexadecimal</tspan></text>']
     for number, row in enumerate(ROWS):
         for key, (middle, width) in zip(row, places(row)):

@@ -2,8 +2,8 @@
 written by docs/KEYBOARD.md, docs/LINES.md and docs/PROGRAMS.md and shares nothing with the crates. It takes the commands of a
 deck and answers the lines that the program has to print for them: `.ci/keys` compares the two.
 
-Of decks it knows `reset`, one `program` block, `key`, `step`, `call` of a function that is NOPs and a RTN, and the views that
-the decks of `.ci/keys` have. Memory always has room here and is sound.
+Of decks it knows `reset`, `size` and then one `program` block, `key`, `step`, `call` of a function that has NOP, RTN and a word
+that clears register c, so that memory is not sound, and the views that the decks of `.ci/keys` have.
 """
 import re
 from decimal import Decimal
@@ -12,6 +12,10 @@ from keyboard import KEYS
 from registers import PI, Fault, counted, holds, number, of_two, of_x, register_digits, register_text, typed
 
 KEY_NOT_HELD, NOT_IN_PROFILE = "! 18 KeyNotHeld", "! 13 NotInProfile"
+MEMORY_LOST, NO_ROOM = "! 15 MemoryLost", "! 16 NoRoom"
+
+# The words of functions.
+RTN, WRITE_C = "3E0", "368"
 
 DIGITS = set("0123456789")
 # What SHIFT writes in ALPHA and in a name.
@@ -101,7 +105,8 @@ class Calculator:
         self.lines = [".END."]
         self.places = [4]
         self.at, self.top, self.returns = 0, True, ()
-        self.mode, self.caller, self.address, self.words = "Idle", "Idle", "00F0", 0
+        self.size, self.sound = 100, True
+        self.mode, self.caller, self.address, self.words = "Idle", "Idle", "00F0", []
         self.shift = self.program_mode = False
         self.message = None
         # What is being typed: a number as its characters, None where there is none; a text, "" where there is none, "letters"
@@ -136,8 +141,11 @@ class Calculator:
         self.words = page
 
     def do_words(self, *block):
-        """A page whose words are NOPs and then a RTN."""
-        self.words = len(" ".join(block).split())
+        self.words = " ".join(block).split()
+
+    def do_size(self, count):
+        self.size = int(count)
+        self.number, self.text = None, ""
 
     def do_call(self, address):
         self.caller, self.mode, self.address = self.mode, "Micro", address
@@ -170,7 +178,7 @@ class Calculator:
         if what == "flags":
             return [" ".join(f"{flag:02d}" for flag in sorted(self.flags))]
         if what == "lines":
-            return [f"{place:04d} {line}" for place, line in zip(self.places, self.lines)]
+            return [f"{place:04d} {line}" for place, line in zip(self.places, self.lines)] if self.sound else []
         if what == "cpu":
             return [ANY, ANY, ANY, Ending(f" KY={self.code:02X} KF={self.pressed}"), ANY]
         raise ValueError(what)
@@ -209,6 +217,10 @@ class Calculator:
         first = self.first(index)
         return self.places[first - 1] + 3 if first else 0
 
+    def free(self):
+        """How many registers are free below .END. ."""
+        return 319 - self.size - self.places[-1] // 7
+
     def go_top(self, index):
         self.at, self.top = self.start(index), True
 
@@ -219,6 +231,8 @@ class Calculator:
         """The lines are others, and one of them is shown."""
         self.lines = lines
         self.pack()
+        if self.free() < 0:
+            raise Refused(NO_ROOM)
         self.returns = ()
         self.go(index)
 
@@ -258,9 +272,11 @@ class Calculator:
             return self.message
         if self.waiting:
             return self.prompt_text()
+        if self.program_mode and not self.sound:
+            return "?"
         if self.program_mode:
             if self.top:
-                return f"00 REG {412 - 192 - (self.places[-1] + 3) // 7}"
+                return f"00 REG {self.free()}"
             index = self.index()
             typing = "_" if self.number is not None or self.text == "letters" else ""
             return f"{index - self.first(index) + 1:02d} {self.lines[index]}{typing}"
@@ -290,6 +306,14 @@ class Calculator:
         key = KEYS[name]
         if name in ("ON", "USER"):
             raise Refused(KEY_NOT_HELD)
+        if self.mode == "Idle" and not self.sound:
+            self.sound = True
+            try:
+                self.press(name)
+            except Refused as refusal:
+                if str(refusal) == KEY_NOT_HELD:
+                    raise
+            raise Refused(MEMORY_LOST)
         self.code, self.pressed = key.code, 1
         if self.mode != "Idle":
             if name == "R/S" and self.mode == "Run":
@@ -543,9 +567,13 @@ class Calculator:
         if self.mode == "Micro":
             at = int(self.address, 16)
             self.address = f"{at + 1:04X}"
-            if at & 0xFFF == self.words - 1:
+            if self.words[at & 0xFFF] == RTN:
                 self.mode, self.address, self.lift = self.caller, "00F0", True
+            elif self.words[at & 0xFFF] == WRITE_C:
+                self.sound = False
             return
+        if not self.sound:
+            raise Refused(MEMORY_LOST)
         index = self.index()
         line = self.lines[index]
 
@@ -624,7 +652,11 @@ class Calculator:
         self.go(found)
 
     def register_value(self, operand):
-        return self.stack[operand] if operand in self.stack else self.registers.get(int(operand), Decimal(0))
+        if operand in self.stack:
+            return self.stack[operand]
+        if int(operand) >= self.size:
+            raise Fault("NONEXISTENT")
+        return self.registers.get(int(operand), Decimal(0))
 
     def number_of(self, operand, bound):
         """The number that an operand stands for, below a bound."""
@@ -637,7 +669,7 @@ class Calculator:
         return found
 
     def register_named(self, operand):
-        return operand if operand in self.stack else self.number_of(operand, 100)
+        return operand if operand in self.stack else self.number_of(operand, self.size)
 
     def put(self, place, value):
         if place in self.stack:

@@ -1,0 +1,132 @@
+"""The keys of the calculator: what is printed on each, above it and below it, and its code. The picture in docs/KEYBOARD.md
+and docs/keyboard.svg are made of this table, and `.ci/keys` judges by it what each key does."""
+from typing import NamedTuple, Optional
+
+
+class Key(NamedTuple):
+    """A key: its name, its function after SHIFT, its letter, and its row and column; of these the top row is 0, and columns
+    count from 1."""
+    name: str
+    shifted: Optional[str]
+    letter: Optional[str]
+    row: int
+    column: int
+
+    @property
+    def code(self):
+        """What microcode reads of it: a digit for the row, and one for the column."""
+        return 16 * self.row + self.column
+
+
+# A row of keys on each line, the keys parted by two blanks or more: the name, the function after SHIFT, and the letter, `none`
+# where there is none. `blank` is the character 20.
+LAYOUT = """
+ON none none     USER none none   PRGM none none   ALPHA none none
+SIGMA+ S- A      1/X Y^X B        SQRT X^2 C       LOG 10^X D       LN E^X E
+X<>Y CLS F       RDN % G          SIN ASIN H       COS ACOS I       TAN ATAN J
+SHIFT none none  XEQ none K       STO LBL L        RCL GTO M        SST BST none
+ENTER none N     CHS ISG O        EEX RTN P        BACK CLX none
+- X=Y? Q         7 SF R           8 CF S           9 FS? T
++ X<=Y? U        4 BEEP V         5 P-R W          6 R-P X
+* X>Y? Y         1 FIX Z          2 SCI =          3 ENG ?
+/ X=0? :         0 PI blank       . LASTX ,        R/S VIEW none
+"""
+
+
+def rows():
+    """The rows of keys, from the top one on."""
+    def each(words, row, column):
+        name, shifted, letter = (None if word == "none" else word for word in words)
+        return Key(name, shifted, " " if letter == "blank" else letter, row, column)
+
+    found = []
+    for row, line in enumerate(LAYOUT.split("\n")[1:-1]):
+        words = line.split()
+        found.append([each(words[at:at + 3], row, at // 3 + 1) for at in range(0, len(words), 3)])
+    return found
+
+
+ROWS = rows()
+KEYS = {key.name: key for row in ROWS for key in row}
+
+
+def letter_text(key):
+    """A key's letter as a picture has it."""
+    return "blank" if key.letter == " " else key.letter or ""
+
+
+def picture():
+    """The keyboard in characters, as docs/KEYBOARD.md shows it: of each row functions after SHIFT, keys, and letters."""
+    def line(texts):
+        return "  ".join(text.center(9) for text in texts).rstrip()
+
+    parts = []
+    for row in ROWS:
+        lines = [line(key.shifted or "" for key in row), line(f"[{key.name.center(7)}]" for key in row),
+                 line(map(letter_text, row))]
+        parts.append("".join(f"{text}\n" for text in lines if text))
+    return "\n".join(parts)
+
+
+# What docs/keyboard.svg is drawn with: its scale, and the width of a column and the height of a row.
+MARGIN, COLUMN, ROW, TOP = 24, 120, 96, 52
+KEY_WIDTH, KEY_HEIGHT = 92, 36
+WIDTH = 2 * MARGIN + 5 * COLUMN
+
+STYLE = """
+.key { fill: #2f2f33; stroke: #111; }
+.shift { fill: #b8860b; stroke: #111; }
+.name { fill: #fff; font-size: 16px; font-weight: bold; }
+.shifted { fill: #8a5a00; font-size: 14px; }
+.letter { fill: #0b4fa0; font-size: 14px; font-weight: bold; }
+.code { fill: #666; font-size: 11px; }
+.head { fill: #111; font-size: 14px; }
+text { font-family: Verdana, Helvetica, Arial, sans-serif; text-anchor: middle; }
+.left { text-anchor: start; }
+"""
+
+
+def escaped(text):
+    """A text as it stands in the file."""
+    return text.replace("&", "&amp;").replace("<", "&lt;").replace(">", "&gt;")
+
+
+def places(row):
+    """The middle of each key of a row, and its width. Rows of four fill the width of five: ENTER is two keys wide, and the
+    other rows stand further apart."""
+    if len(row) == 5:
+        return [(MARGIN + COLUMN * (at + 0.5), KEY_WIDTH) for at in range(5)]
+    if row[0].name == "ENTER":
+        return [(MARGIN + COLUMN, KEY_WIDTH + COLUMN)] + [(MARGIN + COLUMN * (at + 0.5), KEY_WIDTH) for at in (2, 3, 4)]
+    return [(MARGIN + COLUMN * 1.25 * (at + 0.5), KEY_WIDTH) for at in range(4)]
+
+
+def drawn(key, middle, width, top):
+    """A key: its function after SHIFT above it, its name on it, and below it its letter and, at the right, its code."""
+    def text(kind, x, y, words):
+        return f'<text class="{kind}" x="{x:g}" y="{y:g}">{escaped(words)}</text>' if words else ""
+
+    kind = "shift" if key.name == "SHIFT" else "key"
+    left = middle - width / 2
+    yield (f'<rect class="{kind}" x="{left:g}" y="{top:g}" width="{width:g}" height="{KEY_HEIGHT}" rx="5"/>')
+    yield text("shifted", middle, top - 6, key.shifted)
+    yield text("name", middle, top + 24, key.name)
+    yield text("letter", middle, top + KEY_HEIGHT + 17, letter_text(key))
+    yield text("code", left + width - 8, top + KEY_HEIGHT + 15, f"{key.code:02X}")
+
+
+def svg():
+    """docs/keyboard.svg."""
+    height = TOP + ROW * len(ROWS)
+    parts = [f'<svg xmlns="http://www.w3.org/2000/svg" width="{WIDTH}" height="{height}" viewBox="0 0 {WIDTH} {height}">',
+             "<title>The keys of the calculator</title>",
+             f"<style>{STYLE}</style>",
+             f'<rect width="{WIDTH}" height="{height}" fill="#fff"/>',
+             f'<text class="head left" x="{MARGIN}" y="26">'
+             '<tspan class="shifted">above a key: after SHIFT</tspan>'
+             '<tspan class="letter" dx="24">below it: its letter</tspan>'
+             '<tspan class="code" dx="24" style="font-size: 13px">and its code, in hexadecimal</tspan></text>']
+    for number, row in enumerate(ROWS):
+        for key, (middle, width) in zip(row, places(row)):
+            parts += filter(None, drawn(key, middle, width, TOP + ROW * number + 14))
+    return "\n".join(parts) + "\n</svg>\n"

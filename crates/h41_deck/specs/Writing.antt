@@ -5,6 +5,7 @@ use Rattle.std.specs.Prelude.{◌≡◌, ℕ, Vec, List, [], Option, Some, None,
 use Rattle.std.specs.Io.KnownBytes.{Appends, Keeps}
 use Rattle.std.specs.Result.{result_err}
 use Rattle.h41_commands.specs.declared.commands.Command.{Command}
+use Rattle.h41_commands.specs.declared.commands.Command.TheVariants as commands
 use Rattle.h41_commands.specs.Blocks.{TakenBlock, judgement}
 use Rattle.h41_commands.specs.Items.{Spelled, with_values}
 use Rattle.h41_debug.specs.Bench.{BenchState}
@@ -83,6 +84,13 @@ SaysAlone result command s t contents old new = (values : List ℕ) → LeavesTe
 abbrev pub WritesAlone : {W : Type 0} → Result (Option Refusal) fault.WriteFault → Command → BenchState → BenchState → (W → Option (List ℕ)) → W → W → Type 0
 WritesAlone (Ok refusal) command s t contents old new = (values : List ℕ) → SaysText (Ok (command, values)) s t (contents old) (contents new) refusal
 WritesAlone (Err failed) command s t contents old new = (values : List ℕ) → RepliesInPart (Ok (command, values)) s t (contents old) (contents new)
+
+-- a run and a trace are such commands
+abbrev pub RunsAlone : {W : Type 0} → Result (Option Refusal) fault.WriteFault → ℕ → BenchState → BenchState → (W → Option (List ℕ)) → W → W → Type 0
+RunsAlone result limit s t contents old new = WritesAlone result (commands.Run limit) s t contents old new
+
+abbrev pub TracesAlone : {W : Type 0} → Result (Option Refusal) fault.WriteFault → ℕ → BenchState → BenchState → (W → Option (List ℕ)) → W → W → Type 0
+TracesAlone result count s t contents old new = WritesAlone result (commands.Trace count) s t contents old new
 
 -- the line of a trace that tells of the next step
 abbrev pub TellsLine : BenchState → List ℕ → Type 0

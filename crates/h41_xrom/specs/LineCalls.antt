@@ -32,8 +32,8 @@ Call = (memory : RegisterMap) → (focal : FocalState) → (new : RegisterMap) �
 abbrev pub Carries : Source → PageMap → Call
 Carries source pages memory focal new after result = CarriesLine source pages (machine_of memory focal) (ended_as new after result)
 
-abbrev pub CallsAt : Source → PageMap → ℕ → ℕ → Call
-CallsAt source pages number entry memory focal new after result =
+abbrev pub Called : Source → PageMap → ℕ → ℕ → Call
+Called source pages number entry memory focal new after result =
     CallsEntry source (entry_at pages number entry) (machine_of memory focal) (ended_as new after result)
 
 abbrev pub CallsNamed : Source → PageMap → List ℕ → Call

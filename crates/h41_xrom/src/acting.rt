@@ -1,7 +1,7 @@
 //! What a key's action makes of memory and of what lines work on.
 
 ghost use Rattle.std.specs.Prelude.{◌≡◌};
-ghost use Rattle.h41_xrom.specs.KeyCalls as calls;
+ghost use Rattle.h41_xrom.specs.KeyCalls.{ActsAs, CarriesAs, IsActed, KeepsActed, edited_as};
 
 use crate::lines::{LineEnd, Source, carry_line};
 use crate::refusal::CalculatorRefusal;
@@ -41,9 +41,9 @@ pub fn act<const REGS: usize>(
     program_mode: bool,
     action: Action,
 ) -> Result<Effect, CalculatorRefusal>
-    requires { calls.IsActed action ram.old }
-    ensures effect { calls.ActsAs pages.now program_mode action ram.old focal.old ram.new focal.new result }
-    ensures unchanged { calls.KeepsActed ram.old focal.old ram.new focal.new result }
+    requires { IsActed action ram.old }
+    ensures effect { ActsAs pages.now program_mode action ram.old focal.old ram.new focal.new result }
+    ensures unchanged { KeepsActed ram.old focal.old ram.new focal.new result }
 {
     match action {
         Action::Nothing => Ok(Effect::Nothing),
@@ -70,7 +70,7 @@ pub fn act<const REGS: usize>(
 
 /// A change of the program, or a move, as a key's action.
 fn edited(given: Result<(), ProgramRefusal>) -> Result<Effect, CalculatorRefusal>
-    ensures { result ≡ calls.edited_as given }
+    ensures { result ≡ edited_as given }
 {
     match given {
         Ok(()) => Ok(Effect::Nothing),
@@ -85,8 +85,8 @@ fn carried<const REGS: usize>(
     pages: &Pages,
     source: &Source,
 ) -> Result<Effect, CalculatorRefusal>
-    ensures line { calls.CarriesAs source.now pages.now ram.old focal.old ram.new focal.new result }
-    ensures unchanged { calls.KeepsActed ram.old focal.old ram.new focal.new result }
+    ensures line { CarriesAs source.now pages.now ram.old focal.old ram.new focal.new result }
+    ensures unchanged { KeepsActed ram.old focal.old ram.new focal.new result }
 {
     Ok(Effect::Line(carry_line(ram, focal, pages, source)?))
 }

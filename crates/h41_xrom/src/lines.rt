@@ -2,7 +2,7 @@
 
 ghost use Rattle.std.specs.Prelude.{◌≡◌, None, Some, OnErr};
 ghost use Rattle.h41_focal.specs.LineCalls.{KeepsAll, KeepsElsewhere};
-ghost use Rattle.h41_xrom.specs.LineCalls.{CallsAt, CallsNamed, Carried, Carries, Enters, Failed, FailsThere, IsFunction, Keeps, Passed};
+ghost use Rattle.h41_xrom.specs.LineCalls.{Called, CallsNamed, Carried, Carries, Enters, Failed, FailsThere, IsFunction, Keeps, Passed};
 ghost use Rattle.h41_xrom.specs.Lines.{IsNamed};
 
 use h41_codes::{Function, Line};
@@ -99,7 +99,7 @@ fn call_entry<const REGS: usize>(
     number: u8,
     entry: u8,
 ) -> Result<LineEnd, FocalRefusal>
-    ensures line { CallsAt source.now pages.now number entry ram.old focal.old ram.new focal.new result }
+    ensures line { Called source.now pages.now number entry ram.old focal.old ram.new focal.new result }
     ensures unchanged { Keeps ram.old focal.old ram.new focal.new result }
 {
     match pages.entry(number, entry) {

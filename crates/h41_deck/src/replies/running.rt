@@ -5,7 +5,7 @@ ghost use Rattle.h41_commands.specs.declared.commands.Command.TheVariants as com
 ghost use Rattle.h41_deck.specs.Answers.{ends_by};
 ghost use Rattle.h41_deck.specs.Replies.{Reply};
 ghost use Rattle.h41_deck.specs.Runs as spec;
-ghost use Rattle.h41_deck.specs.Writing.{TellsLine, WritesAlone};
+ghost use Rattle.h41_deck.specs.Writing.{RunsAlone, TellsLine, TracesAlone};
 
 use crate::refusal::Refusal;
 use arrayvec::ArrayString;
@@ -28,7 +28,7 @@ pub fn run<W: Sink>(
     writer: &mut W,
 ) -> Result<Option<Refusal>, WriteFault>
     requires { W.failed writer.old ≡ false }
-    ensures text { WritesAlone result (commands.Run limit) bench.old bench.new W.contents writer.old writer.new }
+    ensures text { RunsAlone result limit bench.old bench.new W.contents writer.old writer.new }
     ensures clear { OnOk result (W.failed writer.new ≡ false) }
     ensures mark { OnErr result (W.failed writer.new ≡ true) }
 {
@@ -81,7 +81,7 @@ pub fn trace<W: Sink>(
     writer: &mut W,
 ) -> Result<Option<Refusal>, WriteFault>
     requires { W.failed writer.old ≡ false }
-    ensures text { WritesAlone result (commands.Trace count) bench.old bench.new W.contents writer.old writer.new }
+    ensures text { TracesAlone result count bench.old bench.new W.contents writer.old writer.new }
     ensures clear { OnOk result (W.failed writer.new ≡ false) }
     ensures mark { OnErr result (W.failed writer.new ≡ true) }
 {

@@ -10,10 +10,11 @@ use std::test::Fail;
 
 /// A deck with two refusals.
 pub const DECK: &str =
-    "words 8\n130 123\n226 3E0\nend\ncall 8000\ncall 9000\nstep 2\nshow cpu\nfly\n";
+    "words 8\n130 123\n226 3E0\nend\ncall 8000\ncall 9000\ntrace 2\nrun 0\nshow cpu\nfly\n";
 
 /// What `DECK` prints.
-pub const TEXT: &str = "! 24 Busy\nA=00000000000000 B=00000000000000 C=00000000000124\n\
+pub const TEXT: &str = "! 24 Busy\nMicro 8000 LDI 123\nMicro 8002 C=C+1 S&X\nran 0 Limit\n\
+    A=00000000000000 B=00000000000000 C=00000000000124\n\
     M=00000000000000 N=00000000000000\nG=00 T=00 ST=0000 P=0 Q=0 PT=P\n\
     PC=8003 CY=0 MODE=HEX RAM=000 KY=00 KF=0\nRTN=00F0 0000 0000 0000\n! 50 BadCommand\n";
 
@@ -69,7 +70,7 @@ fn stops_where_a_write_takes_nothing(rt: HostRuntime) {
         is_told && none.taken.is_empty(),
     );
 
-    // Room for the first refusal and the start of the processor.
+    // Room for the first refusal and the start of the trace.
     let mut room = [0u8; 20];
     let mut full = ToWrite::new(Cursor::new(room.as_mut_slice()));
     let result = run_deck(rt.alloc(), &mut reader(DECK, 100, 1000), &mut full);

@@ -91,6 +91,7 @@ impl Bench {
         }
         Ok(())
     }
+
     /// Whether a breakpoint is set.
     pub fn has_breakpoint(&self, breakpoint: Breakpoint) -> bool
         ensures { result ≡ is_set self.now.breakpoints breakpoint }

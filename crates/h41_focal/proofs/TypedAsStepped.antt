@@ -110,7 +110,7 @@ row_alike : (row : rows.Row) (named : ℕ) (machine : Machine) (focal : FocalSta
     → Applies Stepped row named machine (Ok left) → LeavesLike (Applies Typed row named (beside machine focal)) left
 row_alike row named machine focal left goes_on (result, works, applies) =
     let found = with_alike row named machine focal result left goes_on applies in
-    (found.0, (result, works, found.1), found.2)
+    (found.0, (result, works, found.1), found.2, found.3)
 
 -- a line that goes on to the next one
 meant_alike : (line : Line) (machine : Machine) (focal : FocalState) (meant : Result Meant LineFault) (left : Left)

@@ -1,7 +1,6 @@
 -- Why lines that go on to the next leave the same where the calculator steps them as where they are typed.
-use Rattle.std.proofs.Common.{◌≡◌, Bool, true, false, List, [], ◌∷◌, All, None, Result, Ok, Err, refl, sym, ap, subst, ◌∙◌}
+use Rattle.std.proofs.Common.{◌≡◌, true, false, List, [], ◌∷◌, All, None, Result, Ok, Err, refl, ap, subst, ◌∙◌}
 use Rattle.std.proofs.lemmas.List.Elements.{All-head, All-tail}
-use Rattle.std.specs.Prelude.{IsTrue}
 use Rattle.h41_codes.specs.declared.line.Line.{Line}
 use Rattle.h41_focal.specs.LineLaws.{AreAlike, GoesToNext, IsAt, NextIsHere, StepsInTurn}
 use Rattle.h41_focal.specs.LineLaws as lines
@@ -10,7 +9,7 @@ use Rattle.h41_focal.specs.Outcomes.{Answer, is_elsewhere}
 use Rattle.h41_focal.specs.Outcomes as answers
 use Rattle.h41_focal.specs.declared.refusal.FocalRefusal.{FocalRefusal}
 use Rattle.h41_pages.specs.PageMap.{PageMap}
-use Rattle.h41_xrom.specs.Calculator.{CalculatorState, Step, StepIn, StepsByLine, after_answer, after_line, machine_of, mode_after, not_typing, with_machine}
+use Rattle.h41_xrom.specs.Calculator.{CalculatorState, Step, StepIn, StepsByLine, after_line, machine_of, mode_after, not_typing}
 use Rattle.h41_xrom.specs.CalculatorLaws.{StepsLines, TypedAsStepped, takes_lines}
 use Rattle.h41_xrom.specs.Lines.{Answers, Ended, GoesOn, GoesOnFrom}
 use Rattle.h41_xrom.specs.declared.calculator.Mode.{Mode}

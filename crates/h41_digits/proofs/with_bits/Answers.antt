@@ -1,0 +1,8 @@
+use Rattle.std.proofs.Common.{arith}
+use Rattle.std.proofs.lemmas.Nat.{one_shl}
+use Rattle.h41_digits.proofs.Packed.{put_in}
+use Rattle.h41_digits.proofs.with_bits.Goals as goal
+
+pub returns : goal.returns
+returns g c =
+    rw (one_shl g.row.WIDTH 64 (omega arith), c.from.ensures) (put_in c.args.word c.args.at g.row.WIDTH c.args.bits c.ranges.word.fits c.requires.in_word c.requires.fits)

@@ -1,7 +1,7 @@
 //! Registers of the HP-41: fixed rows of hexadecimal digits.
 #![tactic(auto)]
 
-ghost use Rattle.std.specs.Prelude.{◌≡◌, ℕ, ◌+◌, ◌*◌, ◌/◌, ◌%◌, ◌^◌, ◌<◌, ◌≤◌, ◌↔◌, List, length, slice_index, slice_set, replicate, All, IsSome, IfSome, Some};
+ghost use Rattle.std.specs.Prelude.{◌≡◌, ℕ, ◌+◌, ◌-◌, ◌*◌, ◌/◌, ◌%◌, ◌^◌, ◌<◌, ◌≤◌, ◌↔◌, List, length, take, drop, slice_index, slice_set, replicate, IsSome, IfSome, Some};
 ghost use Rattle.h41_digits.specs.Packed.{digits_of, value-digits_of};
 ghost use Rattle.std.proofs.Common.{ap};
 ghost use Rattle.h41_digits.specs.Register.{IsRegister, value, text, hexadecimal_text, byte_at, set_byte};
@@ -96,7 +96,7 @@ impl<const N: usize> Digits<N> {
         ensures register { IsRegister N result }
     {
         Digits {
-            word: with_bits::<4>(self.word, 4 * place, digit),
+            word: with_bits(self.word, 4 * place, 4, u64::from(digit)),
         }
     }
 
@@ -128,20 +128,46 @@ impl<const N: usize> Digits<N> {
         ensures register { IsRegister N result }
     {
         Digits {
-            word: with_bits::<8>(self.word, 8 * k, byte),
+            word: with_bits(self.word, 8 * k, 8, u64::from(byte)),
+        }
+    }
+
+    /// The number of the digits from place `lo` to place `hi`, of which the one at `lo` is the least.
+    pub fn number(&self, lo: usize, hi: usize) -> u64
+        requires ordered { lo ≤ hi }
+        requires in_register { hi < N }
+        ensures number { result ≡ value (take (hi + 1 - lo) (drop lo self.now)) }
+        ensures register { IsRegister N self.now }
+    {
+        self.word >> (4 * lo) & ((1 << (4 * (hi + 1 - lo))) - 1)
+    }
+
+    /// The same register with the digits of a number at the places from `lo`, which takes the least, to `hi`.
+    pub fn with_number(&self, lo: usize, hi: usize, number: u64) -> Self
+        requires ordered { lo ≤ hi }
+        requires in_register { hi < N }
+        requires fits { number < 16 ^ (hi + 1 - lo) }
+        ensures number { value (take (hi + 1 - lo) (drop lo result)) ≡ number }
+        ensures below { take lo result ≡ take lo self.now }
+        ensures above { drop (hi + 1) result ≡ drop (hi + 1) self.now }
+        ensures from { IsRegister N self.now }
+        ensures register { IsRegister N result }
+    {
+        Digits {
+            word: with_bits(self.word, 4 * lo, 4 * (hi + 1 - lo), number),
         }
     }
 }
 
-/// A word with other bits in place of `WIDTH` of its own, the lowest of which is bit `at`.
-fn with_bits<const WIDTH: usize>(word: u64, at: usize, bits: u8) -> u64
-    requires width { (0 < WIDTH) × (WIDTH ≤ 8) }
-    requires in_word { WIDTH + at ≤ 64 }
-    requires fits { bits < 2 ^ WIDTH }
-    ensures { result + word / 2 ^ at % 2 ^ WIDTH * 2 ^ at ≡ word + bits * 2 ^ at }
+/// A word with other bits in place of `width` of its own, the lowest of which is bit `at`.
+fn with_bits(word: u64, at: usize, width: usize, bits: u64) -> u64
+    requires width { (0 < width) × (width < 64) }
+    requires in_word { width + at ≤ 64 }
+    requires fits { bits < 2 ^ width }
+    ensures { result + word / 2 ^ at % 2 ^ width * 2 ^ at ≡ word + bits * 2 ^ at }
 {
-    let mask = ((1 << WIDTH) - 1) << at;
-    word & !mask | u64::from(bits) << at
+    let mask = ((1 << width) - 1) << at;
+    word & !mask | bits << at
 }
 
 /// The digits in upper-case hexadecimal, the highest place first.

@@ -139,7 +139,8 @@ impl<const N: usize> Digits<N> {
         ensures number { result ≡ value (take (hi + 1 - lo) (drop lo self.now)) }
         ensures register { IsRegister N self.now }
     {
-        self.word >> (4 * lo) & ((1 << (4 * (hi + 1 - lo))) - 1)
+        let digits = self.word >> (4 * lo);
+        digits & ((1 << (4 * (hi + 1 - lo))) - 1)
     }
 
     /// The same register with the digits of a number at the places from `lo`, which takes the least, to `hi`.

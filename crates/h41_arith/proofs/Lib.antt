@@ -1,3 +1,5 @@
+pub mod Places
 pub mod Carries
 pub mod Borrows
-pub mod Places
+pub mod Parts
+pub mod Compared

@@ -6,6 +6,7 @@
 mod comparisons;
 pub mod laws;
 mod moves;
+mod spans;
 mod sums;
 
 pub use comparisons::{differs, less, nonzero};

@@ -161,3 +161,7 @@ shifted_whole digits lo hi number register ordered inside is =
     let most : 16 ^ (hi + 1 - lo) ≤ 16 ^ 14 = pow-le-pow_right {n = 16} (omega arith) {i = hi + 1 - lo} {j = 14} (omega arith) in
     let fits : value (part digits lo hi) * 16 < 2 ^ 64 = omega arith in
     rw is (mod-eq_of_lt fits)
+
+-- no limit is above that of 14 digits
+pub limit-le : (lo hi : ℕ) → hi < 14 → 16 ^ (hi + 1 - lo) ≤ 2 ^ 56
+limit-le lo hi inside = pow-le-pow_right {n = 16} (omega arith) {i = hi + 1 - lo} {j = 14} (omega arith)

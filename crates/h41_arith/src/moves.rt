@@ -3,7 +3,7 @@
 ghost use Rattle.std.specs.Prelude.{◌≡◌, false};
 ghost use Rattle.h41_arith.specs.DigitRule.{copied, shifted_left, shifted_right};
 
-use crate::spans::limit;
+use crate::spans::{limit, number_in};
 use h41_digits::Reg;
 use h41_fields::Span;
 
@@ -12,7 +12,7 @@ pub fn copy(into: Reg, x: Reg, span: Span) -> (Reg, bool)
     ensures digits { result.0 ≡ copied into x span.lo span.hi }
     ensures carry { result.1 ≡ false }
 {
-    let digits = x.number(span.lo, span.hi);
+    let digits = number_in(x, span);
     (into.with_number(span.lo, span.hi, digits), false)
 }
 
@@ -22,7 +22,7 @@ pub fn shift_left(into: Reg, x: Reg, span: Span) -> (Reg, bool)
     ensures digits { result.0 ≡ shifted_left into x span.lo span.hi }
     ensures carry { result.1 ≡ false }
 {
-    let digits = x.number(span.lo, span.hi);
+    let digits = number_in(x, span);
     let moved = (digits << 4) % limit(span);
     (into.with_number(span.lo, span.hi, moved), false)
 }
@@ -33,7 +33,7 @@ pub fn shift_right(into: Reg, x: Reg, span: Span) -> (Reg, bool)
     ensures digits { result.0 ≡ shifted_right into x span.lo span.hi }
     ensures carry { result.1 ≡ false }
 {
-    let digits = x.number(span.lo, span.hi);
+    let digits = number_in(x, span);
     (into.with_number(span.lo, span.hi, digits >> 4), false)
 }
 

@@ -1,6 +1,6 @@
 //! The digits of a span as one number.
 
-ghost use Rattle.std.specs.Prelude.{◌≡◌, ◌<◌, ◌≤◌, ◌+◌, ◌-◌, ◌^◌, take, drop};
+ghost use Rattle.std.specs.Prelude.{◌≡◌, ◌<◌, ◌≤◌, ◌+◌, ◌-◌, ◌*◌, ◌^◌, replicate, take, drop};
 ghost use Rattle.h41_digits.specs.Register.{IsRegister, value};
 
 use h41_digits::Reg;
@@ -23,4 +23,13 @@ pub fn number_in(x: Reg, span: Span) -> u64
     ensures register { IsRegister 14 x }
 {
     x.number(span.lo, span.hi)
+}
+
+/// A one at each of a span's places.
+pub fn ones(span: Span) -> u64
+    ensures value { result ≡ value (replicate (span.hi + 1 - span.lo) 1) }
+    ensures fifteen { 15 * result + 1 ≡ 16 ^ (span.hi + 1 - span.lo) }
+    ensures small { result < 2 ^ 56 }
+{
+    (limit(span) - 1) / 15
 }

@@ -1,4 +1,5 @@
--- What the private functions of sums promise one another: one loop does sums and differences. No public contract needs this file.
+-- What the private functions of sums promise one another: the loop over the digits of a span, and the carries of a sum of
+-- numbers. No public contract needs this file.
 use Rattle.std.specs.Prelude.{ℕ, ◌/◌, Bool, List, bit_and, bit_xor}
 use Rattle.h41_arith.specs.DigitRule.{SumDigit, DifferenceDigit, HasCarries, HasResult, carry_digit}
 use Rattle.h41_arith.specs.declared.sums.DigitOperation.{DigitOperation}

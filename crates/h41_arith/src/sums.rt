@@ -1,4 +1,4 @@
-//! Sums and differences of two registers over a span: in base 16 of the numbers of its digits, in base 10 digit by digit.
+//! Sums and differences of two registers over a span, of the numbers of its digits. In base 10 a letter has them made digit by digit.
 
 ghost use Rattle.std.specs.Prelude.{◌≡◌, ◌+◌, ◌*◌, ◌^◌, ◌<◌, ◌≤◌, ◌⊎◌, ◌==◌, not, true, false};
 ghost use Rattle.h41_digits.specs.Register.{IsRegister};

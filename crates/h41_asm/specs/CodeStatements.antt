@@ -6,6 +6,7 @@ use Rattle.h41_asm.specs.declared.fault.SourceFault.{SourceFault}
 use Rattle.h41_asm.specs.declared.source.SourceLine as lines
 use Rattle.h41_asm.specs.declared.statement.Statement as code
 use Rattle.h41_asm.specs.declared.statement.Statement.TheVariants as codes_of
+use Rattle.h41_asm.specs.declared.words.LineWords as rests
 use Rattle.h41_asm.specs.declared.table.EntryKind as entry
 use Rattle.h41_asm.specs.declared.table.EntryKind.TheVariants as kinds
 use Rattle.h41_asm.specs.declared.table.Numbered as numbered
@@ -63,12 +64,16 @@ takes_in_code (takings.ShortJump condition) = takes_displacement condition
 takes_in_code takings.Name = takes_name
 takes_in_code (takings.Entry kind) = takes_entry (entry_bits kind)
 
--- a line of the code, and its label
+-- a line of the code, its label, and the words behind that
 abbrev pub in_label : Option (Bor (List ℕ)) → Option (List ℕ)
 in_label label = option_map (λ name. name.now) label
 
+abbrev pub in_words : Option (Bor (List ℕ)) → rests.LineWords → List (List ℕ)
+in_words None others = []
+in_words (Some first) others = first.now ∷ words_of others.rest.now
+
 abbrev pub in_line : lines.SourceLine → SourceLine
-in_line line = record { label = in_label line.label; code = words_of line.code.rest.now }
+in_line line = record { label = in_label line.label; code = in_words line.first line.others }
 
 -- the words of characters, the last first
 abbrev pub backward_words : List ℕ → List ℕ

@@ -1,7 +1,7 @@
 //! What a line says behind its label.
 
 ghost use Rattle.std.specs.Prelude.{◌≡◌, ◌+◌, ◌≤◌, ◌==◌, [], ◌∷◌, codes, length};
-ghost use Rattle.h41_asm.specs.CodeStatements.{found_in_code, in_code, read_in_code, taken_operand, takes_in_code, takes_numbered};
+ghost use Rattle.h41_asm.specs.CodeStatements.{found_in_code, in_code, in_line, read_in_code, taken_operand, takes_in_code, takes_numbered};
 ghost use Rattle.h41_asm.specs.Openings as openings;
 ghost use Rattle.h41_asm.specs.SourceLines.{words_of};
 ghost use Rattle.h41_asm.specs.Statements as spec;
@@ -11,6 +11,7 @@ use crate::fault::SourceFault;
 use crate::names::reference_in;
 use crate::opening::opening_of;
 use crate::operands::{address_in, displacement_in, field_in, number_in, text_in, word_in};
+use crate::source::SourceLine;
 use crate::table::{EntryKind, Numbered, Opening, Taking};
 use crate::words::LineWords;
 use h41_fields::Pointer;
@@ -54,13 +55,12 @@ impl Statement<'_> {
     }
 }
 
-/// What the words behind a label say, or why they cannot be read.
-pub(crate) fn read(words: LineWords<'_>) -> Result<Statement<'_>, SourceFault>
-    ensures { read_in_code result ≡ spec.reading (words_of words.entry.rest.now) }
+/// What the words behind a line's label say, or why they cannot be read.
+pub(crate) fn read(line: SourceLine<'_>) -> Result<Statement<'_>, SourceFault>
+    ensures { read_in_code result ≡ spec.reading (in_line line.entry).code }
 {
-    let mut others = words;
-    match others.next() {
-        Some(first) => read_from(first, others),
+    match line.first {
+        Some(first) => read_from(first, line.others),
         None => Ok(Statement::Nothing),
     }
 }

@@ -3,8 +3,7 @@
 ghost use Rattle.h41_xrom.specs.CalculatorLaws.{DisplayIsDetermined, KeyIsDetermined, LoadIsDetermined, StepIsDetermined, StepRefusalIsDetermined, TypedAsStepped};
 
 use h41_editor::laws::{changes_are_determined, moves_are_determined, text_is_determined};
-use h41_focal::laws::line_is_determined;
-use h41_focal::laws::typed_as_stepped as lines_typed_as_stepped;
+use h41_focal::laws::{line_is_determined, typed_as_stepped as lines_typed_as_stepped};
 use h41_nut::laws::micro_is_determined;
 use h41_program::laws::{loads_are_determined, searches_are_determined};
 use h41_rows::laws::values_are_determined;

@@ -1,5 +1,5 @@
-// Loaded before a program, it lets standard output take FAILING_AFTER bytes. The write behind them fails, takes nothing, or is
-// interrupted, once, as FAILING_AS says (fail, none, interrupt); or from there on each write takes one byte (bytes).
+// Loaded before a program, it lets standard output take FAILING_AFTER bytes. Behind them, as FAILING_AS says, each write fails
+// (fail), takes nothing (none) or takes one byte (bytes), or one write is interrupted (interrupt).
 #define _GNU_SOURCE
 #include <dlfcn.h>
 #include <errno.h>
@@ -8,7 +8,7 @@
 #include <unistd.h>
 
 static size_t taken;
-static int has_failed;
+static int was_interrupted;
 
 static ssize_t passed_on(int file, const void *bytes, size_t count) {
     static ssize_t (*usual)(int, const void *, size_t);
@@ -29,9 +29,13 @@ ssize_t write(int file, const void *bytes, size_t count) {
         return passed_on(file, bytes, count < before - taken ? count : before - taken);
     if (!strcmp(as, "bytes"))
         return passed_on(file, bytes, 1);
-    if (has_failed)
-        return passed_on(file, bytes, count);
-    has_failed = 1;
+    if (!strcmp(as, "none"))
+        return 0;
+    if (!strcmp(as, "interrupt")) {
+        if (was_interrupted)
+            return passed_on(file, bytes, count);
+        was_interrupted = 1;
+    }
     errno = strcmp(as, "interrupt") ? EIO : EINTR;
-    return strcmp(as, "none") ? -1 : 0;
+    return -1;
 }

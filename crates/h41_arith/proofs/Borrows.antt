@@ -22,10 +22,10 @@ sum_more f first (suc count) =
     omega (arith, sum_by-cons f first (range_with_len (first + 1) (suc count)), sum_by-cons f first (range_with_len (first + 1) count), sum_more f (first + 1) count, here)
 
 -- so many digits from a place on, as a number
-abbrev digits_value : List ℕ → ℕ → ℕ → ℕ
+abbrev pub digits_value : List ℕ → ℕ → ℕ → ℕ
 digits_value x lo count = sum_by (λ place. slice_index x place * 16 ^ (place - lo)) (range_with_len lo count)
 
-value_more : (x : List ℕ) (lo count : ℕ) → digits_value x lo (suc count) ≡ digits_value x lo count + slice_index x (lo + count) * 16 ^ count
+pub value_more : (x : List ℕ) (lo count : ℕ) → digits_value x lo (suc count) ≡ digits_value x lo count + slice_index x (lo + count) * 16 ^ count
 value_more x lo count =
     let power : lo + count - lo ≡ count = omega arith in
     sum_more (λ place. slice_index x place * 16 ^ (place - lo)) lo count ∙ ap (λ place. digits_value x lo count + slice_index x (lo + count) * 16 ^ place) power

@@ -1,5 +1,6 @@
--- What the private functions of sums promise one another: one loop does sums and differences. No public contract needs this file.
-use Rattle.std.specs.Prelude.{ℕ, Bool, List}
+-- What the private functions of sums promise one another: the loop over the digits of a span, and the carries of a sum of
+-- numbers. No public contract needs this file.
+use Rattle.std.specs.Prelude.{ℕ, ◌/◌, Bool, List, bit_and, bit_xor}
 use Rattle.h41_arith.specs.DigitRule.{SumDigit, DifferenceDigit, HasCarries, HasResult, carry_digit}
 use Rattle.h41_arith.specs.declared.sums.DigitOperation.{DigitOperation}
 use Rattle.h41_arith.specs.declared.sums.DigitOperation.TheVariants.{Add, Subtract}
@@ -16,3 +17,8 @@ HasDigit rule x y carry_in z carry_out = rule x y (carry_digit carry_in) z (carr
 -- the register z is `into` with the sum or the difference of x and y, by what is done, in the places from lo to hi
 abbrev pub RuleInto : DigitOperation → ℕ → List ℕ → List ℕ → List ℕ → Bool → ℕ → ℕ → List ℕ → Bool → Type 0
 RuleInto operation base into x y carry_in lo hi z carry_out = HasResult (HasCarries (rule_of operation base)) into x y carry_in lo hi z carry_out
+
+-- a one in each digit of a mask of ones at which the sum of two numbers carries into the next: there its last bit is not that
+-- of the two digits' sum
+abbrev pub carries_of : ℕ → ℕ → ℕ → ℕ → ℕ
+carries_of x y sum ones = bit_and (bit_xor (bit_xor x y) sum / 16) ones

@@ -3,7 +3,7 @@
 ghost use Rattle.std.specs.Prelude.{◌≡◌};
 ghost use Rattle.h41_arith.specs.DigitRule.{is_less, is_different, is_nonzero};
 
-use crate::sums::DigitOperation;
+use crate::spans::number_in;
 use h41_digits::Reg;
 use h41_fields::Span;
 
@@ -11,21 +11,14 @@ use h41_fields::Span;
 pub fn less(x: Reg, y: Reg, span: Span) -> bool
     ensures { result ≡ is_less x y span.lo span.hi }
 {
-    DigitOperation::Subtract
-        .over_span(16, x, x, y, false, span)
-        .1
+    number_in(x, span) < number_in(y, span)
 }
 
 /// Whether `x` and `y` have different digits in the span.
 pub fn differs(x: Reg, y: Reg, span: Span) -> bool
     ensures { result ≡ is_different x y span.lo span.hi }
 {
-    for place in span.lo..span.hi + 1 {
-        if x.get(place) != y.get(place) {
-            return true;
-        }
-    }
-    false
+    number_in(x, span) != number_in(y, span)
 }
 
 /// Whether `x` has a digit other than 0 in the span.

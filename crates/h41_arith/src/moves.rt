@@ -3,6 +3,7 @@
 ghost use Rattle.std.specs.Prelude.{◌≡◌, false};
 ghost use Rattle.h41_arith.specs.DigitRule.{copied, shifted_left, shifted_right};
 
+use crate::spans::{limit, number_in};
 use h41_digits::Reg;
 use h41_fields::Span;
 
@@ -11,11 +12,8 @@ pub fn copy(into: Reg, x: Reg, span: Span) -> (Reg, bool)
     ensures digits { result.0 ≡ copied into x span.lo span.hi }
     ensures carry { result.1 ≡ false }
 {
-    let mut digits = into;
-    for place in span.lo..span.hi + 1 {
-        digits.set(place, x.get(place));
-    }
-    (digits, false)
+    let digits = number_in(x, span);
+    (into.with_number(span.lo, span.hi, digits), false)
 }
 
 /// `into` with the digits of `x` in the span, each one place further to the left; the span's first digit becomes 0. There
@@ -24,11 +22,9 @@ pub fn shift_left(into: Reg, x: Reg, span: Span) -> (Reg, bool)
     ensures digits { result.0 ≡ shifted_left into x span.lo span.hi }
     ensures carry { result.1 ≡ false }
 {
-    let mut digits = into.with(span.lo, 0);
-    for place in span.lo..span.hi {
-        digits.set(place + 1, x.get(place));
-    }
-    (digits, false)
+    let digits = number_in(x, span);
+    let moved = (digits << 4) % limit(span);
+    (into.with_number(span.lo, span.hi, moved), false)
 }
 
 /// `into` with the digits of `x` in the span, each one place further to the right; the span's last digit becomes 0. There
@@ -37,11 +33,8 @@ pub fn shift_right(into: Reg, x: Reg, span: Span) -> (Reg, bool)
     ensures digits { result.0 ≡ shifted_right into x span.lo span.hi }
     ensures carry { result.1 ≡ false }
 {
-    let mut digits = into;
-    for place in span.lo..span.hi {
-        digits.set(place, x.get(place + 1));
-    }
-    (digits.with(span.hi, 0), false)
+    let digits = number_in(x, span);
+    (into.with_number(span.lo, span.hi, digits >> 4), false)
 }
 
 /// The two registers with their digits in the span exchanged.

@@ -1,10 +1,11 @@
-//! Sums and differences of two registers over a span. All of them go through one loop.
+//! Sums and differences of two registers over a span, of the numbers of its digits. In base 10 a letter has them made digit by digit.
 
-ghost use Rattle.std.specs.Prelude.{◌≡◌, ◌<◌, ◌⊎◌, true, false};
+ghost use Rattle.std.specs.Prelude.{◌≡◌, ◌+◌, ◌*◌, ◌^◌, ◌<◌, ◌≤◌, ◌⊎◌, ◌==◌, not, true, false};
 ghost use Rattle.h41_digits.specs.Register.{IsRegister};
-ghost use Rattle.h41_arith.specs.DigitRule.{SumDigit, DifferenceDigit, SumInto, DifferenceInto, base_of, zeros};
-ghost use Rattle.h41_arith.specs.DigitOperations.{HasDigit, RuleInto, rule_of};
+ghost use Rattle.h41_arith.specs.DigitRule.{SumDigit, DifferenceDigit, SumInto, DifferenceInto, base_of, carry_digit, zeros};
+ghost use Rattle.h41_arith.specs.DigitOperations.{HasDigit, RuleInto, rule_of, carries_of};
 
+use crate::spans::{limit, number_in, ones};
 use h41_digits::Reg;
 use h41_fields::Span;
 
@@ -90,11 +91,102 @@ fn difference_digit(base: u8, x: u8, y: u8, borrow_in: bool) -> (u8, bool)
     }
 }
 
-/// 10 in decimal mode, 16 in hexadecimal mode.
-fn base<const DEC: bool>() -> u8
-    ensures { result ≡ base_of DEC }
+/// A number of a span that may have one digit too many: the span's digits, and whether there is a 1 above them.
+fn carried(number: u64, limit: u64) -> (u64, bool)
+    requires { number < 2 * limit }
+    ensures parts { result.0 + limit * carry_digit result.1 ≡ number }
+    ensures fits { result.0 < limit }
 {
-    if DEC { 10 } else { 16 }
+    if number < limit {
+        (number, false)
+    } else {
+        (number - limit, true)
+    }
+}
+
+/// `into` with `x` + `y` + the carry in, in base 16, in the span, and the carry out.
+fn hexadecimal_sum(into: Reg, x: Reg, y: Reg, carry_in: bool, span: Span) -> (Reg, bool)
+    ensures { SumInto 16 into x y carry_in span.lo span.hi result.0 result.1 }
+{
+    let limit = limit(span);
+    let first = number_in(x, span);
+    let second = number_in(y, span);
+    let (digits, carry) = carried(first + second + u64::from(carry_in), limit);
+    (into.with_number(span.lo, span.hi, digits), carry)
+}
+
+/// `into` with `x` - `y` - the borrow in, in base 16, in the span, and the borrow out.
+fn hexadecimal_difference(into: Reg, x: Reg, y: Reg, borrow_in: bool, span: Span) -> (Reg, bool)
+    ensures { DifferenceInto 16 into x y borrow_in span.lo span.hi result.0 result.1 }
+{
+    let limit = limit(span);
+    let first = number_in(x, span);
+    let second = number_in(y, span);
+    let (digits, enough) = carried(first + limit - (second + u64::from(borrow_in)), limit);
+    (into.with_number(span.lo, span.hi, digits), !enough)
+}
+
+/// A one in each digit, of those where `ones` has one, out of which the sum of `x` and `y` carries into the next.
+fn carries(x: u64, y: u64, sum: u64, ones: u64) -> u64
+    ensures carries { result ≡ carries_of x y sum ones }
+    ensures most { result ≤ ones }
+{
+    (x ^ y ^ sum) >> 4 & ones
+}
+
+/// Whether a number has a digit from A to F: where six is added to each digit, one carries.
+fn has_letter(number: u64, ones: u64) -> bool
+    requires { number + 6 * ones < 2 ^ 64 }
+    ensures { result ≡ not (carries_of number (6 * ones) (number + 6 * ones) ones == 0) }
+{
+    carries(number, 6 * ones, number + 6 * ones, ones) != 0
+}
+
+/// The sum of two numbers in base 10, of which the first has no digit from A to F: the sum in base 16, and six more at each
+/// digit that carries. It carries where it does so with six more at each digit of the first.
+fn decimal_total(first: u64, second: u64, carry_in: bool, limit: u64, ones: u64) -> (u64, bool)
+    requires ones { 15 * ones + 1 ≡ limit }
+    requires limit { limit ≤ 2 ^ 56 }
+    requires first { first ≤ 9 * ones }
+    requires second { second < limit }
+    ensures parts { let sum = first + second + carry_digit carry_in in result.0 + limit * carry_digit result.1
+        ≡ sum + 6 * carries_of (first + 6 * ones) second (sum + 6 * ones) ones }
+    ensures fits { result.0 < limit }
+{
+    let sum = first + second + u64::from(carry_in);
+    let tens = carries(first + 6 * ones, second, sum + 6 * ones, ones);
+    carried(sum + 6 * tens, limit)
+}
+
+/// `into` with `x` + `y` + the carry in, in base 10, in the span, and the carry out.
+fn decimal_sum(into: Reg, x: Reg, y: Reg, carry_in: bool, span: Span) -> (Reg, bool)
+    ensures { SumInto 10 into x y carry_in span.lo span.hi result.0 result.1 }
+{
+    let limit = limit(span);
+    let ones = ones(span);
+    let first = number_in(x, span);
+    let second = number_in(y, span);
+    if has_letter(first, ones) {
+        return DigitOperation::Add.over_span(10, into, x, y, carry_in, span);
+    }
+    let (digits, carry) = decimal_total(first, second, carry_in, limit, ones);
+    (into.with_number(span.lo, span.hi, digits), carry)
+}
+
+/// `into` with `x` - `y` - the borrow in, in base 10, in the span, and the borrow out: x and the complement of y to nines, and
+/// one more where there is no borrow in. A carry out of that is no borrow.
+fn decimal_difference(into: Reg, x: Reg, y: Reg, borrow_in: bool, span: Span) -> (Reg, bool)
+    ensures { DifferenceInto 10 into x y borrow_in span.lo span.hi result.0 result.1 }
+{
+    let limit = limit(span);
+    let ones = ones(span);
+    let first = number_in(x, span);
+    let second = number_in(y, span);
+    if has_letter(second, ones) {
+        return DigitOperation::Subtract.over_span(10, into, x, y, borrow_in, span);
+    }
+    let (digits, enough) = decimal_total(9 * ones - second, first, !borrow_in, limit, ones);
+    (into.with_number(span.lo, span.hi, digits), !enough)
 }
 
 /// `into` with `x` + `y` + the carry in, in the span, and the carry out of the span's top digit. The base is 10 where `DEC`,
@@ -102,7 +194,11 @@ fn base<const DEC: bool>() -> u8
 pub fn add<const DEC: bool>(into: Reg, x: Reg, y: Reg, carry_in: bool, span: Span) -> (Reg, bool)
     ensures { SumInto (base_of DEC) into x y carry_in span.lo span.hi result.0 result.1 }
 {
-    DigitOperation::Add.over_span(base::<DEC>(), into, x, y, carry_in, span)
+    if DEC {
+        decimal_sum(into, x, y, carry_in, span)
+    } else {
+        hexadecimal_sum(into, x, y, carry_in, span)
+    }
 }
 
 /// `into` with `x` - `y` - the borrow in, in the span, and the borrow out of the span's top digit. The base is 10 where
@@ -110,7 +206,11 @@ pub fn add<const DEC: bool>(into: Reg, x: Reg, y: Reg, carry_in: bool, span: Spa
 pub fn sub<const DEC: bool>(into: Reg, x: Reg, y: Reg, borrow_in: bool, span: Span) -> (Reg, bool)
     ensures { DifferenceInto (base_of DEC) into x y borrow_in span.lo span.hi result.0 result.1 }
 {
-    DigitOperation::Subtract.over_span(base::<DEC>(), into, x, y, borrow_in, span)
+    if DEC {
+        decimal_difference(into, x, y, borrow_in, span)
+    } else {
+        hexadecimal_difference(into, x, y, borrow_in, span)
+    }
 }
 
 /// `into` with `x` + 1 in the span, and the carry.

@@ -5,7 +5,9 @@ pub mod Determined
 pub mod Faultless
 pub mod FirstWord
 pub mod Found
-pub mod Mnemonics
+pub mod OpeningEntries
+pub mod OpeningTable
+pub mod Openings
 pub mod Placed
 pub mod Spelling
 pub mod Walks

@@ -1,8 +1,7 @@
 -- What the code's lines and statements say, in the words of a source.
-use Rattle.std.specs.Prelude.{◌≡◌, ℕ, ◌%◌, map, reverse, bytes_eq, if◌then◌else◌, List, [], ◌∷◌, Option, Some, None, Result, Ok, Err}
+use Rattle.std.specs.Prelude.{ℕ, ◌%◌, map, reverse, List, [], ◌∷◌, Option, Some, None, Result, Ok, Err}
 use Rattle.std.specs.Borrow.{Bor}
 use Rattle.std.specs.Option.{option_map}
-use Rattle.h41_words.specs.declared.rows.Row.{Row}
 use Rattle.h41_asm.specs.declared.fault.SourceFault.{SourceFault}
 use Rattle.h41_asm.specs.declared.source.SourceLine as lines
 use Rattle.h41_asm.specs.declared.statement.Statement as code
@@ -15,7 +14,7 @@ use Rattle.h41_asm.specs.declared.table.Numbered.TheVariants as numbers
 use Rattle.h41_asm.specs.declared.table.Taking as table
 use Rattle.h41_asm.specs.declared.table.Taking.TheVariants as takings
 use Rattle.h41_asm.specs.SourceLines.{SourceLine, words_of}
-use Rattle.h41_asm.specs.Statements.{Statement, Words, OutOfReach, LongJumpTo, ShortJumpTo, EntryAt, Taking, name_words, takes_field, takes_number, takes_immediate, takes_constant, takes_address, takes_displacement, takes_name, takes_entry, behind, taken, taken_among}
+use Rattle.h41_asm.specs.Statements.{Statement, Words, OutOfReach, LongJumpTo, ShortJumpTo, EntryAt, Taking, name_words, takes_field, takes_number, takes_immediate, takes_constant, takes_address, takes_displacement, takes_name, takes_entry, taken}
 use Rattle.h41_words.specs.Counts.{status_bit_count, place_count, digit_count, block_register_count}
 use Rattle.h41_words.specs.declared.rows.Row.TheVariants.{ClearStatus, SetStatus, TestStatus, TestPointer, SetPointer, RotateRight, LoadDigit, Write, Read}
 
@@ -65,42 +64,21 @@ takes_in_code (takings.ShortJump condition) = takes_displacement condition
 takes_in_code takings.Name = takes_name
 takes_in_code (takings.Entry kind) = takes_entry (entry_bits kind)
 
--- the tables of the code
-abbrev pub singles_in : List (Bor (List ℕ) × Row) → List (List ℕ × Row)
-singles_in entries = map (λ entry. (entry.0.now, entry.1)) entries
-
-abbrev pub takers_in : List (Bor (List ℕ) × table.Taking) → List (List ℕ × Taking)
-takers_in entries = map (λ entry. (entry.0.now, takes_in_code entry.1)) entries
-
--- what was found in one
-abbrev pub taken_in_code : Option (Result code.Statement SourceFault) → Option (Result Statement SourceFault)
-taken_in_code None = None
-taken_in_code (Some read) = Some (read_in_code read)
-
--- a line of the code, and its label
+-- a line of the code, its label, and the words behind that
 abbrev pub in_label : Option (Bor (List ℕ)) → Option (List ℕ)
 in_label label = option_map (λ name. name.now) label
 
+abbrev pub in_words : Option (Bor (List ℕ)) → rests.LineWords → List (List ℕ)
+in_words None others = []
+in_words (Some first) others = first.now ∷ words_of others.rest.now
+
 abbrev pub in_line : lines.SourceLine → SourceLine
-in_line line = record { label = in_label line.label; code = words_of line.code.rest.now }
+in_line line = record { label = in_label line.label; code = in_words line.first line.others }
 
 -- the words of characters, the last first
 abbrev pub backward_words : List ℕ → List ℕ
 backward_words text = reverse (map (λ byte. byte % 64) text)
 
--- the words behind some, where they begin with these, one after the other
-abbrev pub after : List (List ℕ) → List (List ℕ) → Option (List (List ℕ))
-after [] words = Some words
-after (part ∷ parts) [] = None
-after (part ∷ parts) (word ∷ words) = if bytes_eq word part then after parts words else None
-
--- the words that are left of a line are those behind a mnemonic
-abbrev pub AreBehind : List ℕ → List (List ℕ) → rests.LineWords → Type 0
-AreBehind name words left = words_of left.rest.now ≡ behind name words
-
--- what words say by the code's table, and by one mnemonic's operand
-abbrev pub taken_by : List (Bor (List ℕ) × table.Taking) → Bor (List ℕ) → Option (Result Statement SourceFault)
-taken_by entries rest = taken_among (takers_in entries) (words_of rest.now)
-
+-- what words say as the operand of a mnemonic of the code
 abbrev pub taken_operand : table.Taking → Bor (List ℕ) → Result Statement SourceFault
 taken_operand takes rest = taken (takes_in_code takes) (words_of rest.now)

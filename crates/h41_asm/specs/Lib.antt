@@ -6,6 +6,7 @@ pub mod AssemblyLaws
 pub mod CodeStatements
 pub mod Faults
 pub mod LabelTable
+pub mod Openings
 pub mod Operands
 pub mod Placing
 pub mod Refusals

@@ -67,7 +67,7 @@ fn place_line<'a>(
     ensures labels { OnOk result (AddsLabel labels.old labels.new address line.entry) }
     ensures err { IfErr result (IsFault (line_fault_in labels.old address line.entry)) }
 {
-    let length = match read(line.code) {
+    let length = match read(line) {
         Ok(statement) => statement.length(),
         Err(fault) => return Err(SpellError::Fault(fault)),
     };
@@ -126,7 +126,7 @@ fn spell(
     let mut address = u32::from(origin);
     let mut number = 1;
     for line in Lines::new(text) {
-        if let Ok(statement) = read(read_line(line).code) {
+        if let Ok(statement) = read(read_line(line)) {
             match push_statement(&mut words, labels, address, &statement) {
                 Ok(()) => {}
                 Err(error) => return Err(error.at_line(number)),

@@ -44,7 +44,7 @@ fn push_codes(words: &mut Vec<Word>, text: &[u8]) -> Result<(), AllocError>
 }
 
 /// The word with this number.
-fn rom_word(number: u16) -> Word
+pub(crate) fn rom_word(number: u16) -> Word
     requires { number < word_count }
     ensures { result ≡ number }
 {

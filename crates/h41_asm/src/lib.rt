@@ -7,6 +7,7 @@ mod emit;
 mod fault;
 pub mod laws;
 mod names;
+mod opening;
 mod operands;
 mod source;
 mod statement;

@@ -12,30 +12,34 @@ use crate::words::LineWords;
 pub(crate) struct SourceLine<'a> {
     /// The name that it is labelled with.
     pub label: Option<&'a [u8]>,
-    /// The words behind the label.
-    pub code: LineWords<'a>,
+    /// The first word behind the label.
+    pub first: Option<&'a [u8]>,
+    /// The words behind that.
+    pub others: LineWords<'a>,
 }
 
 /// The line that some bytes are.
 pub(crate) fn read_line(line: &[u8]) -> SourceLine<'_>
     ensures { in_line result ≡ line_of (words_of line.now) }
 {
-    let all = LineWords::new(line);
-    let mut behind = all;
-    match behind.next() {
+    let mut words = LineWords::new(line);
+    match words.next() {
         Some(first) => match label_in(first) {
             Some(name) => SourceLine {
                 label: Some(name),
-                code: behind,
+                first: words.next(),
+                others: words,
             },
             None => SourceLine {
                 label: None,
-                code: all,
+                first: Some(first),
+                others: words,
             },
         },
         None => SourceLine {
             label: None,
-            code: all,
+            first: None,
+            others: words,
         },
     }
 }

@@ -1,15 +1,20 @@
 //! What a line says behind its label.
 
-ghost use Rattle.std.specs.Prelude.{◌≡◌, ◌+◌, ◌≤◌, ◌==◌, [], ◌∷◌, length, is_some, IfSome};
-ghost use Rattle.h41_asm.specs.CodeStatements.{AreBehind, found_in_code, in_code, read_in_code, singles_in, taken_by, taken_in_code, taken_operand, takes_in_code, takes_numbered};
+ghost use Rattle.std.specs.Prelude.{◌≡◌, ◌+◌, ◌≤◌, ◌==◌, [], ◌∷◌, codes, length};
+ghost use Rattle.h41_asm.specs.CodeStatements.{found_in_code, in_code, in_line, read_in_code, taken_operand, takes_in_code, takes_numbered};
+ghost use Rattle.h41_asm.specs.Openings as openings;
 ghost use Rattle.h41_asm.specs.SourceLines.{words_of};
 ghost use Rattle.h41_asm.specs.Statements as spec;
 
+use crate::emit::rom_word;
 use crate::fault::SourceFault;
 use crate::names::reference_in;
+use crate::opening::opening_of;
 use crate::operands::{address_in, displacement_in, field_in, number_in, text_in, word_in};
-use crate::table::{EntryKind, Numbered, SINGLES, TAKERS, Taking};
+use crate::source::SourceLine;
+use crate::table::{EntryKind, Numbered, Opening, Taking};
 use crate::words::LineWords;
+use h41_fields::Pointer;
 use h41_words::{
     BlockRegister, Condition, Digit, Displacement, LongJumpKind, Place, ReadRegister, Row,
     SecondWord, StatusBit, Word, word,
@@ -50,126 +55,149 @@ impl Statement<'_> {
     }
 }
 
-/// What the words behind a label say, or why they cannot be read.
-pub(crate) fn read(words: LineWords<'_>) -> Result<Statement<'_>, SourceFault>
-    ensures { read_in_code result ≡ spec.reading (words_of words.entry.rest.now) }
+/// What the words behind a line's label say, or why they cannot be read.
+pub(crate) fn read(line: SourceLine<'_>) -> Result<Statement<'_>, SourceFault>
+    ensures { read_in_code result ≡ spec.reading (in_line line.entry).code }
 {
-    if is_nothing(words) {
-        return Ok(Statement::Nothing);
-    }
-    match single(words) {
-        Some(row) => Ok(Statement::One(word(row))),
-        None => read_taker(words),
+    match line.first {
+        Some(first) => read_from(first, line.others),
+        None => Ok(Statement::Nothing),
     }
 }
 
-/// What words say that are not a single mnemonic.
-fn read_taker(words: LineWords<'_>) -> Result<Statement<'_>, SourceFault>
-    ensures { read_in_code result ≡ spec.not_single (words_of words.entry.rest.now) }
+/// What a first word says with those behind it.
+fn read_from<'a>(first: &[u8], others: LineWords<'a>) -> Result<Statement<'a>, SourceFault>
+    ensures { read_in_code result ≡ spec.reading (first.now ∷ words_of others.entry.rest.now) }
 {
-    match with_operand(words) {
-        Some(read) => read,
-        None => Err(unread_fault(words)),
+    match opening_of(first) {
+        Some(opening) => opened(opening, others),
+        None => Err(SourceFault::BadLine),
     }
 }
 
-/// What words say that begin with a mnemonic that takes an operand.
-#[tactic(auto, unfolding(crate::specs::Statements::takers))]
-fn with_operand<'a>(words: LineWords<'a>) -> Option<Result<Statement<'a>, SourceFault>>
-    ensures { taken_in_code result ≡ spec.taken_among spec.takers (words_of words.entry.rest.now) }
+/// What the words behind a known one say.
+fn opened(opening: Opening, others: LineWords<'_>) -> Result<Statement<'_>, SourceFault>
+    requires { openings.TellsWords opening }
+    ensures { read_in_code result ≡ openings.opened opening (words_of others.entry.rest.now) }
 {
-    taken_among(&TAKERS, words)
+    match opening {
+        Opening::Single(number) => alone(rom_word(number), others),
+        Opening::Taker(taking) => taken(taking, others),
+        Opening::Data(number, numbered) => data_or(rom_word(number), numbered, others),
+        Opening::Logic => logic(others),
+        Opening::Push => pair("ADR", word(Row::PushAddress), others),
+        Opening::Pop => pair("ADR", word(Row::PopAddress), others),
+        Opening::Ram => pair("SLCT", word(Row::SelectRegister), others),
+        Opening::Peripheral => pair("SLCT", word(Row::SelectPeripheral), others),
+        Opening::Fetch => pair("S&X", word(Row::FetchWord), others),
+        Opening::Select => {
+            let p = word(Row::SelectPointer(Pointer::P));
+            either("P", p, "Q", word(Row::SelectPointer(Pointer::Q)), others)
+        }
+        Opening::GoTo => {
+            let address = word(Row::GoToAddress);
+            either("ADR", address, "KEY", word(Row::GoToKey), others)
+        }
+        Opening::If(condition) => at_carry(condition, others),
+    }
 }
 
-/// The row of the single mnemonic that words are.
-#[tactic(auto, unfolding(crate::specs::Statements::singles))]
-fn single(words: LineWords<'_>) -> Option<Row>
-    ensures { result ≡ spec.single_among spec.singles (words_of words.entry.rest.now) }
+/// An instruction behind which no word stands.
+fn alone(instruction: Word, others: LineWords<'_>) -> Result<Statement<'_>, SourceFault>
+    ensures { read_in_code result ≡ openings.alone instruction (words_of others.entry.rest.now) }
 {
-    single_among(&SINGLES, words)
-}
-
-/// The fault of words that are no single mnemonic, and do not begin with one that takes an operand.
-fn unread_fault(words: LineWords<'_>) -> SourceFault
-    ensures { result ≡ spec.unread_fault (words_of words.entry.rest.now) }
-{
-    if begins_single(words) {
-        SourceFault::BadOperand
+    if is_nothing(others) {
+        Ok(Statement::One(instruction))
     } else {
-        SourceFault::BadLine
+        Err(SourceFault::BadOperand)
     }
 }
 
-/// Whether words begin with a single mnemonic.
-#[tactic(auto, unfolding(crate::specs::Statements::singles))]
-fn begins_single(words: LineWords<'_>) -> bool
-    ensures { result ≡ spec.is_begun spec.singles (words_of words.entry.rest.now) }
+/// An instruction behind which `DATA` stands, or one with a number.
+fn data_or(
+    instruction: Word,
+    numbered: Numbered,
+    others: LineWords<'_>,
+) -> Result<Statement<'_>, SourceFault>
+    ensures { read_in_code result ≡ openings.data_or instruction (takes_numbered numbered) (words_of others.entry.rest.now) }
 {
-    is_begun(&SINGLES, words)
-}
-
-/// The row of the single mnemonic that words are, among some.
-fn single_among(singles: &[(&str, Row)], words: LineWords<'_>) -> Option<Row>
-    ensures { result ≡ spec.single_among (singles_in singles.now) (words_of words.entry.rest.now) }
-{
-    for (name, row) in singles {
-        if is_whole(words, name) {
-            return Some(*row);
-        }
+    if is_data(others) {
+        Ok(Statement::One(instruction))
+    } else {
+        taken(Taking::Number(numbered), others)
     }
-    None
 }
 
-/// Whether words begin with a single mnemonic, among some.
-fn is_begun(singles: &[(&str, Row)], words: LineWords<'_>) -> bool
-    ensures { result ≡ spec.is_begun (singles_in singles.now) (words_of words.entry.rest.now) }
+/// Whether words are `DATA` alone.
+fn is_data(words: LineWords<'_>) -> bool
+    ensures { result ≡ spec.is_whole (words_of words.entry.rest.now) (codes "DATA") }
 {
-    for (name, _) in singles {
-        if behind(name, words).is_some() {
-            return true;
-        }
-    }
-    false
-}
-
-/// What words say that begin with a mnemonic that takes an operand, among some.
-fn taken_among<'a>(
-    takers: &[(&str, Taking)],
-    words: LineWords<'a>,
-) -> Option<Result<Statement<'a>, SourceFault>>
-    ensures { taken_in_code result ≡ taken_by takers.now words.entry.rest }
-{
-    for (name, taking) in takers {
-        if let Some(operands) = behind(name, words) {
-            return Some(taken(*taking, operands));
-        }
-    }
-    None
-}
-
-/// The words behind those of a mnemonic, where they begin with it.
-#[tactic(auto, using(crate::proofs::Mnemonics::after_behind))]
-fn behind<'a>(name: &str, words: LineWords<'a>) -> Option<LineWords<'a>>
-    ensures found { is_some result ≡ spec.begins (words_of words.entry.rest.now) name.now }
-    ensures rest { IfSome result (AreBehind name.now (words_of words.entry.rest.now)) }
-{
-    let mut rest = words;
-    for part in LineWords::new(name.as_bytes()) {
-        let word = rest.next()?;
-        if word != part {
-            return None;
-        }
-    }
-    Some(rest)
-}
-
-/// Whether words are just a mnemonic.
-fn is_whole(words: LineWords<'_>, name: &str) -> bool
-    ensures { result ≡ spec.is_whole (words_of words.entry.rest.now) name.now }
-{
-    match behind(name, words) {
-        Some(others) => is_nothing(others),
+    let mut words = words;
+    match words.next() {
+        Some(word) => word == "DATA".as_bytes() && is_nothing(words),
         None => false,
+    }
+}
+
+/// An instruction whose second word is this.
+fn pair<'a>(
+    name: &str,
+    instruction: Word,
+    others: LineWords<'a>,
+) -> Result<Statement<'a>, SourceFault>
+    ensures { read_in_code result ≡ openings.by_second (openings.pair name.now instruction) (words_of others.entry.rest.now) }
+{
+    let mut others = others;
+    match others.next() {
+        Some(second) if second == name.as_bytes() => alone(instruction, others),
+        _ => Err(SourceFault::BadLine),
+    }
+}
+
+/// One of two instructions, by the second word.
+fn either<'a>(
+    name: &str,
+    instruction: Word,
+    other_name: &str,
+    other: Word,
+    others: LineWords<'a>,
+) -> Result<Statement<'a>, SourceFault>
+    ensures { read_in_code result ≡ openings.by_second (openings.either name.now instruction other_name.now other) (words_of others.entry.rest.now) }
+{
+    let mut others = others;
+    match others.next() {
+        Some(second) if second == name.as_bytes() => alone(instruction, others),
+        Some(second) if second == other_name.as_bytes() => alone(other, others),
+        _ => Err(SourceFault::BadLine),
+    }
+}
+
+/// `C=C OR A` or `C=C AND A`.
+fn logic(others: LineWords<'_>) -> Result<Statement<'_>, SourceFault>
+    ensures { read_in_code result ≡ openings.by_second openings.logic (words_of others.entry.rest.now) }
+{
+    let mut others = others;
+    match others.next() {
+        Some(second) if second == "OR".as_bytes() => pair("A", word(Row::Or), others),
+        Some(second) if second == "AND".as_bytes() => pair("A", word(Row::And), others),
+        _ => Err(SourceFault::BadLine),
+    }
+}
+
+/// A return where the carry is as the condition says, or a jump by address.
+fn at_carry(condition: Condition, others: LineWords<'_>) -> Result<Statement<'_>, SourceFault>
+    ensures { read_in_code result ≡ openings.by_second (openings.at_carry condition) (words_of others.entry.rest.now) }
+{
+    let mut others = others;
+    match others.next() {
+        Some(second) if second == "RTN".as_bytes() => alone(word(Row::ReturnIf(condition)), others),
+        Some(second) if second == "XQ".as_bytes() => {
+            taken(Taking::LongJump(condition, LongJumpKind::Execute), others)
+        }
+        Some(second) if second == "GO".as_bytes() => {
+            taken(Taking::LongJump(condition, LongJumpKind::Go), others)
+        }
+        _ => Err(SourceFault::BadLine),
     }
 }
 

@@ -6,7 +6,7 @@ use Rattle.h41_xrom.specs.declared.refusal.CalculatorRefusal.{CalculatorRefusal}
 use Rattle.h41_xrom.specs.Calculator.{CalculatorState, RefusesStep, Step, is_idle}
 use Rattle.h41_xrom.specs.CalculatorLaws.{StepIsDetermined, StepRefusalIsDetermined}
 use Rattle.h41_debug.specs.Bench.{BenchState, Steps, with_calculator}
-use Rattle.h41_debug.specs.BenchLaws.{RunsAddUp, RunsAreDetermined}
+use Rattle.h41_debug.specs.BenchLaws.{RefusedStepIsRun, RunsAddUp, RunsAreDetermined, StepIsRun}
 use Rattle.h41_debug.specs.Breakpoints.{is_set}
 use Rattle.h41_debug.specs.Run.{Run, StopsFor, place_of, turn_of}
 use Rattle.h41_debug.specs.Running.{stop_at}
@@ -122,6 +122,9 @@ ends_refused limit made s t why on below refused = record {
   least = on.before;
 }
 
+pub refused_step_is_run : RefusedStepIsRun
+refused_step_is_run s why running refused = ends_refused 1 0 s s why (begins 1 s running) (omega arith) refused
+
 -- what a reason behind a step says
 stop_none : (idle set : Bool) → (if idle then Some Idle else (if set then Some Break else None)) ≡ None → (idle ≡ false) × (set ≡ false)
 stop_none true set is = cc
@@ -203,6 +206,16 @@ module _ (same_refusal : StepRefusalIsDetermined) (same_step : StepIsDetermined)
           least = before;
         })
       ]
+
+  -- a single step
+  pub step_is_run : StepIsRun
+  step_is_run s next running accepted step =
+      let after : BenchState = with_calculator next s in
+      let on = begins 1 s running in
+      elim (stop_at after) as (λ stop. stop_at after ≡ stop → (why : Stop) × Run 1 s after 1 why) [
+        | Some why ↦ λ is. (why, stops 1 0 s s after why on (omega arith) accepted step refl is)
+        | None ↦ λ is. (Limit, ends_at_limit 1 s after (goes_on 1 0 s s after on (omega arith) accepted step refl is))
+      ] refl
 
   -- one run and another from the same state
   same_stop : (limit made : ℕ) (t : BenchState) (why other : Stop) → turn_of why ≡ turn_of other → StopsFor limit made t why → StopsFor limit made t other → why ≡ other

@@ -15,7 +15,7 @@ use Rattle.h41_xrom.specs.declared.calculator.Mode.{Mode}
 use Rattle.h41_xrom.specs.declared.calculator.Mode.TheVariants as modes
 use Rattle.h41_xrom.specs.declared.refusal.CalculatorRefusal.{CalculatorRefusal}
 use Rattle.h41_debug.specs.Bench.{BenchState, Steps, with_calculator}
-use Rattle.h41_debug.specs.BenchLaws.{StepsAreTraced, TracesAreDetermined, TracesAreSteps}
+use Rattle.h41_debug.specs.BenchLaws.{StatesAreTold, StepsAreTraced, TracesAreDetermined, TracesAreSteps}
 use Rattle.h41_debug.specs.Positions.{position_text}
 use Rattle.h41_debug.specs.Traces.{TellsLine, TellsNextIn, TellsStep, Traces, instruction_at, line_or_unknown, traced_line, unknown_text}
 
@@ -54,7 +54,7 @@ module _ (one : OneList) where
   next_told modes.Run s = line_told s.nut.ram s.focal.position
   next_told (modes.Micro caller) s = (instruction_at s.nut.pages s.nut.processor.pc, refl)
 
-  step_told : (s : BenchState) → (text : List ℕ) × TellsStep s text
+  pub step_told : StatesAreTold
   step_told s =
       let next = next_told s.calculator.mode s.calculator in
       (position_text s ++ codes " " ++ next.0, (next.0, next.1, refl))

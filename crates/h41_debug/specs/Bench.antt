@@ -22,10 +22,11 @@ start = record { calculator = calculator.start; breakpoints = no_breakpoints }
 abbrev pub with_calculator : CalculatorState → BenchState → BenchState
 with_calculator c s = record s { calculator = c }
 
--- with a breakpoint that is set, and without it
+-- with a breakpoint that is set
 abbrev pub with_set : Breakpoint → BenchState → BenchState
 with_set breakpoint s = record s { breakpoints = with_breakpoint breakpoint s.breakpoints }
 
+-- with a breakpoint that is taken away
 abbrev pub without_set : Breakpoint → BenchState → BenchState
 without_set breakpoint s = record s { breakpoints = without_breakpoint breakpoint s.breakpoints }
 

@@ -1,12 +1,13 @@
 -- What holds of single steps, of keys in turn, of runs and of traces, whatever the code does.
-use Rattle.std.specs.Prelude.{◌≡◌, ℕ, suc, ◌+◌, List, ◌++◌, Option}
+use Rattle.std.specs.Prelude.{◌≡◌, ℕ, suc, ◌+◌, false, List, ◌++◌, Option, Some, None}
 use Rattle.h41_keys.specs.declared.key.Key.{Key}
+use Rattle.h41_xrom.specs.Calculator.{CalculatorState, RefusesStep, Step, is_idle}
 use Rattle.h41_xrom.specs.declared.refusal.CalculatorRefusal.{CalculatorRefusal}
-use Rattle.h41_debug.specs.Bench.{BenchState, PressesInTurn, Steps}
+use Rattle.h41_debug.specs.Bench.{BenchState, PressesInTurn, Steps, with_calculator}
 use Rattle.h41_debug.specs.Run.{Run}
 use Rattle.h41_debug.specs.Traces.{TellsStep, Traces, traced_line}
 use Rattle.h41_debug.specs.declared.run.Stop.{Stop}
-use Rattle.h41_debug.specs.declared.run.Stop.TheVariants.{Limit}
+use Rattle.h41_debug.specs.declared.run.Stop.TheVariants.{Limit, Refused}
 
 -- so many steps leave one state, and have one refusal or none
 abbrev pub StepsAreDetermined : Type 0
@@ -32,11 +33,26 @@ RunsAddUp =
     (limit more : ℕ) (s t u : BenchState) (made count : ℕ) (why : Stop)
     → Run limit s t made Limit → Run more t u count why → Run (limit + more) s u (made + count) why
 
+-- where something runs, a single step is a run of one step, whatever that one stops for; and a step that is refused is a run of none
+abbrev pub StepIsRun : Type 0
+StepIsRun =
+    (s : BenchState) (next : CalculatorState) → is_idle s.calculator.mode ≡ false → RefusesStep s.calculator None → Step s.calculator next
+    → (why : Stop) × Run 1 s (with_calculator next s) 1 why
+
+abbrev pub RefusedStepIsRun : Type 0
+RefusedStepIsRun =
+    (s : BenchState) (why : CalculatorRefusal) → is_idle s.calculator.mode ≡ false → RefusesStep s.calculator (Some why)
+    → Run 1 s s 0 (Refused why)
+
 -- a trace has one text, leaves one state, and has one refusal or none
 abbrev pub TracesAreDetermined : Type 0
 TracesAreDetermined =
     (count : ℕ) (s t u : BenchState) (lines text : List ℕ) (refusal other : Option CalculatorRefusal)
     → Traces count s t lines refusal → Traces count s u text other → (t ≡ u) × (lines ≡ text) × (refusal ≡ other)
+
+-- what comes next can be told of every state
+abbrev pub StatesAreTold : Type 0
+StatesAreTold = (s : BenchState) → (text : List ℕ) × TellsStep s text
 
 -- steps that were begun can be told to their end: there is a trace of them, with this text before the first
 abbrev pub StepsAreTraced : Type 0

@@ -24,10 +24,11 @@ no_breakpoints = empty
 abbrev pub is_set : BreakpointSet → Breakpoint → Bool
 is_set set breakpoint = contains set breakpoint
 
--- a set with one more, and without one
+-- a set with one more
 abbrev pub with_breakpoint : Breakpoint → BreakpointSet → BreakpointSet
 with_breakpoint breakpoint set = insert set breakpoint
 
+-- a set without one
 abbrev pub without_breakpoint : Breakpoint → BreakpointSet → BreakpointSet
 without_breakpoint breakpoint set = remove set breakpoint
 

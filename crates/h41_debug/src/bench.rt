@@ -1,10 +1,11 @@
 //! The bench: the calculator, and what its user may do with it.
 
-ghost use Rattle.std.specs.Prelude.{◌≡◌, IfOk, OnErr, OnOk, is_err};
+ghost use Rattle.std.specs.Prelude.{◌≡◌, ◌≤◌, IfOk, OnErr, OnOk, is_err};
+ghost use Rattle.std.specs.FinSet.{len};
 ghost use Rattle.std.specs.Result.{result_err};
 ghost use Rattle.std.specs.Borrow.{sem};
 ghost use Rattle.h41_debug.specs.Bench.{PressesInTurn, Steps, start, with_calculator, with_set, without_set};
-ghost use Rattle.h41_debug.specs.Breakpoints.{is_set, lacks_breakpoint, refuses_breakpoint};
+ghost use Rattle.h41_debug.specs.Breakpoints.{is_set, lacks_breakpoint, most_breakpoints, refuses_breakpoint};
 ghost use Rattle.h41_xrom.specs.Calculator.{RefusesStep, Step};
 
 use crate::breakpoint::{BreakFull, Breakpoint, Breakpoints, NoBreak};
@@ -97,6 +98,14 @@ impl Bench {
         ensures { result ≡ is_set self.now.breakpoints breakpoint }
     {
         self.breakpoints.contains(breakpoint)
+    }
+
+    /// How many breakpoints are set: 16 at most.
+    pub fn breakpoint_count(&self) -> usize
+        ensures count { result ≡ len self.now.breakpoints }
+        ensures most { result ≤ most_breakpoints }
+    {
+        self.breakpoints.count()
     }
 
     /// Sets a breakpoint; one that is set stays so. 19 where it is not, and 16 others are; nothing is changed then.

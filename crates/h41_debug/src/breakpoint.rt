@@ -1,8 +1,9 @@
 //! Breakpoints: where a run stops.
 
-ghost use Rattle.std.specs.Prelude.{◌≡◌, OnErr, OnOk, is_err, position};
+ghost use Rattle.std.specs.Prelude.{◌≡◌, ◌≤◌, OnErr, OnOk, is_err, position};
+ghost use Rattle.std.specs.FinSet.{len};
 ghost use Rattle.std.specs.List.{list_any};
-ghost use Rattle.h41_debug.specs.Breakpoints.{is_set, lacks_breakpoint, no_breakpoints, refuses_breakpoint, with_breakpoint, without_breakpoint};
+ghost use Rattle.h41_debug.specs.Breakpoints.{is_set, lacks_breakpoint, most_breakpoints, no_breakpoints, refuses_breakpoint, with_breakpoint, without_breakpoint};
 ghost use Rattle.h41_debug.specs.Running.{is_same};
 
 use arrayvec::ArrayVec;
@@ -83,6 +84,14 @@ impl Breakpoints {
         ensures { result ≡ is_set self.now breakpoint }
     {
         is_among(self.items.as_slice(), breakpoint)
+    }
+
+    /// How many are set.
+    pub fn count(&self) -> usize
+        ensures count { result ≡ len self.now }
+        ensures most { result ≤ most_breakpoints }
+    {
+        self.items.len()
     }
 
     /// Sets a breakpoint; one that is set stays so. 19 where it is not, and as many others are as there can be.

@@ -1,6 +1,6 @@
 //! Laws of the bench: each is the contract of a function with nothing to do but to call the laws it rests on.
 
-ghost use Rattle.h41_debug.specs.BenchLaws.{PressesAreDetermined, RunsAddUp, RunsAreDetermined, StepsAreDetermined, StepsAreTraced, TracesAreDetermined, TracesAreSteps};
+ghost use Rattle.h41_debug.specs.BenchLaws.{PressesAreDetermined, RefusedStepIsRun, RunsAddUp, RunsAreDetermined, StatesAreTold, StepIsRun, StepsAreDetermined, StepsAreTraced, TracesAreDetermined, TracesAreSteps};
 
 use h41_program::laws::{lists_are_determined, one_list};
 use h41_xrom::laws::{key_is_determined, step_is_determined};
@@ -33,6 +33,14 @@ pub fn runs_add_up()
     step_is_determined();
 }
 
+/// A single step is a run of one step, where something runs; one that is refused is a run of none.
+pub fn step_is_a_run()
+    ensures made { StepIsRun }
+    ensures refused { RefusedStepIsRun }
+{
+    step_is_determined();
+}
+
 /// A trace is determined: its lines, the state that it leaves, whether a step is refused, and as what.
 pub fn traces_are_determined()
     ensures { TracesAreDetermined }
@@ -41,9 +49,10 @@ pub fn traces_are_determined()
     lists_are_determined();
 }
 
-/// Steps that were begun can be traced to their end.
+/// What comes next can be told of every state, and steps that were begun can be traced to their end.
 pub fn steps_are_traced()
-    ensures { StepsAreTraced }
+    ensures told { StatesAreTold }
+    ensures traced { StepsAreTraced }
 {
     one_list();
 }

@@ -1,1 +1,3 @@
+pub mod Packed
+pub mod Parts
 pub mod Values

@@ -1,7 +1,9 @@
 //! Registers of the HP-41: fixed rows of hexadecimal digits.
 #![tactic(auto)]
 
-ghost use Rattle.std.specs.Prelude.{◌≡◌, ℕ, ◌+◌, ◌*◌, ◌^◌, ◌<◌, ◌≤◌, ◌↔◌, List, length, slice_index, slice_set, replicate, All, IsSome, IfSome, Some};
+ghost use Rattle.std.specs.Prelude.{◌≡◌, ℕ, ◌+◌, ◌-◌, ◌*◌, ◌/◌, ◌%◌, ◌^◌, ◌<◌, ◌≤◌, ◌↔◌, List, length, take, drop, slice_index, slice_set, replicate, IsSome, IfSome, Some};
+ghost use Rattle.h41_digits.specs.Packed.{digits_of, value-digits_of};
+ghost use Rattle.std.proofs.Common.{ap};
 ghost use Rattle.h41_digits.specs.Register.{IsRegister, value, text, hexadecimal_text, byte_at, set_byte};
 
 use std::fmt;
@@ -18,17 +20,20 @@ pub type Reg = Digits<14>;
 /// A row of `N` hexadecimal digits, 1 to 14 of them. Place 0 is the rightmost, least one.
 #[derive(Clone, Copy, Debug, PartialEq, Eq)]
 pub struct Digits<const N: usize> {
-    digits: [u8; N],
+    /// The number that the digits make up: four bits for each place, those of place 0 the lowest.
+    word: u64,
 }
 
 impl<const N: usize> Model for Digits<N> {
     ghost Value = { List ℕ };
 
-    ghost view = { λ register. register.digits };
+    ghost view = { λ register. digits_of N register.word };
 
-    ghost invariant = { λ register. (N ≤ 14) × All (λ digit. digit < 16) register.digits };
+    ghost invariant = { λ register. (N ≤ 14) × (register.word < 16 ^ N) };
 
-    ghost inverse = { λ digits. record { digits = digits } };
+    ghost inverse = { λ digits. record { word = value digits } };
+
+    ghost inverse_ok = { λ register holds. ap (λ (word : ℕ). record { word = word }) (value-digits_of N register.word holds.1) };
 }
 
 impl<const N: usize> Digits<N> {
@@ -37,7 +42,7 @@ impl<const N: usize> Digits<N> {
         requires { N ≤ 14 }
         ensures { result ≡ replicate N 0 }
     {
-        Digits { digits: [0; N] }
+        Digits { word: 0 }
     }
 
     /// The register that holds a number, or nothing where the number is 16 to the power of `N` or more.
@@ -47,14 +52,8 @@ impl<const N: usize> Digits<N> {
         ensures value { IfSome result (λ register. value register ≡ number) }
         ensures register { IfSome result (IsRegister N) }
     {
-        let mut digits = [0; N];
-        let mut rest = number;
-        for digit in &mut digits {
-            *digit = (rest % 16) as u8;
-            rest /= 16;
-        }
-        if rest == 0 {
-            Some(Digits { digits })
+        if number >> (4 * N) == 0 {
+            Some(Digits { word: number })
         } else {
             None
         }
@@ -68,7 +67,7 @@ impl<const N: usize> Digits<N> {
         ensures text { text result ≡ hexadecimal_text N number }
         ensures register { IsRegister N result }
     {
-        Digits::from_u64(number).unwrap()
+        Digits { word: number }
     }
 
     /// The number that the register holds.
@@ -76,11 +75,7 @@ impl<const N: usize> Digits<N> {
         ensures value { result ≡ value self.now }
         ensures register { IsRegister N self.now }
     {
-        let mut number = 0;
-        for digit in self.digits.iter().rev() {
-            number = number * 16 + u64::from(*digit);
-        }
-        number
+        self.word
     }
 
     /// The digit, 0 to 15, at a place, 0 to `N` - 1.
@@ -89,7 +84,7 @@ impl<const N: usize> Digits<N> {
         ensures digit { result ≡ slice_index self.now place }
         ensures register { IsRegister N self.now }
     {
-        self.digits[place]
+        (self.word >> (4 * place) & 0xF) as u8
     }
 
     /// The same register with another digit, 0 to 15, at one place, 0 to `N` - 1.
@@ -100,9 +95,9 @@ impl<const N: usize> Digits<N> {
         ensures from { IsRegister N self.now }
         ensures register { IsRegister N result }
     {
-        let mut changed = *self;
-        changed.set(place, digit);
-        changed
+        Digits {
+            word: with_bits(self.word, 4 * place, 4, u64::from(digit)),
+        }
     }
 
     /// Writes another digit, 0 to 15, at one place, 0 to `N` - 1.
@@ -113,7 +108,7 @@ impl<const N: usize> Digits<N> {
         ensures from { IsRegister N self.old }
         ensures register { IsRegister N self.new }
     {
-        self.digits[place] = digit;
+        *self = self.with(place, digit);
     }
 
     /// The byte of places 2`k` + 1 (its higher digit) and 2`k` (its lower digit).
@@ -122,7 +117,7 @@ impl<const N: usize> Digits<N> {
         ensures byte { result ≡ byte_at self.now k }
         ensures register { IsRegister N self.now }
     {
-        self.get(2 * k + 1) * 16 + self.get(2 * k)
+        (self.word >> (8 * k) & 0xFF) as u8
     }
 
     /// The same register with another byte at places 2`k` + 1 (its higher digit) and 2`k` (its lower digit).
@@ -132,8 +127,48 @@ impl<const N: usize> Digits<N> {
         ensures from { IsRegister N self.now }
         ensures register { IsRegister N result }
     {
-        self.with(2 * k, byte % 16).with(2 * k + 1, byte / 16)
+        Digits {
+            word: with_bits(self.word, 8 * k, 8, u64::from(byte)),
+        }
     }
+
+    /// The number of the digits from place `lo` to place `hi`, of which the one at `lo` is the least.
+    pub fn number(&self, lo: usize, hi: usize) -> u64
+        requires ordered { lo ≤ hi }
+        requires in_register { hi < N }
+        ensures number { result ≡ value (take (hi + 1 - lo) (drop lo self.now)) }
+        ensures register { IsRegister N self.now }
+    {
+        let digits = self.word >> (4 * lo);
+        digits & ((1 << (4 * (hi + 1 - lo))) - 1)
+    }
+
+    /// The same register with the digits of a number at the places from `lo`, which takes the least, to `hi`.
+    pub fn with_number(&self, lo: usize, hi: usize, number: u64) -> Self
+        requires ordered { lo ≤ hi }
+        requires in_register { hi < N }
+        requires fits { number < 16 ^ (hi + 1 - lo) }
+        ensures number { value (take (hi + 1 - lo) (drop lo result)) ≡ number }
+        ensures below { take lo result ≡ take lo self.now }
+        ensures above { drop (hi + 1) result ≡ drop (hi + 1) self.now }
+        ensures from { IsRegister N self.now }
+        ensures register { IsRegister N result }
+    {
+        Digits {
+            word: with_bits(self.word, 4 * lo, 4 * (hi + 1 - lo), number),
+        }
+    }
+}
+
+/// A word with other bits in place of `width` of its own, the lowest of which is bit `at`.
+fn with_bits(word: u64, at: usize, width: usize, bits: u64) -> u64
+    requires width { (0 < width) × (width < 64) }
+    requires in_word { width + at ≤ 64 }
+    requires fits { bits < 2 ^ width }
+    ensures { result + word / 2 ^ at % 2 ^ width * 2 ^ at ≡ word + bits * 2 ^ at }
+{
+    let mask = ((1 << width) - 1) << at;
+    word & !mask | bits << at
 }
 
 /// The digits in upper-case hexadecimal, the highest place first.
@@ -141,8 +176,9 @@ impl<const N: usize> fmt::Display for Digits<N> {
     ghost output = { λ digits. Some (text digits) };
 
     fn fmt<W: fmt::Write>(&self, f: &mut fmt::Formatter<W>) -> fmt::Result {
-        for digit in self.digits.iter().rev() {
-            write!(f, "{digit:X}")?;
+        let word = self.word;
+        for place in (0..N).rev() {
+            write!(f, "{:X}", word >> (4 * place) & 0xF)?;
         }
         Ok(())
     }

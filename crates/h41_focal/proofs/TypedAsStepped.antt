@@ -6,8 +6,9 @@ use Rattle.h41_codes.specs.declared.line.Line.{Line}
 use Rattle.h41_codes.specs.declared.line.Line.TheVariants.{Module}
 use Rattle.h41_focal.proofs.OneOutcome.{same_line, typed_determined}
 use Rattle.h41_focal.specs.Courses.{Arrives, Course, Stays, StepsFrom, Stepped, Typed, TypedFrom}
-use Rattle.h41_focal.specs.LineLaws.{AreAlike, GoesToNext, IsAt, StepsInTurn, SteppedCanBeTyped, TypedAsStepped, TypedIsDetermined, TypesInTurn}
-use Rattle.h41_focal.specs.LineStep.{Applies, AppliesTo, AppliesWith, CarriesOut, Ends, FailsIn, FocalState, Left, Machine, StepsAs, StepsLine, TakesLine, TypesLine, answered, caught, done, error_flag, failed, named_by, placed, worked}
+use Rattle.h41_focal.specs.LineLaws.{AreAlike, GoesToNext, IsAt, NextIsHere, StepsInTurn, SteppedCanBeTyped, TypedAsStepped, TypedIsDetermined, TypesInTurn}
+use Rattle.h41_focal.specs.LineStep.{Applies, AppliesTo, AppliesWith, CarriesOut, Ends, FailsIn, FocalState, Left, Machine, StepsAs, StepsLine, TakesLine, TypesLine, answered, caught, done, ended, error_flag, failed, named_by, placed, shown_text, worked}
+use Rattle.h41_focal.specs.Outcomes.{is_elsewhere}
 use Rattle.h41_focal.specs.declared.refusal.FocalRefusal.{FocalRefusal}
 use Rattle.h41_focal.specs.declared.refusal.FocalRefusal.TheVariants.{MemoryLost, NotInProfile}
 use Rattle.h41_program.specs.ProgramLaws.{FirstIsDetermined}
@@ -15,13 +16,15 @@ use Rattle.h41_program.specs.ProgramLines.{AnswersFirst, AnswersNext}
 use Rattle.h41_program.specs.SearchLaws.{AnswersAreDetermined, LocalIsDetermined}
 use Rattle.h41_program.specs.declared.listed_line.ListedLine.{ListedLine}
 use Rattle.h41_program.specs.declared.refusal.ProgramRefusal as program
-use Rattle.h41_ram.specs.RegisterMap.{flag_of, is_sound}
+use Rattle.h41_ram.specs.RegisterMap.{RegisterMap, flag_of, is_sound, register_at}
 use Rattle.h41_rows.specs.LineRows.{row_of}
 use Rattle.h41_rows.specs.Operands.{Meant, meant_of}
 use Rattle.h41_rows.specs.Profile.{is_left_out}
 use Rattle.h41_rows.specs.RowLaws.{ValuesAreDetermined}
 use Rattle.h41_rows.specs.Rows as rows
 use Rattle.h41_rows.specs.declared.fault.LineFault.{LineFault}
+use Rattle.h41_show.specs.DisplayFormat.{format_of}
+use Rattle.h41_show.specs.RegisterText.{alpha_text, register_text}
 
 -- a machine's memory and lift, with what else there is of another
 abbrev beside : Machine → FocalState → Machine
@@ -42,9 +45,29 @@ no_refusal left refusal is = cc
 as_same : (left other : Left) → left ≡ other → (machine : Machine) → AreAlike other.machine machine → AreAlike left.machine machine
 as_same left other is machine alike = subst (λ (of : Left). AreAlike of.machine machine) (sym is) alike
 
--- something is left that is like this
+-- something is left that is like this, and nothing has to be looked up elsewhere
 abbrev LeavesLike : (Result Left FocalRefusal → Type 0) → Left → Type 0
-LeavesLike carries left = (typed : Left) × carries (Ok typed) × AreAlike left.machine typed.machine
+LeavesLike carries left = (typed : Left) × carries (Ok typed) × AreAlike left.machine typed.machine × (is_elsewhere left.answer ≡ false)
+
+here : (left other : Left) → left ≡ other → is_elsewhere other.answer ≡ false → is_elsewhere left.answer ≡ false
+here left other is found = subst (λ (of : Left). is_elsewhere of.answer ≡ false) (sym is) found
+
+-- a row's own answer is none of those
+shown_here : (text : List ℕ) (ending : rows.Ending) → is_elsewhere (shown_text text ending) ≡ false
+shown_here text rows.GoesOn = refl
+shown_here text rows.Stops = refl
+shown_here text rows.TurnsOff = refl
+
+ended_here : (ending : rows.Ending) → is_elsewhere (ended ending) ≡ false
+ended_here rows.GoesOn = refl
+ended_here rows.Stops = refl
+ended_here rows.TurnsOff = refl
+
+answered_here : (memory : RegisterMap) (named : ℕ) (showing : rows.Showing) (ending : rows.Ending) → is_elsewhere (answered memory named showing ending) ≡ false
+answered_here memory named rows.AsBefore ending = ended_here ending
+answered_here memory named rows.NoText ending = refl
+answered_here memory named rows.NamedText ending = shown_here (register_text (format_of memory) (register_at memory named)) ending
+answered_here memory named rows.AlphaText ending = shown_here (alpha_text memory) ending
 
 -- a fault
 abbrev typed_fault : Bool → Machine → LineFault → Left
@@ -53,16 +76,18 @@ typed_fault flag_25 machine fault = if flag_25 then done (caught machine) else f
 fails_alike : (flag_25 : Bool) (machine : Machine) (focal : FocalState) (fault : LineFault) (left : Left)
     → MatchBool flag_25 ((next : ℕ) × AnswersNext machine.memory machine.focal.position (Ok next) × (left ≡ done (placed next (caught machine))))
     (left ≡ failed (placed machine.focal.position machine) fault)
-    → AreAlike left.machine (typed_fault flag_25 (beside machine focal) fault).machine
-fails_alike true machine focal fault left (next, answers, is) = as_same left _ is (caught (beside machine focal)) (refl, refl)
-fails_alike false machine focal fault left is = as_same left _ is (beside machine focal) (refl, refl)
+    → AreAlike left.machine (typed_fault flag_25 (beside machine focal) fault).machine × (is_elsewhere left.answer ≡ false)
+fails_alike true machine focal fault left (next, answers, is) = (as_same left _ is (caught (beside machine focal)) (refl, refl), here left _ is refl)
+fails_alike false machine focal fault left is = (as_same left _ is (beside machine focal) (refl, refl), here left _ is refl)
 
 failure_alike : (machine : Machine) (focal : FocalState) (fault : LineFault) (left : Left)
     → FailsIn Stepped machine fault (Ok left) → LeavesLike (FailsIn Typed (beside machine focal) fault) left
 failure_alike machine focal fault left (own, fails, is) =
     let flag_25 = flag_of machine.memory error_flag in
     let typed = typed_fault flag_25 (beside machine focal) fault in
-    (typed, (typed, refl, refl), as_same left own (same_left left own is) typed.machine (fails_alike flag_25 machine focal fault own fails))
+    let alike = fails_alike flag_25 machine focal fault own fails in
+    let same = same_left left own is in
+    (typed, (typed, refl, refl), as_same left own same typed.machine alike.0, here left own same alike.1)
 
 -- a row that goes on to the next line
 with_alike : (row : rows.Row) (named : ℕ) (machine : Machine) (focal : FocalState) (result : Result (List ℕ) LineFault) (left : Left)
@@ -78,13 +103,14 @@ with_alike row named machine focal (Ok result) left goes_on (course, (next, answ
     let is = subst (λ (course : Course). Ends Stepped machine new answer course (Ok left)) arrives ends in
     let stays = subst (λ (going : rows.Going). TypedFrom going other.memory named other.focal.position other.focal.returns Stays) (sym goes_on) refl in
     let typed : Left = record { machine = worked row named result other; answer = answer } in
-    (typed, (Stays, stays, refl), as_same left _ (same_left left _ is) typed.machine (refl, refl))
+    let same = same_left left _ is in
+    (typed, (Stays, stays, refl), as_same left _ same typed.machine (refl, refl), here left _ same (answered_here machine.memory named row.shows row.ends))
 
 row_alike : (row : rows.Row) (named : ℕ) (machine : Machine) (focal : FocalState) (left : Left) → row.goes ≡ rows.Next
     → Applies Stepped row named machine (Ok left) → LeavesLike (Applies Typed row named (beside machine focal)) left
 row_alike row named machine focal left goes_on (result, works, applies) =
     let found = with_alike row named machine focal result left goes_on applies in
-    (found.0, (result, works, found.1), found.2)
+    (found.0, (result, works, found.1), found.2, found.3)
 
 -- a line that goes on to the next one
 meant_alike : (line : Line) (machine : Machine) (focal : FocalState) (meant : Result Meant LineFault) (left : Left)
@@ -127,6 +153,10 @@ module _ (same_first : FirstIsDetermined) where
   line_alike line machine other left goes_on alike stands steps =
       subst (λ (other : Machine). LeavesLike (TypesLine line other) left) (same_beside machine other alike)
       (sound_alike (is_sound machine.memory) line machine other.focal left goes_on stands steps)
+
+  pub next_is_here : NextIsHere
+  next_is_here line machine left goes_on stands steps =
+      let found : LeavesLike (TypesLine line machine) left = line_alike line machine machine left goes_on (refl, refl) stands steps in found.3
 
   -- lines in turn
   turn_alike : (lines : List Line) (machine other left : Machine) → All GoesToNext lines → AreAlike machine other → StepsInTurn lines machine left

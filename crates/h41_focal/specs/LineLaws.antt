@@ -1,9 +1,10 @@
 -- What holds of lines, whatever the code does: each has one outcome; those that go on to the next leave the same, stepped or typed.
-use Rattle.std.specs.Prelude.{◌≡◌, All, IfOk, List, [], ◌∷◌, None, Ok, Option, Result}
+use Rattle.std.specs.Prelude.{◌≡◌, false, All, IfOk, List, [], ◌∷◌, None, Ok, Option, Result}
 use Rattle.h41_codes.specs.declared.functions.Function.{Function}
 use Rattle.h41_codes.specs.declared.line.Line.{Line}
 use Rattle.h41_codes.specs.declared.line.Line.TheVariants.{Module}
 use Rattle.h41_focal.specs.LineStep.{FailsLine, Left, Machine, PassesLine, StepsLine, TypesLine}
+use Rattle.h41_focal.specs.Outcomes.{is_elsewhere}
 use Rattle.h41_focal.specs.declared.refusal.FocalRefusal.{FocalRefusal}
 use Rattle.h41_program.specs.ProgramLines.{AnswersFirst}
 use Rattle.h41_program.specs.declared.listed_line.ListedLine.{ListedLine}
@@ -81,3 +82,9 @@ SteppedCanBeTyped =
     (lines : List Line) (machine other left : Machine)
     → All GoesToNext lines → AreAlike machine other
     → StepsInTurn lines machine left → (typed : Machine) × TypesInTurn lines other typed
+
+-- a line that goes on is done there: it calls no function of a module, and no name has to be looked up elsewhere
+abbrev pub NextIsHere : Type 0
+NextIsHere =
+    (line : Line) (machine : Machine) (left : Left) → GoesToNext line → IsAt line machine → StepsLine None machine (Ok left)
+    → is_elsewhere left.answer ≡ false

@@ -1,7 +1,7 @@
 //! Laws of lines: each is the contract of a function with nothing to do but to call the laws it rests on.
 
 ghost use Rattle.std.specs.Prelude.{◌≡◌, ◌≤◌, length};
-ghost use Rattle.h41_focal.specs.LineLaws.{FailureIsDetermined, PassingIsDetermined, StepIsDetermined, SteppedCanBeTyped, TypedAsStepped, TypedIsDetermined};
+ghost use Rattle.h41_focal.specs.LineLaws.{FailureIsDetermined, NextIsHere, PassingIsDetermined, StepIsDetermined, SteppedCanBeTyped, TypedAsStepped, TypedIsDetermined};
 
 use crate::focal::Focal;
 use h41_program::laws::{lists_are_determined, searches_are_determined};
@@ -27,11 +27,12 @@ pub fn line_is_determined()
     searches_are_determined();
 }
 
-/// Lines that go on to the next leave the same memory and the same lift, typed in turn or stepped; and where they can be stepped
-/// they can be typed.
+/// Lines that go on to the next leave the same memory and the same lift, typed in turn or stepped; where they can be stepped they
+/// can be typed; and the calculator has nothing to look up for them.
 pub fn typed_as_stepped()
     ensures same { TypedAsStepped }
     ensures typed { SteppedCanBeTyped }
+    ensures here { NextIsHere }
 {
     values_are_determined();
     lists_are_determined();

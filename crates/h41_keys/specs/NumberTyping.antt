@@ -103,6 +103,6 @@ with_sign_turned text =
 abbrev pub without_last : {A : Type 0} → List A → List A
 without_last items = take (length items - 1) items
 
--- a number line has 16 characters. A number that is typed never needs more, so this changes none
+-- a number line has at most 16 characters: a key that would make more changes nothing
 abbrev pub kept_within : List Character → List Character → List Character
 kept_within before after = if nat_le (length after) number_most then after else before

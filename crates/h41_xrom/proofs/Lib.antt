@@ -6,3 +6,4 @@ pub mod Named
 pub mod Pressing
 pub mod StepLaws
 pub mod Stepping
+pub mod TypedLines

@@ -1,11 +1,16 @@
 -- What holds of every step, every load, every key and the display, whatever the code does.
-use Rattle.std.specs.Prelude.{◌≡◌, ℕ, List, Option}
+use Rattle.std.specs.Prelude.{◌≡◌, ℕ, Bool, true, false, All, IsTrue, List, [], ◌∷◌, Option}
+use Rattle.h41_codes.specs.declared.line.Line.{Line}
+use Rattle.h41_focal.specs.LineLaws.{AreAlike, GoesToNext, IsAt, TypesInTurn}
+use Rattle.h41_focal.specs.LineStep.{Machine}
 use Rattle.h41_keys.specs.declared.key.Key.{Key}
 use Rattle.h41_xrom.specs.declared.refusal.CalculatorRefusal.{CalculatorRefusal}
-use Rattle.h41_xrom.specs.Calculator.{CalculatorState, RefusesStep, Step}
+use Rattle.h41_xrom.specs.Calculator.{CalculatorState, RefusesStep, Step, machine_of}
 use Rattle.h41_xrom.specs.Display.{ShowsDisplay}
 use Rattle.h41_xrom.specs.KeyActions.{Presses}
 use Rattle.h41_xrom.specs.Programs.{Loads}
+use Rattle.h41_xrom.specs.declared.calculator.Mode.{Mode}
+use Rattle.h41_xrom.specs.declared.calculator.Mode.TheVariants as modes
 
 -- whether a step is refused, and as what, is determined, and so is the state that it leaves
 abbrev pub StepRefusalIsDetermined : Type 0
@@ -30,3 +35,22 @@ KeyIsDetermined =
 -- the display shows one text
 abbrev pub DisplayIsDetermined : Type 0
 DisplayIsDetermined = (s : CalculatorState) (text other : List ℕ) → ShowsDisplay s text → ShowsDisplay s other → text ≡ other
+
+-- lines are stepped or run, and not the words of a function
+abbrev pub takes_lines : Mode → Bool
+takes_lines modes.Idle = true
+takes_lines modes.Run = true
+takes_lines (modes.Micro caller) = false
+
+-- lines that stand at the position in turn are stepped by the calculator, each in what the one before it left
+abbrev pub StepsLines : List Line → CalculatorState → CalculatorState → Type 0
+StepsLines [] s t = t ≡ s
+StepsLines (line ∷ lines) s t = IsAt line (machine_of s) × (next : CalculatorState) × Step s next × StepsLines lines next t
+
+-- lines that go on to the next leave the same where they are typed in turn as where the calculator steps them: stack, data registers, ALPHA
+-- and flags, which memory has, and lift
+abbrev pub TypedAsStepped : Type 0
+TypedAsStepped =
+    (lines : List Line) (s t : CalculatorState) (other typed : Machine)
+    → IsTrue (takes_lines s.mode) → All GoesToNext lines → AreAlike (machine_of s) other
+    → StepsLines lines s t → TypesInTurn lines other typed → AreAlike (machine_of t) typed

@@ -1,9 +1,9 @@
 //! Laws of the calculator: each is the contract of a function with nothing to do but to call the laws it rests on.
 
-ghost use Rattle.h41_xrom.specs.CalculatorLaws.{DisplayIsDetermined, KeyIsDetermined, LoadIsDetermined, StepIsDetermined, StepRefusalIsDetermined};
+ghost use Rattle.h41_xrom.specs.CalculatorLaws.{DisplayIsDetermined, KeyIsDetermined, LoadIsDetermined, StepIsDetermined, StepRefusalIsDetermined, TypedAsStepped};
 
 use h41_editor::laws::{changes_are_determined, moves_are_determined, text_is_determined};
-use h41_focal::laws::line_is_determined;
+use h41_focal::laws::{line_is_determined, typed_as_stepped as lines_typed_as_stepped};
 use h41_nut::laws::micro_is_determined;
 use h41_program::laws::{loads_are_determined, searches_are_determined};
 use h41_rows::laws::values_are_determined;
@@ -43,4 +43,12 @@ pub fn display_is_determined()
     ensures { DisplayIsDetermined }
 {
     text_is_determined();
+}
+
+/// Lines that go on to the next leave the same stack, data registers, ALPHA, flags and lift where the calculator steps them as where
+/// they are typed in turn.
+pub fn typed_as_stepped()
+    ensures { TypedAsStepped }
+{
+    lines_typed_as_stepped();
 }

@@ -1,8 +1,6 @@
-use Rattle.std.proofs.Common.{arith}
-use Rattle.h41_arith.proofs.Borrows.{borrow_is_less}
+use Rattle.h41_arith.proofs.Compared.{less_by_number}
 use Rattle.h41_arith.proofs.comparisons.less.Goals as goal
 
 pub returns : goal.returns
 returns c =
-    borrow_is_less 16 c.args.span.lo c.args.span.hi c.args.x c.args.x c.args.y c.over_span.result.0 c.over_span.result.1 (omega (arith, c.args.span.ordered)) (omega (arith, c.args.span.in_register))
-    c.over_span.ensures.first c.over_span.ensures.second c.over_span.ensures.result
+    less_by_number c.args.x c.args.y c.args.span.lo c.args.span.hi c.number_in.result c.number_in-2.result c.number_in.ensures.register c.number_in-2.ensures.register c.args.span.ordered c.args.span.in_register c.number_in.ensures.number c.number_in-2.ensures.number

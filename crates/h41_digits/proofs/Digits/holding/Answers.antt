@@ -1,10 +1,16 @@
 use Rattle.std.proofs.Common.{ap, ◌∙◌}
 use Rattle.h41_digits.specs.Register.{hexadecimal_text}
+use Rattle.h41_digits.specs.Packed.{digits_of, value-digits_of}
 use Rattle.h41_digits.proofs.Values.{text-register}
+use Rattle.h41_digits.proofs.Packed.{register-digits_of}
 use Rattle.h41_digits.proofs.Digits.holding.Goals as goal
+
+pub returns-clause-value : goal.returns-clause-value
+returns-clause-value g c = value-digits_of g.row.N c.args.number c.requires.fits
 
 pub returns-clause-text : goal.returns-clause-text
 returns-clause-text g c =
-    let held = rw c.unwrap.ensures at c.from_u64.ensures.value in
-    let register = rw c.unwrap.ensures at c.from_u64.ensures.register in
-    text-register g.row.N c.unwrap.result register ∙ ap (hexadecimal_text g.row.N) held
+    text-register g.row.N (digits_of g.row.N c.args.number) (register-digits_of g.row.N c.args.number) ∙ ap (hexadecimal_text g.row.N) (value-digits_of g.row.N c.args.number c.requires.fits)
+
+pub returns-clause-register : goal.returns-clause-register
+returns-clause-register g c = register-digits_of g.row.N c.args.number

@@ -1,4 +1,4 @@
-use Rattle.h41_focal.proofs.TypedAsStepped.{can_be_typed, typed_alike}
+use Rattle.h41_focal.proofs.TypedAsStepped.{can_be_typed, next_is_here, typed_alike}
 use Rattle.h41_focal.proofs.laws.typed_as_stepped.Goals as goal
 
 pub returns-clause-same : goal.returns-clause-same
@@ -8,3 +8,6 @@ returns-clause-same c =
 
 pub returns-clause-typed : goal.returns-clause-typed
 returns-clause-typed c = can_be_typed c.lists_are_determined.ensures.first
+
+pub returns-clause-here : goal.returns-clause-here
+returns-clause-here c = next_is_here c.lists_are_determined.ensures.first

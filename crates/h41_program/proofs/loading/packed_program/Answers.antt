@@ -3,8 +3,11 @@ use Rattle.h41_program.specs.Edits.{lines_of}
 use Rattle.h41_program.specs.Packers.{Packs}
 use Rattle.h41_program.specs.ProgramBytes.{program_bytes, final_position}
 use Rattle.h41_program.proofs.Loads.{packed_lines, lines_of-more}
-use Rattle.h41_program.proofs.Walks.{up_to_more, all_none, all_final, from_reads, before_end-none}
+use Rattle.h41_program.proofs.Walks.{up_to_none, up_to_more, all_none, all_final, from_reads, before_end-none}
 use Rattle.h41_program.proofs.loading.packed_program.Goals as goal
+
+pub loop-found-init : goal.loop-found-init
+loop-found-init g c = ([], up_to_none (program_bytes c.args.ram.now) (final_position c.args.ram.now) 0, c.new-packer.ensures)
 
 pub returns-then-is_final_end : goal.returns-then-is_final_end
 returns-then-is_final_end g c =

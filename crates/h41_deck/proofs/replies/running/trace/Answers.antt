@@ -14,7 +14,7 @@ returns-in-Err-clause-text g c = λ values.
     let text : c.as_bytes.result.now ≡ c.traced_line-line.result.bytes = c.as_bytes.ensures.value ∙ c.as_str.ensures.value in
     let on = subst (λ k. TracesOn c.args.count k c.args.bench.now c.loop-made.bench (g.W.Sink.contents c.args.writer.now) (g.W.Sink.contents c.loop-made.writer)) left c.loop-made.invariant.on in
     let part = subst (λ (of : List ℕ). AppendsPart (g.W.Sink.contents c.loop-made.writer) (g.W.Sink.contents c.write_whole.new.writer) of) text c.in-Err.ensures.written in
-    traces_in_part c.steps_are_traced.ensures c.args.count (c.args.count - (c.loop-made.made + 1)) values c.args.bench.now c.loop-made.bench c.steps.new.self
+    traces_in_part c.steps_are_traced.ensures.traced c.args.count (c.args.count - (c.loop-made.made + 1)) values c.args.bench.now c.loop-made.bench c.steps.new.self
     _ (g.W.Sink.contents c.loop-made.writer) _ c.traced_line-line.result.bytes (result_err c.steps.result) on c.traced_line-line.ensures part
     (subst (λ k. Steps k c.loop-made.bench c.steps.new.self (result_err c.steps.result)) left c.steps.ensures)
 

@@ -1,0 +1,271 @@
+-- In base 10 a sum is that of the numbers, and six more at each digit that carries.
+use Rattle.std.proofs.Common.{◌≡◌, ℕ, suc, zero, ◌+◌, ◌-◌, ◌*◌, ◌/◌, ◌%◌, ◌^◌, ◌<◌, ◌≤◌, ◌==◌, Bool, true, false, not, List, [], ◌∷◌, map, replicate, length, take, drop, slice_index, refl, sym, ap, subst, arith, inl, inr, ◌∙◌}
+use Rattle.std.proofs.Math.Nat.{pow-succ'}
+use Rattle.std.proofs.lemmas.Bool.{cases_lt}
+use Rattle.std.proofs.lemmas.Bool.Decides.{nat_tests}
+use Rattle.std.proofs.lemmas.List.{length-replicate, length-map, get_or-map}
+use Rattle.std.proofs.lemmas.List.Elements.{recursion_from_All, All-from_recursion}
+use Rattle.std.proofs.lemmas.Nat.{xor_shr, and_block, and_mask, and_le_r}
+use Rattle.std.proofs.lemmas.Nat.Bits.{bit_at_lowest, bit_at_xor}
+use Rattle.std.specs.Int.RustNames.{bit_and, bit_xor}
+use Rattle.std.specs.List.{AllByRecursion}
+use Rattle.h41_digits.specs.Register.{IsRegister, value}
+use Rattle.h41_digits.specs.Packed.{value-cons}
+use Rattle.h41_arith.specs.DigitRule.{SumDigit, DifferenceDigit, SumInto, DifferenceInto, carry_digit}
+use Rattle.h41_arith.specs.DigitOperations.{carries_of}
+use Rattle.h41_arith.proofs.Carries.{carry_le}
+use Rattle.h41_arith.proofs.Parts.{part, part-register, keeps_outside}
+use Rattle.h41_arith.proofs.Steps.{Steps, steps_none, steps_more, has_carries}
+
+-- a one at each of so many places
+abbrev pub ones : ℕ → ℕ
+ones count = value (replicate count 1)
+
+pub ones_more : (count : ℕ) → ones (suc count) ≡ 1 + 16 * ones count
+ones_more count = value-cons 1 (replicate count 1)
+
+-- fifteen times that, and one, is the first number with a digit more
+pub fifteen_ones : (count : ℕ) → 15 * ones count + 1 ≡ 16 ^ count
+fifteen_ones zero = refl
+fifteen_ones (suc count) = omega (arith, ones_more count, fifteen_ones count, pow-succ' 16 count)
+
+-- the carries out of each digit of a sum, as ones
+abbrev pub carry_word : List ℕ → List ℕ → ℕ → ℕ
+carry_word [] y carry = 0
+carry_word (a ∷ x) [] carry = 0
+carry_word (a ∷ x) (b ∷ y) carry = (a + b + carry) / 16 + 16 * carry_word x y ((a + b + carry) / 16)
+
+last_of_xor : (x y : ℕ) → bit_xor x y % 2 ≡ (x % 2 + y % 2) % 2
+last_of_xor x y = omega (arith, sym (bit_at_lowest (bit_xor x y)) ∙ bit_at_xor x y 0, bit_at_lowest x, bit_at_lowest y)
+
+-- the last bit of two numbers and their sum tells the carry in
+carry_bit : (x y sum carry : ℕ) → carry ≤ 1 → sum ≡ x + y + carry → bit_xor (bit_xor x y) sum % 2 ≡ carry
+carry_bit x y sum carry bit is = omega (arith, last_of_xor (bit_xor x y) sum, last_of_xor x y)
+
+-- one digit less of the sum of two numbers
+shifted_xor : (a b s x y sum : ℕ) → a < 16 → b < 16 → s < 16 → bit_xor (bit_xor (a + 16 * x) (b + 16 * y)) (s + 16 * sum) / 16 ≡ bit_xor (bit_xor x y) sum
+shifted_xor a b s x y sum a_small b_small s_small =
+    let is_x : (a + 16 * x) / 16 ≡ x = omega arith in
+    let is_y : (b + 16 * y) / 16 ≡ y = omega arith in
+    let is_sum : (s + 16 * sum) / 16 ≡ sum = omega arith in
+    xor_shr (bit_xor (a + 16 * x) (b + 16 * y)) (s + 16 * sum) 4 ∙ ap (λ n. bit_xor n ((s + 16 * sum) / 16)) (xor_shr (a + 16 * x) (b + 16 * y) 4 ∙ ap (λ n. bit_xor n ((b + 16 * y) / 16)) is_x ∙ ap (bit_xor x) is_y)
+    ∙ ap (bit_xor (bit_xor x y)) is_sum
+
+-- a mask of ones, one digit at a time
+masked_more : (n mask : ℕ) → bit_and n (1 + 16 * mask) ≡ n % 2 + 16 * bit_and (n / 16) mask
+masked_more n mask =
+    let split : n ≡ n / 16 * 16 + n % 16 = omega arith in
+    let turned : 1 + 16 * mask ≡ mask * 16 + 1 = omega arith in
+    let low : bit_and (n % 16) 1 ≡ n % 16 % 2 = and_mask (n % 16) 1 in
+    omega (arith, ap (λ k. bit_and k (1 + 16 * mask)) split ∙ ap (bit_and (n / 16 * 16 + n % 16)) turned ∙ and_block 4 (n / 16) mask (n % 16) 1 (omega arith) (omega arith), low)
+
+-- the bits of two numbers and their sum tell the carries
+pub carries_read : (x y : List ℕ) (carry : ℕ) → AllByRecursion (λ digit. digit < 16) x → AllByRecursion (λ digit. digit < 16) y → length x ≡ length y → carry ≤ 1
+    → carries_of (value x) (value y) (value x + value y + carry) (ones (length y)) ≡ carry_word x y carry
+carries_read [] [] carry p q same bit = omega (arith, and_le_r (bit_xor (bit_xor 0 0) (0 + 0 + carry) / 16) 0)
+carries_read [] (b ∷ y) carry p q same bit = absurd (omega (arith, same))
+carries_read (a ∷ x) [] carry p q same bit = absurd (omega (arith, same))
+carries_read (a ∷ x) (b ∷ y) carry p q same bit =
+    let s = a + b + carry in
+    let next = s / 16 in
+    let next_bit : next ≤ 1 = omega (arith, p.0, q.0) in
+    let sum = value x + value y + next in
+    let is_sum : value (a ∷ x) + value (b ∷ y) + carry ≡ s % 16 + 16 * sum = omega (arith, value-cons a x, value-cons b y) in
+    let parts = ap (λ n. bit_xor n (value (a ∷ x) + value (b ∷ y) + carry) / 16) (ap (λ n. bit_xor n (value (b ∷ y))) (value-cons a x) ∙ ap (bit_xor (a + 16 * value x)) (value-cons b y)) in
+    let word : bit_xor (bit_xor (value (a ∷ x)) (value (b ∷ y))) (value (a ∷ x) + value (b ∷ y) + carry) / 16 ≡ bit_xor (bit_xor (value x) (value y)) sum =
+    parts ∙ ap (λ n. bit_xor (bit_xor (a + 16 * value x) (b + 16 * value y)) n / 16) is_sum ∙ shifted_xor a b (s % 16) (value x) (value y) sum p.0 q.0 (omega arith) in
+    let masked = ap (λ n. bit_and n (ones (suc (length y)))) word ∙ ap (bit_and (bit_xor (bit_xor (value x) (value y)) sum)) (ones_more (length y)) ∙ masked_more (bit_xor (bit_xor (value x) (value y)) sum) (ones (length y)) in
+    masked ∙ ap (λ n. n + 16 * carries_of (value x) (value y) sum (ones (length y))) (carry_bit (value x) (value y) sum next next_bit refl)
+    ∙ ap (λ n. next + 16 * n) (carries_read x y next p.1 q.1 (omega (arith, same)) next_bit)
+
+-- six more at each digit
+abbrev pub with_sixes : List ℕ → List ℕ
+with_sixes digits = map (λ digit. digit + 6) digits
+
+pub value-with_sixes : (digits : List ℕ) → value (with_sixes digits) ≡ value digits + 6 * ones (length digits)
+value-with_sixes [] = refl
+value-with_sixes (digit ∷ digits) =
+    omega (arith, value-cons (digit + 6) (with_sixes digits), value-cons digit digits, value-with_sixes digits, ones_more (length digits))
+
+sixes_small : (digits : List ℕ) → AllByRecursion (λ digit. digit < 10) digits → AllByRecursion (λ digit. digit < 16) (with_sixes digits)
+sixes_small [] each = tt
+sixes_small (digit ∷ digits) each = (omega (arith, each.0), sixes_small digits each.1)
+
+pub value-sixes : (count : ℕ) → value (replicate count 6) ≡ 6 * ones count
+value-sixes zero = refl
+value-sixes (suc count) = omega (arith, value-cons 6 (replicate count 6), value-sixes count, ones_more count)
+
+sixes_digits : (count : ℕ) → AllByRecursion (λ digit. digit < 16) (replicate count 6)
+sixes_digits zero = tt
+sixes_digits (suc count) = (omega arith, sixes_digits count)
+
+-- where nothing carries when six is added to each digit, each is below 10
+no_letter : (digits : List ℕ) → carry_word digits (replicate (length digits) 6) 0 ≡ 0 → AllByRecursion (λ digit. digit < 10) digits
+no_letter [] none = tt
+no_letter (digit ∷ digits) none =
+    let here : (digit + 6 + 0) / 16 ≡ 0 = omega (arith, none) in
+    let rest : carry_word digits (replicate (length digits) 6) ((digit + 6 + 0) / 16) ≡ 0 = omega (arith, none) in
+    (omega (arith, here), no_letter digits (subst (λ carry. carry_word digits (replicate (length digits) 6) carry ≡ 0) here rest))
+
+pub decimal_digits : (digits : List ℕ) (number mask : ℕ) → AllByRecursion (λ digit. digit < 16) digits → number ≡ value digits → mask ≡ ones (length digits)
+    → carries_of number (6 * mask) (number + 6 * mask) mask ≡ 0 → AllByRecursion (λ digit. digit < 10) digits
+decimal_digits digits number mask each is is_mask none =
+    let count = length digits in
+    let size : length (replicate {A = ℕ} count 6) ≡ count = length-replicate count 6 in
+    let read = carries_read digits (replicate count 6) 0 each (sixes_digits count) (sym size) (omega arith) in
+    let known : carries_of (value digits) (6 * ones count) (value digits + 6 * ones count + 0) (ones count) ≡ carry_word digits (replicate count 6) 0 = rw (value-sixes count, size) at read in
+    let same : value digits + 6 * ones count ≡ value digits + 6 * ones count + 0 = omega arith in
+    no_letter digits (sym known ∙ sym (ap (λ sum. carries_of (value digits) (6 * ones count) sum (ones count)) same) ∙ rw (is, is_mask) at none)
+
+-- the lowest digit of a sum in base 10
+tens_step : (a b carry d x y z above : ℕ) → a < 10 → b < 16 → carry ≤ 1 → d < 16
+    → d + 16 * z ≡ a + 16 * x + (b + 16 * y) + carry + 6 * ((a + 6 + b + carry) / 16 + 16 * above) → SumDigit 10 a b carry d ((a + 6 + b + carry) / 16) × (z ≡ x + y + (a + 6 + b + carry) / 16 + 6 * above)
+tens_step a b carry d x y z above a_small b_small bit d_small whole = elim (cases_lt (a + b + carry) 10) [
+  | inl less ↦
+      let none : (a + 6 + b + carry) / 16 ≡ 0 = omega arith in
+      (inl (less, omega arith, none), omega arith)
+  | inr more ↦
+      let one : (a + 6 + b + carry) / 16 ≡ 1 = omega arith in
+      (inr (more, omega arith, one), omega arith)
+]
+
+over : (d z weight out rest : ℕ) → d + 16 * z + (16 * weight) * out ≡ rest → d + 16 * (z + weight * out) ≡ rest
+over d z weight out rest whole = omega (arith, whole)
+
+pub tens_steps : (x y z : List ℕ) (carry out : ℕ) → AllByRecursion (λ digit. digit < 10) x → AllByRecursion (λ digit. digit < 16) y → AllByRecursion (λ digit. digit < 16) z
+    → length x ≡ length z → length y ≡ length z → carry ≤ 1
+    → value z + 16 ^ length z * out ≡ value x + value y + carry + 6 * carry_word (with_sixes x) y carry → Steps (SumDigit 10) x y carry z (length z) out
+tens_steps [] [] [] carry out p q r same_x same_y bit whole = steps_none _ _ _ _ carry out (omega (arith, whole))
+tens_steps [] (b ∷ y) [] carry out p q r same_x same_y bit whole = absurd (omega (arith, same_y))
+tens_steps (a ∷ x) y [] carry out p q r same_x same_y bit whole = absurd (omega (arith, same_x))
+tens_steps [] y (d ∷ z) carry out p q r same_x same_y bit whole = absurd (omega (arith, same_x))
+tens_steps (a ∷ x) [] (d ∷ z) carry out p q r same_x same_y bit whole = absurd (omega (arith, same_y))
+tens_steps (a ∷ x) (b ∷ y) (d ∷ z) carry out p q r same_x same_y bit whole =
+    let next = (a + 6 + b + carry) / 16 in
+    let next_bit : next ≤ 1 = omega (arith, p.0, q.0) in
+    let above = carry_word (with_sixes x) y next in
+    let opened : d + 16 * value z + (16 * 16 ^ length z) * out ≡ a + 16 * value x + (b + 16 * value y) + carry + 6 * (next + 16 * above) = rw (value-cons d z, value-cons a x, value-cons b y, pow-succ' 16 (length z)) at whole in
+    let step = tens_step a b carry d (value x) (value y) (value z + 16 ^ length z * out) above p.0 q.0 bit r.0 (over d (value z) (16 ^ length z) out _ opened) in
+    steps_more _ a b d x y z carry next (length z) out step.0 (tens_steps x y z next out p.1 q.1 r.1 (omega (arith, same_x)) (omega (arith, same_y)) next_bit step.1)
+
+-- no number of digits below 10 is above that of nines
+pub nine_most : (digits : List ℕ) → AllByRecursion (λ digit. digit < 10) digits → value digits ≤ 9 * ones (length digits)
+nine_most [] each = omega arith
+nine_most (digit ∷ digits) each = omega (arith, each.0, value-cons digit digits, nine_most digits each.1, ones_more (length digits))
+
+-- what the test of a letter tells
+pub no_carry : (answer : Bool) (carries : ℕ) → answer ≡ not (carries == 0) → answer ≡ false → carries ≡ 0
+no_carry answer carries told is = grind (arith, nat_tests)
+
+-- the steps of a sum that was computed with its carries
+pub tens_of : (x y z : List ℕ) (carry out count digits first second limit mask : ℕ) → AllByRecursion (λ digit. digit < 10) x → AllByRecursion (λ digit. digit < 16) y → AllByRecursion (λ digit. digit < 16) z
+    → length x ≡ count → length y ≡ count → length z ≡ count → carry ≤ 1 → value z ≡ digits → first ≡ value x → second ≡ value y → limit ≡ 16 ^ count → mask ≡ ones count
+    → digits + limit * out ≡ first + second + carry + 6 * carries_of (first + 6 * mask) second (first + second + carry + 6 * mask) mask
+    → Steps (SumDigit 10) x y carry z count out
+tens_of x y z carry out count digits first second limit mask p q r size_x size_y size_z bit is_z is_first is_second is_limit is_mask whole =
+    let each = sixes_small x p in
+    let sixes : value (with_sixes x) ≡ first + 6 * mask = value-with_sixes x ∙ rw (size_x, ← is_first, ← is_mask) refl in
+    let same : length (with_sixes x) ≡ length y = length-map x (λ digit. digit + 6) ∙ size_x ∙ sym size_y in
+    let read : carries_of (value (with_sixes x)) (value y) (value (with_sixes x) + value y + carry) (ones (length y)) ≡ carry_word (with_sixes x) y carry = carries_read (with_sixes x) y carry each q same bit in
+    let known : carries_of (first + 6 * mask) second (first + 6 * mask + second + carry) mask ≡ carry_word (with_sixes x) y carry = rw (sixes, ← is_second, size_y, ← is_mask) at read in
+    let order : first + second + carry + 6 * mask ≡ first + 6 * mask + second + carry = omega arith in
+    let told : digits + limit * out ≡ first + second + carry + 6 * carry_word (with_sixes x) y carry =
+    whole ∙ ap (λ sum. first + second + carry + 6 * carries_of (first + 6 * mask) second sum mask) order ∙ ap (λ n. first + second + carry + 6 * n) known in
+    let final : value z + 16 ^ length z * out ≡ value x + value y + carry + 6 * carry_word (with_sixes x) y carry = rw (is_z, size_z, ← is_limit, ← is_first, ← is_second) told in
+    subst (λ n. Steps (SumDigit 10) x y carry z n out) size_z (tens_steps x y z carry out p q r (size_x ∙ sym size_z) (size_y ∙ sym size_z) bit final)
+
+-- the digits of a span, of which none is a letter
+pub part_decimal : (x : List ℕ) (lo hi number mask : ℕ) (answer : Bool) → IsRegister 14 x → lo ≤ hi → hi < 14 → number ≡ value (part x lo hi) → mask ≡ ones (hi + 1 - lo)
+    → answer ≡ not (carries_of number (6 * mask) (number + 6 * mask) mask == 0) → answer ≡ false → AllByRecursion (λ digit. digit < 10) (part x lo hi)
+part_decimal x lo hi number mask answer register ordered inside is is_mask told none =
+    let digits = part-register x lo hi register ordered inside in
+    decimal_digits (part x lo hi) number mask (recursion_from_All _ _ digits.each) is (is_mask ∙ ap ones (sym digits.size)) (no_carry answer _ told none)
+
+pub part_most : (x : List ℕ) (lo hi number mask : ℕ) → IsRegister 14 x → lo ≤ hi → hi < 14 → number ≡ value (part x lo hi) → mask ≡ ones (hi + 1 - lo)
+    → AllByRecursion (λ digit. digit < 10) (part x lo hi) → number ≤ 9 * mask
+part_most x lo hi number mask register ordered inside is is_mask each =
+    let digits = part-register x lo hi register ordered inside in
+    let most : value (part x lo hi) ≤ 9 * ones (hi + 1 - lo) = rw digits.size at (nine_most (part x lo hi) each) in
+    omega (arith, is, is_mask, most)
+
+-- a sum in base 10 put into a span
+pub tens_result : (into x y z : List ℕ) (carry_in carry : Bool) (lo hi digits first second limit mask : ℕ) → IsRegister 14 x → IsRegister 14 y → IsRegister 14 z → lo ≤ hi → hi < 14
+    → AllByRecursion (λ digit. digit < 10) (part x lo hi) → value (part z lo hi) ≡ digits → first ≡ value (part x lo hi) → second ≡ value (part y lo hi) → limit ≡ 16 ^ (hi + 1 - lo) → mask ≡ ones (hi + 1 - lo)
+    → digits + limit * carry_digit carry ≡ first + second + carry_digit carry_in + 6 * carries_of (first + 6 * mask) second (first + second + carry_digit carry_in + 6 * mask) mask
+    → take lo z ≡ take lo into → drop (hi + 1) z ≡ drop (hi + 1) into → SumInto 10 into x y carry_in lo hi z carry
+tens_result into x y z carry_in carry lo hi digits first second limit mask p q r ordered inside each is_z is_first is_second is_limit is_mask whole below above =
+    let a = part-register x lo hi p ordered inside in
+    let b = part-register y lo hi q ordered inside in
+    let d = part-register z lo hi r ordered inside in
+    let steps = tens_of (part x lo hi) (part y lo hi) (part z lo hi) (carry_digit carry_in) (carry_digit carry) (hi + 1 - lo) digits first second limit mask each (recursion_from_All _ _ b.each) (recursion_from_All _ _ d.each)
+    a.size b.size d.size (carry_le carry_in) is_z is_first is_second is_limit is_mask whole in record {
+      register = r;
+      digits = has_carries (SumDigit 10) x y z lo hi (carry_digit carry_in) (carry_digit carry) (carry_le carry_in) ordered steps;
+      outside = keeps_outside into z lo hi below above;
+    }
+
+-- the complement of digits to nines
+abbrev pub nines_less : List ℕ → List ℕ
+nines_less digits = map (λ digit. 9 - digit) digits
+
+pub value-nines_less : (digits : List ℕ) → AllByRecursion (λ digit. digit < 10) digits → value (nines_less digits) + value digits ≡ 9 * ones (length digits)
+value-nines_less [] each = refl
+value-nines_less (digit ∷ digits) each =
+    omega (arith, each.0, value-cons (9 - digit) (nines_less digits), value-cons digit digits, value-nines_less digits each.1, ones_more (length digits))
+
+nines_decimal : (digits : List ℕ) → AllByRecursion (λ digit. digit < 10) (nines_less digits)
+nines_decimal [] = tt
+nines_decimal (digit ∷ digits) = (omega arith, nines_decimal digits)
+
+-- a sum with the complement is a difference, whose borrows are the carries that are not there
+borrow_digit : (x y carry z out : ℕ) → y < 10 → x < 16 → carry ≤ 1 → SumDigit 10 (9 - y) x carry z out → DifferenceDigit 10 x y (1 - carry) z (1 - out)
+borrow_digit x y carry z out y_small x_small bit (inl p) = inr (omega (arith, p.0), omega (arith, p.0, p.1), omega (arith, p.2))
+borrow_digit x y carry z out y_small x_small bit (inr p) = inl (omega (arith, p.0), omega (arith, p.0, p.1), omega (arith, p.2))
+
+sum_bit : (base x y carry z out : ℕ) → SumDigit base x y carry z out → out ≤ 1
+sum_bit base x y carry z out (inl p) = omega (arith, p.2)
+sum_bit base x y carry z out (inr p) = omega (arith, p.2)
+
+borrowed : (x y z : List ℕ) (carry count out : ℕ) → AllByRecursion (λ digit. digit < 10) y → AllByRecursion (λ digit. digit < 16) x → length y ≡ count → length x ≡ count → carry ≤ 1
+    → Steps (SumDigit 10) (nines_less y) x carry z count out → Steps (DifferenceDigit 10) x y (1 - carry) z count (1 - out)
+borrowed x y z carry count out p q size_y size_x bit steps = record {
+  carries = λ index. 1 - steps.carries index;
+  first = ap (λ n. 1 - n) steps.first;
+  last = ap (λ n. 1 - n) steps.last;
+  places = λ index few.
+      borrow_digit (slice_index x index) (slice_index y index) (steps.carries index) (slice_index z index) (steps.carries (suc index)) (All-from_recursion _ y p index 0 (omega (arith, size_y))) (All-from_recursion _ x q index 0 (omega (arith, size_x)))
+      (bits index (omega arith)) (rw (get_or-map (λ digit. 9 - digit) y index 0 0 (omega (arith, size_y))) at (steps.places index few));
+}
+  where
+    bits : (index : ℕ) → index ≤ count → steps.carries index ≤ 1
+    bits zero few = omega (arith, steps.first)
+    bits (suc index) few = sum_bit 10 _ _ _ _ _ (steps.places index (omega arith))
+
+other_bit : (carry : Bool) → 1 - carry_digit (not carry) ≡ carry_digit carry
+other_bit true = refl
+other_bit false = refl
+
+bit_other : (carry : Bool) → 1 - carry_digit carry ≡ carry_digit (not carry)
+bit_other true = refl
+bit_other false = refl
+
+-- a difference in base 10 put into a span
+pub nines_result : (into x y z : List ℕ) (borrow_in enough : Bool) (lo hi digits first second limit mask : ℕ) → IsRegister 14 x → IsRegister 14 y → IsRegister 14 z → lo ≤ hi → hi < 14
+    → AllByRecursion (λ digit. digit < 10) (part y lo hi) → value (part z lo hi) ≡ digits → first ≡ value (part x lo hi) → second ≡ value (part y lo hi) → limit ≡ 16 ^ (hi + 1 - lo) → mask ≡ ones (hi + 1 - lo)
+    → digits + limit * carry_digit enough ≡ 9 * mask - second + first + carry_digit (not borrow_in) + 6 * carries_of (9 * mask - second + 6 * mask) first (9 * mask - second + first + carry_digit (not borrow_in) + 6 * mask) mask
+    → take lo z ≡ take lo into → drop (hi + 1) z ≡ drop (hi + 1) into → DifferenceInto 10 into x y borrow_in lo hi z (not enough)
+nines_result into x y z borrow_in enough lo hi digits first second limit mask p q r ordered inside each is_z is_first is_second is_limit is_mask whole below above =
+    let a = part-register x lo hi p ordered inside in
+    let b = part-register y lo hi q ordered inside in
+    let d = part-register z lo hi r ordered inside in
+    let count = hi + 1 - lo in
+    let complement : 9 * mask - second ≡ value (nines_less (part y lo hi)) = omega (arith, is_mask, is_second, ap ones b.size, value-nines_less (part y lo hi) each) in
+    let bit = carry_le (not borrow_in) in
+    let steps = tens_of (nines_less (part y lo hi)) (part x lo hi) (part z lo hi) (carry_digit (not borrow_in)) (carry_digit enough) count digits (9 * mask - second) first limit mask
+    (nines_decimal (part y lo hi)) (recursion_from_All _ _ a.each) (recursion_from_All _ _ d.each) (length-map (part y lo hi) (λ digit. 9 - digit) ∙ b.size) a.size d.size bit is_z complement is_first is_limit is_mask whole in
+    let back = borrowed (part x lo hi) (part y lo hi) (part z lo hi) (carry_digit (not borrow_in)) count (carry_digit enough) each (recursion_from_All _ _ a.each) b.size a.size bit steps in
+    let told : Steps (DifferenceDigit 10) (part x lo hi) (part y lo hi) (carry_digit borrow_in) (part z lo hi) count (carry_digit (not enough)) = rw (other_bit borrow_in, bit_other enough) at back in record {
+      register = r;
+      digits = has_carries (DifferenceDigit 10) x y z lo hi (carry_digit borrow_in) (carry_digit (not enough)) (carry_le borrow_in) ordered told;
+      outside = keeps_outside into z lo hi below above;
+    }

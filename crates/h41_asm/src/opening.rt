@@ -1,0 +1,40 @@
+//! Finding what a line's first word begins.
+
+ghost use Rattle.std.specs.Prelude.{◌≡◌, ◌<◌, IfSome};
+ghost use Rattle.h41_asm.specs.Openings.{IsTable, OpensAs, TellsWords, entries_in, hash_of, place_count};
+
+use crate::table::{OPENINGS, Opening, PLACES};
+
+/// What a line's first word begins, or nothing where it is no mnemonic's and no directive's.
+pub(crate) fn opening_of(first: &[u8]) -> Option<Opening>
+    ensures value { OpensAs first.now result }
+    ensures words { IfSome result TellsWords }
+{
+    opening_among(&OPENINGS, &PLACES, first)
+}
+
+/// What a first word begins, by a table.
+fn opening_among(openings: &[(&str, Opening)], places: &[u8], first: &[u8]) -> Option<Opening>
+    requires { IsTable (entries_in openings.now) places.now }
+    ensures value { OpensAs first.now result }
+    ensures words { IfSome result TellsWords }
+{
+    let (name, opening) = openings[usize::from(places[hash_of(first)])];
+    if first == name.as_bytes() {
+        Some(opening)
+    } else {
+        None
+    }
+}
+
+/// The hash of a word, by which it is found among the openings.
+fn hash_of(word: &[u8]) -> usize
+    ensures value { result ≡ hash_of word.now }
+    ensures bound { result < place_count }
+{
+    let mut hash: u32 = 27371;
+    for byte in word {
+        hash = (hash + u32::from(*byte)) * 15327 % 0x10000;
+    }
+    (hash / 256) as usize
+}

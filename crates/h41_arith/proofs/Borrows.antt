@@ -13,7 +13,7 @@ use Rattle.h41_arith.specs.DigitRule.{DifferenceDigit, HasCarries, Difference, c
 use Rattle.h41_arith.specs.DigitRuleLaws.{BorrowTellsLess, ComplementBorrows}
 
 -- a sum over a row of numbers, with the last of them
-sum_more : (f : ℕ → ℕ) (first count : ℕ) → sum_by f (range_with_len first (suc count)) ≡ sum_by f (range_with_len first count) + f (first + count)
+pub sum_more : (f : ℕ → ℕ) (first count : ℕ) → sum_by f (range_with_len first (suc count)) ≡ sum_by f (range_with_len first count) + f (first + count)
 sum_more f first zero =
     let here : first + 0 ≡ first = omega arith in
     rw (sum_by-cons f first [], here) (omega arith)
@@ -31,7 +31,7 @@ value_more x lo count =
     sum_more (λ place. slice_index x place * 16 ^ (place - lo)) lo count ∙ ap (λ place. digits_value x lo count + slice_index x (lo + count) * 16 ^ place) power
 
 -- each digit of a register, and what is read past its end, is below 16
-digit_lt : (x : List ℕ) (place : ℕ) → IsRegister 14 x → place < 14 → slice_index x place < 16
+pub digit_lt : (x : List ℕ) (place : ℕ) → IsRegister 14 x → place < 14 → slice_index x place < 16
 digit_lt x place register inside = register.each place 0 (omega (arith, register.size))
 
 value_lt : (x : List ℕ) (lo count : ℕ) → IsRegister 14 x → lo + count ≤ 14 → digits_value x lo count < 16 ^ count

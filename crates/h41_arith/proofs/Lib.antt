@@ -6,3 +6,4 @@ pub mod Compared
 pub mod Steps
 pub mod Hexadecimal
 pub mod Decimal
+pub mod WholeNumbers

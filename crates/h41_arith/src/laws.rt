@@ -1,6 +1,6 @@
 //! Laws of the digit rule: each is the contract of a function with nothing to do.
 
-ghost use Rattle.h41_arith.specs.DigitRuleLaws.{SumIsDetermined, DifferenceIsDetermined, BorrowTellsLess, ComplementBorrows, ReplacedIsDetermined, DifferentAtAPlace};
+ghost use Rattle.h41_arith.specs.DigitRuleLaws.{SumIsDetermined, DifferenceIsDetermined, BorrowTellsLess, ComplementBorrows, ReplacedIsDetermined, DifferentAtAPlace, SumIsOfNumbers, DifferenceIsOfNumbers};
 
 /// The register and the carry of a sum are determined.
 pub fn sum_is_determined()
@@ -30,4 +30,11 @@ pub fn replaced_is_determined()
 /// Two registers are told to be different exactly where they are so at a place of the span.
 pub fn different_at_a_place()
     ensures { DifferentAtAPlace }
+{}
+
+/// The digit rule as whole numbers: sums and differences are those of the numbers that the digits of the span make up, in base
+/// 16 for all digits, in base 10 where all are 0 to 9.
+pub fn digit_rule_as_whole_numbers()
+    ensures sum { SumIsOfNumbers }
+    ensures difference { DifferenceIsOfNumbers }
 {}

@@ -1,4 +1,6 @@
-//! h41_arith: each kernel once, and digits A to F in base 10.
+//! h41_arith: each kernel once, digits A to F in base 10, and every sum and difference of one digit.
+
+ghost use Rattle.std.specs.Prelude.{◌<◌};
 
 use crate::judge::wants;
 use h41_arith::{
@@ -6,6 +8,7 @@ use h41_arith::{
 };
 use h41_digits::Reg;
 use h41_fields::Span;
+use std::process::Abort;
 use std::test::Fail;
 
 #[test]
@@ -79,4 +82,78 @@ fn moves_and_comparisons(rt: HostRuntime) -> Result<(), Fail> {
         wants(&rt, name, found == wanted);
     }
     Ok(())
+}
+
+#[test]
+fn a_register_takes_eight_bytes(rt: HostRuntime) {
+    wants(&rt, "a register", size_of::<Reg>() == 8);
+}
+
+#[test]
+fn every_digit(rt: HostRuntime) {
+    every_digit_at(&rt, 0);
+    every_digit_at(&rt, 6);
+    every_digit_at(&rt, 13);
+}
+
+/// Sums and differences of all digits at a place, with and without a carry in, in both bases.
+fn every_digit_at(rt: &impl Abort, place: usize)
+    requires { place < 14 }
+{
+    for x in 0..16 {
+        for y in 0..16 {
+            for carry in [false, true] {
+                sum_of_digits::<true>(rt, place, x, y, carry);
+                sum_of_digits::<false>(rt, place, x, y, carry);
+                difference_of_digits::<true>(rt, place, x, y, carry);
+                difference_of_digits::<false>(rt, place, x, y, carry);
+            }
+        }
+    }
+}
+
+/// The sum of two digits at a place, by the rule of one digit: from the base on there is a carry, and the digit is what is left.
+fn sum_of_digits<const DEC: bool>(rt: &impl Abort, place: usize, x: u8, y: u8, carry: bool)
+    requires place { place < 14 }
+    requires first { x < 16 }
+    requires second { y < 16 }
+{
+    let base = if DEC { 10 } else { 16 };
+    let sum = x + y + u8::from(carry);
+    let (digit, carries) = if sum < base { (sum, false) } else { ((sum - base) % 16, true) };
+    let span = Span { lo: place, hi: place };
+    let (register, carry_out) = add::<DEC>(
+        Reg::zero(),
+        Reg::zero().with(place, x),
+        Reg::zero().with(place, y),
+        carry,
+        span,
+    );
+    let holds = register == Reg::zero().with(place, digit) && carry_out == carries;
+    assert!(rt; holds, "{x} + {y} in base {base} at {place}");
+}
+
+/// The difference of two digits at a place, by the rule of one digit: below 0 there is a borrow, and the base is added.
+fn difference_of_digits<const DEC: bool>(rt: &impl Abort, place: usize, x: u8, y: u8, borrow: bool)
+    requires place { place < 14 }
+    requires first { x < 16 }
+    requires second { y < 16 }
+{
+    let base = if DEC { 10 } else { 16 };
+    let taken = y + u8::from(borrow);
+    let (digit, borrows) = if taken <= x {
+        (x - taken, false)
+    } else {
+        ((x + base + 16 - taken) % 16, true)
+    };
+    let span = Span { lo: place, hi: place };
+    let (register, borrow_out) = sub::<DEC>(
+        Reg::zero(),
+        Reg::zero().with(place, x),
+        Reg::zero().with(place, y),
+        borrow,
+        span,
+    );
+    let holds = register == Reg::zero().with(place, digit) && borrow_out == borrows;
+    assert!(rt; holds, "{x} - {y} in base {base} at {place}");
 }

@@ -1,5 +1,5 @@
 -- Sets of breakpoints by the lists of their members.
-use Rattle.std.proofs.Common.{◌≡◌, ◌≤◌, ◌<◌, ℕ, suc, ◌+◌, Bool, true, false, cond, Option, Some, None, List, [], ◌∷◌, ◌++◌, length, length-append, get_or, refl, sym, ap, subst, ◌∙◌, arith}
+use Rattle.std.proofs.Common.{◌≡◌, ◌≢◌, ◌≤◌, ◌<◌, ℕ, suc, ◌+◌, Bool, true, false, cond, inl, inr, Option, Some, None, List, [], ◌∷◌, ◌++◌, length, length-append, get_or, get_or-set_other, get_or-set_same, set, refl, sym, ap, subst, ◌∙◌, arith}
 use Rattle.std.specs.Prelude.{not, ◌&&◌, ◌||◌, nat_lt, position}
 use Rattle.std.specs.Cmp.{IsTotalOrder, Equal-is, unsigned_tied}
 use Rattle.std.specs.FinSet.{contains, contains-from_list, contains-insert, contains-remove, from_list, from_list_push, insert, len, len-empty, len-insert, nat_cmp-IsAntisymmetric, remove, same_set}
@@ -12,7 +12,8 @@ use Rattle.std.proofs.lemmas.Cmp.{nat_cmp_total}
 use Rattle.std.proofs.lemmas.List.Sorted.{IsPermutation-swap_remove, list_any-IsPermutation}
 use Rattle.std.specs.Ordering.{ordering_reverse}
 use Rattle.h41_debug.specs.Breakpoints.{BreakpointSet, breakpoint_cmp, is_set, with_breakpoint, without_breakpoint}
-use Rattle.h41_debug.specs.Running.{IsEachOnce, is_same, set_of}
+use Rattle.std.proofs.lemmas.Bool.{cases_eq}
+use Rattle.h41_debug.specs.Running.{AreMarked, IsEachOnce, is_same, low_byte, set_of}
 use Rattle.h41_debug.specs.declared.breakpoint.Breakpoint.{Breakpoint}
 use Rattle.h41_debug.specs.declared.breakpoint.Breakpoint.TheVariants.{Line, Word}
 
@@ -152,3 +153,51 @@ module _ (members : List Breakpoint) (b x : Breakpoint) (i : ℕ) (once : IsEach
 
   pub set_taken : set_of rest ≡ without_breakpoint b (set_of members)
   set_taken = same_set cmp_total cmp_apart (set_of rest) (remove (set_of members) b) (λ q. left q ∙ sym (contains-remove cmp_total (set_of members) b q))
+
+-- the marks of low bytes
+pub unmarked : (marks : List Bool) (members : List Breakpoint) (q : Breakpoint) → AreMarked marks members → get_or marks (low_byte q) false ≡ false → is_set (set_of members) q ≡ false
+unmarked marks members q marked clear =
+    elim (is_set (set_of members) q) as (λ had. is_set (set_of members) q ≡ had → had ≡ false) [
+      | true ↦ λ is. sym (marked q is) ∙ clear
+      | false ↦ λ _. refl
+    ] refl
+
+-- one that is in a set with one more is that one or was in it
+was_in : (members : List Breakpoint) (b q : Breakpoint) → is_set (set_of (members ++ b ∷ [])) q ≡ true → eq_by_cmp breakpoint_cmp q b ≡ false → is_set (set_of members) q ≡ true
+was_in members b q had apart =
+    ap (λ (tied : Bool). tied || contains (set_of members) q) (sym apart)
+    ∙ sym (contains-insert cmp_total (set_of members) b q) ∙ ap (λ (set : BreakpointSet). is_set set q) (sym (set_pushed members b)) ∙ had
+
+pub marked_pushed : (marks : List Bool) (members : List Breakpoint) (b : Breakpoint) → low_byte b < length marks → AreMarked marks members
+    → AreMarked (set marks (low_byte b) true) (members ++ b ∷ [])
+marked_pushed marks members b within marked q had =
+    elim (cases_eq (low_byte q) (low_byte b)) [
+      | inl same ↦ ap (λ i. get_or (set marks (low_byte b) true) i false) same ∙ get_or-set_same marks (low_byte b) true false within
+      | inr other ↦ get_or-set_other marks (low_byte b) (low_byte q) true false other ∙ marked q (was_in members b q had (apart other))
+    ]
+  where
+    apart : low_byte q ≢ low_byte b → eq_by_cmp breakpoint_cmp q b ≡ false
+    apart other = elim (eq_by_cmp breakpoint_cmp q b) as (λ tied. eq_by_cmp breakpoint_cmp q b ≡ tied → tied ≡ false) [
+      | true ↦ λ is. absurd (other (ap low_byte (equal_are q b is)))
+      | false ↦ λ _. refl
+    ] refl
+
+pub none_in : (q : Breakpoint) → is_set (set_of []) q ≡ true → ⊥
+none_in q had =
+    let no : false ≡ true = sym (contains-from_list cmp_total [] q) ∙ had in
+    cc
+
+-- those that are left are marked as before
+pub marked_left : (marks : List Bool) (members fewer : List Breakpoint) (b : Breakpoint) → set_of fewer ≡ without_breakpoint b (set_of members)
+    → AreMarked marks members → AreMarked marks fewer
+marked_left marks members fewer b taken marked q had = marked q (was q had)
+  where
+    last_holds : (p q : Bool) → (p && q) ≡ true → q ≡ true
+    last_holds true q both = both
+    last_holds false q both = cc
+
+    was : (q : Breakpoint) → is_set (set_of fewer) q ≡ true → is_set (set_of members) q ≡ true
+    was q had =
+        let both : (not (eq_by_cmp breakpoint_cmp q b) && contains (set_of members) q) ≡ true =
+        sym (contains-remove cmp_total (set_of members) b q) ∙ ap (λ (set : BreakpointSet). contains set q) (sym taken) ∙ had in
+        last_holds (not (eq_by_cmp breakpoint_cmp q b)) (contains (set_of members) q) both

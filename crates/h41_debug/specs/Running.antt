@@ -1,5 +1,5 @@
 -- What private functions promise one another of runs and breakpoints. A reader of the promises can leave it out.
-use Rattle.std.specs.Prelude.{◌≡◌, ◌==◌, Bool, false, List, length, Option, Some, None, if◌then◌else◌}
+use Rattle.std.specs.Prelude.{◌≡◌, ◌==◌, ◌%◌, ℕ, Bool, false, IsTrue, List, length, get_or, Option, Some, None, if◌then◌else◌}
 use Rattle.std.specs.FinSet.{from_list, len}
 use Rattle.h41_xrom.specs.Calculator.{is_idle}
 use Rattle.h41_debug.specs.Bench.{BenchState}
@@ -22,9 +22,18 @@ is_same (Word address) (Line position) = false
 is_same (Line position) (Word address) = false
 is_same (Line position) (Line other) = position == other
 
+-- the low byte of its number
+abbrev pub low_byte : Breakpoint → ℕ
+low_byte (Word address) = address % 256
+low_byte (Line position) = position % 256
+
 -- a set by the list of its members, each once
 abbrev pub set_of : List Breakpoint → BreakpointSet
 set_of members = from_list members
 
 abbrev pub IsEachOnce : List Breakpoint → Type 0
 IsEachOnce members = len (set_of members) ≡ length members
+
+-- each member's low byte is marked
+abbrev pub AreMarked : List Bool → List Breakpoint → Type 0
+AreMarked marks members = (b : Breakpoint) → IsTrue (is_set (set_of members) b) → IsTrue (get_or marks (low_byte b) false)

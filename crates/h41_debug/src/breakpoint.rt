@@ -1,16 +1,19 @@
 //! Breakpoints: where a run stops.
 
-ghost use Rattle.std.specs.Prelude.{◌≡◌, ◌≤◌, OnErr, OnOk, is_err, position};
+ghost use Rattle.std.specs.Prelude.{◌≡◌, ◌≤◌, ◌<◌, OnErr, OnOk, is_err, position};
 ghost use Rattle.std.specs.FinSet.{len};
 ghost use Rattle.std.specs.List.{list_any};
 ghost use Rattle.h41_debug.specs.Breakpoints.{is_set, lacks_breakpoint, most_breakpoints, no_breakpoints, refuses_breakpoint, with_breakpoint, without_breakpoint};
-ghost use Rattle.h41_debug.specs.Running.{is_same};
+ghost use Rattle.h41_debug.specs.Running.{is_same, low_byte};
 
 use arrayvec::ArrayVec;
 use std::marker::Model;
 
 /// How many breakpoints can be set.
 const MOST: usize = 16;
+
+/// How many low bytes a number can have.
+const LOW_BYTES: usize = 256;
 
 /// Where a run stops.
 #[derive(Clone, Copy, Debug, PartialEq, Eq)]
@@ -39,12 +42,14 @@ pub struct NoBreak;
 #[derive(Drop)]
 pub struct Breakpoints {
     items: ArrayVec<Breakpoint, MOST>,
+    /// By the low byte of a number: whether a breakpoint may have it. Most steps are told apart from all breakpoints by it alone.
+    low_bytes: [bool; LOW_BYTES],
 }
 
 impl Model for Breakpoints {
     ghost use Rattle.std.specs.FinSet as set;
     ghost use Rattle.h41_debug.specs.Breakpoints.{BreakpointSet};
-    ghost use Rattle.h41_debug.specs.Running.{IsEachOnce, set_of};
+    ghost use Rattle.h41_debug.specs.Running.{AreMarked, IsEachOnce, set_of};
     ghost use Rattle.h41_debug.specs.contracts.breakpoint.Breakpoint as member;
 
     ghost Value = { BreakpointSet };
@@ -53,7 +58,7 @@ impl Model for Breakpoints {
 
     ghost view = { λ set. set_of set.items.items };
 
-    ghost invariant = { λ set. IsEachOnce set.items.items };
+    ghost invariant = { λ set. IsEachOnce set.items.items × AreMarked set.low_bytes set.items.items };
 }
 
 impl Breakpoint {
@@ -67,6 +72,16 @@ impl Breakpoint {
             _ => false,
         }
     }
+
+    /// The low byte of its number.
+    fn low_byte(self) -> usize
+        ensures value { result ≡ low_byte self }
+        ensures bound { result < 256 }
+    {
+        match self {
+            Breakpoint::Word(number) | Breakpoint::Line(number) => usize::from(number % 256),
+        }
+    }
 }
 
 impl Breakpoints {
@@ -76,6 +91,7 @@ impl Breakpoints {
     {
         Breakpoints {
             items: ArrayVec::new(),
+            low_bytes: [false; LOW_BYTES],
         }
     }
 
@@ -83,7 +99,7 @@ impl Breakpoints {
     pub fn contains(&self, breakpoint: Breakpoint) -> bool
         ensures { result ≡ is_set self.now breakpoint }
     {
-        is_among(self.items.as_slice(), breakpoint)
+        self.low_bytes[breakpoint.low_byte()] && is_among(self.items.as_slice(), breakpoint)
     }
 
     /// How many are set.
@@ -107,6 +123,7 @@ impl Breakpoints {
             return Err(BreakFull);
         }
         self.items.push(breakpoint);
+        self.low_bytes[breakpoint.low_byte()] = true;
         Ok(())
     }
 

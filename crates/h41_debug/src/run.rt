@@ -1,7 +1,7 @@
 //! Runs: single steps up to a reason to stop.
 
 ghost use Rattle.std.specs.Prelude.{◌≡◌, false};
-ghost use Rattle.h41_debug.specs.Run.{Run, place_of};
+ghost use Rattle.h41_debug.specs.Run.{Run};
 ghost use Rattle.h41_debug.specs.Running.{stop_at};
 ghost use Rattle.h41_xrom.specs.Calculator.{is_idle};
 
@@ -57,23 +57,16 @@ impl Bench {
     fn stop(&self) -> Option<Stop>
         ensures { result ≡ stop_at self.now }
     {
-        if self.calculator().mode() == Mode::Idle {
-            Some(Stop::Idle)
-        } else if self.has_breakpoint(self.place()) {
+        let calculator = self.calculator();
+        let place = match calculator.mode() {
+            Mode::Idle => return Some(Stop::Idle),
+            Mode::Run => Breakpoint::Line(calculator.focal().position),
+            Mode::Micro(_) => Breakpoint::Word(calculator.cpu().pc()),
+        };
+        if self.has_breakpoint(place) {
             Some(Stop::Break)
         } else {
             None
-        }
-    }
-
-    /// The breakpoint that stands where the calculator is.
-    fn place(&self) -> Breakpoint
-        ensures { result ≡ place_of self.now.calculator }
-    {
-        let calculator = self.calculator();
-        match calculator.mode() {
-            Mode::Idle | Mode::Run => Breakpoint::Line(calculator.focal().position),
-            Mode::Micro(_) => Breakpoint::Word(calculator.cpu().pc()),
         }
     }
 }

@@ -120,8 +120,15 @@ fn sum_of_digits<const DEC: bool>(rt: &impl Abort, place: usize, x: u8, y: u8, c
 {
     let base = if DEC { 10 } else { 16 };
     let sum = x + y + u8::from(carry);
-    let (digit, carries) = if sum < base { (sum, false) } else { ((sum - base) % 16, true) };
-    let span = Span { lo: place, hi: place };
+    let (digit, carries) = if sum < base {
+        (sum, false)
+    } else {
+        ((sum - base) % 16, true)
+    };
+    let span = Span {
+        lo: place,
+        hi: place,
+    };
     let (register, carry_out) = add::<DEC>(
         Reg::zero(),
         Reg::zero().with(place, x),
@@ -146,7 +153,10 @@ fn difference_of_digits<const DEC: bool>(rt: &impl Abort, place: usize, x: u8, y
     } else {
         ((x + base + 16 - taken) % 16, true)
     };
-    let span = Span { lo: place, hi: place };
+    let span = Span {
+        lo: place,
+        hi: place,
+    };
     let (register, borrow_out) = sub::<DEC>(
         Reg::zero(),
         Reg::zero().with(place, x),

@@ -4,9 +4,9 @@ use Rattle.std.specs.List.{list_any, swap_remove}
 use Rattle.std.proofs.lemmas.List.Folds.{list_any_at}
 use Rattle.std.proofs.lemmas.List.Quantifiers.{position-Some}
 use Rattle.h41_debug.specs.Breakpoints.{BreakpointSet, is_set, without_breakpoint}
-use Rattle.h41_debug.specs.Running.{IsEachOnce, is_same, set_of}
+use Rattle.h41_debug.specs.Running.{AreMarked, IsEachOnce, is_same, set_of}
 use Rattle.h41_debug.specs.declared.breakpoint.Breakpoint.{Breakpoint}
-use Rattle.h41_debug.proofs.BreakpointSets.{none_found, once_taken, set_has, set_taken}
+use Rattle.h41_debug.proofs.BreakpointSets.{marked_left, none_found, once_taken, set_has, set_taken}
 use Rattle.h41_debug.proofs.breakpoint.Breakpoints.remove.Goals as goal
 
 pub invariant_of-self : goal.invariant_of-self
@@ -17,9 +17,12 @@ invariant_of-self c =
     let found : position (is_same b) items ≡ Some c.in-Some.index = ap (position (is_same b)) (sym c.as_slice.ensures.value) ∙ sym c.in-Some.ensures in
     let place = position-Some (is_same b) items c.in-Some.index x found in
     let same : is_same b x ≡ true = ap (is_same b) c.swap_remove.ensures.value ∙ place.1 in
-    let size : length (swap_remove items c.in-Some.index x) + 1 ≡ length items = ap (λ (left : List Breakpoint). length left + 1) (sym c.swap_remove.ensures.items) ∙ c.swap_remove.ensures.len in
-    subst (λ (members : List Breakpoint). IsEachOnce members) (sym c.swap_remove.ensures.items)
-    (once_taken items b x c.in-Some.index c.self.invariant place.0 c.swap_remove.ensures.value same size)
+    let size : length (swap_remove items c.in-Some.index x) + 1 ≡ length items = ap (λ (left : List Breakpoint). length left + 1) (sym c.swap_remove.ensures.items) ∙ c.swap_remove.ensures.len in (
+      subst (λ (members : List Breakpoint). IsEachOnce members) (sym c.swap_remove.ensures.items)
+          (once_taken items b x c.in-Some.index c.self.invariant.0 place.0 c.swap_remove.ensures.value same size),
+      subst (λ (members : List Breakpoint). AreMarked c.self.inside.low_bytes members) (sym c.swap_remove.ensures.items)
+          (marked_left c.self.inside.low_bytes items (swap_remove items c.in-Some.index x) b (set_taken items b x c.in-Some.index c.self.invariant.0 place.0 c.swap_remove.ensures.value same size) c.self.invariant.1),
+    )
 
 pub returns-in-Some-clause-refusal : goal.returns-in-Some-clause-refusal
 returns-in-Some-clause-refusal c =
@@ -39,7 +42,7 @@ returns-in-Some-clause-change c =
     let same : is_same b x ≡ true = ap (is_same b) c.swap_remove.ensures.value ∙ place.1 in
     let size : length (swap_remove items c.in-Some.index x) + 1 ≡ length items = ap (λ (left : List Breakpoint). length left + 1) (sym c.swap_remove.ensures.items) ∙ c.swap_remove.ensures.len in
     ap set_of c.swap_remove.ensures.items
-    ∙ set_taken items b x c.in-Some.index c.self.invariant place.0 c.swap_remove.ensures.value same size
+    ∙ set_taken items b x c.in-Some.index c.self.invariant.0 place.0 c.swap_remove.ensures.value same size
     ∙ ap (without_breakpoint b) c.self.view_is
 
 pub returns-in-None-clause-refusal : goal.returns-in-None-clause-refusal

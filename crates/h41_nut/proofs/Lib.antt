@@ -1,4 +1,5 @@
 pub mod Determined
 pub mod Digits
+pub mod Parts
 pub mod StatusNumbers
 pub mod StatusBits

@@ -134,12 +134,7 @@ impl Cpu {
     {
         let next = arrival(self.next_address())?;
         let address = self.newest_return();
-        self.c = self
-            .c
-            .with(3, (address % 16) as u8)
-            .with(4, (address / 16 % 16) as u8)
-            .with(5, (address / 256 % 16) as u8)
-            .with(6, (address / 4096) as u8);
+        self.c = self.c.with_number(3, 6, u64::from(address));
         self.pop();
         self.arrive(next, false);
         Ok(())

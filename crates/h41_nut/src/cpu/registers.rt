@@ -20,10 +20,7 @@ impl Cpu {
     pub(crate) fn address_in_c(&self) -> u16
         ensures { result ≡ spec.address_in_c self.now }
     {
-        u16::from(self.c.get(3))
-            + 16 * u16::from(self.c.get(4))
-            + 256 * u16::from(self.c.get(5))
-            + 4096 * u16::from(self.c.get(6))
+        self.c.number(3, 6) as u16
     }
 
     /// The low ten bits of C's digits 2 to 0.
@@ -31,20 +28,14 @@ impl Cpu {
         ensures value { result ≡ spec.word_in_c self.now }
         ensures bound { result < word_count }
     {
-        (u16::from(self.c.get(0)) + 16 * u16::from(self.c.get(1)) + 256 * u16::from(self.c.get(2)))
-            % 1024
+        (self.c.number(0, 2) % 1024) as u16
     }
 
     /// A word's digits to places 2 to 0 of C.
     fn put_word(&mut self, word: Word)
         ensures { self.new ≡ spec.with_word_in_c word self.old }
     {
-        let number = word.number();
-        self.c = self
-            .c
-            .with(0, (number % 16) as u8)
-            .with(1, (number / 16 % 16) as u8)
-            .with(2, (number / 256) as u8);
+        self.c = self.c.with_number(0, 2, u64::from(word.number()));
     }
 
     /// `LDI`: the second word goes to C; the processor goes on after it.
@@ -84,7 +75,7 @@ impl Cpu {
         ensures { GoesOn (spec.with_key_in_c key) self.old self.new result }
     {
         let next = arrival(self.next_address())?;
-        self.c = self.c.with(3, key % 16).with(4, key / 16);
+        self.c = self.c.with_number(3, 4, u64::from(key));
         self.arrive(next, false);
         Ok(())
     }

@@ -246,11 +246,14 @@ fn rotated(register: Reg, digits: usize) -> Reg
     requires { digits < 14 }
     ensures { result ≡ spec.rotated register digits }
 {
-    let mut result = register;
-    for place in 0..PLACES {
-        result = result.with(place, register.get((place + digits) % PLACES));
+    if digits == 0 {
+        return register;
     }
-    result
+    let leaving = register.number(0, digits - 1);
+    let staying = register.number(digits, PLACES - 1);
+    register
+        .with_number(0, PLACES - 1 - digits, staying)
+        .with_number(PLACES - digits, PLACES - 1, leaving)
 }
 
 /// The bits that stand in one of two registers or in both.

@@ -2,7 +2,7 @@
 use Rattle.std.proofs.Common.{◌≡◌, ℕ, zero, suc, ◌+◌, ◌-◌, ◌*◌, ◌%◌, ◌^◌, ◌<◌, ◌≤◌, List, take, drop, slice_index, sym, ap, arith, inl, inr, ◌∙◌}
 use Rattle.std.proofs.Math.Nat.{pow-succ'}
 use Rattle.std.proofs.lemmas.Bool.{cases_lt}
-use Rattle.std.proofs.lemmas.List.{drop_more, get_or-take}
+use Rattle.std.proofs.lemmas.List.{drop_more, get_or-take, take_all}
 use Rattle.std.proofs.lemmas.List.Elements.{All-get_or}
 use Rattle.h41_digits.specs.Register.{IsRegister, value}
 use Rattle.h41_digits.specs.Packed.{value-cons}
@@ -56,3 +56,7 @@ exchanged_parts x stayed z digits few from between register staying leaving belo
           ap (slice_index z) (omega (arith, few, high)) ∙ same_part digits (14 - digits) 0 (place - (14 - digits)) z x register from (omega (arith, few)) (omega (arith, few)) leaving (omega (arith, few, high, inside))
           ∙ ap (slice_index x) (omega (arith, few, high, inside))
     ])
+
+-- a register is below 16 to the power of its places
+pub register-lt : (x : List ℕ) → IsRegister 14 x → value x < 16 ^ 14
+register-lt x register = rw (take_all 14 x (omega (arith, register.size))) at (part-lt x 0 14 register (omega arith))

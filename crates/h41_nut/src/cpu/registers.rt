@@ -257,24 +257,15 @@ fn rotated(register: Reg, digits: usize) -> Reg
 }
 
 /// The bits that stand in one of two registers or in both.
-#[tactic(auto, using(crate::proofs::Digits::or_is_digit))]
 fn digits_or(x: Reg, y: Reg) -> Reg
     ensures { result ≡ spec.digits_or x y }
 {
-    let mut result = x;
-    for place in 0..PLACES {
-        result = result.with(place, x.get(place) | y.get(place));
-    }
-    result
+    Reg::holding(x.to_u64() | y.to_u64())
 }
 
 /// The bits that stand in both of two registers.
 fn digits_and(x: Reg, y: Reg) -> Reg
     ensures { result ≡ spec.digits_and x y }
 {
-    let mut result = x;
-    for place in 0..PLACES {
-        result = result.with(place, x.get(place) & y.get(place));
-    }
-    result
+    Reg::holding(x.to_u64() & y.to_u64())
 }

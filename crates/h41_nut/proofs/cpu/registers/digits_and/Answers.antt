@@ -1,9 +1,10 @@
-use Rattle.std.proofs.Common.{get_or, arith}
+use Rattle.std.proofs.Common.{ap, ◌∙◌}
 use Rattle.std.specs.Int.RustNames.{bit_and}
-use Rattle.h41_nut.proofs.Digits.{by_place-is}
+use Rattle.h41_digits.specs.Register.{value}
+use Rattle.h41_nut.proofs.Digits.{is_digits_and}
 use Rattle.h41_nut.proofs.cpu.registers.digits_and.Goals as goal
 
 pub returns : goal.returns
 returns c =
-    by_place-is c.loop-place.result (λ place. bit_and (get_or c.args.x place 0) (get_or c.args.y place 0)) c.loop-place.invariant.size
-    (λ place inside. c.loop-place.invariant.digits place (omega arith))
+    is_digits_and c.args.x c.args.y c.holding.result c.to_u64.ensures.register c.to_u64-2.ensures.register c.holding.ensures.register
+    (c.holding.ensures.value ∙ ap (λ n. bit_and n c.to_u64-2.result) c.to_u64.ensures.value ∙ ap (bit_and (value c.args.x)) c.to_u64-2.ensures.value)

@@ -2,3 +2,4 @@ pub mod AlphaTexts
 pub mod Bits
 pub mod Flags
 pub mod Named
+pub mod ThreeDigits

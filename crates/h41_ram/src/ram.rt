@@ -1,6 +1,6 @@
 //! The registers, and what the calculator reads in its status registers: flags, ALPHA, the parts of memory.
 
-ghost use Rattle.std.specs.Prelude.{◌≡◌, ◌<◌, ◌≤◌, ◌^◌, ◌%◌};
+ghost use Rattle.std.specs.Prelude.{◌≡◌, ◌<◌, ◌≤◌};
 ghost use Rattle.h41_ram.specs.RegisterMap as spec;
 ghost use Rattle.h41_ram.specs.NamedRegisters as named;
 
@@ -236,9 +236,7 @@ fn three_digits(register: Reg, place: usize) -> u16
     requires { place < 12 }
     ensures { result ≡ spec.three_digits register place }
 {
-    u16::from(register.get(place))
-        + 16 * u16::from(register.get(place + 1))
-        + 256 * u16::from(register.get(place + 2))
+    register.number(place, place + 2) as u16
 }
 
 /// One bit of a register, 0 to 55 from the right.
@@ -246,7 +244,7 @@ fn bit(register: Reg, bit: usize) -> bool
     requires { bit < 56 }
     ensures { result ≡ spec.bit_of register bit }
 {
-    register.get(bit / 4) / weight(bit) % 2 == 1
+    register.to_u64() >> bit & 1 == 1
 }
 
 /// The register with one bit, 0 to 55 from the right, set or clear.
@@ -254,27 +252,8 @@ fn with_bit(register: Reg, bit: usize, on: bool) -> Reg
     requires { bit < 56 }
     ensures { result ≡ spec.with_bit register bit on }
 {
-    let digit = digit_with(register.get(bit / 4), bit, on);
-    register.with(bit / 4, digit)
-}
-
-/// A digit of a register with one of its bits set or clear.
-#[tactic(auto, using(crate::proofs::Bits::set_bit_is_digit))]
-fn digit_with(digit: u8, bit: usize, on: bool) -> u8
-    requires { digit < 16 }
-    ensures value { result ≡ spec.digit_with digit (2 ^ (bit % 4)) on }
-    ensures is_digit { result < 16 }
-{
-    let weight = weight(bit);
-    let clear = digit - digit / weight % 2 * weight;
-    if on { clear + weight } else { clear }
-}
-
-/// What a bit of a register weighs in its digit.
-fn weight(bit: usize) -> u8
-    ensures { result ≡ 2 ^ (bit % 4) }
-{
-    1 << (bit % 4)
+    let others = register.to_u64() & !(1 << bit);
+    Reg::holding(others | u64::from(on) << bit)
 }
 
 /// Whether a register's last three bytes are an END with the mark .END. .

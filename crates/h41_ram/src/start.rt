@@ -26,10 +26,7 @@ fn with_three_digits(register: Reg, place: usize, number: u16) -> Reg
     requires number { number < 4096 }
     ensures { result ≡ spec.with_three_places register place number }
 {
-    register
-        .with(place, (number % 16) as u8)
-        .with(place + 1, (number / 16 % 16) as u8)
-        .with(place + 2, (number / 256) as u8)
+    register.with_number(place, place + 2, u64::from(number))
 }
 
 /// Register d: flags 26, 28, 29, 37 and 40 are set.

@@ -108,11 +108,14 @@ fn window<const REGS: usize>(ram: &Ram<REGS>, at: u16, limit: u16) -> Window
 {
     let mut window = Window::new();
     let mut register = register_of(ram, at);
+    let mut left = REGISTER_BYTES - at % REGISTER_BYTES;
     for position in at..limit.min(at + LINE_MOST) {
-        if position % REGISTER_BYTES == 0 {
+        if left == 0 {
             register = register_of(ram, position);
+            left = REGISTER_BYTES;
         }
-        window.push(register.byte(usize::from(6 - position % REGISTER_BYTES)));
+        left -= 1;
+        window.push(register.byte(usize::from(left)));
     }
     window
 }

@@ -26,9 +26,7 @@ pub fn address_at(register: Reg, place: usize) -> u16
     ensures value { result ≡ spec.three_digits register place }
     ensures bound { result < 4096 }
 {
-    u16::from(register.get(place))
-        + 16 * u16::from(register.get(place + 1))
-        + 256 * u16::from(register.get(place + 2))
+    register.number(place, place + 2) as u16
 }
 
 /// The register with the three digits of an address, from a place up.
@@ -37,10 +35,7 @@ pub fn with_address(register: Reg, place: usize, address: u16) -> Reg
     requires address { address < 4096 }
     ensures { result ≡ spec.with_three_places register place address }
 {
-    register
-        .with(place, (address % 16) as u8)
-        .with(place + 1, (address / 16 % 16) as u8)
-        .with(place + 2, (address / 256) as u8)
+    register.with_number(place, place + 2, u64::from(address))
 }
 
 /// The register of seven bytes, the leftmost first, that stand so many registers behind the first byte.

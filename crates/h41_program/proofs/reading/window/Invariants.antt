@@ -1,4 +1,4 @@
-use Rattle.std.proofs.Common.{◌≡◌, ◌-◌, ◌%◌, map, length}
+use Rattle.std.proofs.Common.{◌≡◌, ◌+◌, ◌-◌, ◌%◌, ◌≤◌, map, length}
 use Rattle.std.specs.List.{range_with_len}
 use Rattle.h41_program.specs.ProgramBytes.{program_byte}
 use Rattle.h41_program.specs.Reading.{program_register}
@@ -9,6 +9,9 @@ abbrev pub invariant-loop-position : goal.invariant-loop-position
 invariant-loop-position g l = record {
   items : l.window.items ≡ map (program_byte l.ram) (range_with_len l.at (l.position - l.at));
   count : length l.window.items ≡ l.position - l.at;
+  -- how many bytes of the register follow
+  few : l.left ≤ 7;
+  ends : (l.position + l.left) % 7 ≡ 0;
   -- the register of the next byte, where that is not its first
-  held : (l.position % 7 ≡ 0 → ⊥) → l.register ≡ program_register l.ram l.position;
+  held : (l.left ≡ 0 → ⊥) → l.register ≡ program_register l.ram l.position;
 }

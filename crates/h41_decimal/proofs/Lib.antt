@@ -13,3 +13,4 @@ pub mod Wholes
 pub mod Entries
 pub mod Answered
 pub mod Held
+pub mod PackedDigits

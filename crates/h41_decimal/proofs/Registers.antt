@@ -1,10 +1,11 @@
 -- Numbers in registers.
-use Rattle.std.proofs.Common.{◌≡◌, ℕ, zero, suc, ◌+◌, ◌-◌, ◌*◌, ◌^◌, ◌<◌, ◌≤◌, sym, ◌∙◌, ap, refl, arith, List, Option, Some, None, Bool, true, false}
+use Rattle.std.proofs.Common.{◌≡◌, ℕ, zero, suc, ◌+◌, ◌-◌, ◌*◌, ◌^◌, ◌<◌, ◌≤◌, inl, inr, sym, ◌∙◌, ap, refl, arith, List, Option, Some, None, Bool, true, false}
 use Rattle.std.specs.Prelude.{ℤ, pos, ◌==◌, if◌then◌else◌, nat_le, nat_lt, slice_index, ◌&&◌, ◌/◌, ◌%◌}
 use Rattle.h41_decimal.specs.Signs.{signed}
 use Rattle.h41_decimal.specs.Units.{size_of}
 use Rattle.h41_decimal.specs.declared.sign.Sign.{Sign}
 use Rattle.std.specs.Option.{option_map}
+use Rattle.std.proofs.lemmas.Bool.{cases_eq}
 use Rattle.std.proofs.lemmas.Bool.Decides.{nat_tests}
 use Rattle.h41_decimal.specs.Holding.{Number, Text, Other, decimal_in, holding, holding_of, number_in, worth, text_in, sign_in, steps_in, parts_worth, digits_worth}
 
@@ -62,3 +63,20 @@ parts_hold register m e s sign steps m_in e_in s_in sign_is steps_is m_size =
     let c : digits_worth m (sign_in s) (steps_in e) ≡ digits_worth m (Some sign) (Some steps) = cc in
     let d : digits_worth m (Some sign) (Some steps) ≡ Some (signed sign (size_of m steps)) = ap (λ t. if t then None else Some (signed sign (size_of m steps))) l in
     ap (λ v. holding v register) (a ∙ (b ∙ (c ∙ d)))
+
+-- a digit above 9 among others
+none_either : (b : Bool) (f : ℕ → ℕ) (others : Option ℕ) → others ≡ None → (if b then option_map f others else None) ≡ None
+none_either true f others none = ap (option_map f) none
+none_either false f others none = refl
+
+pub no_decimal : (count : ℕ) (register : List ℕ) (place bad : ℕ) → place ≤ bad → bad < place + count → 9 < slice_index register bad → decimal_in register place count ≡ None
+no_decimal zero register place bad low high above = absurd (omega (arith, low, high))
+no_decimal (suc count) register place bad low high above = elim (cases_eq bad place) [
+  | inl same ↦
+      let far : 9 < slice_index register place = rw same at above in
+      let t : nat_le (slice_index register place) 9 ≡ false = grind (arith, nat_tests) in
+      ap (λ b. if b then option_map (λ rest. slice_index register place + 10 * rest) (decimal_in register (place + 1) count) else None) t
+  | inr other ↦
+      none_either (nat_le (slice_index register place) 9) (λ rest. slice_index register place + 10 * rest) (decimal_in register (place + 1) count)
+      (no_decimal count register (place + 1) bad (omega (arith, low, other)) (omega (arith, high)) above)
+]

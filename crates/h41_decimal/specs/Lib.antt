@@ -8,3 +8,4 @@ pub mod Holding
 pub mod Laws
 pub mod Cut
 pub mod SameDigits
+pub mod PackedDigits

@@ -1,6 +1,7 @@
 //! Numbers in registers of 14 digits: the sign in place 13, the mantissa in places 12 to 3, the exponent in places 2 to 0.
 
 ghost use Rattle.std.specs.Prelude.{◌≡◌, ℕ, ◌+◌, ◌*◌, ◌^◌, ◌<◌, ◌≤◌, IfSome, Some, None, slice_index};
+ghost use Rattle.h41_decimal.specs.PackedDigits.{packed};
 ghost use Rattle.h41_decimal.specs.SameDigits.{SameDigitsBelow, SameDigitsFrom};
 ghost use Rattle.h41_decimal.specs.Signs.{signed};
 ghost use Rattle.std.specs.Option.{option_map};
@@ -32,17 +33,15 @@ fn decimal_digits(register: Reg, place: usize, count: usize) -> Option<u64>
     ensures value { result ≡ decimal_in register place count }
     ensures bound { IfSome result (λ number. number < 10 ^ count) }
 {
-    if count == 0 {
-        return Some(0);
+    let mut number = 0;
+    for read in 0..count {
+        let digit = register.get(place + count - 1 - read);
+        if digit > 9 {
+            return None;
+        }
+        number = 10 * number + u64::from(digit);
     }
-    let digit = register.get(place);
-    if digit > 9 {
-        return None;
-    }
-    match decimal_digits(register, place + 1, count - 1) {
-        Some(rest) => Some(u64::from(digit) + 10 * rest),
-        None => None,
-    }
+    Some(number)
 }
 
 /// The number of a mantissa, an exponent as its three digits are written, and the digit of the sign.
@@ -123,8 +122,22 @@ fn with_digits(register: Reg, place: usize, count: usize, number: u64) -> Reg
     if count == 0 {
         return register;
     }
-    let first = register.with(place, (number % 10) as u8);
-    with_digits(first, place + 1, count - 1, number / 10)
+    register.with_number(place, place + count - 1, packed_digits(number, count))
+}
+
+/// So many decimal digits of a number in four bits each, the lowest in the lowest bits.
+fn packed_digits(number: u64, count: usize) -> u64
+    requires { count ≤ 14 }
+    ensures digits { result ≡ packed count number }
+    ensures bound { result < 16 ^ count }
+{
+    let mut packed = 0;
+    let mut rest = number;
+    for place in 0..count {
+        packed += rest % 10 << (4 * place);
+        rest /= 10;
+    }
+    packed
 }
 
 /// The digit that stands for a sign.

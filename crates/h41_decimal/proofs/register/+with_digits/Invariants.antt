@@ -1,4 +1,0 @@
-use Rattle.h41_decimal.proofs.register.+with_digits.Given as goal
-
-abbrev pub decreases-with_digits : goal.decreases-with_digits
-decreases-with_digits l = l.count

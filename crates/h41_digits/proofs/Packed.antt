@@ -1,6 +1,6 @@
 -- A register is kept as its number: the digits of a number, and what masks and shifts do to them.
 use Rattle.std.proofs.Common.{◌≡◌, ℕ, suc, zero, ◌+◌, ◌-◌, ◌*◌, ◌/◌, ◌%◌, ◌^◌, ◌<◌, ◌≤◌, List, [], ◌∷◌, length, set, get_or, replicate, refl, sym, ap, subst, arith, ◌∙◌, ◌≢◌, length-set, get_or-set_other, mul_comm, drop, ◌++◌, Bool, true, eqb}
-use Rattle.std.specs.Fmt.{digits as glyphs_of}
+use Rattle.std.specs.Fmt.{digit_glyph}
 use Rattle.std.proofs.lemmas.List.{drop_more, drop_all}
 use Rattle.std.proofs.Math.Nat.{mod-eq_of_lt, div-eq_of_lt, lt-div-mul-add, zero-mul, zero-add, pow-succ', div-div-eq-div-mul, pow-le-pow_right}
 use Rattle.std.proofs.lemmas.Nat.{and_mask, pow-add, pow_pos, shl-shr, shl_whole, and_comm, and_assoc, and_le_l, and-not, or_disjoint}
@@ -11,7 +11,7 @@ use Rattle.std.specs.List.{AllByRecursion}
 use Rattle.std.proofs.lemmas.List.Elements.{recursion_from_All, All-from_recursion, All-set}
 use Rattle.h41_digits.specs.Register.{IsRegister, value, text, byte_at, set_byte}
 use Rattle.h41_digits.specs.Packed.{digits_of, pow-next, value-digits_of, value-cons}
-use Rattle.h41_digits.proofs.Values.{value-below, text-cons}
+use Rattle.h41_digits.proofs.Values.{value-below, text-snoc}
 
 -- a place is four bits wide
 pub bits_of_places : (places : ℕ) → 2 ^ (4 * places) ≡ 16 ^ places
@@ -201,14 +201,13 @@ shift_from_fits places number small = rw bits_of_places (div-eq_of_lt small)
 
 -- the digit at a place stands in front of those above it
 pub text-from : (places word place next : ℕ) (digits : List ℕ) → digits_of places word ≡ digits → word < 16 ^ places → place + 1 ≡ next → next ≤ places
-    → text (drop next digits) ++ glyphs_of 16 true (bit_and (word / 2 ^ (4 * place)) 15) ≡ text (drop place digits)
+    → text (drop next digits) ++ digit_glyph true (bit_and (word / 2 ^ (4 * place)) 15) ∷ [] ≡ text (drop place digits)
 text-from places word place next digits seen fits above inside =
     let digit = bit_and (word / 2 ^ (4 * place)) 15 in
     let own : get_or digits place 0 ≡ digit = sym (digit_read places word place digits seen (omega (arith, inside, above))) in
     let size = (is_register places word digits seen fits).0.size in
-    let small : digit < 16 = omega (arith, and_mask (word / 2 ^ (4 * place)) 4) in
     let stands : drop place digits ≡ digit ∷ drop next digits = drop_more digits place 0 (omega (arith, inside, size, above)) ∙ ap (λ d. d ∷ drop (place + 1) digits) own ∙ ap (λ n. digit ∷ drop n digits) above in
-    sym (ap text stands ∙ text-cons digit (drop next digits) small)
+    sym (ap text stands ∙ text-snoc digit (drop next digits))
 
 pub text-past : (places word : ℕ) (digits : List ℕ) → digits_of places word ≡ digits → word < 16 ^ places → text (drop places digits) ≡ []
 text-past places word digits seen fits =

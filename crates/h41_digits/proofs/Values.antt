@@ -1,12 +1,14 @@
 -- What the number of a register is, digit by digit.
-use Rattle.std.proofs.Common.{◌≡◌, ℕ, ◌+◌, ◌*◌, ◌/◌, ◌%◌, ◌^◌, ◌<◌, ◌≢◌, List, true, map, reverse, [], ◌∷◌, ◌++◌, length, set, All, length-set, get_or-set_other, get_or-set_same, refl, sym, ap, arith, ◌∙◌}
+use Rattle.std.proofs.Common.{◌≡◌, ℕ, zero, suc, ◌+◌, ◌*◌, ◌/◌, ◌%◌, ◌^◌, ◌<◌, ◌≢◌, List, true, map, reverse, [], ◌∷◌, ◌++◌, length, set, All, length-set, get_or-set_other, get_or-set_same, refl, sym, ap, subst, arith, lit<, ◌∙◌}
 use Rattle.std.proofs.Math.Nat.{pow-succ'}
 use Rattle.std.proofs.lemmas.List.{reverse-append, map-append}
-use Rattle.std.proofs.lemmas.Fmt.{hex_one_digit}
-use Rattle.std.specs.Fmt.{digits as glyphs_of, digit_glyph}
+use Rattle.std.specs.Fmt.{digit_glyph}
+use Rattle.std.proofs.lemmas.Bool.Decides.{nat_tests}
+use Rattle.std.proofs.lemmas.Str.{IsAscii-append}
+use Rattle.std.specs.Str.{IsAscii}
 use Rattle.std.specs.List.{AllByRecursion}
 use Rattle.std.proofs.lemmas.List.Elements.{recursion_from_All}
-use Rattle.h41_digits.specs.Register.{value, text, hexadecimal_text}
+use Rattle.h41_digits.specs.Register.{IsRegister, value, text, hexadecimal_text}
 use Rattle.h41_digits.specs.Packed.{value-cons}
 use Rattle.h41_digits.specs.RegisterLaws.{SetByteIsRead, TextTellsValue, ValueIsInjective}
 
@@ -18,10 +20,9 @@ value-lt (digit ∷ digits) each = rw (value-cons digit digits) (omega (arith, v
 pub value-below : (digits : List ℕ) → All (λ digit. digit < 16) digits → value digits < 16 ^ length digits
 value-below digits each = value-lt digits (recursion_from_All _ digits each)
 
--- a digit below those that are written
-pub text-cons : (digit : ℕ) (above : List ℕ) → digit < 16 → text (digit ∷ above) ≡ text above ++ glyphs_of 16 true digit
-text-cons digit above small =
-    ap (map (digit_glyph true)) (reverse-append (digit ∷ []) above) ∙ map-append (digit_glyph true) (reverse above) (digit ∷ []) ∙ ap (λ glyphs. text above ++ glyphs) (sym (hex_one_digit true digit small))
+-- a digit stands behind those above it
+pub text-snoc : (digit : ℕ) (above : List ℕ) → text (digit ∷ above) ≡ text above ++ digit_glyph true digit ∷ []
+text-snoc digit above = ap (map (digit_glyph true)) (reverse-append (digit ∷ []) above) ∙ map-append (digit_glyph true) (reverse above) (digit ∷ [])
 
 same_digits : (x y : List ℕ) → length x ≡ length y → AllByRecursion (λ digit. digit < 16) x → AllByRecursion (λ digit. digit < 16) y → value x ≡ value y → x ≡ y
 same_digits [] [] size p q same = refl
@@ -57,3 +58,19 @@ byte_at-set_byte digits k byte inside =
     let inside_low : 2 * k + 1 < length low = omega (arith, length-set digits (2 * k) (byte % 16)) in
     let other : 2 * k ≢ 2 * k + 1 = omega arith in
     omega (arith, get_or-set_same low (2 * k + 1) (byte / 16) 0 inside_low, get_or-set_other low (2 * k + 1) (2 * k) (byte / 16) 0 other, get_or-set_same digits (2 * k) (byte % 16) 0 (omega arith))
+
+-- a register is printed in ASCII
+glyph-lt : (digit : ℕ) → digit < 16 → digit_glyph true digit < 128
+glyph-lt digit small = grind (arith, nat_tests)
+
+ascii_one : (glyph : ℕ) → glyph < 128 → IsAscii (glyph ∷ [])
+ascii_one glyph small zero = small
+ascii_one glyph small (suc i) = lit< tt
+
+ascii_text_each : (digits : List ℕ) → AllByRecursion (λ digit. digit < 16) digits → IsAscii (text digits)
+ascii_text_each [] each = λ i. lit< tt
+ascii_text_each (digit ∷ digits) each =
+    subst IsAscii (sym (text-snoc digit digits)) (IsAscii-append (text digits) _ (ascii_text_each digits each.1) (ascii_one (digit_glyph true digit) (glyph-lt digit each.0)))
+
+pub ascii_text : (places : ℕ) (digits : List ℕ) → IsRegister places digits → IsAscii (text digits)
+ascii_text places digits register = ascii_text_each digits (recursion_from_All _ digits register.each)

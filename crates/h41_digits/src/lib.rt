@@ -1,13 +1,14 @@
 //! Registers of the HP-41: fixed rows of hexadecimal digits.
 #![tactic(auto)]
 
-ghost use Rattle.std.specs.Prelude.{◌≡◌, ℕ, ◌+◌, ◌-◌, ◌*◌, ◌/◌, ◌%◌, ◌^◌, ◌<◌, ◌≤◌, ◌↔◌, List, length, take, drop, slice_index, slice_set, replicate, IsSome, IfSome, Some};
+ghost use Rattle.std.specs.Prelude.{◌≡◌, ℕ, true, ◌+◌, ◌-◌, ◌*◌, ◌/◌, ◌%◌, ◌^◌, ◌<◌, ◌≤◌, ◌↔◌, List, length, take, drop, slice_index, slice_set, replicate, IsSome, IfSome, Some};
 ghost use Rattle.h41_digits.specs.Packed.{digits_of, value-digits_of};
+ghost use Rattle.std.specs.Fmt.{digit_glyph};
 ghost use Rattle.std.proofs.Common.{ap};
 ghost use Rattle.h41_digits.specs.Register.{IsRegister, value, text, hexadecimal_text, byte_at, set_byte};
 
-use std::fmt;
 use std::marker::Model;
+use std::{fmt, str};
 
 pub mod laws;
 
@@ -158,6 +159,33 @@ impl<const N: usize> Digits<N> {
             word: with_bits(self.word, 4 * lo, 4 * (hi + 1 - lo), number),
         }
     }
+
+    /// The digits as characters, the highest place first, at the front of as many bytes as any register needs.
+    #[inline(always)]
+    fn glyphs(&self) -> [u8; PLACES]
+        ensures digits { take N result ≡ text self.now }
+        ensures from { IsRegister N self.now }
+        ensures places { N ≤ PLACES }
+    {
+        let mut glyphs = [b'0'; PLACES];
+        for i in 0..N {
+            glyphs[i] = glyph((self.word >> (4 * (N - 1 - i)) & 0xF) as u8);
+        }
+        glyphs
+    }
+}
+
+/// A digit, 0 to 15, as a character.
+#[inline(always)]
+fn glyph(digit: u8) -> u8
+    requires { digit < 16 }
+    ensures { result ≡ digit_glyph true digit }
+{
+    if digit < 10 {
+        b'0' + digit
+    } else {
+        b'A' + digit - 10
+    }
 }
 
 /// A word with other bits in place of `width` of its own, the lowest of which is bit `at`.
@@ -176,10 +204,7 @@ impl<const N: usize> fmt::Display for Digits<N> {
     ghost output = { λ digits. Some (text digits) };
 
     fn fmt<W: fmt::Write>(&self, f: &mut fmt::Formatter<W>) -> fmt::Result {
-        let word = self.word;
-        for place in (0..N).rev() {
-            write!(f, "{:X}", word >> (4 * place) & 0xF)?;
-        }
-        Ok(())
+        let glyphs = self.glyphs();
+        f.write_str(str::from_utf8(&glyphs[..N]).unwrap())
     }
 }

@@ -2,16 +2,17 @@
 
 ghost use Rattle.std.specs.Prelude.{◌≡◌, ◌+◌, ◌%◌, ◌≤◌, ◌<◌, ◌++◌, IfOk, length};
 ghost use Rattle.std.specs.String.{string_bytes};
+ghost use Rattle.arrayvec.specs.ArrayString.{array_string_len};
 ghost use Rattle.h41_dis.specs.Spelling.{columns_text, listing_text, piece_line, spell};
 
 use crate::cut::{Piece, Pieces};
-use crate::text::{instruction, push_byte, push_word};
+use crate::text::{push_byte, push_instruction, push_word};
 use arrayvec::ArrayString;
 use h41_words::Word;
 use std::alloc::{AllocError, Global};
 
-/// The bytes before a line's text: the address, two blanks, the words of seven places, and two blanks.
-const COLUMNS: usize = 15;
+/// The most bytes of a line: 15 of columns, 14 of an instruction, and its end.
+const LINE: usize = 30;
 
 /// The text of words: a line for each instruction, with its end. The address of the first word changes nothing, since a
 /// jump tells its address or its displacement. Refuses only memory.
@@ -32,37 +33,54 @@ pub fn listing(alloc: Global, words: &[Word], origin: u16) -> Result<String, All
     let mut text = String::new(alloc);
     let mut address = origin;
     for piece in Pieces::new(words) {
-        text.push_str(columns(address, piece).as_str())?;
-        push_line(&mut text, piece)?;
+        push_columns_line(&mut text, address, piece)?;
         address = address.wrapping_add(piece.length());
     }
     Ok(text)
 }
 
 /// Appends the line of an instruction.
+#[inline]
 fn push_line(text: &mut String, piece: Piece) -> Result<(), AllocError>
     ensures { IfOk result (λ _. string_bytes text.new ≡ string_bytes text.old ++ piece_line piece) }
 {
-    text.push_str(instruction(piece.first, piece.second).as_str())?;
-    text.push_str("\n")
+    let mut line = ArrayString::<LINE>::new();
+    push_instruction(&mut line, piece.first, piece.second);
+    line.push_str("\n");
+    text.push_str(line.as_str())
 }
 
-/// The columns before the text of an instruction at an address.
-fn columns(address: u16, piece: Piece) -> ArrayString<COLUMNS>
-    ensures { result.bytes ≡ columns_text address piece }
+/// Appends the line of an instruction at an address, with its columns.
+#[inline]
+fn push_columns_line(text: &mut String, address: u16, piece: Piece) -> Result<(), AllocError>
+    ensures { IfOk result (λ _. string_bytes text.new ≡ (string_bytes text.old ++ columns_text address piece) ++ piece_line piece) }
 {
-    let mut columns = ArrayString::new();
-    push_byte(&mut columns, (address / 256) as u8);
-    push_byte(&mut columns, (address % 256) as u8);
+    let mut line = ArrayString::<LINE>::new();
+    let (first, second) = (piece.first, piece.second);
+    push_columns(&mut line, address, piece);
+    push_instruction(&mut line, first, second);
+    line.push_str("\n");
+    text.push_str(line.as_str())
+}
+
+/// Appends the columns before the text of an instruction at an address: the address, two blanks, the words of seven
+/// places, and two blanks.
+#[inline]
+fn push_columns(columns: &mut ArrayString<LINE>, address: u16, piece: Piece)
+    requires { array_string_len columns.old ≡ 0 }
+    ensures text { columns.new.bytes ≡ columns.old.bytes ++ columns_text address piece }
+    ensures length { array_string_len columns.new ≡ 15 }
+{
+    push_byte(columns, (address / 256) as u8);
+    push_byte(columns, (address % 256) as u8);
     columns.push_str("  ");
-    push_word(&mut columns, piece.first);
+    push_word(columns, piece.first);
     match piece.second {
         Some(second) => {
-            columns.push(' ');
-            push_word(&mut columns, second);
+            columns.push_str(" ");
+            push_word(columns, second);
         }
         None => columns.push_str("    "),
     }
     columns.push_str("  ");
-    columns
 }

@@ -1,6 +1,6 @@
 //! The text of one instruction.
 
-ghost use Rattle.std.specs.Prelude.{◌≡◌, ◌+◌, ◌*◌, ◌≤◌, ◌<◌, ◌++◌, ℕ, ℤ, true, length};
+ghost use Rattle.std.specs.Prelude.{◌≡◌, ◌+◌, ◌*◌, ◌≤◌, ◌<◌, [], ◌∷◌, ◌++◌, ℕ, ℤ, true, length};
 ghost use Rattle.std.specs.Fmt.{decimal, digit_glyph};
 ghost use Rattle.arrayvec.specs.ArrayString.{array_string_len};
 ghost use Rattle.h41_digits.specs.Register.{hexadecimal_text};
@@ -23,34 +23,51 @@ pub fn instruction(first: Word, second: Option<Word>) -> ArrayString<TEXT>
     ensures { result.bytes ≡ piece_text first second }
 {
     let mut text = ArrayString::new();
-    match (row(first), second) {
-        (Row::LongJump(low_byte), Some(second)) => {
-            push_long_jump(&mut text, low_byte, SecondWord::of(second));
-        }
-        (Row::LoadImmediate, Some(second)) => {
-            text.push_str("LDI ");
-            push_word(&mut text, second);
-        }
-        (row, _) => push_row(&mut text, row),
-    }
+    push_instruction(&mut text, first, second);
     text
 }
 
+/// Appends the text of an instruction.
+pub(crate) fn push_instruction<const N: usize>(
+    text: &mut ArrayString<N>,
+    first: Word,
+    second: Option<Word>,
+)
+    requires { array_string_len text.old + 14 ≤ N }
+    ensures text { text.new.bytes ≡ text.old.bytes ++ piece_text first second }
+    ensures length { array_string_len text.new ≤ array_string_len text.old + 14 }
+{
+    match (row(first), second) {
+        (Row::LongJump(low_byte), Some(second)) => {
+            push_long_jump(text, low_byte, SecondWord::of(second));
+        }
+        (Row::LoadImmediate, Some(second)) => {
+            text.push_str("LDI ");
+            push_word(text, second);
+        }
+        (row, _) => push_row(text, row),
+    }
+}
+
 /// Appends a jump by address.
-fn push_long_jump(text: &mut ArrayString<TEXT>, low_byte: u8, second: SecondWord)
-    requires { array_string_len text.old ≡ 0 }
-    ensures { text.new.bytes ≡ text.old.bytes ++ address_text low_byte second }
+#[inline]
+fn push_long_jump<const N: usize>(text: &mut ArrayString<N>, low_byte: u8, second: SecondWord)
+    requires { array_string_len text.old + 14 ≤ N }
+    ensures text { text.new.bytes ≡ text.old.bytes ++ address_text low_byte second }
+    ensures length { array_string_len text.new ≤ array_string_len text.old + 14 }
 {
     text.push_str(long_jump_name(second.condition, second.kind));
-    text.push(' ');
+    text.push_str(" ");
     push_byte(text, second.high_byte);
     push_byte(text, low_byte);
 }
 
 /// Appends a row of one word.
-fn push_row(text: &mut ArrayString<TEXT>, row: Row)
-    requires { array_string_len text.old ≡ 0 }
-    ensures { text.new.bytes ≡ text.old.bytes ++ row_text row }
+#[inline]
+fn push_row<const N: usize>(text: &mut ArrayString<N>, row: Row)
+    requires { array_string_len text.old + 14 ≤ N }
+    ensures text { text.new.bytes ≡ text.old.bytes ++ row_text row }
+    ensures length { array_string_len text.new ≤ array_string_len text.old + 14 }
 {
     text.push_str(mnemonic(&row));
     push_operand(text, row);
@@ -58,13 +75,15 @@ fn push_row(text: &mut ArrayString<TEXT>, row: Row)
 
 #[tactic(auto, unfolding(h41_words::specs::WordTable::number_of))]
 /// Appends the operand of a row of one word, behind a blank, where it has one.
-fn push_operand(text: &mut ArrayString<TEXT>, row: Row)
-    requires { array_string_len text.old ≤ 10 }
-    ensures { text.new.bytes ≡ text.old.bytes ++ behind (operand row) }
+#[inline]
+fn push_operand<const N: usize>(text: &mut ArrayString<N>, row: Row)
+    requires { array_string_len text.old + 4 ≤ N }
+    ensures text { text.new.bytes ≡ text.old.bytes ++ behind (operand row) }
+    ensures length { array_string_len text.new ≤ array_string_len text.old + 4 }
 {
     match row {
         Row::Arithmetic(_, field) => {
-            text.push(' ');
+            text.push_str(" ");
             text.push_str(field_name(field));
         }
         Row::ShortJump(_, displacement) => push_displacement(text, displacement),
@@ -78,7 +97,7 @@ fn push_operand(text: &mut ArrayString<TEXT>, row: Row)
         Row::Write(register) => push_decimal(text, register.number()),
         Row::Read(register) => push_decimal(text, register.number()),
         Row::Constant(_) | Row::LongJump(_) | Row::LoadImmediate => {
-            text.push(' ');
+            text.push_str(" ");
             push_word(text, word(row));
         }
         _ => {}
@@ -86,55 +105,76 @@ fn push_operand(text: &mut ArrayString<TEXT>, row: Row)
 }
 
 /// Appends a blank and a decimal number.
-fn push_decimal(text: &mut ArrayString<TEXT>, number: u8)
-    requires room { array_string_len text.old ≤ 10 }
+#[inline]
+fn push_decimal<const N: usize>(text: &mut ArrayString<N>, number: u8)
+    requires room { array_string_len text.old + 4 ≤ N }
     requires small { number < 16 }
-    ensures { text.new.bytes ≡ text.old.bytes ++ behind (Some (decimal number)) }
+    ensures text { text.new.bytes ≡ text.old.bytes ++ behind (Some (decimal number)) }
+    ensures length { array_string_len text.new ≤ array_string_len text.old + 4 }
 {
-    text.push(' ');
+    text.push_str(" ");
     if number >= 10 {
-        text.push('1');
+        text.push_str("1");
     }
-    text.push(glyph(u16::from(number % 10)));
+    text.push_str(glyph(u16::from(number % 10)));
 }
 
 /// Appends a blank and a displacement: its sign and two hexadecimal digits.
-fn push_displacement(text: &mut ArrayString<TEXT>, displacement: Displacement)
-    requires { array_string_len text.old ≤ 10 }
-    ensures { text.new.bytes ≡ text.old.bytes ++ behind (Some (displacement_text displacement)) }
+#[inline]
+fn push_displacement<const N: usize>(text: &mut ArrayString<N>, displacement: Displacement)
+    requires { array_string_len text.old + 4 ≤ N }
+    ensures text { text.new.bytes ≡ text.old.bytes ++ behind (Some (displacement_text displacement)) }
+    ensures length { array_string_len text.new ≤ array_string_len text.old + 4 }
 {
     let words = displacement.words();
-    text.push(' ');
-    text.push(if words < 0 { '-' } else { '+' });
+    text.push_str(if words < 0 { " -" } else { " +" });
     push_byte(text, words.unsigned_abs());
 }
 
 /// Appends the three digits of a word.
+#[inline]
 pub(crate) fn push_word<const N: usize>(text: &mut ArrayString<N>, word: Word)
     requires { array_string_len text.old + 3 ≤ N }
     ensures { text.new.bytes ≡ text.old.bytes ++ hexadecimal_text 3 word }
 {
     let number = word.number();
-    text.push(glyph(number / 256));
-    text.push(glyph(number / 16 % 16));
-    text.push(glyph(number % 16));
+    text.push_str(glyph(number / 256));
+    text.push_str(glyph(number / 16 % 16));
+    text.push_str(glyph(number % 16));
 }
 
 /// Appends the two digits of a byte.
+#[inline]
 pub(crate) fn push_byte<const N: usize>(text: &mut ArrayString<N>, byte: u8)
     requires { array_string_len text.old + 2 ≤ N }
     ensures { text.new.bytes ≡ text.old.bytes ++ hexadecimal_text 2 byte }
 {
-    text.push(glyph(u16::from(byte / 16)));
-    text.push(glyph(u16::from(byte % 16)));
+    text.push_str(glyph(u16::from(byte / 16)));
+    text.push_str(glyph(u16::from(byte % 16)));
 }
 
 /// A hexadecimal digit, in upper case.
-fn glyph(digit: u16) -> char
+#[inline(always)]
+fn glyph(digit: u16) -> &'static str
     requires { digit < 16 }
-    ensures { result ≡ digit_glyph true digit }
+    ensures { result.now ≡ digit_glyph true digit ∷ [] }
 {
-    char::from_digit(u32::from(digit), 16)
-        .unwrap()
-        .to_ascii_uppercase()
+    match digit {
+        0 => "0",
+        1 => "1",
+        2 => "2",
+        3 => "3",
+        4 => "4",
+        5 => "5",
+        6 => "6",
+        7 => "7",
+        8 => "8",
+        9 => "9",
+        10 => "A",
+        11 => "B",
+        12 => "C",
+        13 => "D",
+        14 => "E",
+        _ => "F",
+    }
 }

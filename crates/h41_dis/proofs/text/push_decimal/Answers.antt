@@ -4,9 +4,9 @@ use Rattle.h41_dis.proofs.Decimals.{decimal_one, decimal_two}
 use Rattle.h41_dis.proofs.text.push_decimal.Goals as goal
 use Rattle.h41_dis.proofs.text.push_decimal.Goals.{then-number-ge10, else-number-ge10}
 
-pub returns : goal.returns
-returns c =
+pub returns-clause-text : goal.returns-clause-text
+returns-clause-text g c =
     elim c.if-number-ge10.branch [
-      | then-number-ge10 w ↦ let e = decimal_two c.args.number w.if-number-ge10.true c.requires.small in grind (arith, common_steps, e, c.push.ensures.ascii, w.push-then-number-ge10.ensures.ascii, c.push-2.ensures.ascii)
-      | else-number-ge10 w ↦ let e = decimal_one c.args.number w.if-number-ge10.false in grind (arith, common_steps, e, c.push.ensures.ascii, c.push-2.ensures.ascii)
+      | then-number-ge10 w ↦ let e = decimal_two c.args.number w.if-number-ge10.true c.requires.small in grind (arith, common_steps, e)
+      | else-number-ge10 w ↦ let e = decimal_one c.args.number w.if-number-ge10.false in grind (arith, common_steps, e)
     ]

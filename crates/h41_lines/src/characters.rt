@@ -1,13 +1,15 @@
 //! Digits and characters as texts show them.
 
-ghost use Rattle.std.specs.Prelude.{◌≡◌, ◌<◌, true};
+ghost use Rattle.std.specs.Prelude.{◌≡◌, ◌+◌, ◌<◌, ◌≤◌, [], ◌∷◌, ◌++◌, true};
 ghost use Rattle.std.specs.Fmt.{digit_glyph};
+ghost use Rattle.arrayvec.specs.ArrayString.{array_string_len};
 ghost use Rattle.h41_digits.specs.Register.{hexadecimal_text};
 ghost use Rattle.h41_lines.specs.Characters as spec;
 
 use arrayvec::ArrayString;
 
 /// A hexadecimal digit, 0 to 15, in upper case.
+#[inline(always)]
 pub fn glyph(digit: u8) -> u8
     requires { digit < 16 }
     ensures value { result ≡ digit_glyph true digit }
@@ -21,37 +23,76 @@ pub fn glyph(digit: u8) -> u8
 }
 
 /// The two decimal digits of a number below 100.
+#[inline]
 pub fn two_digits(number: u8) -> ArrayString<2>
     requires { number < 100 }
     ensures { result.bytes ≡ spec.two_digits number }
 {
     let mut digits = ArrayString::new();
-    digits.push(char::from(glyph(number / 10)));
-    digits.push(char::from(glyph(number % 10)));
+    digits.push_str(glyph_text(number / 10));
+    digits.push_str(glyph_text(number % 10));
     digits
 }
 
 /// The two hexadecimal digits of a byte.
+#[inline]
 pub fn byte_digits(byte: u8) -> ArrayString<2>
     ensures { result.bytes ≡ hexadecimal_text 2 byte }
 {
     let mut digits = ArrayString::new();
-    digits.push(char::from(glyph(byte / 16)));
-    digits.push(char::from(glyph(byte % 16)));
+    push_byte(&mut digits, byte);
     digits
 }
 
 /// The four hexadecimal digits of an address.
+#[inline]
 pub fn address_digits(address: u16) -> ArrayString<4>
     ensures { result.bytes ≡ hexadecimal_text 4 address }
 {
     let mut digits = ArrayString::new();
-    digits.push_str(byte_digits((address / 256) as u8).as_str());
-    digits.push_str(byte_digits((address % 256) as u8).as_str());
+    push_byte(&mut digits, (address / 256) as u8);
+    push_byte(&mut digits, (address % 256) as u8);
     digits
 }
 
+/// Appends the two hexadecimal digits of a byte.
+#[inline(always)]
+fn push_byte<const N: usize>(text: &mut ArrayString<N>, byte: u8)
+    requires { array_string_len text.old + 2 ≤ N }
+    ensures { text.new.bytes ≡ text.old.bytes ++ hexadecimal_text 2 byte }
+{
+    text.push_str(glyph_text(byte / 16));
+    text.push_str(glyph_text(byte % 16));
+}
+
+/// A hexadecimal digit, 0 to 15, in upper case, as a text.
+#[inline(always)]
+fn glyph_text(digit: u8) -> &'static str
+    requires { digit < 16 }
+    ensures { result.now ≡ digit_glyph true digit ∷ [] }
+{
+    match digit {
+        0 => "0",
+        1 => "1",
+        2 => "2",
+        3 => "3",
+        4 => "4",
+        5 => "5",
+        6 => "6",
+        7 => "7",
+        8 => "8",
+        9 => "9",
+        10 => "A",
+        11 => "B",
+        12 => "C",
+        13 => "D",
+        14 => "E",
+        _ => "F",
+    }
+}
+
 /// A character as the display shows it: 20 to 7E but `\` as it is, and any other escaped.
+#[inline]
 pub fn character_text(character: u8) -> ArrayString<3>
     ensures { result.bytes ≡ spec.character_text character }
 {
@@ -65,16 +106,18 @@ pub fn character_text(character: u8) -> ArrayString<3>
 }
 
 /// A character as `\` and its two hexadecimal digits.
+#[inline]
 pub fn escaped(character: u8) -> ArrayString<3>
     ensures { result.bytes ≡ spec.escaped character }
 {
     let mut text = ArrayString::new();
-    text.push('\\');
-    text.push_str(byte_digits(character).as_str());
+    text.push_str("\\");
+    push_byte(&mut text, character);
     text
 }
 
 /// Whether a character stands for itself: 20 to 7E, but for `\`.
+#[inline(always)]
 fn is_plain(character: u8) -> bool
     ensures { result ≡ spec.is_plain character }
 {

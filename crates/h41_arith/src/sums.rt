@@ -34,6 +34,8 @@ impl DigitOperation {
     }
 
     /// `into` with the digits of `x` and `y` added or subtracted in the span, and the carry or borrow out of its top digit.
+    #[cold]
+    #[inline(never)]
     pub fn over_span(
         self,
         base: u8,

@@ -226,6 +226,7 @@ macro_rules! line_of_number {
 }
 
 /// The row of a word.
+#[inline(always)]
 pub fn row(word: Word) -> Row
     ensures row { result ≡ spec.row_of word }
     ensures length { spec.words_of result ≡ spec.length_of word }
@@ -240,6 +241,7 @@ pub fn row(word: Word) -> Row
 }
 
 /// The operation with this number, 0 to 31.
+#[inline(always)]
 fn operation(number: u16) -> Operation
     requires { number < 32 }
     ensures { spec.operation_number result ≡ number }
@@ -248,6 +250,7 @@ fn operation(number: u16) -> Operation
 }
 
 /// The field with this number, 0 to 7.
+#[inline(always)]
 fn field(number: u16) -> Field
     requires { number < 8 }
     ensures { spec.field_number result ≡ number }
@@ -257,6 +260,7 @@ fn field(number: u16) -> Field
 
 /// The row of a short jump.
 #[tactic(auto, unfolding(crate::specs::WordTable::number_of))]
+#[inline(always)]
 fn short_jump(word: Word) -> Row
     requires { word % 4 ≡ 3 }
     ensures number { spec.number_of result ≡ word }
@@ -275,6 +279,7 @@ fn short_jump(word: Word) -> Row
 
 /// The row of a word whose low two bits are 00.
 #[tactic(auto, unfolding(crate::specs::WordTable::number_of))]
+#[inline(always)]
 fn miscellaneous(word: Word) -> Row
     requires { word % 4 ≡ 0 }
     ensures number { spec.number_of result ≡ word }
@@ -299,6 +304,7 @@ fn miscellaneous(word: Word) -> Row
 }
 
 /// The number that a line, 0 to 15, of a mapped column means, 0 to 13; the lines 7 and 15 mean none.
+#[inline(always)]
 fn meant_by(line: u8) -> Option<u8>
     requires { line < 16 }
     ensures meant { IfSome result (λ number. spec.mapped_line number ≡ line) }
@@ -310,6 +316,7 @@ fn meant_by(line: u8) -> Option<u8>
 
 /// The row of a word of a mapped column where its line means a number, 0 to 13.
 #[tactic(auto, unfolding(crate::specs::WordTable::number_of))]
+#[inline(always)]
 fn mapped(word: Word, meant: u8) -> Row
     requires column { IsMappedColumn (word % 64) }
     requires meant { spec.mapped_line meant ≡ word / 64 }
@@ -329,6 +336,7 @@ fn mapped(word: Word, meant: u8) -> Row
 
 /// The row of a word of a mapped column where its line, 7 or 15, means no number.
 #[tactic(auto, unfolding(crate::specs::WordTable::number_of))]
+#[inline(always)]
 fn unmapped(word: Word) -> Row
     requires column { IsMappedColumn (word % 64) }
     requires line { (word / 64 ≡ 7) ⊎ (word / 64 ≡ 15) }
@@ -340,6 +348,7 @@ fn unmapped(word: Word) -> Row
 
 /// The row of a word whose low six bits are 00.
 #[tactic(auto, unfolding(crate::specs::WordTable::number_of))]
+#[inline(always)]
 fn column_00(word: Word) -> Row
     requires { word % 64 ≡ 0x00 }
     ensures number { spec.number_of result ≡ word }
@@ -350,6 +359,7 @@ fn column_00(word: Word) -> Row
 
 /// The row of a word whose low six bits are 18.
 #[tactic(auto, unfolding(crate::specs::WordTable::number_of))]
+#[inline(always)]
 fn column_18(word: Word) -> Row
     requires { word % 64 ≡ 0x18 }
     ensures number { spec.number_of result ≡ word }
@@ -360,6 +370,7 @@ fn column_18(word: Word) -> Row
 
 /// The row of a word whose low six bits are 20.
 #[tactic(auto, unfolding(crate::specs::WordTable::number_of))]
+#[inline(always)]
 fn column_20(word: Word) -> Row
     requires { word % 64 ≡ 0x20 }
     ensures number { spec.number_of result ≡ word }
@@ -370,6 +381,7 @@ fn column_20(word: Word) -> Row
 
 /// The row of a word whose low six bits are 30.
 #[tactic(auto, unfolding(crate::specs::WordTable::number_of))]
+#[inline(always)]
 fn column_30(word: Word) -> Row
     requires { word % 64 ≡ 0x30 }
     ensures number { spec.number_of result ≡ word }
@@ -380,6 +392,7 @@ fn column_30(word: Word) -> Row
 
 /// The row of a word whose low six bits are 38.
 #[tactic(auto, unfolding(crate::specs::WordTable::number_of))]
+#[inline(always)]
 fn column_38(word: Word) -> Row
     requires { word % 64 ≡ 0x38 }
     ensures number { spec.number_of result ≡ word }

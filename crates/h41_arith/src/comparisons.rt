@@ -8,6 +8,7 @@ use h41_digits::Reg;
 use h41_fields::Span;
 
 /// Whether `x` is below `y` in the span: the borrow of `x` - `y`, which is the same in either base.
+#[inline(always)]
 pub fn less(x: Reg, y: Reg, span: Span) -> bool
     ensures { result ≡ is_less x y span.lo span.hi }
 {
@@ -15,6 +16,7 @@ pub fn less(x: Reg, y: Reg, span: Span) -> bool
 }
 
 /// Whether `x` and `y` have different digits in the span.
+#[inline(always)]
 pub fn differs(x: Reg, y: Reg, span: Span) -> bool
     ensures { result ≡ is_different x y span.lo span.hi }
 {
@@ -22,6 +24,7 @@ pub fn differs(x: Reg, y: Reg, span: Span) -> bool
 }
 
 /// Whether `x` has a digit other than 0 in the span.
+#[inline(always)]
 pub fn nonzero(x: Reg, span: Span) -> bool
     ensures { result ≡ is_nonzero x span.lo span.hi }
 {

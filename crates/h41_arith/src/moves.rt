@@ -8,6 +8,7 @@ use h41_digits::Reg;
 use h41_fields::Span;
 
 /// `into` with the digits of `x` in the span, and no carry.
+#[inline(always)]
 pub fn copy(into: Reg, x: Reg, span: Span) -> (Reg, bool)
     ensures digits { result.0 ≡ copied into x span.lo span.hi }
     ensures carry { result.1 ≡ false }
@@ -18,6 +19,7 @@ pub fn copy(into: Reg, x: Reg, span: Span) -> (Reg, bool)
 
 /// `into` with the digits of `x` in the span, each one place further to the left; the span's first digit becomes 0. There
 /// is no carry.
+#[inline(always)]
 pub fn shift_left(into: Reg, x: Reg, span: Span) -> (Reg, bool)
     ensures digits { result.0 ≡ shifted_left into x span.lo span.hi }
     ensures carry { result.1 ≡ false }
@@ -29,6 +31,7 @@ pub fn shift_left(into: Reg, x: Reg, span: Span) -> (Reg, bool)
 
 /// `into` with the digits of `x` in the span, each one place further to the right; the span's last digit becomes 0. There
 /// is no carry.
+#[inline(always)]
 pub fn shift_right(into: Reg, x: Reg, span: Span) -> (Reg, bool)
     ensures digits { result.0 ≡ shifted_right into x span.lo span.hi }
     ensures carry { result.1 ≡ false }
@@ -38,6 +41,7 @@ pub fn shift_right(into: Reg, x: Reg, span: Span) -> (Reg, bool)
 }
 
 /// The two registers with their digits in the span exchanged.
+#[inline(always)]
 pub fn exchange(x: Reg, y: Reg, span: Span) -> (Reg, Reg)
     ensures first { result.0 ≡ copied x y span.lo span.hi }
     ensures second { result.1 ≡ copied y x span.lo span.hi }

@@ -94,6 +94,7 @@ fn difference_digit(base: u8, x: u8, y: u8, borrow_in: bool) -> (u8, bool)
 }
 
 /// A number of a span that may have one digit too many: the span's digits, and whether there is a 1 above them.
+#[inline(always)]
 fn carried(number: u64, limit: u64) -> (u64, bool)
     requires { number < 2 * limit }
     ensures parts { result.0 + limit * carry_digit result.1 ≡ number }
@@ -107,6 +108,7 @@ fn carried(number: u64, limit: u64) -> (u64, bool)
 }
 
 /// `into` with `x` + `y` + the carry in, in base 16, in the span, and the carry out.
+#[inline(always)]
 fn hexadecimal_sum(into: Reg, x: Reg, y: Reg, carry_in: bool, span: Span) -> (Reg, bool)
     ensures { SumInto 16 into x y carry_in span.lo span.hi result.0 result.1 }
 {
@@ -118,6 +120,7 @@ fn hexadecimal_sum(into: Reg, x: Reg, y: Reg, carry_in: bool, span: Span) -> (Re
 }
 
 /// `into` with `x` - `y` - the borrow in, in base 16, in the span, and the borrow out.
+#[inline(always)]
 fn hexadecimal_difference(into: Reg, x: Reg, y: Reg, borrow_in: bool, span: Span) -> (Reg, bool)
     ensures { DifferenceInto 16 into x y borrow_in span.lo span.hi result.0 result.1 }
 {
@@ -129,6 +132,7 @@ fn hexadecimal_difference(into: Reg, x: Reg, y: Reg, borrow_in: bool, span: Span
 }
 
 /// A one in each digit, of those where `ones` has one, out of which the sum of `x` and `y` carries into the next.
+#[inline(always)]
 fn carries(x: u64, y: u64, sum: u64, ones: u64) -> u64
     ensures carries { result ≡ carries_of x y sum ones }
     ensures most { result ≤ ones }
@@ -137,6 +141,7 @@ fn carries(x: u64, y: u64, sum: u64, ones: u64) -> u64
 }
 
 /// Whether a number has a digit from A to F: where six is added to each digit, one carries.
+#[inline(always)]
 fn has_letter(number: u64, ones: u64) -> bool
     requires { number + 6 * ones < 2 ^ 64 }
     ensures { result ≡ not (carries_of number (6 * ones) (number + 6 * ones) ones == 0) }
@@ -146,6 +151,7 @@ fn has_letter(number: u64, ones: u64) -> bool
 
 /// The sum of two numbers in base 10, of which the first has no digit from A to F: the sum in base 16, and six more at each
 /// digit that carries. It carries where it does so with six more at each digit of the first.
+#[inline(always)]
 fn decimal_total(first: u64, second: u64, carry_in: bool, limit: u64, ones: u64) -> (u64, bool)
     requires ones { 15 * ones + 1 ≡ limit }
     requires limit { limit ≤ 2 ^ 56 }
@@ -161,6 +167,7 @@ fn decimal_total(first: u64, second: u64, carry_in: bool, limit: u64, ones: u64)
 }
 
 /// `into` with `x` + `y` + the carry in, in base 10, in the span, and the carry out.
+#[inline(always)]
 fn decimal_sum(into: Reg, x: Reg, y: Reg, carry_in: bool, span: Span) -> (Reg, bool)
     ensures { SumInto 10 into x y carry_in span.lo span.hi result.0 result.1 }
 {
@@ -177,6 +184,7 @@ fn decimal_sum(into: Reg, x: Reg, y: Reg, carry_in: bool, span: Span) -> (Reg, b
 
 /// `into` with `x` - `y` - the borrow in, in base 10, in the span, and the borrow out: x and the complement of y to nines, and
 /// one more where there is no borrow in. A carry out of that is no borrow.
+#[inline(always)]
 fn decimal_difference(into: Reg, x: Reg, y: Reg, borrow_in: bool, span: Span) -> (Reg, bool)
     ensures { DifferenceInto 10 into x y borrow_in span.lo span.hi result.0 result.1 }
 {
@@ -193,6 +201,7 @@ fn decimal_difference(into: Reg, x: Reg, y: Reg, borrow_in: bool, span: Span) ->
 
 /// `into` with `x` + `y` + the carry in, in the span, and the carry out of the span's top digit. The base is 10 where `DEC`,
 /// else 16. In base 10 a digit from A to F is added like others: F + 1 is 6 with a carry (this project's choice).
+#[inline(always)]
 pub fn add<const DEC: bool>(into: Reg, x: Reg, y: Reg, carry_in: bool, span: Span) -> (Reg, bool)
     ensures { SumInto (base_of DEC) into x y carry_in span.lo span.hi result.0 result.1 }
 {
@@ -205,6 +214,7 @@ pub fn add<const DEC: bool>(into: Reg, x: Reg, y: Reg, carry_in: bool, span: Spa
 
 /// `into` with `x` - `y` - the borrow in, in the span, and the borrow out of the span's top digit. The base is 10 where
 /// `DEC`, else 16. In base 10 a digit from A to F is subtracted like others: 0 - F is B with a borrow (this project's choice).
+#[inline(always)]
 pub fn sub<const DEC: bool>(into: Reg, x: Reg, y: Reg, borrow_in: bool, span: Span) -> (Reg, bool)
     ensures { DifferenceInto (base_of DEC) into x y borrow_in span.lo span.hi result.0 result.1 }
 {
@@ -216,6 +226,7 @@ pub fn sub<const DEC: bool>(into: Reg, x: Reg, y: Reg, borrow_in: bool, span: Sp
 }
 
 /// `into` with `x` + 1 in the span, and the carry.
+#[inline(always)]
 pub fn inc<const DEC: bool>(into: Reg, x: Reg, span: Span) -> (Reg, bool)
     ensures { SumInto (base_of DEC) into x zeros true span.lo span.hi result.0 result.1 }
 {
@@ -223,6 +234,7 @@ pub fn inc<const DEC: bool>(into: Reg, x: Reg, span: Span) -> (Reg, bool)
 }
 
 /// `into` with `x` - 1 in the span, and the borrow.
+#[inline(always)]
 pub fn dec<const DEC: bool>(into: Reg, x: Reg, span: Span) -> (Reg, bool)
     ensures { DifferenceInto (base_of DEC) into x zeros true span.lo span.hi result.0 result.1 }
 {
@@ -230,6 +242,7 @@ pub fn dec<const DEC: bool>(into: Reg, x: Reg, span: Span) -> (Reg, bool)
 }
 
 /// `into` with 0 - `x` in the span, the complement to the base, and the borrow.
+#[inline(always)]
 pub fn neg<const DEC: bool>(into: Reg, x: Reg, span: Span) -> (Reg, bool)
     ensures { DifferenceInto (base_of DEC) into zeros x false span.lo span.hi result.0 result.1 }
 {
@@ -237,6 +250,7 @@ pub fn neg<const DEC: bool>(into: Reg, x: Reg, span: Span) -> (Reg, bool)
 }
 
 /// `into` with 0 - `x` - 1 in the span, each digit's complement to the base less one, and the borrow, which is always set.
+#[inline(always)]
 pub fn neg1<const DEC: bool>(into: Reg, x: Reg, span: Span) -> (Reg, bool)
     ensures sub { DifferenceInto (base_of DEC) into zeros x true span.lo span.hi result.0 result.1 }
     ensures borrow { result.1 ≡ true }

@@ -64,6 +64,7 @@ impl Bench {
     }
 
     /// One single step. What is refused changes nothing.
+    #[inline(always)]
     pub fn step(&mut self) -> Result<(), CalculatorRefusal>
         ensures refusal { RefusesStep self.old.calculator (result_err result) }
         ensures change { OnOk result (Step self.old.calculator self.new.calculator) }

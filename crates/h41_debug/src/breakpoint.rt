@@ -3,6 +3,7 @@
 ghost use Rattle.std.specs.Prelude.{◌≡◌, ◌≤◌, ◌<◌, OnErr, OnOk, is_err, position};
 ghost use Rattle.std.specs.FinSet.{len};
 ghost use Rattle.std.specs.List.{list_any};
+ghost use Rattle.h41_debug.specs.declared.breakpoint.Breakpoint.TheVariants.{Word};
 ghost use Rattle.h41_debug.specs.Breakpoints.{is_set, lacks_breakpoint, most_breakpoints, no_breakpoints, refuses_breakpoint, with_breakpoint, without_breakpoint};
 ghost use Rattle.h41_debug.specs.Running.{is_same, low_byte};
 
@@ -25,6 +26,8 @@ pub enum Breakpoint {
 }
 
 impl Default for Breakpoint {
+    ghost is_default = { λ breakpoint. breakpoint ≡ Word 0 };
+
     fn default() -> Self {
         Breakpoint::Word(0)
     }

@@ -134,6 +134,7 @@ impl<const N: usize> Digits<N> {
     }
 
     /// The number of the digits from place `lo` to place `hi`, of which the one at `lo` is the least.
+    #[inline(always)]
     pub fn number(&self, lo: usize, hi: usize) -> u64
         requires ordered { lo ≤ hi }
         requires in_register { hi < N }
@@ -145,6 +146,7 @@ impl<const N: usize> Digits<N> {
     }
 
     /// The same register with the digits of a number at the places from `lo`, which takes the least, to `hi`.
+    #[inline(always)]
     pub fn with_number(&self, lo: usize, hi: usize, number: u64) -> Self
         requires ordered { lo ≤ hi }
         requires in_register { hi < N }
@@ -189,6 +191,7 @@ fn glyph(digit: u8) -> u8
 }
 
 /// A word with other bits in place of `width` of its own, the lowest of which is bit `at`.
+#[inline(always)]
 fn with_bits(word: u64, at: usize, width: usize, bits: u64) -> u64
     requires width { (0 < width) × (width < 64) }
     requires in_word { width + at ≤ 64 }

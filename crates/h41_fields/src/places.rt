@@ -10,6 +10,7 @@ use h41_digits::PLACES;
 const LAST_PLACE: usize = PLACES - 1;
 
 /// The places of a field, where the pointers P and Q, each 0 to 13, name these places and one of them is active.
+#[inline(always)]
 pub fn span(field: Field, p: usize, q: usize, active: Pointer) -> Span
     requires p_in_register { p < 14 }
     requires q_in_register { q < 14 }

@@ -22,6 +22,7 @@ mod rom;
 /// Carries out the word at the processor's address. It is refused by the first of these, and changes nothing then: the
 /// fetch of the word (8, 9); the word itself (6, 7, 10, 11); the fetch of a second word (8, 9); a read or write of a page
 /// (8, 12); an arrival in pages 0 to 3 other than at 00F0 (8). The order is this project's choice; after FFFF comes 0000.
+#[inline(always)]
 pub fn step<const REGS: usize>(
     cpu: &mut Cpu,
     ram: &mut Ram<REGS>,
@@ -35,6 +36,7 @@ pub fn step<const REGS: usize>(
 }
 
 /// Carries out a row of the table of words.
+#[inline(always)]
 fn execute_row<const REGS: usize>(
     row: Row,
     cpu: &mut Cpu,

@@ -200,12 +200,14 @@ impl Pages {
         self.images[page][bank_place(bank)].as_ref()
     }
 
-    /// The image at the chosen bank of a page.
+    /// The image at the chosen bank of a page: bank 1, since no other can be plugged.
+    #[inline(always)]
     fn chosen_image(&self, page: usize) -> Option<&Image>
         requires { page < 16 }
         ensures { option_copied result ≡ spec.chosen_image self.now page }
     {
-        self.image(page, self.chosen[page])
+        self.known();
+        self.image(page, Bank::First)
     }
 }
 

@@ -215,6 +215,7 @@ impl Calculator {
     /// One step: a word while a function runs, which ends where it arrives at 00F0, and else the line at the position. A word is
     /// refused as 6 to 12; a line as 15 where memory is not sound, as 14 where bytes are no line, as 13 where it is not carried
     /// out. Nothing is changed then.
+    #[inline(always)]
     pub fn step(&mut self) -> Result<(), CalculatorRefusal>
         ensures refusal { RefusesStep self.old (result_err result) }
         ensures change { OnOk result (Step self.old self.new) }
@@ -227,6 +228,7 @@ impl Calculator {
     }
 
     /// The line at the position, with what it leaves in the display; or a module's function begins.
+    #[inline(never)]
     fn step_line(&mut self) -> Result<(), CalculatorRefusal>
         ensures refusal { RefusesLine self.old (result_err result) }
         ensures change { OnOk result (StepsByLine self.old self.new) }
@@ -378,6 +380,7 @@ impl Calculator {
     }
 
     /// One word, while a function runs; lift is on where the function ends.
+    #[inline(always)]
     fn step_word(&mut self, caller: Caller) -> Result<(), CalculatorRefusal>
         requires { self.old.mode ≡ Micro caller }
         ensures refusal { RefusesStepIn (Micro caller) self.old (result_err result) }

@@ -19,6 +19,7 @@ use h41_words::Operation;
 
 impl Cpu {
     /// `OPERATION FIELD`: works on a field in the base that is set.
+    #[inline(always)]
     pub(crate) fn arithmetic(
         &mut self,
         operation: Operation,
@@ -29,16 +30,45 @@ impl Cpu {
         ensures stays { OnErr result (self.new ≡ self.old) }
     {
         let next = arrival(self.next_address())?;
-        let places = span(field, self.p, self.q, self.active);
         self.arrive(next, false);
         match self.base {
-            Base::Hexadecimal => self.operate::<false>(operation, places),
-            Base::Decimal => self.operate::<true>(operation, places),
+            Base::Hexadecimal => self.operate_on::<false>(operation, field),
+            Base::Decimal => self.operate_on::<true>(operation, field),
         }
         Ok(())
     }
 
+    /// Works on a field, in base 10 where `DEC`, else in base 16. The carry is clear before. The fields of most sums have machine code
+    /// of their own, in which their places are constants.
+    #[inline(always)]
+    fn operate_on<const DEC: bool>(&mut self, operation: Operation, field: Field)
+        requires base { base_of DEC ≡ base_number self.old.base }
+        requires carry { self.old.carry ≡ false }
+        ensures { OperatesOn operation field self.old self.new }
+    {
+        match field {
+            Field::All => self.operate_within::<DEC>(operation, Field::All),
+            Field::Mantissa => self.operate_within::<DEC>(operation, Field::Mantissa),
+            Field::SignAndExponent => {
+                self.operate_within::<DEC>(operation, Field::SignAndExponent)
+            }
+            field => self.operate_within::<DEC>(operation, field),
+        }
+    }
+
+    /// The same, by the field's places.
+    #[inline(always)]
+    fn operate_within<const DEC: bool>(&mut self, operation: Operation, field: Field)
+        requires base { base_of DEC ≡ base_number self.old.base }
+        requires carry { self.old.carry ≡ false }
+        ensures { OperatesOn operation field self.old self.new }
+    {
+        let places = span(field, self.p, self.q, self.active);
+        self.operate::<DEC>(operation, places);
+    }
+
     /// Works on a span of places, in base 10 where `DEC`, else in base 16. The carry is clear before.
+    #[inline(always)]
     fn operate<const DEC: bool>(&mut self, operation: Operation, span: Span)
         requires base { base_of DEC ≡ base_number self.old.base }
         requires carry { self.old.carry ≡ false }

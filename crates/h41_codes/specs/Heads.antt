@@ -1,5 +1,5 @@
 -- What first bytes stand for, as the functions that read bytes promise it one another. Of public contracts only those of lines
--- of one byte need this file.
+-- of one byte or two need this file.
 use Rattle.h41_codes.specs.ByteGrammar.{Spells}
 use Rattle.h41_codes.specs.declared.line.Line.{Line}
 use Rattle.std.specs.Prelude.{ℕ, ◌<◌, ◌≤◌, ◌⊎◌, ◌≡◌, ◌+◌, List, [], ◌∷◌, length, slice_index}

@@ -74,6 +74,19 @@ pub fn is_one_byte(byte: u8) -> bool
     }
 }
 
+/// The line that two bytes are, told by the first: a function with an operand, XROM, GTO IND and XEQ IND, GTO 00 to 14. `None` for
+/// bytes with which other lines begin, or none.
+#[inline(always)]
+pub fn two_byte_line(first: u8, second: u8) -> Option<Line>
+    ensures some { IfSome result (λ line. IsTwoBytes first × Spells (first ∷ second ∷ []) line) }
+    ensures none { IfNone result (IsTwoBytes first → ⊥) }
+{
+    match first {
+        0x90..=0xAE | 0xB1..=0xBF | 0xCE | 0xCF => Some(two_bytes(first, second)),
+        _ => None,
+    }
+}
+
 /// The line of one byte.
 fn one_byte(first: u8) -> Line
     requires { IsOneByte first }

@@ -15,7 +15,7 @@ mod table;
 
 pub use canonical::canon;
 pub use characters::{Character, Number, Text};
-pub use decoder::{decode, is_one_byte, one_byte_line};
+pub use decoder::{decode, is_one_byte, one_byte_line, two_byte_line};
 pub use encoder::{LINE_CAPACITY, encode};
 pub use faults::{BrokenProgram, BufferShort};
 pub use functions::{Branch, Function, NameFunction, ParameterFunction, RegisterFunction};

@@ -1,4 +1,5 @@
 pub mod Addresses
+pub mod ByteLines
 pub mod ClosedRead
 pub mod Closings
 pub mod Depends
@@ -18,7 +19,6 @@ pub mod Mains
 pub mod Memory
 pub mod NewLines
 pub mod Numbers
-pub mod OneByteLines
 pub mod Outcomes
 pub mod Packings
 pub mod Resized

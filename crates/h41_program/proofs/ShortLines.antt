@@ -77,7 +77,7 @@ pub no_number : (byte : ℕ) → IsOneByte byte → BeginsNoNumber byte
 no_number byte (inl low) = λ from to. omega (arith, low, from)
 no_number byte (inr high) = λ from to. omega (arith, high.0, to)
 
-whole_narrow : (numbers : NumberBegins) (line : Line) (byte count : ℕ) (more rest : List ℕ) → IsLine line
+pub whole_narrow : (numbers : NumberBegins) (line : Line) (byte count : ℕ) (more rest : List ℕ) → IsLine line
     → take (suc count) (byte ∷ more) ≡ spelling line → BeginsNoNumber byte → IsWhole line rest
 whole_narrow numbers (Number characters) byte count more rest valid same other = λ goes.
     let begun : GoesOn (spelling (Number characters) ++ []) = (numbers (Number characters) [] valid).1 tt in

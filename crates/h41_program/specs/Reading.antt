@@ -1,14 +1,23 @@
 -- What the functions that read program memory promise one another. No public contract needs this file.
-use Rattle.std.specs.Prelude.{◌≡◌, ◌≤◌, ℕ, ◌-◌, ◌/◌, MatchBool, List, length, map, min}
+use Rattle.std.specs.Prelude.{◌≡◌, ◌≤◌, ℕ, ◌+◌, ◌-◌, ◌/◌, false, MatchBool, List, length, map, min}
 use Rattle.std.specs.List.{range_with_len}
 use Rattle.h41_ram.specs.RegisterMap.{RegisterMap, curtain_of, register_at}
+use Rattle.h41_codes.specs.declared.line.Line.{Line}
 use Rattle.h41_program.specs.declared.given.Taken.{Taken}
 use Rattle.h41_program.specs.declared.listed_line.ListedLine.{ListedLine}
 use Rattle.h41_program.specs.declared.reading.Found.{Found}
 use Rattle.h41_program.specs.declared.reading.Place.{Place}
 use Rattle.h41_program.specs.Lines.{is_end, is_final_end}
 use Rattle.h41_program.specs.ProgramBytes.{program_byte}
-use Rattle.h41_program.specs.ProgramLines.{NoneFrom, IsFirst, LinesFrom, PositionFrom}
+use Rattle.h41_program.specs.ProgramLines.{HasFirst, NoneFrom, IsFirst, LinesFrom, PositionFrom}
+
+-- memory has this line of so many bytes first from a position on, right there
+abbrev pub HasThere : RegisterMap → ℕ → ℕ → Line → Type 0
+HasThere memory at count line = HasFirst memory at (record { listed = record { position = at; line = line }; behind = at + count })
+
+-- a line ends neither a program nor memory
+abbrev pub EndsNothing : Line → Type 0
+EndsNothing line = (false ≡ is_end line) × (false ≡ is_final_end line)
 
 -- the position of the line behind a line, or the byte behind it where no line follows; that of .END. is its own
 abbrev pub FoundBehind : RegisterMap → Found → ℕ → Type 0

@@ -1,11 +1,11 @@
 //! The line that stands at a position.
-ghost use Rattle.std.specs.Prelude.{◌≡◌, ◌≢◌, ℕ, ◌+◌, ◌-◌, ◌<◌, ◌≤◌, map, slice_index, min, IsTrue, IfSome, IfNone};
+ghost use Rattle.std.specs.Prelude.{◌≡◌, ◌≢◌, ℕ, ◌+◌, ◌-◌, ◌<◌, ◌≤◌, map, slice_index, min, IsSome, IsTrue, IfSome, IfNone};
 ghost use Rattle.std.specs.List.{range_with_len};
 ghost use Rattle.h41_ram.specs.RegisterMap.{is_sound};
 ghost use Rattle.h41_program.specs.ProgramBytes.{byte_count, final_position, program_byte};
 ghost use Rattle.h41_program.specs.ProgramBytes as spec;
 ghost use Rattle.h41_program.specs.ProgramLines.{AnswersFirst, AnswersNext, HasFirst, HasNoLine, HasPlace};
-ghost use Rattle.h41_program.specs.Reading.{bytes_seen, program_register, BeginsNoNumber, FoundBehind, IsPlaceOf};
+ghost use Rattle.h41_program.specs.Reading.{bytes_seen, program_register, BeginsNoNumber, EndsNothing, FoundBehind, HasThere, IsPlaceOf};
 ghost use Rattle.h41_codes.specs.ByteGrammar.{AnswersLine};
 
 use crate::kinds::{is_end, is_final_end};
@@ -13,7 +13,7 @@ use crate::listed_line::ListedLine;
 use crate::refusal::ProgramRefusal;
 use arrayvec::ArrayVec;
 use h41_codes::laws::{byte_round_trip, first_bytes};
-use h41_codes::{BrokenProgram, Line, decode, is_one_byte, one_byte_line};
+use h41_codes::{BrokenProgram, Line, decode, is_one_byte, one_byte_line, two_byte_line};
 use h41_digits::Reg;
 use h41_ram::Ram;
 
@@ -189,7 +189,7 @@ fn line_limit(position: u16, last: u16) -> u16
 }
 
 /// The first line from a position on, nulls passed over, and the byte behind it; `None` where no line follows. The list goes on
-/// from that byte, except behind `.END.`, its last line. A line of one byte that stands there is read without a window.
+/// from that byte, except behind `.END.`, its last line. A line of one byte or two that stands there is read without a window.
 pub fn first_from<const REGS: usize>(ram: &Ram<REGS>, at: u16) -> Option<Found>
     requires { IsTrue (is_sound ram.now) }
     ensures first { IfSome result (λ found. HasFirst ram.now at found) }
@@ -209,9 +209,37 @@ pub fn first_from<const REGS: usize>(ram: &Ram<REGS>, at: u16) -> Option<Found>
                     behind: at + 1,
                 });
             }
+            if let Some(line) = two_bytes_at(ram, at, byte, last) {
+                return Some(Found {
+                    listed: ListedLine { position: at, line },
+                    behind: at + 2,
+                });
+            }
         }
     }
     first_decoded(ram, at, last)
+}
+
+/// The line of two bytes that stands at a position, whose first is given, where both stand before the last three.
+#[inline(always)]
+fn two_bytes_at<const REGS: usize>(ram: &Ram<REGS>, at: u16, byte: u8, last: u16) -> Option<Line>
+    requires sound { IsTrue (is_sound ram.now) }
+    requires last { last ≡ final_position ram.now }
+    requires count { last + 3 ≡ byte_count ram.now }
+    requires before { at < last }
+    requires bound { last ≤ 2237 }
+    requires byte { byte ≡ program_byte ram.now at }
+    ensures first { IfSome result (λ line. HasThere ram.now at 2 line) }
+    ensures ends { IfSome result (λ line. EndsNothing line) }
+    ensures inside { IsSome result → at + 1 < last }
+{
+    byte_round_trip();
+    first_bytes();
+    if at + 1 < last {
+        two_byte_line(byte, byte_at(ram, at + 1))
+    } else {
+        None
+    }
 }
 
 /// The first line from a position on, nulls passed over, read of a window of bytes.
@@ -250,13 +278,23 @@ pub fn place_from<const REGS: usize>(ram: &Ram<REGS>, at: u16) -> Option<Place>
     let last = final_position(ram);
     if at < last {
         let byte = byte_at(ram, at);
-        if byte != 0 && is_one_byte(byte) {
-            return Some(Place {
-                position: at,
-                behind: at + 1,
-                ends_program: false,
-                ends_memory: false,
-            });
+        if byte != 0 {
+            if is_one_byte(byte) {
+                return Some(Place {
+                    position: at,
+                    behind: at + 1,
+                    ends_program: false,
+                    ends_memory: false,
+                });
+            }
+            if let Some(_line) = two_bytes_at(ram, at, byte, last) {
+                return Some(Place {
+                    position: at,
+                    behind: at + 2,
+                    ends_program: false,
+                    ends_memory: false,
+                });
+            }
         }
     }
     match first_decoded(ram, at, last) {

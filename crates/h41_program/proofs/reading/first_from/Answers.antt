@@ -1,4 +1,4 @@
-use Rattle.h41_program.proofs.OneByteLines.{one_byte_first}
+use Rattle.h41_program.proofs.ByteLines.{one_byte_first}
 use Rattle.h41_program.proofs.reading.first_from.Goals as goal
 
 pub returns-in-Some-clause-first : goal.returns-in-Some-clause-first

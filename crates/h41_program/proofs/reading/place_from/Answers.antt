@@ -1,4 +1,4 @@
-use Rattle.h41_program.proofs.OneByteLines.{one_byte_place}
+use Rattle.h41_program.proofs.ByteLines.{one_byte_place}
 use Rattle.h41_program.proofs.reading.place_from.Goals as goal
 
 pub returns-then-is_one_byte-clause-place : goal.returns-then-is_one_byte-clause-place

@@ -1,0 +1,114 @@
+-- A line of one byte or two that stands where a line is looked for is the first, and no END.
+use Rattle.std.proofs.Common.{◌≡◌, ◌≢◌, ℕ, ◌+◌, ◌-◌, ◌<◌, List, [], ◌∷◌, map, min, length, true, false, Option, Some, None, IfSome, Ok, Result, inl, inr, refl, sym, subst, ap, ◌∙◌, arith}
+use Rattle.std.specs.List.{range_with_len}
+use Rattle.h41_codes.specs.ByteGrammar.{spelling, Begins, Spells}
+use Rattle.h41_codes.specs.ByteLaws.{NumberBegins, OneLine}
+use Rattle.h41_codes.specs.Heads.{IsOneByte, IsTwoBytes}
+use Rattle.h41_codes.specs.declared.faults.BrokenProgram.{BrokenProgram}
+use Rattle.h41_codes.specs.declared.line.Line.{Line}
+use Rattle.h41_codes.specs.declared.line.Line.TheVariants.{End, FinalEnd}
+use Rattle.h41_program.specs.Lines.{is_end, is_final_end}
+use Rattle.h41_program.specs.ProgramBytes.{byte_count, final_position, program_byte}
+use Rattle.h41_program.specs.ProgramLines.{HasFirst, HasPlace}
+use Rattle.h41_program.specs.Reading.{bytes_seen, BeginsNoNumber, EndsNothing, HasThere}
+use Rattle.h41_program.proofs.Memory.{Looked, looked_first}
+use Rattle.h41_program.proofs.ShortLines.{begins_by, no_number, seen_alone, seen_narrow, whole_narrow}
+use Rattle.h41_ram.specs.RegisterMap.{RegisterMap, is_sound}
+
+-- lines of one byte end nothing
+pub ends_no_program : (byte : ℕ) (line : Line) → byte ∷ [] ≡ spelling line → false ≡ is_end line
+ends_no_program byte (End link marks) same = absurd (omega (arith, ap length same))
+ends_no_program byte line same = refl
+
+pub ends_no_memory : (byte : ℕ) (line : Line) → byte ∷ [] ≡ spelling line → false ≡ is_final_end line
+ends_no_memory byte (FinalEnd link marks) same = absurd (omega (arith, ap length same))
+ends_no_memory byte line same = refl
+
+module _ (one : OneLine) (numbers : NumberBegins) (memory : RegisterMap) (sound : is_sound memory ≡ true) (at last byte : ℕ)
+    (last_is : last ≡ final_position memory) (count : last + 3 ≡ byte_count memory) (before : at < last)
+    (is : byte ≡ program_byte memory at) (other : byte ≢ 0) (alone : IsOneByte byte) (line : Line) (spells : Spells (byte ∷ []) line) where
+  looked : Looked memory at at last last (bytes_seen memory at last)
+  looked = record {
+    last_is = last_is;
+    count = count;
+    from = omega arith;
+    to = omega (arith, before);
+    nulls = λ k low high. absurd (omega (arith, low, high));
+    stop = λ below null. other (is ∙ null);
+    before = λ below. refl;
+    behind = λ here. absurd (omega (arith, here, before));
+    bytes = refl;
+  }
+
+  pub one_byte_first : HasFirst memory at (record { listed = record { position = at; line = line }; behind = at + 1 })
+  one_byte_first =
+      let begins = begins_by numbers byte [] line spells.valid spells.same (no_number byte alone) in
+      let answer : Result (Line × ℕ) BrokenProgram = Ok (line, 1) in
+      looked_first one memory sound at at last last (bytes_seen memory at last) looked answer
+      (seen_alone one numbers memory at last byte line 1 before is (no_number byte alone) begins) line 1 (at + 1) refl refl
+
+  pub one_byte_place : HasPlace memory at (record { position = at; behind = at + 1; ends_program = false; ends_memory = false })
+  one_byte_place = (line, one_byte_first, ends_no_program byte line spells.same, ends_no_memory byte line spells.same)
+
+-- lines of two bytes end nothing
+pub two_end_nothing : (first second : ℕ) (line : Line) → first ∷ second ∷ [] ≡ spelling line → EndsNothing line
+two_end_nothing first second (End link marks) same = absurd (omega (arith, ap length same))
+two_end_nothing first second (FinalEnd link marks) same = absurd (omega (arith, ap length same))
+two_end_nothing first second line same = (refl, refl)
+
+-- the bytes of two positions
+seen_pair : (memory : RegisterMap) (at : ℕ) → bytes_seen memory at (at + 2) ≡ program_byte memory at ∷ program_byte memory (at + 1) ∷ []
+seen_pair memory at =
+    let two : at + 2 - at ≡ 2 = omega arith in
+    ap (λ n. map (program_byte memory) (range_with_len at (min 18 n))) two
+
+-- a byte that begins a line of two is no null, and no number
+two_not_null : (byte : ℕ) → IsTwoBytes byte → byte ≢ 0
+two_not_null byte (inl low) = λ null. omega (arith, low.0, null)
+two_not_null byte (inr (inl high)) = λ null. omega (arith, high.0, null)
+two_not_null byte (inr (inr last)) = λ null. omega (arith, last.0, null)
+
+two_no_number : (byte : ℕ) → IsTwoBytes byte → BeginsNoNumber byte
+two_no_number byte (inl low) = λ from to. omega (arith, low.0, to)
+two_no_number byte (inr (inl high)) = λ from to. omega (arith, high.0, to)
+two_no_number byte (inr (inr last)) = λ from to. omega (arith, last.0, to)
+
+module _ (one : OneLine) (numbers : NumberBegins) (memory : RegisterMap) (sound : is_sound memory ≡ true) (at last first second : ℕ)
+    (last_is : last ≡ final_position memory) (count : last + 3 ≡ byte_count memory) (before : at + 1 < last)
+    (is : first ≡ program_byte memory at) (next : second ≡ program_byte memory (at + 1)) (two : IsTwoBytes first)
+    (line : Line) (spells : Spells (first ∷ second ∷ []) line) where
+  seen : first ∷ second ∷ [] ≡ bytes_seen memory at (at + 2)
+  seen = ap (λ byte. byte ∷ second ∷ []) is ∙ ap (λ byte. program_byte memory at ∷ byte ∷ []) next ∙ sym (seen_pair memory at)
+
+  looked_two : Looked memory at at last last (bytes_seen memory at last)
+  looked_two = record {
+    last_is = last_is;
+    count = count;
+    from = omega arith;
+    to = omega (arith, before);
+    nulls = λ k low high. absurd (omega (arith, low, high));
+    stop = λ below null. two_not_null first two (is ∙ null);
+    before = λ below. refl;
+    behind = λ here. absurd (omega (arith, here, before));
+    bytes = refl;
+  }
+
+  pub two_bytes_first : HasThere memory at 2 line
+  two_bytes_first =
+      let pair : Begins (first ∷ second ∷ []) line 2 = record {
+        inside = omega arith;
+        spells = spells;
+        whole = whole_narrow numbers line first 1 (second ∷ []) [] spells.valid spells.same (two_no_number first two);
+      } in
+      let begins : Begins (bytes_seen memory at (at + 2)) line 2 = subst (λ (bytes : List ℕ). Begins bytes line 2) seen pair in
+      let answer : Result (Line × ℕ) BrokenProgram = Ok (line, 2) in
+      looked_first one memory sound at at last last (bytes_seen memory at last) looked_two answer
+      (seen_narrow one numbers memory at (at + 2) last first line 2 (omega (arith, before)) (omega (arith, before)) is (two_no_number first two) begins)
+      line 2 (at + 2) refl refl
+
+pub two_bytes_found : (one : OneLine) (numbers : NumberBegins) (memory : RegisterMap) (sound : is_sound memory ≡ true) (at last first second : ℕ)
+    → last ≡ final_position memory → last + 3 ≡ byte_count memory → at + 1 < last → first ≡ program_byte memory at → second ≡ program_byte memory (at + 1)
+    → (found : Option Line) → IfSome found (λ line. IsTwoBytes first × Spells (first ∷ second ∷ []) line) → IfSome found (λ line. HasThere memory at 2 line)
+two_bytes_found one numbers memory sound at last first second last_is count before is next None none = tt
+two_bytes_found one numbers memory sound at last first second last_is count before is next (Some line) found =
+    two_bytes_first one numbers memory sound at last first second last_is count before is next found.0 line found.1

@@ -20,6 +20,7 @@ const NUMBER_MOST: usize = 16;
 
 /// Reads the line that bytes begin with, and answers how many bytes it takes. Other bytes may follow. A number takes as
 /// many as it can, up to 16.
+#[inline(always)]
 pub fn decode(bytes: &[u8]) -> Result<(Line, usize), BrokenProgram>
     ensures line { AnswersLine result bytes.now }
     ensures broken { IsErr result ↔ BeginsNoLine bytes.now }
@@ -28,6 +29,7 @@ pub fn decode(bytes: &[u8]) -> Result<(Line, usize), BrokenProgram>
 }
 
 /// Reads the line that bytes begin with, by their first byte.
+#[inline(always)]
 fn front(bytes: &[u8]) -> Result<(Line, usize), BrokenProgram>
     ensures line { IfOk result (λ found. Begins bytes.now found.0 found.1) }
     ensures broken { OnErr result (BeginsNoLine bytes.now) }
@@ -199,6 +201,7 @@ fn branch(first: u8, second: u8, third: u8) -> Line
 }
 
 /// The number that bytes begin with, and how many characters it has.
+#[inline(never)]
 fn number(bytes: &[u8]) -> (Line, usize)
     requires some { 0 < length bytes.now }
     requires first { IsIn 0x10 0x1D (slice_index bytes.now 0) }
@@ -246,6 +249,7 @@ fn text_at(bytes: &[u8]) -> Option<Text<15>>
 }
 
 /// The GTO, XEQ or W of a name that bytes begin with.
+#[inline(never)]
 fn named(bytes: &[u8]) -> Result<(Line, usize), BrokenProgram>
     requires some { 0 < length bytes.now }
     requires first { IsIn 0x1D 0x20 (slice_index bytes.now 0) }
@@ -274,6 +278,7 @@ fn name_function(first: u8) -> NameFunction
 }
 
 /// The text that bytes begin with.
+#[inline(never)]
 fn text(bytes: &[u8]) -> Result<(Line, usize), BrokenProgram>
     requires some { 0 < length bytes.now }
     requires first { IsIn 0xF0 0x100 (slice_index bytes.now 0) }
@@ -290,6 +295,7 @@ fn text(bytes: &[u8]) -> Result<(Line, usize), BrokenProgram>
 }
 
 /// The global label, END or .END. that bytes begin with.
+#[inline(never)]
 fn linked(bytes: &[u8]) -> Result<(Line, usize), BrokenProgram>
     requires some { 0 < length bytes.now }
     requires first { IsIn 0xC0 0xCE (slice_index bytes.now 0) }

@@ -27,6 +27,7 @@ use h41_rows::{BranchTarget, LineFault, branch_target, data_address};
 
 /// The line at the position is carried out: 15 where memory is not sound, 14 where no line stands there, 13 where it is left out,
 /// in this order, and last 14 where a line that a test or a loop would pass over is none. Nothing is changed then.
+#[inline(always)]
 pub fn step_line<const REGS: usize>(
     ram: &mut Ram<REGS>,
     focal: &mut Focal,
@@ -113,6 +114,7 @@ pub fn key_line<const REGS: usize>(
 }
 
 /// The line at the position, and the position of the next: 15 where memory is not sound, 14 where no line stands there.
+#[inline(always)]
 fn standing<const REGS: usize>(ram: &Ram<REGS>, focal: &Focal) -> Result<(Line, u16), FocalRefusal>
     ensures { Stands ram.now focal.now.position result }
 {
@@ -130,6 +132,7 @@ fn standing<const REGS: usize>(ram: &Ram<REGS>, focal: &Focal) -> Result<(Line, 
 }
 
 /// The position of the line behind one, or the byte behind it where no line follows; of `.END.` its own.
+#[inline(always)]
 fn position_behind<const REGS: usize>(ram: &Ram<REGS>, listed: ListedLine, behind: u16) -> u16
     requires sound { IsTrue (is_sound ram.now) }
     requires behind { behind ≡ program_lines.behind listed }

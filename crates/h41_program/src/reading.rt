@@ -54,6 +54,7 @@ pub struct Place {
 
 /// Where `.END.` begins, in the last three bytes of program memory: so many bytes stand before it. The list of lines ends there,
 /// if not before, at another `.END.` or at bytes that are no line.
+#[inline(always)]
 pub fn final_position<const REGS: usize>(ram: &Ram<REGS>) -> u16
     requires { IsTrue (is_sound ram.now) }
     ensures value { result ≡ spec.final_position ram.now }
@@ -64,6 +65,7 @@ pub fn final_position<const REGS: usize>(ram: &Ram<REGS>) -> u16
 }
 
 /// The register that has the byte at a position of program memory; at its end the one below it.
+#[inline(always)]
 fn register_of<const REGS: usize>(ram: &Ram<REGS>, position: u16) -> Reg
     requires count { position ≤ byte_count ram.now }
     requires sound { IsTrue (is_sound ram.now) }
@@ -73,6 +75,7 @@ fn register_of<const REGS: usize>(ram: &Ram<REGS>, position: u16) -> Reg
 }
 
 /// The byte at a position of program memory.
+#[inline(always)]
 fn byte_at<const REGS: usize>(ram: &Ram<REGS>, position: u16) -> u8
     requires { position < byte_count ram.now }
     ensures { result ≡ program_byte ram.now position }
@@ -82,6 +85,7 @@ fn byte_at<const REGS: usize>(ram: &Ram<REGS>, position: u16) -> u8
 }
 
 /// The first position from one on, and before the last three bytes, whose byte is no null; else where these begin.
+#[inline(always)]
 fn past_nulls<const REGS: usize>(ram: &Ram<REGS>, at: u16, last: u16) -> u16
     requires from { at ≤ last }
     requires last { last < byte_count ram.now }
@@ -99,6 +103,7 @@ fn past_nulls<const REGS: usize>(ram: &Ram<REGS>, at: u16, last: u16) -> u16
 }
 
 /// The bytes from a position to another, or the first 18 of them.
+#[inline(always)]
 fn window<const REGS: usize>(ram: &Ram<REGS>, at: u16, limit: u16) -> Window
     requires from { at ≤ limit }
     requires limit { limit ≤ byte_count ram.now }
@@ -122,6 +127,7 @@ fn window<const REGS: usize>(ram: &Ram<REGS>, at: u16, limit: u16) -> Window
 
 /// How many bytes a line takes at most that a byte begins: told by that byte for lines of two or three bytes and texts, and 18
 /// for all others.
+#[inline(always)]
 fn line_most(byte: u8) -> u16
     ensures least { 1 ≤ result }
     ensures most { result ≤ 18 }
@@ -136,6 +142,7 @@ fn line_most(byte: u8) -> u16
 }
 
 /// The line that the bytes from a position to another begin with, of as many of them as its first one asks for.
+#[inline(always)]
 fn decoded<const REGS: usize>(
     ram: &Ram<REGS>,
     at: u16,
@@ -160,6 +167,7 @@ fn decoded<const REGS: usize>(
 }
 
 /// The line that the bytes from a position to another begin with, of the first 18 of them.
+#[inline(always)]
 fn decoded_in<const REGS: usize>(
     ram: &Ram<REGS>,
     at: u16,
@@ -175,6 +183,7 @@ fn decoded_in<const REGS: usize>(
 }
 
 /// The byte behind those that a line may take which begins at a position: the last three are taken from their first on alone.
+#[inline(always)]
 fn line_limit(position: u16, last: u16) -> u16
     requires from { position ≤ last }
     requires bound { last < 2240 }
@@ -190,6 +199,7 @@ fn line_limit(position: u16, last: u16) -> u16
 
 /// The first line from a position on, nulls passed over, and the byte behind it; `None` where no line follows. The list goes on
 /// from that byte, except behind `.END.`, its last line. A line of one byte or two that stands there is read without a window.
+#[inline(always)]
 pub fn first_from<const REGS: usize>(ram: &Ram<REGS>, at: u16) -> Option<Found>
     requires { IsTrue (is_sound ram.now) }
     ensures first { IfSome result (λ found. HasFirst ram.now at found) }
@@ -243,6 +253,7 @@ fn two_bytes_at<const REGS: usize>(ram: &Ram<REGS>, at: u16, byte: u8, last: u16
 }
 
 /// The first line from a position on, nulls passed over, read of a window of bytes.
+#[inline(always)]
 fn first_decoded<const REGS: usize>(ram: &Ram<REGS>, at: u16, last: u16) -> Option<Found>
     requires sound { IsTrue (is_sound ram.now) }
     requires last { last ≡ final_position ram.now }
@@ -268,6 +279,7 @@ fn first_decoded<const REGS: usize>(ram: &Ram<REGS>, at: u16, last: u16) -> Opti
 }
 
 /// Where the first line from a position on stands and what it ends, as `first_from` finds it.
+#[inline(always)]
 pub fn place_from<const REGS: usize>(ram: &Ram<REGS>, at: u16) -> Option<Place>
     requires { IsTrue (is_sound ram.now) }
     ensures place { IfSome result (λ place. HasPlace ram.now at place) }

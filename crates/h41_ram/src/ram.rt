@@ -73,6 +73,7 @@ impl<const REGS: usize> Ram<REGS> {
     }
 
     /// The register at an address. An address that does not exist reads zero (this project's choice).
+    #[inline(always)]
     pub fn read(&self, address: u16) -> Reg
         ensures { result ≡ spec.register_at self.now address }
     {
@@ -202,6 +203,7 @@ impl<const REGS: usize> Ram<REGS> {
     }
 
     /// The curtain: the address of data register R00, 000 to FFF, from register c.
+    #[inline(always)]
     pub fn curtain(&self) -> u16
         ensures value { result ≡ spec.curtain_of self.now }
         ensures memory { spec.IsMemory REGS self.now }
@@ -210,6 +212,7 @@ impl<const REGS: usize> Ram<REGS> {
     }
 
     /// The address of the register that holds .END., 000 to FFF, from register c.
+    #[inline(always)]
     pub fn end_register(&self) -> u16
         ensures { result ≡ spec.end_of self.now }
     {

@@ -250,6 +250,7 @@ impl Calculator {
     }
 
     /// What a line that ended leaves in the display, or the function runs that begins.
+    #[inline(always)]
     fn end_line(&mut self, end: LineEnd)
         ensures { self.new ≡ after_end end self.old }
     {
@@ -260,6 +261,7 @@ impl Calculator {
     }
 
     /// What a line leaves in the display; a program runs on, or the line stops it or has it run.
+    #[inline(always)]
     fn answer(&mut self, outcome: LineOutcome)
         ensures { self.new ≡ after_answer (answer_of outcome) self.old }
     {
@@ -268,6 +270,7 @@ impl Calculator {
     }
 
     /// What a line leaves in the display.
+    #[inline(always)]
     fn show(&mut self, outcome: LineOutcome)
         ensures { self.new ≡ with_shown (answer_of outcome) self.old }
     {
@@ -482,6 +485,7 @@ impl Calculator {
 }
 
 /// The mode behind what a line answers.
+#[inline(always)]
 fn mode_behind(mode: Mode, outcome: &LineOutcome) -> Mode
     ensures { result ≡ mode_after (answer_of outcome.now) mode }
 {

@@ -34,6 +34,7 @@ pub enum LineEnd {
 
 /// The line at the position, or a typed one, is carried out; a function that memory does not have is looked up in the modules, then
 /// among the calculator's own.
+#[inline(always)]
 pub fn carry_line<const REGS: usize>(
     ram: &mut Ram<REGS>,
     focal: &mut Focal,
@@ -58,6 +59,7 @@ pub fn carry_line<const REGS: usize>(
 }
 
 /// The line is carried out by itself.
+#[inline(always)]
 fn carry<const REGS: usize>(
     ram: &mut Ram<REGS>,
     focal: &mut Focal,

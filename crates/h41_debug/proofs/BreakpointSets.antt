@@ -1,13 +1,12 @@
 -- Sets of breakpoints by the lists of their members.
-use Rattle.std.proofs.Common.{◌≡◌, ◌≢◌, ◌≤◌, ◌<◌, ℕ, suc, ◌+◌, Bool, true, false, cond, inl, inr, Option, Some, None, List, [], ◌∷◌, ◌++◌, length, length-append, get_or, get_or-set_other, get_or-set_same, set, refl, sym, ap, subst, ◌∙◌, arith}
+use Rattle.std.proofs.Common.{◌≡◌, ◌≢◌, ◌≤◌, ◌<◌, ℕ, suc, ◌+◌, Bool, true, false, cond, inl, inr, Some, None, List, [], ◌∷◌, ◌++◌, length, length-append, get_or, get_or-set_other, get_or-set_same, set, refl, sym, ap, ◌∙◌, arith}
 use Rattle.std.specs.Prelude.{not, ◌&&◌, ◌||◌, nat_lt, position}
 use Rattle.std.specs.Cmp.{IsTotalOrder, Equal-is, unsigned_tied}
-use Rattle.std.specs.FinSet.{contains, contains-from_list, contains-insert, contains-remove, from_list, from_list_push, insert, len, len-empty, len-insert, nat_cmp-IsAntisymmetric, remove, same_set}
+use Rattle.std.specs.FinSet.{contains, contains-empty, contains-from_list, contains-insert, contains-remove, empty_of_len, from_list_push, insert, len, len-empty, len-insert, nat_cmp-IsAntisymmetric, remove, same_set}
 use Rattle.std.specs.List.{list_any, prefix_len, swap_remove}
 use borrow.Author.Tests.{ltb-false}
-use Rattle.std.specs.List.Sorted.{IsPermutation}
 use Rattle.std.specs.Ordering.{eq_by_cmp}
-use Rattle.std.specs.declared.cmp.Ordering.TheVariants.{Equal, Greater, Less}
+use Rattle.std.specs.declared.cmp.Ordering.TheVariants.{Equal, Less}
 use Rattle.std.proofs.lemmas.Cmp.{nat_cmp_total}
 use Rattle.std.proofs.lemmas.List.Sorted.{IsPermutation-swap_remove, list_any-IsPermutation}
 use Rattle.std.specs.Ordering.{ordering_reverse}
@@ -201,3 +200,7 @@ marked_left marks members fewer b taken marked q had = marked q (was q had)
         let both : (not (eq_by_cmp breakpoint_cmp q b) && contains (set_of members) q) ≡ true =
         sym (contains-remove cmp_total (set_of members) b q) ∙ ap (λ (set : BreakpointSet). contains set q) (sym taken) ∙ had in
         last_holds (not (eq_by_cmp breakpoint_cmp q b)) (contains (set_of members) q) both
+
+-- none is in a set of none
+pub none_set : (set : BreakpointSet) (breakpoint : Breakpoint) → len set ≡ 0 → false ≡ is_set set breakpoint
+none_set set breakpoint none = sym (ap (λ (of : BreakpointSet). is_set of breakpoint) (empty_of_len set none) ∙ contains-empty breakpoint_cmp breakpoint)

@@ -1,5 +1,5 @@
 -- Runs: how single steps make one, why it leaves nothing open, and how two make one.
-use Rattle.std.proofs.Common.{◌≡◌, ◌<◌, ◌≤◌, ◌⊎◌, ℕ, zero, suc, ◌+◌, ◌-◌, inl, inr, Bool, true, false, Option, Some, None, refl, sym, ap, subst, ◌∙◌, zero-add, arith}
+use Rattle.std.proofs.Common.{◌≡◌, ◌<◌, ◌≤◌, ◌⊎◌, ℕ, zero, suc, ◌+◌, ◌-◌, inl, inr, Bool, true, false, Option, Some, None, refl, sym, ap, subst, zero-add, arith}
 use Rattle.std.specs.Prelude.{MatchOption, if◌then◌else◌, nat_lt}
 use borrow.Author.Tests.{ltb-true, ltb-false}
 use Rattle.h41_xrom.specs.declared.refusal.CalculatorRefusal.{CalculatorRefusal}

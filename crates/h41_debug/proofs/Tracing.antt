@@ -9,7 +9,7 @@ use Rattle.h41_program.specs.ProgramLaws.{FirstIsDetermined, OneList}
 use Rattle.h41_program.specs.ProgramLines.{AnswersFirst, Reads}
 use Rattle.h41_ram.specs.RegisterMap.{RegisterMap, is_sound}
 use Rattle.h41_text.specs.LineText.{line_text}
-use Rattle.h41_xrom.specs.Calculator.{CalculatorState, RefusesStep, Step}
+use Rattle.h41_xrom.specs.Calculator.{CalculatorState, Step}
 use Rattle.h41_xrom.specs.CalculatorLaws.{StepIsDetermined, StepRefusalIsDetermined}
 use Rattle.h41_xrom.specs.declared.calculator.Mode.{Mode}
 use Rattle.h41_xrom.specs.declared.calculator.Mode.TheVariants as modes

@@ -1,6 +1,6 @@
 -- A run: the least number of single steps after which there is a reason to stop, and the first of the reasons there. The reasons and their
 -- order are this project's choice.
-use Rattle.std.specs.Prelude.{◌≡◌, ℕ, ◌<◌, ◌≤◌, IsTrue, Option, Some, None}
+use Rattle.std.specs.Prelude.{◌≡◌, ℕ, ◌<◌, ◌≤◌, IsTrue, Some, None}
 use Rattle.h41_xrom.specs.Calculator.{CalculatorState, RefusesStep, is_idle}
 use Rattle.h41_xrom.specs.declared.calculator.Mode.{Mode}
 use Rattle.h41_xrom.specs.declared.calculator.Mode.TheVariants as modes

@@ -1,6 +1,8 @@
 //! Runs: single steps up to a reason to stop.
 
 ghost use Rattle.std.specs.Prelude.{◌≡◌, false};
+ghost use Rattle.std.specs.FinSet.{len};
+ghost use Rattle.h41_debug.specs.Breakpoints.{is_set};
 ghost use Rattle.h41_debug.specs.Run.{Run};
 ghost use Rattle.h41_debug.specs.Running.{stop_at};
 ghost use Rattle.h41_xrom.specs.Calculator.{is_idle};
@@ -33,12 +35,19 @@ impl Bench {
         if self.calculator().mode() == Mode::Idle {
             return (0, Stop::Idle);
         }
-        self.run_on(limit)
+        if self.breakpoint_count() == 0 {
+            self.run_on(limit, false)
+        } else {
+            self.run_on(limit, true)
+        }
     }
 
-    /// The same, where something runs.
-    fn run_on(&mut self, limit: u32) -> (u32, Stop)
-        requires { is_idle self.old.calculator.mode ≡ false }
+    /// The same, where something runs. Breakpoints are asked for where the run is watched, and else none is set. Inlined, so that
+    /// each kind of run has machine code of its own.
+    #[inline(always)]
+    fn run_on(&mut self, limit: u32, watched: bool) -> (u32, Stop)
+        requires running { is_idle self.old.calculator.mode ≡ false }
+        requires free { watched ≡ false → len self.old.breakpoints ≡ 0 }
         ensures { Run limit self.old self.new result.0 result.1 }
     {
         step_is_determined();
@@ -46,15 +55,17 @@ impl Bench {
             if let Err(refusal) = self.step() {
                 return (made, Stop::Refused(refusal));
             }
-            if let Some(stop) = self.stop() {
+            if let Some(stop) = self.stop(watched) {
                 return (made + 1, stop);
             }
         }
         (limit, Stop::Limit)
     }
 
-    /// Why a run stops behind a step, whatever its limit.
-    fn stop(&self) -> Option<Stop>
+    /// Why a run stops behind a step, whatever its limit. Breakpoints are asked for where the run is watched, and else none is set.
+    #[inline(always)]
+    fn stop(&self, watched: bool) -> Option<Stop>
+        requires { watched ≡ false → len self.now.breakpoints ≡ 0 }
         ensures { result ≡ stop_at self.now }
     {
         let calculator = self.calculator();
@@ -63,10 +74,23 @@ impl Bench {
             Mode::Run => Breakpoint::Line(calculator.focal().position),
             Mode::Micro(_) => Breakpoint::Word(calculator.cpu().pc()),
         };
-        if self.has_breakpoint(place) {
+        if self.breaks(place, watched) {
             Some(Stop::Break)
         } else {
             None
+        }
+    }
+
+    /// Whether a breakpoint is set. None is asked for where the run is not watched, since none is set.
+    #[inline(always)]
+    fn breaks(&self, place: Breakpoint, watched: bool) -> bool
+        requires { watched ≡ false → len self.now.breakpoints ≡ 0 }
+        ensures { result ≡ is_set self.now.breakpoints place }
+    {
+        if watched {
+            self.has_breakpoint(place)
+        } else {
+            false
         }
     }
 }

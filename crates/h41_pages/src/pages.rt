@@ -132,6 +132,7 @@ impl Pages {
     /// The word at an address, in the chosen bank of its page. Refused as 8 in pages 0 to 3, as 9 where that bank is not
     /// plugged.
     #[tactic(auto, unfolding(crate::specs::PageMap::fetched))]
+    #[inline(always)]
     pub fn fetch(&self, address: u16) -> Result<Word, FetchRefusal>
         ensures { result ≡ spec.fetched self.now address }
     {

@@ -16,6 +16,7 @@ use h41_words::{Condition, Displacement, LongJumpKind, SecondWord};
 
 impl Cpu {
     /// The address after the word.
+    #[inline(always)]
     pub(crate) fn next_address(&self) -> u16
         ensures { result ≡ arrivals.next_address self.now }
     {
@@ -23,6 +24,7 @@ impl Cpu {
     }
 
     /// Stands at an address, with a carry.
+    #[inline(always)]
     pub(crate) fn arrive(&mut self, address: u16, carry: bool)
         ensures { self.new ≡ arrivals.at_address address carry self.old }
     {
@@ -31,6 +33,7 @@ impl Cpu {
     }
 
     /// Goes to an address, with no carry.
+    #[inline(always)]
     pub(crate) fn go_to(&mut self, address: u16) -> Result<(), WordRefusal>
         ensures { GoesTo (λ _. address) (λ s. s) self.old self.new result }
     {
@@ -40,6 +43,7 @@ impl Cpu {
     }
 
     /// Goes on after the word, with no carry.
+    #[inline(always)]
     pub(crate) fn go_on(&mut self) -> Result<(), WordRefusal>
         ensures { GoesOn (λ s. s) self.old self.new result }
     {
@@ -47,6 +51,7 @@ impl Cpu {
     }
 
     /// Goes on after the word, with the answer of a test as the carry.
+    #[inline(always)]
     pub(crate) fn answer(&mut self, test: bool) -> Result<(), WordRefusal>
         ensures { GoesOnTelling test self.old self.new result }
     {
@@ -57,6 +62,7 @@ impl Cpu {
 
     /// `?NC XQ` and the like: goes to the address of both words, where the carry is as the second word says. `XQ` keeps the
     /// address after both words.
+    #[inline(always)]
     pub(crate) fn long_jump(&mut self, low_byte: u8, second: SecondWord) -> Result<(), WordRefusal>
         ensures { JumpsLong low_byte second self.old self.new result }
     {
@@ -73,6 +79,7 @@ impl Cpu {
     }
 
     /// `JNC` and `JC`: goes by the displacement from the word's own address, where the carry is as the condition says.
+    #[inline(always)]
     pub(crate) fn short_jump(
         &mut self,
         condition: Condition,
@@ -172,6 +179,7 @@ impl Cpu {
 }
 
 /// Whether a jump or a return is taken at this carry.
+#[inline(always)]
 fn is_taken(condition: Condition, carry: bool) -> bool
     ensures { result ≡ spec.is_taken condition carry }
 {
@@ -182,6 +190,7 @@ fn is_taken(condition: Condition, carry: bool) -> bool
 }
 
 /// The address that lies by a displacement further on or back.
+#[inline(always)]
 fn displaced(address: u16, displacement: Displacement) -> u16
     ensures { result ≡ displaced address displacement }
 {
@@ -194,6 +203,7 @@ fn displaced(address: u16, displacement: Displacement) -> u16
 }
 
 /// The address, unless no step may arrive there.
+#[inline(always)]
 pub(crate) fn arrival(address: u16) -> Result<u16, WordRefusal>
     ensures refusal { result_err result ≡ arrivals.arrival_refusal address }
     ensures address { IfOk result (λ arrived. arrived ≡ address) }

@@ -12,6 +12,7 @@ use h41_pages::{FetchRefusal, Pages};
 use h41_words::Word;
 
 /// The word at an address. Refused as 8 in pages 0 to 3, as 9 where the chosen bank of its page is not plugged.
+#[inline(always)]
 pub fn fetch(pages: &Pages, address: u16) -> Result<Word, WordRefusal>
     ensures { result ≡ fetched pages.now address }
 {

@@ -1,6 +1,6 @@
-use Rattle.std.proofs.Common.{◌≡◌, ◌+◌, true, false, List, length, Some, sym, ap, subst, ◌∙◌}
+use Rattle.std.proofs.Common.{◌≡◌, ◌+◌, true, List, length, Some, sym, ap, subst, ◌∙◌}
 use Rattle.std.specs.Prelude.{not, position}
-use Rattle.std.specs.List.{list_any, swap_remove}
+use Rattle.std.specs.List.{swap_remove}
 use Rattle.std.proofs.lemmas.List.Folds.{list_any_at}
 use Rattle.std.proofs.lemmas.List.Quantifiers.{position-Some}
 use Rattle.h41_debug.specs.Breakpoints.{BreakpointSet, is_set, without_breakpoint}

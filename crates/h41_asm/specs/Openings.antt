@@ -1,7 +1,8 @@
 -- The code's table of first words, and what the words behind one of these say. It only connects the code with `reading`.
-use Rattle.std.specs.Prelude.{◌≡◌, ℕ, ◌<◌, ◌+◌, ◌*◌, ◌/◌, ◌%◌, if◌then◌else◌, false, bytes_eq, codes, length, map, slice_index, slice_index_or, All, List, [], ◌∷◌, Option, Some, None, Result, Ok, Err}
+use Rattle.std.specs.Prelude.{◌≡◌, ℕ, ◌<◌, if◌then◌else◌, false, bytes_eq, codes, length, map, slice_index, slice_index_or, All, List, [], ◌∷◌, Option, Some, None, Result, Ok, Err}
 use Rattle.std.specs.Borrow.{Bor}
 use Rattle.h41_fields.specs.declared.field.Pointer.TheVariants.{P, Q}
+use Rattle.h41_lines.specs.Hashes.{word_hash}
 use Rattle.h41_words.specs.declared.rows.Row.TheVariants as rows
 use Rattle.h41_words.specs.declared.rows.Condition.{Condition}
 use Rattle.h41_words.specs.Counts.{word_count}
@@ -83,12 +84,8 @@ OpensAs word found = (others : List (List ℕ)) → reading (word ∷ others) �
 abbrev pub place_count : ℕ
 place_count = 256
 
-abbrev pub hash_from : ℕ → List ℕ → ℕ
-hash_from hash [] = hash
-hash_from hash (byte ∷ word) = hash_from ((hash + byte) * 15327 % 65536) word
-
 abbrev pub hash_of : List ℕ → ℕ
-hash_of word = hash_from 27371 word / 256
+hash_of word = word_hash 27371 15327 word
 
 -- the entries of the code's table
 abbrev pub Entry : Type 0

@@ -4,6 +4,7 @@ ghost use Rattle.std.specs.Prelude.{◌≡◌, ◌<◌, IfSome};
 ghost use Rattle.h41_asm.specs.Openings.{IsTable, OpensAs, TellsWords, entries_in, hash_of, place_count};
 
 use crate::table::{OPENINGS, Opening, PLACES};
+use h41_lines::hashes::word_hash;
 
 /// What a line's first word begins, or nothing where it is no mnemonic's and no directive's.
 pub(crate) fn opening_of(first: &[u8]) -> Option<Opening>
@@ -32,9 +33,5 @@ fn hash_of(word: &[u8]) -> usize
     ensures value { result ≡ hash_of word.now }
     ensures bound { result < place_count }
 {
-    let mut hash: u32 = 27371;
-    for byte in word {
-        hash = (hash + u32::from(*byte)) * 15327 % 0x10000;
-    }
-    (hash / 256) as usize
+    usize::from(word_hash(word, 27371, 15327))
 }

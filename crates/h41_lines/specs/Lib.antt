@@ -1,4 +1,5 @@
 pub mod Characters
+pub mod Hashes
 pub mod Laws
 pub mod Lines
 pub mod Numbers

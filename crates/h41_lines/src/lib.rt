@@ -2,6 +2,7 @@
 #![tactic(auto)]
 
 pub mod characters;
+pub mod hashes;
 pub mod laws;
 pub mod lines;
 pub mod numbers;

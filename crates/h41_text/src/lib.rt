@@ -4,6 +4,7 @@
 mod faults;
 pub mod laws;
 mod names;
+mod places;
 mod reader;
 mod words;
 mod writer;

@@ -2,8 +2,10 @@
 ghost use Rattle.std.specs.Prelude.{◌≡◌, ◌+◌, ◌-◌, ◌<◌, ◌≤◌, length, slice_index_or, []};
 ghost use Rattle.h41_text.specs.LineText.{high_parameters};
 ghost use Rattle.h41_text.specs.Names as spec;
+ghost use Rattle.h41_text.specs.Places.{IsPlaced};
 ghost use Rattle.h41_text.specs.TextParts as part;
 
+use crate::places::{FUNCTION_PLACES, name_hash};
 use h41_codes::{Branch, Character, Function, NameFunction, ParameterFunction, RegisterFunction};
 
 /// Functions without a parameter. `$write` is the macro that writes a look-up, and `$with` what it writes it with.
@@ -145,25 +147,26 @@ macro_rules! all_names {
 }
 
 /// The functions without a parameter.
-const FUNCTIONS: [Function; 80] = functions!(all_names());
+static FUNCTIONS: [Function; 80] = functions!(all_names());
 
 /// The function without a parameter of a name, or nothing where there is none.
 pub(crate) fn function_named(name: &[u8]) -> Option<Function>
     ensures { result ≡ part.function_of name.now }
 {
-    first_named(&FUNCTIONS, name)
+    function_among(&FUNCTIONS, &FUNCTION_PLACES, name)
 }
 
-/// The first of the functions that has a name.
-fn first_named(functions: &[Function], name: &[u8]) -> Option<Function>
+/// The function of a name, by a table of places.
+fn function_among(functions: &[Function], places: &[u8], name: &[u8]) -> Option<Function>
+    requires { IsPlaced spec.function_name functions.now places.now }
     ensures { result ≡ part.with_text spec.function_name functions.now name.now }
 {
-    for function in functions {
-        if function_name(*function).as_bytes() == name {
-            return Some(*function);
-        }
+    let function = functions[usize::from(places[usize::from(name_hash(name))])];
+    if function_name(function).as_bytes() == name {
+        Some(function)
+    } else {
+        None
     }
-    None
 }
 
 /// The name of a function without a parameter, up to 6 characters.

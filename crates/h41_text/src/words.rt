@@ -1,8 +1,10 @@
 //! The words in front of operands.
 ghost use Rattle.std.specs.Prelude.{◌≡◌, ◌≤◌, length};
+ghost use Rattle.h41_text.specs.Places.{IsPlaced};
 ghost use Rattle.h41_text.specs.TextParts.{word_of, word_text, with_text};
 
 use crate::names::{branch_name, parameter_function_name, parameter_functions};
+use crate::places::{WORD_PLACES, name_hash};
 use h41_codes::{Branch, ParameterFunction};
 
 /// The word in front of an operand.
@@ -32,14 +34,14 @@ macro_rules! all_words {
 }
 
 /// All words.
-const WORDS: [Word; 28] = parameter_functions!(all_words());
+static WORDS: [Word; 28] = parameter_functions!(all_words());
 
 impl Word {
     /// The word of a name, or nothing where there is none.
     pub(crate) fn named(name: &[u8]) -> Option<Word>
         ensures { result ≡ word_of name.now }
     {
-        first_named(&WORDS, name)
+        word_among(&WORDS, &WORD_PLACES, name)
     }
 
     /// The name of a word.
@@ -55,14 +57,15 @@ impl Word {
     }
 }
 
-/// The first of the words that has a name.
-fn first_named(words: &[Word], name: &[u8]) -> Option<Word>
+/// The word of a name, by a table of places.
+fn word_among(words: &[Word], places: &[u8], name: &[u8]) -> Option<Word>
+    requires { IsPlaced word_text words.now places.now }
     ensures { result ≡ with_text word_text words.now name.now }
 {
-    for word in words {
-        if word.name().as_bytes() == name {
-            return Some(*word);
-        }
+    let word = words[usize::from(places[usize::from(name_hash(name))])];
+    if word.name().as_bytes() == name {
+        Some(word)
+    } else {
+        None
     }
-    None
 }

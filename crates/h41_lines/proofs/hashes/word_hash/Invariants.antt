@@ -1,10 +1,10 @@
 use Rattle.std.proofs.Common.{◌≡◌, ◌<◌, drop}
-use Rattle.h41_asm.specs.Openings.{hash_from}
-use Rattle.h41_asm.proofs.opening.hash_of.Given as goal
+use Rattle.h41_lines.specs.Hashes.{hash_from}
+use Rattle.h41_lines.proofs.hashes.word_hash.Given as goal
 
 -- the bytes that are left make the hash of all
 abbrev pub invariant-loop-byte : goal.invariant-loop-byte
 invariant-loop-byte l = record {
   within : l.hash < 65536;
-  same : hash_from l.hash (drop l.byte-index l.word) ≡ hash_from 27371 l.word;
+  same : hash_from l.factor l.hash (drop l.byte-index l.word) ≡ hash_from l.factor l.first l.word;
 }

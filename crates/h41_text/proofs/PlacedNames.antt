@@ -1,6 +1,6 @@
 -- The code's places of names are right: a name is found at its hash, or nowhere.
-use Rattle.std.proofs.Common.{◌≡◌, ℕ, ◌<◌, Bool, true, false, List, [], ◌∷◌, length, Option, Some, None, refl, sym, ◌∙◌, inl, inr, bytes_eq, slice_index, slice_index_or, subst}
-use Rattle.std.specs.Prelude.{All, nat_lt}
+use Rattle.std.proofs.Common.{◌≡◌, ℕ, ◌<◌, Bool, true, false, List, [], ◌∷◌, length, Some, None, refl, sym, ◌∙◌, inl, inr, bytes_eq, slice_index_or, subst}
+use Rattle.std.specs.Prelude.{nat_lt}
 use Rattle.std.specs.List.{AllByRecursion, list_all}
 use Rattle.std.proofs.lemmas.Bool.{and_parts, cases_Bool, cond-false, ltb-true}
 use Rattle.std.proofs.lemmas.List.Elements.{All-from_recursion}
@@ -16,7 +16,7 @@ use Rattle.h41_text.specs.declared.names.TheConstants.{FUNCTIONS}
 use Rattle.h41_text.specs.declared.places.TheConstants.{FUNCTION_PLACES, WORD_PLACES}
 use Rattle.h41_text.specs.declared.words.TheConstants.{WORDS}
 use Rattle.h41_text.specs.Names.{function_name, parameter_function_name}
-use Rattle.h41_text.specs.Places.{IsPlaced, at_place, name_hash, place_count}
+use Rattle.h41_text.specs.Places.{IsPlaced, at_place}
 use Rattle.h41_text.specs.TextParts.{with_text, word_text}
 
 no_both : (test : Bool) → test ≡ true → test ≡ false → true ≡ false

@@ -1,5 +1,5 @@
 -- The code's places of names, by their hashes. They only connect it with `with_text`.
-use Rattle.std.specs.Prelude.{◌≡◌, ℕ, ◌<◌, true, false, length, slice_index, slice_index_or, All, List, Option, Some, None}
+use Rattle.std.specs.Prelude.{◌≡◌, ℕ, ◌<◌, false, length, slice_index, slice_index_or, All, List, Some, None}
 use Rattle.std.specs.Str.{bytes_eq}
 use Rattle.h41_lines.specs.Hashes.{word_hash}
 use Rattle.h41_text.specs.TextParts.{with_text}

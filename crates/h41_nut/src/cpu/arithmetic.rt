@@ -1,6 +1,6 @@
 //! The words that work on a field of A, B and C.
 
-ghost use Rattle.std.specs.Prelude.{◌≡◌, false, OnOk, OnErr};
+ghost use Rattle.std.specs.Prelude.{◌≡◌, ◌<◌, false, OnOk, OnErr};
 ghost use Rattle.std.specs.Result.{result_err};
 ghost use Rattle.h41_arith.specs.DigitRule.{base_of};
 ghost use Rattle.h41_nut.specs.Arithmetic.{Operates, OperatesOn, base_number};
@@ -13,9 +13,12 @@ use crate::refusal::WordRefusal;
 use h41_arith::{
     add, copy, dec, differs, exchange, inc, less, neg, neg1, nonzero, shift_left, shift_right, sub,
 };
-use h41_digits::Reg;
+use h41_digits::{PLACES, Reg};
 use h41_fields::{Field, Span, span};
 use h41_words::Operation;
+
+/// No place: in the place of a span's last one it stands for any.
+const ANY: usize = PLACES;
 
 impl Cpu {
     /// `OPERATION FIELD`: works on a field in the base that is set.
@@ -46,34 +49,29 @@ impl Cpu {
         requires carry { self.old.carry ≡ false }
         ensures { OperatesOn operation field self.old self.new }
     {
+        let places = span(field, self.p, self.q, self.active);
         match field {
-            Field::All => self.operate_within::<DEC>(operation, Field::All),
-            Field::Mantissa => self.operate_within::<DEC>(operation, Field::Mantissa),
-            Field::SignAndExponent => {
-                self.operate_within::<DEC>(operation, Field::SignAndExponent)
-            }
-            field => self.operate_within::<DEC>(operation, field),
+            Field::All => self.operate::<DEC, 0, 13>(operation, places),
+            Field::Mantissa => self.operate::<DEC, 3, 12>(operation, places),
+            Field::SignAndExponent => self.operate::<DEC, 0, 2>(operation, places),
+            _ => self.operate::<DEC, 0, ANY>(operation, places),
         }
     }
 
-    /// The same, by the field's places.
-    #[inline(always)]
-    fn operate_within<const DEC: bool>(&mut self, operation: Operation, field: Field)
+    /// Works on a span of places, in base 10 where `DEC`, else in base 16. The carry is clear before. The places are those from
+    /// `LO` to `HI`, or any where `HI` is no place.
+    #[inline(never)]
+    fn operate<const DEC: bool, const LO: usize, const HI: usize>(
+        &mut self,
+        operation: Operation,
+        span: Span,
+    )
         requires base { base_of DEC ≡ base_number self.old.base }
         requires carry { self.old.carry ≡ false }
-        ensures { OperatesOn operation field self.old self.new }
-    {
-        let places = span(field, self.p, self.q, self.active);
-        self.operate::<DEC>(operation, places);
-    }
-
-    /// Works on a span of places, in base 10 where `DEC`, else in base 16. The carry is clear before.
-    #[inline(always)]
-    fn operate<const DEC: bool>(&mut self, operation: Operation, span: Span)
-        requires base { base_of DEC ≡ base_number self.old.base }
-        requires carry { self.old.carry ≡ false }
+        requires places { HI < 14 → (span.lo ≡ LO) × (span.hi ≡ HI) }
         ensures { Operates operation span.lo span.hi self.old self.new }
     {
+        let span = known_span::<LO, HI>(span);
         let (a, b, c) = (self.a, self.b, self.c);
         match operation {
             Operation::ClearA => (self.a, self.carry) = copy(a, Reg::zero(), span),
@@ -109,5 +107,18 @@ impl Cpu {
             Operation::ShiftRightC => (self.c, self.carry) = shift_right(c, c, span),
             Operation::ShiftLeftA => (self.a, self.carry) = shift_left(a, a, span),
         }
+    }
+}
+
+/// The span itself: that from `LO` to `HI`, or any where `HI` is no place.
+#[inline(always)]
+fn known_span<const LO: usize, const HI: usize>(span: Span) -> Span
+    requires { HI < 14 → (span.lo ≡ LO) × (span.hi ≡ HI) }
+    ensures { result ≡ span }
+{
+    if HI < ANY {
+        Span { lo: LO, hi: HI }
+    } else {
+        span
     }
 }

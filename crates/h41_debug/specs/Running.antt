@@ -10,10 +10,12 @@ use Rattle.h41_debug.specs.declared.breakpoint.Breakpoint.TheVariants.{Line, Wor
 use Rattle.h41_debug.specs.declared.run.Stop.{Stop}
 use Rattle.h41_debug.specs.declared.run.Stop.TheVariants.{Break, Idle}
 
--- why a run stops behind a step, but for its limit and a refusal
+-- why a run stops at a place, and behind a step, but for its limit and a refusal
+abbrev pub break_at : BreakpointSet → Breakpoint → Option Stop
+break_at breakpoints place = if is_set breakpoints place then Some Break else None
+
 abbrev pub stop_at : BenchState → Option Stop
-stop_at s =
-    if is_idle s.calculator.mode then Some Idle else (if is_set s.breakpoints (place_of s.calculator) then Some Break else None)
+stop_at s = if is_idle s.calculator.mode then Some Idle else break_at s.breakpoints (place_of s.calculator)
 
 -- whether two breakpoints are the same: of one kind, with one number
 abbrev pub is_same : Breakpoint → Breakpoint → Bool

@@ -1,6 +1,6 @@
 //! Breakpoints: where a run stops.
 
-ghost use Rattle.std.specs.Prelude.{◌≡◌, ◌≤◌, ◌<◌, OnErr, OnOk, is_err, position};
+ghost use Rattle.std.specs.Prelude.{◌≡◌, ◌≤◌, ◌<◌, false, OnErr, OnOk, is_err, position};
 ghost use Rattle.std.specs.FinSet.{len};
 ghost use Rattle.std.specs.List.{list_any};
 ghost use Rattle.h41_debug.specs.declared.breakpoint.Breakpoint.TheVariants.{Word};
@@ -45,7 +45,7 @@ pub struct NoBreak;
 #[derive(Drop)]
 pub struct Breakpoints {
     items: ArrayVec<Breakpoint, MOST>,
-    /// By the low byte of a number: whether a breakpoint may have it. Most steps are told apart from all breakpoints by it alone.
+    /// By the low byte of a number: whether a breakpoint may have it. Most words are told apart from all breakpoints by it alone.
     low_bytes: [bool; LOW_BYTES],
 }
 
@@ -102,7 +102,18 @@ impl Breakpoints {
     pub fn contains(&self, breakpoint: Breakpoint) -> bool
         ensures { result ≡ is_set self.now breakpoint }
     {
-        self.low_bytes[breakpoint.low_byte()] && is_among(self.items.as_slice(), breakpoint)
+        self.may_contain(breakpoint) && is_among(self.items.as_slice(), breakpoint)
+    }
+
+    /// Whether a breakpoint may be set: most words are told apart from all breakpoints by their low byte.
+    #[inline(always)]
+    fn may_contain(&self, breakpoint: Breakpoint) -> bool
+        ensures { result ≡ false → is_set self.now breakpoint ≡ false }
+    {
+        match breakpoint {
+            Breakpoint::Word(address) => self.low_bytes[usize::from(address % 256)],
+            Breakpoint::Line(_) => true,
+        }
     }
 
     /// How many are set.

@@ -2,9 +2,8 @@
 
 ghost use Rattle.std.specs.Prelude.{◌≡◌, false};
 ghost use Rattle.std.specs.FinSet.{len};
-ghost use Rattle.h41_debug.specs.Breakpoints.{is_set};
 ghost use Rattle.h41_debug.specs.Run.{Run};
-ghost use Rattle.h41_debug.specs.Running.{stop_at};
+ghost use Rattle.h41_debug.specs.Running.{break_at, stop_at};
 ghost use Rattle.h41_xrom.specs.Calculator.{is_idle};
 
 use crate::bench::Bench;
@@ -69,28 +68,23 @@ impl Bench {
         ensures { result ≡ stop_at self.now }
     {
         let calculator = self.calculator();
-        let place = match calculator.mode() {
-            Mode::Idle => return Some(Stop::Idle),
-            Mode::Run => Breakpoint::Line(calculator.focal().position),
-            Mode::Micro(_) => Breakpoint::Word(calculator.cpu().pc()),
-        };
-        if self.breaks(place, watched) {
-            Some(Stop::Break)
-        } else {
-            None
+        match calculator.mode() {
+            Mode::Idle => Some(Stop::Idle),
+            Mode::Run => self.stop_at(Breakpoint::Line(calculator.focal().position), watched),
+            Mode::Micro(_) => self.stop_at(Breakpoint::Word(calculator.cpu().pc()), watched),
         }
     }
 
-    /// Whether a breakpoint is set. None is asked for where the run is not watched, since none is set.
+    /// Why a run stops at a place. No breakpoint is asked for where the run is not watched, since none is set.
     #[inline(always)]
-    fn breaks(&self, place: Breakpoint, watched: bool) -> bool
+    fn stop_at(&self, place: Breakpoint, watched: bool) -> Option<Stop>
         requires { watched ≡ false → len self.now.breakpoints ≡ 0 }
-        ensures { result ≡ is_set self.now.breakpoints place }
+        ensures { result ≡ break_at self.now.breakpoints place }
     {
-        if watched {
-            self.has_breakpoint(place)
+        if watched && self.has_breakpoint(place) {
+            Some(Stop::Break)
         } else {
-            false
+            None
         }
     }
 }

@@ -56,6 +56,7 @@ fn place<'a>(alloc: Global, text: &'a [u8], origin: u16) -> Result<Labels<'a>, A
 }
 
 /// Notes the label of a line at an address, and answers how many words the line takes.
+#[inline(always)]
 fn place_line<'a>(
     labels: &mut Labels<'a>,
     address: u32,
@@ -84,6 +85,7 @@ fn place_line<'a>(
 }
 
 /// Notes the address of a label.
+#[inline(always)]
 fn note<'a>(labels: &mut Labels<'a>, name: &'a [u8], address: u32) -> Result<(), AllocError>
     requires { address < address_count }
     ensures { OnOk result (AddsName labels.old labels.new address name.now) }
@@ -93,6 +95,7 @@ fn note<'a>(labels: &mut Labels<'a>, name: &'a [u8], address: u32) -> Result<(),
 }
 
 /// Whether a label has an address.
+#[inline(always)]
 fn is_held(labels: &Labels<'_>, label: Option<&[u8]>) -> bool
     ensures { result ≡ is_held_in labels.now label.entry }
 {
@@ -103,6 +106,7 @@ fn is_held(labels: &Labels<'_>, label: Option<&[u8]>) -> bool
 }
 
 /// Whether a label at an address, or one of so many words from there on, is past the last address.
+#[inline(always)]
 fn is_too_long(address: u32, label: Option<&[u8]>, length: usize) -> bool
     requires { address ≤ address_count }
     ensures { result ≡ is_past address (in_label label.entry) length }
@@ -139,6 +143,7 @@ fn spell(
 }
 
 /// Appends the words of a statement at an address.
+#[inline(always)]
 fn push_statement(
     words: &mut Vec<Word>,
     labels: &Labels<'_>,
@@ -176,6 +181,7 @@ fn push_statement(
 }
 
 /// Appends two words.
+#[inline(always)]
 fn push_two(words: &mut Vec<Word>, first: Word, second: Word) -> Result<(), AllocError>
     ensures { OnOk result (words.new.items ≡ words.old.items ++ first ∷ second ∷ []) }
 {
@@ -195,6 +201,7 @@ fn label_address(labels: &Labels<'_>, name: &[u8]) -> Result<u16, SourceFault>
 }
 
 /// How far it is from an address to another.
+#[inline(always)]
 fn distance(from: u32, to: u16) -> i32
     requires { from ≤ address_count }
     ensures { result ≡ pos to -ℤ pos from }
@@ -203,6 +210,7 @@ fn distance(from: u32, to: u16) -> i32
 }
 
 /// The word of a short jump by a displacement.
+#[inline(always)]
 fn short_jump(condition: Condition, displacement: i32) -> Result<Word, SourceFault>
     ensures { result ≡ jump_word condition displacement }
 {

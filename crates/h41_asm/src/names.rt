@@ -42,6 +42,7 @@ fn is_name(word: &[u8]) -> bool
 }
 
 /// The name of a word `name:`.
+#[inline(always)]
 pub(crate) fn label_in(word: &[u8]) -> Option<&[u8]>
     ensures { option_map (λ name. name.now) result ≡ label_in word.now }
 {
@@ -54,6 +55,7 @@ pub(crate) fn label_in(word: &[u8]) -> Option<&[u8]>
 }
 
 /// The name of a word `:name`.
+#[inline(always)]
 pub(crate) fn reference_in(word: &[u8]) -> Option<&[u8]>
     ensures { option_map (λ name. name.now) result ≡ reference_in word.now }
 {

@@ -7,6 +7,7 @@ use crate::table::{OPENINGS, Opening, PLACES};
 use h41_lines::hashes::word_hash;
 
 /// What a line's first word begins, or nothing where it is no mnemonic's and no directive's.
+#[inline(always)]
 pub(crate) fn opening_of(first: &[u8]) -> Option<Opening>
     ensures value { OpensAs first.now result }
     ensures words { IfSome result TellsWords }
@@ -15,6 +16,7 @@ pub(crate) fn opening_of(first: &[u8]) -> Option<Opening>
 }
 
 /// What a first word begins, by a table.
+#[inline(always)]
 fn opening_among(openings: &[(&str, Opening)], places: &[u8], first: &[u8]) -> Option<Opening>
     requires { IsTable (entries_in openings.now) places.now }
     ensures value { OpensAs first.now result }
@@ -29,6 +31,7 @@ fn opening_among(openings: &[(&str, Opening)], places: &[u8], first: &[u8]) -> O
 }
 
 /// The hash of a word, by which it is found among the openings.
+#[inline(always)]
 fn hash_of(word: &[u8]) -> usize
     ensures value { result ≡ hash_of word.now }
     ensures bound { result < place_count }

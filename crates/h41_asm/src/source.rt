@@ -19,6 +19,7 @@ pub(crate) struct SourceLine<'a> {
 }
 
 /// The line that some bytes are.
+#[inline(always)]
 pub(crate) fn read_line(line: &[u8]) -> SourceLine<'_>
     ensures { in_line result ≡ line_of (words_of line.now) }
 {

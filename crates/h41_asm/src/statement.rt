@@ -43,6 +43,7 @@ pub(crate) enum Statement<'a> {
 
 impl Statement<'_> {
     /// How many words it takes, 0 to 11.
+    #[inline(always)]
     pub(crate) fn length(&self) -> usize
         ensures { result ≡ spec.statement_length (in_code self.now) }
     {
@@ -56,6 +57,7 @@ impl Statement<'_> {
 }
 
 /// What the words behind a line's label say, or why they cannot be read.
+#[inline(always)]
 pub(crate) fn read(line: SourceLine<'_>) -> Result<Statement<'_>, SourceFault>
     ensures { read_in_code result ≡ spec.reading (in_line line.entry).code }
 {
@@ -66,6 +68,7 @@ pub(crate) fn read(line: SourceLine<'_>) -> Result<Statement<'_>, SourceFault>
 }
 
 /// What a first word says with those behind it.
+#[inline(always)]
 fn read_from<'a>(first: &[u8], others: LineWords<'a>) -> Result<Statement<'a>, SourceFault>
     ensures { read_in_code result ≡ spec.reading (first.now ∷ words_of others.entry.rest.now) }
 {
@@ -103,6 +106,7 @@ fn opened(opening: Opening, others: LineWords<'_>) -> Result<Statement<'_>, Sour
 }
 
 /// An instruction behind which no word stands.
+#[inline(always)]
 fn alone(instruction: Word, others: LineWords<'_>) -> Result<Statement<'_>, SourceFault>
     ensures { read_in_code result ≡ openings.alone instruction (words_of others.entry.rest.now) }
 {
@@ -202,6 +206,7 @@ fn at_carry(condition: Condition, others: LineWords<'_>) -> Result<Statement<'_>
 }
 
 /// Whether no word is left.
+#[inline(always)]
 fn is_nothing(words: LineWords<'_>) -> bool
     ensures { result ≡ (length (words_of words.entry.rest.now) == 0) }
 {
@@ -210,6 +215,7 @@ fn is_nothing(words: LineWords<'_>) -> bool
 }
 
 /// The one operand behind a mnemonic.
+#[inline(always)]
 fn taken(taking: Taking, operands: LineWords<'_>) -> Result<Statement<'_>, SourceFault>
     ensures { read_in_code result ≡ taken_operand taking operands.entry.rest }
 {

@@ -15,6 +15,7 @@ pub struct LineWords<'a> {
 
 impl<'a> LineWords<'a> {
     /// All words of a line.
+    #[inline(always)]
     pub fn new(line: &'a [u8]) -> Self
         ensures { result.rest.now ≡ line.now }
     {
@@ -29,6 +30,7 @@ impl<'a> Iterator for LineWords<'a> {
 
     ghost remaining = { item_count (λ s. words_of s.rest.now) };
 
+    #[inline(always)]
     fn next(&mut self) -> Option<&'a [u8]> {
         let start = word_start(self.rest)?;
         let rest = &self.rest[start..];
@@ -42,6 +44,7 @@ impl<'a> Iterator for LineWords<'a> {
 }
 
 /// How many bytes of a line stand before its first blank, or before its comment, outside quotes.
+#[inline(always)]
 fn word_end(line: &[u8]) -> usize
     ensures value { result ≡ part_length false line.now }
     ensures bound { result ≤ length line.now }

@@ -86,6 +86,7 @@ impl Block {
 
     /// Takes one more line. One of more than 200 bytes makes the judgement 53. 21 where memory is refused: the block is then
     /// of no more use.
+    #[inline(always)]
     pub fn line(&mut self, text: &[u8]) -> Result<(), AllocError>
         ensures { IfOk result (λ _. Takes self.old text.now self.new) }
     {

@@ -9,6 +9,7 @@ use h41_lines::words::LineWords;
 const MOST_BYTES: usize = 200;
 
 /// A line that has too many bytes.
+#[inline(always)]
 pub fn is_long(line: &[u8]) -> bool
     ensures { result ≡ is_long line.now }
 {
@@ -16,6 +17,7 @@ pub fn is_long(line: &[u8]) -> bool
 }
 
 /// A line that says nothing: a blank one, or a comment.
+#[inline(always)]
 pub fn is_skipped(line: &[u8]) -> bool
     ensures { result ≡ is_skipped line.now }
 {
@@ -26,9 +28,13 @@ pub fn is_skipped(line: &[u8]) -> bool
 }
 
 /// A line that ends a block.
+#[inline(always)]
 pub fn is_end(line: &[u8]) -> bool
     ensures { result ≡ is_end line.now }
 {
     let mut words = LineWords::new(line);
-    !is_long(line) && matches!((words.next(), words.next()), (Some(b"end"), None))
+    match words.next() {
+        Some(b"end") => words.next().is_none() && !is_long(line),
+        _ => false,
+    }
 }

@@ -30,7 +30,7 @@ pub fn disassemble(alloc: Global, words: &[Word], _origin: u16) -> Result<String
 pub fn listing(alloc: Global, words: &[Word], origin: u16) -> Result<String, AllocError>
     ensures { IfOk result (λ text. string_bytes text ≡ listing_text words.now origin) }
 {
-    let mut text = String::new(alloc);
+    let mut text = String::with_capacity(alloc, words.len().saturating_mul(LINE))?;
     let mut address = origin;
     for piece in Pieces::new(words) {
         push_columns_line(&mut text, address, piece)?;

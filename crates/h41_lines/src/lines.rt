@@ -29,6 +29,7 @@ impl<'a> Iterator for Lines<'a> {
 
     ghost remaining = { item_count (λ s. lines s.rest.now) };
 
+    #[inline(always)]
     fn next(&mut self) -> Option<&'a [u8]> {
         let text = self.rest;
         if text.is_empty() {
@@ -48,6 +49,7 @@ impl<'a> Iterator for Lines<'a> {
 }
 
 /// Where the first LF of a text stands.
+#[inline(always)]
 pub fn line_end(text: &[u8]) -> Option<usize>
     ensures { result ≡ position (λ byte. byte == 10) text.now }
 {
@@ -55,6 +57,7 @@ pub fn line_end(text: &[u8]) -> Option<usize>
 }
 
 /// A line without the CR at its end, if it has one.
+#[inline(always)]
 fn without_return(line: &[u8]) -> &[u8]
     ensures { result.now ≡ strip_carriage_return line.now }
 {

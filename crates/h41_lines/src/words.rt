@@ -39,6 +39,7 @@ impl<'a> Iterator for LineWords<'a> {
 }
 
 /// A byte that parts words: a blank or a tab.
+#[inline(always)]
 pub fn is_blank(byte: u8) -> bool
     ensures { result ≡ is_blank byte }
 {
@@ -46,6 +47,7 @@ pub fn is_blank(byte: u8) -> bool
 }
 
 /// Where the first byte of a line that is no blank stands.
+#[inline(always)]
 pub fn word_start(line: &[u8]) -> Option<usize>
     ensures { result ≡ position (λ byte. not (is_blank byte)) line.now }
 {

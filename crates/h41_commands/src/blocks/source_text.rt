@@ -40,6 +40,7 @@ impl SourceText {
     }
 
     /// Takes one more line of the block, which is left empty where it says nothing. 21 where memory is refused.
+    #[inline(always)]
     pub fn add_line(&mut self, line: &[u8]) -> Result<(), AllocError>
         ensures { IfOk result (λ _. TakesSource self.old line.now self.new) }
     {

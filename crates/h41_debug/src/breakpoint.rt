@@ -3,7 +3,7 @@
 ghost use Rattle.std.specs.Prelude.{◌≡◌, ◌≤◌, ◌<◌, false, OnErr, OnOk, is_err, position};
 ghost use Rattle.std.specs.FinSet.{len};
 ghost use Rattle.std.specs.List.{list_any};
-ghost use Rattle.h41_debug.specs.declared.breakpoint.Breakpoint.TheVariants.{Word};
+ghost use Rattle.h41_debug.specs.declared.breakpoint.Breakpoint.TheVariants.{Line, Word};
 ghost use Rattle.h41_debug.specs.Breakpoints.{is_set, lacks_breakpoint, most_breakpoints, no_breakpoints, refuses_breakpoint, with_breakpoint, without_breakpoint};
 ghost use Rattle.h41_debug.specs.Running.{is_same, low_byte};
 
@@ -45,7 +45,7 @@ pub struct NoBreak;
 #[derive(Drop)]
 pub struct Breakpoints {
     items: ArrayVec<Breakpoint, MOST>,
-    /// By the low byte of a number: whether a breakpoint may have it. Most words are told apart from all breakpoints by it alone.
+    /// By the low byte of a number: whether a breakpoint may have it. Most steps are told apart from all breakpoints by it alone.
     low_bytes: [bool; LOW_BYTES],
 }
 
@@ -105,15 +105,23 @@ impl Breakpoints {
         self.may_contain(breakpoint) && is_among(self.items.as_slice(), breakpoint)
     }
 
-    /// Whether a breakpoint may be set: most words are told apart from all breakpoints by their low byte.
+    /// Whether a breakpoint may be set: most are told apart from all that are by their low byte.
     #[inline(always)]
     fn may_contain(&self, breakpoint: Breakpoint) -> bool
         ensures { result ≡ false → is_set self.now breakpoint ≡ false }
     {
         match breakpoint {
             Breakpoint::Word(address) => self.low_bytes[usize::from(address % 256)],
-            Breakpoint::Line(_) => true,
+            Breakpoint::Line(position) => self.may_contain_line(position),
         }
+    }
+
+    /// Whether a line's breakpoint may be set. Its machine code stands apart, so that words have the shorter way.
+    #[inline(never)]
+    fn may_contain_line(&self, position: u16) -> bool
+        ensures { result ≡ false → is_set self.now (Line position) ≡ false }
+    {
+        self.low_bytes[usize::from(position % 256)]
     }
 
     /// How many are set.

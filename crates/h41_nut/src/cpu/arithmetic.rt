@@ -49,12 +49,16 @@ impl Cpu {
         requires carry { self.old.carry ≡ false }
         ensures { OperatesOn operation field self.old self.new }
     {
-        let places = span(field, self.p, self.q, self.active);
+        let (p, q, active) = (self.p, self.q, self.active);
         match field {
-            Field::All => self.operate::<DEC, 0, 13>(operation, places),
-            Field::Mantissa => self.operate::<DEC, 3, 12>(operation, places),
-            Field::SignAndExponent => self.operate::<DEC, 0, 2>(operation, places),
-            _ => self.operate::<DEC, 0, ANY>(operation, places),
+            Field::All => self.operate::<DEC, 0, 13>(operation, span(Field::All, p, q, active)),
+            Field::Mantissa => {
+                self.operate::<DEC, 3, 12>(operation, span(Field::Mantissa, p, q, active))
+            }
+            Field::SignAndExponent => {
+                self.operate::<DEC, 0, 2>(operation, span(Field::SignAndExponent, p, q, active))
+            }
+            field => self.operate::<DEC, 0, ANY>(operation, span(field, p, q, active)),
         }
     }
 

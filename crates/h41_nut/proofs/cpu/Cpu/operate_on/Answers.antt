@@ -3,12 +3,12 @@ use Rattle.h41_nut.proofs.cpu.Cpu.operate_on.Goals as goal
 
 pub operate-requires-clause-places : goal.operate-requires-clause-places
 unfolding first_place last_place places register_places
-operate-requires-clause-places g c inside = (rw c.in-All.is at c.span-places.ensures.first, rw c.in-All.is at c.span-places.ensures.last)
+operate-requires-clause-places g c inside = (c.span.ensures.first, c.span.ensures.last)
 
 pub operate-requires-in-Mantissa-clause-places : goal.operate-requires-in-Mantissa-clause-places
 unfolding first_place last_place places register_places
-operate-requires-in-Mantissa-clause-places g c inside = (rw c.in-Mantissa.is at c.span-places.ensures.first, rw c.in-Mantissa.is at c.span-places.ensures.last)
+operate-requires-in-Mantissa-clause-places g c inside = (c.span-in-Mantissa.ensures.first, c.span-in-Mantissa.ensures.last)
 
 pub operate-requires-in-SignAndExponent-clause-places : goal.operate-requires-in-SignAndExponent-clause-places
 unfolding first_place last_place places register_places
-operate-requires-in-SignAndExponent-clause-places g c inside = (rw c.in-SignAndExponent.is at c.span-places.ensures.first, rw c.in-SignAndExponent.is at c.span-places.ensures.last)
+operate-requires-in-SignAndExponent-clause-places g c inside = (c.span-in-SignAndExponent.ensures.first, c.span-in-SignAndExponent.ensures.last)

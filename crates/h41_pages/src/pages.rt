@@ -136,12 +136,11 @@ impl Pages {
     pub fn fetch(&self, address: u16) -> Result<Word, FetchRefusal>
         ensures { result ≡ spec.fetched self.now address }
     {
-        if address < FIRST_ADDRESS {
-            return Err(FetchRefusal::SystemRom(address));
-        }
+        self.known();
         match self.chosen_image(page_of(address)) {
-            None => Err(FetchRefusal::EmptyPage(address)),
             Some(image) => Ok(image.word(offset_of(address))),
+            None if address < FIRST_ADDRESS => Err(FetchRefusal::SystemRom(address)),
+            None => Err(FetchRefusal::EmptyPage(address)),
         }
     }
 

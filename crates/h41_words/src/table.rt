@@ -232,11 +232,28 @@ pub fn row(word: Word) -> Row
     ensures length { spec.words_of result ≡ spec.length_of word }
 {
     let number = word.number();
-    match number % 4 {
-        0 => miscellaneous(word),
-        1 => Row::LongJump((number / 4) as u8),
-        2 => Row::Arithmetic(operation(number / 32), field(number / 4 % 8)),
-        _ => short_jump(word),
+    if number % 2 == 1 {
+        jump(word)
+    } else if number % 4 == 2 {
+        Row::Arithmetic(operation(number / 32 % 32), field(number / 4 % 8))
+    } else {
+        miscellaneous(word)
+    }
+}
+
+/// The row of a jump, long or short: a word whose lowest bit is 1.
+#[tactic(auto, unfolding(crate::specs::WordTable::number_of))]
+#[inline(always)]
+fn jump(word: Word) -> Row
+    requires { word % 2 ≡ 1 }
+    ensures number { spec.number_of result ≡ word }
+    ensures valid { spec.IsRow result }
+{
+    let number = word.number();
+    if number % 4 == 1 {
+        Row::LongJump((number / 4) as u8)
+    } else {
+        short_jump(word)
     }
 }
 

@@ -49,16 +49,27 @@ impl Cpu {
         requires carry { self.old.carry ≡ false }
         ensures { OperatesOn operation field self.old self.new }
     {
-        let (p, q, active) = (self.p, self.q, self.active);
         match field {
-            Field::All => self.operate::<DEC, 0, 13>(operation, span(Field::All, p, q, active)),
+            Field::All => self.operate::<DEC, 0, 13>(
+                operation,
+                span(Field::All, self.p, self.q, self.active),
+            ),
             Field::Mantissa => {
-                self.operate::<DEC, 3, 12>(operation, span(Field::Mantissa, p, q, active))
+                self.operate::<DEC, 3, 12>(
+                    operation,
+                    span(Field::Mantissa, self.p, self.q, self.active),
+                )
             }
             Field::SignAndExponent => {
-                self.operate::<DEC, 0, 2>(operation, span(Field::SignAndExponent, p, q, active))
+                self.operate::<DEC, 0, 2>(
+                    operation,
+                    span(Field::SignAndExponent, self.p, self.q, self.active),
+                )
             }
-            field => self.operate::<DEC, 0, ANY>(operation, span(field, p, q, active)),
+            field => self.operate::<DEC, 0, ANY>(
+                operation,
+                span(field, self.p, self.q, self.active),
+            ),
         }
     }
 
@@ -76,40 +87,53 @@ impl Cpu {
         ensures { Operates operation span.lo span.hi self.old self.new }
     {
         let span = known_span::<LO, HI>(span);
-        let (a, b, c) = (self.a, self.b, self.c);
         match operation {
-            Operation::ClearA => (self.a, self.carry) = copy(a, Reg::zero(), span),
-            Operation::ClearB => (self.b, self.carry) = copy(b, Reg::zero(), span),
-            Operation::ClearC => (self.c, self.carry) = copy(c, Reg::zero(), span),
-            Operation::ExchangeAB => (self.a, self.b) = exchange(a, b, span),
-            Operation::AToB => (self.b, self.carry) = copy(b, a, span),
-            Operation::ExchangeAC => (self.a, self.c) = exchange(a, c, span),
-            Operation::BToC => (self.c, self.carry) = copy(c, b, span),
-            Operation::ExchangeBC => (self.b, self.c) = exchange(b, c, span),
-            Operation::CToA => (self.a, self.carry) = copy(a, c, span),
-            Operation::AddBToA => (self.a, self.carry) = add::<DEC>(a, a, b, false, span),
-            Operation::AddCToA => (self.a, self.carry) = add::<DEC>(a, a, c, false, span),
-            Operation::IncrementA => (self.a, self.carry) = inc::<DEC>(a, a, span),
-            Operation::SubtractBFromA => (self.a, self.carry) = sub::<DEC>(a, a, b, false, span),
-            Operation::DecrementA => (self.a, self.carry) = dec::<DEC>(a, a, span),
-            Operation::SubtractCFromA => (self.a, self.carry) = sub::<DEC>(a, a, c, false, span),
-            Operation::DoubleC => (self.c, self.carry) = add::<DEC>(c, c, c, false, span),
-            Operation::AddAToC => (self.c, self.carry) = add::<DEC>(c, a, c, false, span),
-            Operation::IncrementC => (self.c, self.carry) = inc::<DEC>(c, c, span),
-            Operation::SubtractCFromAToC => (self.c, self.carry) = sub::<DEC>(c, a, c, false, span),
-            Operation::DecrementC => (self.c, self.carry) = dec::<DEC>(c, c, span),
-            Operation::NegateC => (self.c, self.carry) = neg::<DEC>(c, c, span),
-            Operation::ComplementC => (self.c, self.carry) = neg1::<DEC>(c, c, span),
-            Operation::TestBNonzero => self.carry = nonzero(b, span),
-            Operation::TestCNonzero => self.carry = nonzero(c, span),
-            Operation::TestALessThanC => self.carry = less(a, c, span),
-            Operation::TestALessThanB => self.carry = less(a, b, span),
-            Operation::TestANonzero => self.carry = nonzero(a, span),
-            Operation::TestADiffersFromC => self.carry = differs(a, c, span),
-            Operation::ShiftRightA => (self.a, self.carry) = shift_right(a, a, span),
-            Operation::ShiftRightB => (self.b, self.carry) = shift_right(b, b, span),
-            Operation::ShiftRightC => (self.c, self.carry) = shift_right(c, c, span),
-            Operation::ShiftLeftA => (self.a, self.carry) = shift_left(a, a, span),
+            Operation::ClearA => (self.a, self.carry) = copy(self.a, Reg::zero(), span),
+            Operation::ClearB => (self.b, self.carry) = copy(self.b, Reg::zero(), span),
+            Operation::ClearC => (self.c, self.carry) = copy(self.c, Reg::zero(), span),
+            Operation::ExchangeAB => (self.a, self.b) = exchange(self.a, self.b, span),
+            Operation::AToB => (self.b, self.carry) = copy(self.b, self.a, span),
+            Operation::ExchangeAC => (self.a, self.c) = exchange(self.a, self.c, span),
+            Operation::BToC => (self.c, self.carry) = copy(self.c, self.b, span),
+            Operation::ExchangeBC => (self.b, self.c) = exchange(self.b, self.c, span),
+            Operation::CToA => (self.a, self.carry) = copy(self.a, self.c, span),
+            Operation::AddBToA => (self.a, self.carry) = add::<DEC>(
+                self.a, self.a, self.b, false, span,
+            ),
+            Operation::AddCToA => (self.a, self.carry) = add::<DEC>(
+                self.a, self.a, self.c, false, span,
+            ),
+            Operation::IncrementA => (self.a, self.carry) = inc::<DEC>(self.a, self.a, span),
+            Operation::SubtractBFromA => (self.a, self.carry) = sub::<DEC>(
+                self.a, self.a, self.b, false, span,
+            ),
+            Operation::DecrementA => (self.a, self.carry) = dec::<DEC>(self.a, self.a, span),
+            Operation::SubtractCFromA => (self.a, self.carry) = sub::<DEC>(
+                self.a, self.a, self.c, false, span,
+            ),
+            Operation::DoubleC => (self.c, self.carry) = add::<DEC>(
+                self.c, self.c, self.c, false, span,
+            ),
+            Operation::AddAToC => (self.c, self.carry) = add::<DEC>(
+                self.c, self.a, self.c, false, span,
+            ),
+            Operation::IncrementC => (self.c, self.carry) = inc::<DEC>(self.c, self.c, span),
+            Operation::SubtractCFromAToC => (self.c, self.carry) = sub::<DEC>(
+                self.c, self.a, self.c, false, span,
+            ),
+            Operation::DecrementC => (self.c, self.carry) = dec::<DEC>(self.c, self.c, span),
+            Operation::NegateC => (self.c, self.carry) = neg::<DEC>(self.c, self.c, span),
+            Operation::ComplementC => (self.c, self.carry) = neg1::<DEC>(self.c, self.c, span),
+            Operation::TestBNonzero => self.carry = nonzero(self.b, span),
+            Operation::TestCNonzero => self.carry = nonzero(self.c, span),
+            Operation::TestALessThanC => self.carry = less(self.a, self.c, span),
+            Operation::TestALessThanB => self.carry = less(self.a, self.b, span),
+            Operation::TestANonzero => self.carry = nonzero(self.a, span),
+            Operation::TestADiffersFromC => self.carry = differs(self.a, self.c, span),
+            Operation::ShiftRightA => (self.a, self.carry) = shift_right(self.a, self.a, span),
+            Operation::ShiftRightB => (self.b, self.carry) = shift_right(self.b, self.b, span),
+            Operation::ShiftRightC => (self.c, self.carry) = shift_right(self.c, self.c, span),
+            Operation::ShiftLeftA => (self.a, self.carry) = shift_left(self.a, self.a, span),
         }
     }
 }

@@ -1,8 +1,9 @@
 //! How the processor goes on: to the next word, by jumps, and by returns.
 
-ghost use Rattle.std.specs.Prelude.{◌≡◌, IfOk};
+ghost use Rattle.std.specs.Prelude.{◌≡◌, ◌<◌, IfOk};
 ghost use Rattle.std.specs.Result.{result_err};
 ghost use Rattle.h41_nut.specs.Addresses.{displaced};
+ghost use Rattle.h41_pages.specs.Addresses.{first_address};
 ghost use Rattle.h41_nut.specs.Arrivals as arrivals;
 ghost use Rattle.h41_nut.specs.ProcessorSteps.{GoesTo, GoesOn, GoesOnTelling, JumpsLong, JumpsShort, ReturnsIf};
 ghost use Rattle.h41_nut.specs.Jumps as spec;
@@ -95,6 +96,7 @@ impl Cpu {
     }
 
     /// `RTN`: goes to the newest return address, which is taken off.
+    #[inline(always)]
     pub(crate) fn return_to_newest(&mut self) -> Result<(), WordRefusal>
         ensures { GoesTo spec.newest_return spec.popped self.old self.new result }
     {
@@ -105,6 +107,7 @@ impl Cpu {
     }
 
     /// `?C RTN` and `?NC RTN`: returns where the carry is as the condition says.
+    #[inline(always)]
     pub(crate) fn return_if(&mut self, condition: Condition) -> Result<(), WordRefusal>
         ensures { ReturnsIf condition self.old self.new result }
     {
@@ -116,6 +119,7 @@ impl Cpu {
     }
 
     /// `XQ->GO`: drops the newest return address.
+    #[inline(always)]
     pub(crate) fn drop_return(&mut self) -> Result<(), WordRefusal>
         ensures { GoesOn spec.popped self.old self.new result }
     {
@@ -126,6 +130,7 @@ impl Cpu {
     }
 
     /// `PUSH ADR`: the address in C becomes the newest return address.
+    #[inline(always)]
     pub(crate) fn push_address(&mut self) -> Result<(), WordRefusal>
         ensures { GoesOn with_address_pushed self.old self.new result }
     {
@@ -136,6 +141,7 @@ impl Cpu {
     }
 
     /// `POP ADR`: the newest return address goes to C, and is taken off.
+    #[inline(always)]
     pub(crate) fn pop_address(&mut self) -> Result<(), WordRefusal>
         ensures { GoesOn with_address_popped self.old self.new result }
     {
@@ -148,6 +154,7 @@ impl Cpu {
     }
 
     /// `GOTO KEY`: goes to the next address with the key's code as its low byte.
+    #[inline(always)]
     pub(crate) fn go_to_key(&mut self, key: u8) -> Result<(), WordRefusal>
         ensures { GoesTo (spec.key_target key) (λ s. s) self.old self.new result }
     {
@@ -155,6 +162,7 @@ impl Cpu {
     }
 
     /// The newest return address, 0000 where there is none.
+    #[inline(always)]
     fn newest_return(&self) -> u16
         ensures { result ≡ spec.newest_return self.now }
     {
@@ -162,6 +170,7 @@ impl Cpu {
     }
 
     /// Takes the newest return address off; the oldest is 0000 then.
+    #[inline(always)]
     fn pop(&mut self)
         ensures { self.new ≡ spec.popped self.old }
     {
@@ -170,6 +179,7 @@ impl Cpu {
     }
 
     /// Puts a return address in front; the oldest is lost.
+    #[inline(always)]
     fn push(&mut self, address: u16)
         ensures { self.new ≡ spec.pushed address self.old }
     {
@@ -208,9 +218,24 @@ pub(crate) fn arrival(address: u16) -> Result<u16, WordRefusal>
     ensures refusal { result_err result ≡ arrivals.arrival_refusal address }
     ensures address { IfOk result (λ arrived. arrived ≡ address) }
 {
-    if address < FIRST_ADDRESS && address != END_OF_FUNCTION {
-        Err(WordRefusal::SystemRom(address))
+    if address < FIRST_ADDRESS {
+        system_arrival(address)
     } else {
         Ok(address)
+    }
+}
+
+/// The same in pages 0 to 3, where 00F0 alone can be arrived at. Its machine code stands apart, since few words come there.
+#[cold]
+#[inline(never)]
+fn system_arrival(address: u16) -> Result<u16, WordRefusal>
+    requires { address < first_address }
+    ensures refusal { result_err result ≡ arrivals.arrival_refusal address }
+    ensures address { IfOk result (λ arrived. arrived ≡ address) }
+{
+    if address == END_OF_FUNCTION {
+        Ok(address)
+    } else {
+        Err(WordRefusal::SystemRom(address))
     }
 }

@@ -5,6 +5,8 @@ pub mod Determined
 pub mod Faultless
 pub mod FirstWord
 pub mod Found
+pub mod Keeping
+pub mod LineAt
 pub mod OpeningEntries
 pub mod OpeningTable
 pub mod Openings

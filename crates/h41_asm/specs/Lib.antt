@@ -5,6 +5,7 @@ pub mod Assembly
 pub mod AssemblyLaws
 pub mod CodeStatements
 pub mod Faults
+pub mod KeptLines
 pub mod LabelTable
 pub mod Openings
 pub mod Operands

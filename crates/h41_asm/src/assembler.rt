@@ -1,19 +1,20 @@
 //! From lines to words, in two passes: first the addresses of the labels, then the words.
 
-ghost use Rattle.std.specs.Prelude.{◌≡◌, ◌-ℤ◌, pos, ◌<◌, ◌≤◌, ◌++◌, [], ◌∷◌, None, IfOk, IfErr, OnOk};
+ghost use Rattle.std.specs.Prelude.{◌≡◌, ◌+◌, ◌-ℤ◌, pos, ◌<◌, ◌≤◌, ◌++◌, [], ◌∷◌, None, IfOk, IfErr, OnOk, IsOk};
 ghost use Rattle.std.specs.Option.{ok_or};
 ghost use Rattle.h41_asm.specs.Assembly.{Assembles, address_count};
-ghost use Rattle.h41_asm.specs.CodeStatements.{in_label, in_line};
-ghost use Rattle.h41_asm.specs.Faults.{assembly_fault, is_past, line_length};
+ghost use Rattle.h41_asm.specs.CodeStatements.{in_label};
+ghost use Rattle.h41_asm.specs.Faults.{assembly_fault, is_past, read_length};
+ghost use Rattle.h41_asm.specs.KeptLines.{AddsKept, KeepsLines, Says, kept_fault, kept_reading};
 ghost use Rattle.h41_asm.specs.LabelTable.{AddsLabel, AddsName, AddsOwn, HoldsLabels, IsReadyBy, SpellsBy, fault_by, first_fault_by, first_own_fault, is_held_in, jump_word, labels_in, line_fault_in};
 ghost use Rattle.h41_asm.specs.Refusals.{IsFault, IsRefusal};
 
 use crate::emit::{entry_words, push_name};
 use crate::fault::{AssembleError, SourceFault, SpellError};
-use crate::source::{SourceLine, read_line};
+use crate::kept::{KeptLine, KeptWords, keep};
+use crate::source::{SourceLine, line_at, read_line};
 use crate::statement::{Statement, long_jump_words, read};
 use crate::table::EntryKind;
-use h41_lines::lines::Lines;
 use h41_words::{Condition, Displacement, LongJumpKind, Row, Word, word};
 use indexmap::IndexMap;
 use std::alloc::{AllocError, Global};
@@ -32,56 +33,69 @@ pub fn assemble(alloc: Global, text: &[u8], origin: u16) -> Result<Vec<Word>, As
     ensures ok { OnOk result (assembly_fault text.now origin ≡ None) }
     ensures err { IfErr result (IsRefusal (assembly_fault text.now origin)) }
 {
-    let labels = place(alloc, text, origin)?;
-    spell(alloc, text, origin, &labels)
+    let (labels, kept) = place(alloc, text, origin)?;
+    spell(alloc, text, origin, &labels, &kept)
 }
 
-/// The addresses of the labels of a source, or the first fault that a line has whatever these are.
-fn place<'a>(alloc: Global, text: &'a [u8], origin: u16) -> Result<Labels<'a>, AssembleError>
+/// The addresses of the labels of a source, and what its lines with words say; or the first fault that a line has whatever the
+/// labels are.
+fn place<'a>(
+    alloc: Global,
+    text: &'a [u8],
+    origin: u16,
+) -> Result<(Labels<'a>, Vec<KeptLine>), AssembleError>
     ensures ok { OnOk result (first_own_fault origin text.now ≡ None) }
-    ensures labels { IfOk result (λ labels. HoldsLabels labels origin text.now) }
+    ensures labels { IfOk result (λ placed. HoldsLabels placed.0 origin text.now) }
+    ensures kept { IfOk result (λ placed. KeepsLines text.now placed.1.items) }
     ensures err { IfErr result (IsRefusal (first_own_fault origin text.now)) }
 {
     let mut labels = IndexMap::new(alloc);
+    let mut kept = Vec::new(alloc);
     let mut address = u32::from(origin);
     let mut number = 1;
-    for line in Lines::new(text) {
+    let mut start = 0;
+    while start < text.len() {
+        let (line, next) = line_at(text, start);
         match place_line(&mut labels, address, read_line(line)) {
-            Ok(length) => address += length,
+            Ok(statement) => {
+                keep(&mut kept, number, start, &statement)?;
+                address += statement.length() as u32;
+            }
             Err(error) => return Err(error.at_line(number)),
         }
         number += 1;
+        start = next;
     }
-    Ok(labels)
+    Ok((labels, kept))
 }
 
-/// Notes the label of a line at an address, and answers how many words the line takes.
+/// Notes the label of a line at an address, and answers what the line says.
 #[inline(always)]
 fn place_line<'a>(
     labels: &mut Labels<'a>,
     address: u32,
     line: SourceLine<'a>,
-) -> Result<u32, SpellError>
+) -> Result<Statement<'a>, SpellError>
     requires { address ≤ address_count }
     ensures ok { OnOk result (line_fault_in labels.old address line.entry ≡ None) }
-    ensures length { IfOk result (λ length. length ≡ line_length (in_line line.entry)) }
+    ensures read { IfOk result (λ said. Says said line.entry) }
     ensures labels { OnOk result (AddsLabel labels.old labels.new address line.entry) }
     ensures err { IfErr result (IsFault (line_fault_in labels.old address line.entry)) }
 {
-    let length = match read(line) {
-        Ok(statement) => statement.length(),
+    let statement = match read(line) {
+        Ok(statement) => statement,
         Err(fault) => return Err(SpellError::Fault(fault)),
     };
     if is_held(labels, line.label) {
         return Err(SpellError::Fault(SourceFault::LabelTwice));
     }
-    if is_too_long(address, line.label, length) {
+    if is_too_long(address, line.label, statement.length()) {
         return Err(SpellError::Fault(SourceFault::TooLong));
     }
     if let Some(name) = line.label {
         note(labels, name, address)?;
     }
-    Ok(length as u32)
+    Ok(statement)
 }
 
 /// Notes the address of a label.
@@ -120,26 +134,77 @@ fn spell(
     text: &[u8],
     origin: u16,
     labels: &Labels<'_>,
+    kept: &[KeptLine],
 ) -> Result<Vec<Word>, AssembleError>
-    requires { IsReadyBy labels.now origin text.now }
+    requires ready { IsReadyBy labels.now origin text.now }
+    requires kept { KeepsLines text.now kept.now }
     ensures ok { OnOk result (first_fault_by labels.now origin text.now ≡ None) }
     ensures words { IfOk result (λ words. SpellsBy labels.now origin text.now words.items) }
     ensures err { IfErr result (IsRefusal (first_fault_by labels.now origin text.now)) }
 {
     let mut words = Vec::new(alloc);
     let mut address = u32::from(origin);
-    let mut number = 1;
-    for line in Lines::new(text) {
-        if let Ok(statement) = read(read_line(line)) {
-            match push_statement(&mut words, labels, address, &statement) {
-                Ok(()) => {}
-                Err(error) => return Err(error.at_line(number)),
-            }
-            address += statement.length() as u32;
+    for line in kept {
+        match push_kept(&mut words, text, labels, address, line.words) {
+            Ok(length) => address += length,
+            Err(error) => return Err(error.at_line(line.number)),
         }
-        number += 1;
     }
     Ok(words)
+}
+
+/// Appends the words of a line at an address, and answers how many these are.
+#[inline(always)]
+fn push_kept(
+    words: &mut Vec<Word>,
+    text: &[u8],
+    labels: &Labels<'_>,
+    address: u32,
+    kept: KeptWords,
+) -> Result<u32, SpellError>
+    requires within { address + read_length (kept_reading text.now kept) ≤ address_count }
+    requires read { IsOk (kept_reading text.now kept) }
+    ensures ok { OnOk result (kept_fault labels.now address text.now kept ≡ None) }
+    ensures length { IfOk result (λ length. length ≡ read_length (kept_reading text.now kept)) }
+    ensures own { OnOk result (AddsKept labels.now address text.now kept words.old words.new) }
+    ensures err { IfErr result (IsFault (kept_fault labels.now address text.now kept)) }
+{
+    match kept {
+        KeptWords::One(word) => {
+            words.push(word)?;
+            Ok(1)
+        }
+        KeptWords::Two(first, second) => {
+            push_two(words, first, second)?;
+            Ok(2)
+        }
+        KeptWords::Again(start) => push_again(words, text, labels, address, start),
+    }
+}
+
+/// Appends the words of the line that begins at a place in the text, and answers how many these are.
+fn push_again(
+    words: &mut Vec<Word>,
+    text: &[u8],
+    labels: &Labels<'_>,
+    address: u32,
+    start: usize,
+) -> Result<u32, SpellError>
+    requires within { address + read_length (kept_reading text.now (KeptWords.Again start)) ≤ address_count }
+    requires read { IsOk (kept_reading text.now (KeptWords.Again start)) }
+    ensures ok { OnOk result (kept_fault labels.now address text.now (KeptWords.Again start) ≡ None) }
+    ensures length { IfOk result (λ length. length ≡ read_length (kept_reading text.now (KeptWords.Again start))) }
+    ensures own { OnOk result (AddsKept labels.now address text.now (KeptWords.Again start) words.old words.new) }
+    ensures err { IfErr result (IsFault (kept_fault labels.now address text.now (KeptWords.Again start))) }
+{
+    let (line, _) = line_at(text, start);
+    match read(read_line(line)) {
+        Ok(statement) => {
+            push_statement(words, labels, address, &statement)?;
+            Ok(statement.length() as u32)
+        }
+        Err(fault) => Err(SpellError::Fault(fault)),
+    }
 }
 
 /// Appends the words of a statement at an address.

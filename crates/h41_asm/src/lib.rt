@@ -5,6 +5,7 @@
 mod assembler;
 mod emit;
 mod fault;
+mod kept;
 pub mod laws;
 mod names;
 mod opening;

@@ -1,11 +1,13 @@
 //! A line of a source: its label, and the words behind that.
 
-ghost use Rattle.std.specs.Prelude.{◌≡◌};
+ghost use Rattle.std.specs.Prelude.{◌≡◌, ◌<◌, ◌≤◌, ◌∷◌, drop, length};
+ghost use Rattle.std.specs.Str.Lines.{strip_carriage_return};
 ghost use Rattle.h41_asm.specs.CodeStatements.{in_line};
-ghost use Rattle.h41_asm.specs.SourceLines.{line_of, words_of};
+ghost use Rattle.h41_asm.specs.SourceLines.{line_of, lines, words_of};
 
 use crate::names::label_in;
 use crate::words::LineWords;
+use h41_lines::lines::line_end;
 
 /// A line of a source.
 #[derive(Clone, Copy, Debug)]
@@ -42,5 +44,31 @@ pub(crate) fn read_line(line: &[u8]) -> SourceLine<'_>
             first: None,
             others: words,
         },
+    }
+}
+
+/// The line of a text that begins at a place, and where the next one begins.
+#[inline(always)]
+pub(crate) fn line_at(text: &[u8], start: usize) -> (&[u8], usize)
+    requires { start < length text.now }
+    ensures next { start < result.1 }
+    ensures bound { result.1 ≤ length text.now }
+    ensures line { lines (drop start text.now) ≡ result.0.now ∷ lines (drop result.1 text.now) }
+{
+    let rest = &text[start..];
+    match line_end(rest) {
+        Some(end) => (without_return(&rest[..end]), start + end + 1),
+        None => (rest, text.len()),
+    }
+}
+
+/// A line without the CR at its end, if it has one.
+#[inline(always)]
+fn without_return(line: &[u8]) -> &[u8]
+    ensures { result.now ≡ strip_carriage_return line.now }
+{
+    match line {
+        [line @ .., b'\r'] => line,
+        _ => line,
     }
 }

@@ -4,8 +4,8 @@ use Rattle.h41_asm.specs.LabelTable.{labels_in}
 use Rattle.h41_asm.proofs.Assembled.{assembles_by, fault_by_labels, ready_by}
 use Rattle.h41_asm.proofs.assembler.assemble.Goals as goal
 
-pub spell-requires : goal.spell-requires
-spell-requires c =
+pub spell-requires-clause-ready : goal.spell-requires-clause-ready
+spell-requires-clause-ready c =
     let placed = c.in_ok-labels.ensures in
     ready_by (labels_in c.in_ok-labels.labels) c.args.text.now c.args.origin placed.ok placed.labels
 

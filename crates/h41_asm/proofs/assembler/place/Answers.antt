@@ -1,34 +1,44 @@
-use Rattle.std.proofs.Common.{◌≡◌, ◌∷◌, List, arith, refl, sym, ◌∙◌, ap, length, map}
+use Rattle.std.proofs.Common.{◌≡◌, ◌∷◌, ◌++◌, List, ℕ, arith, refl, sym, ◌∙◌, ap, drop, length, map}
 use Rattle.h41_asm.specs.CodeStatements.{in_line}
-use Rattle.h41_asm.specs.Placing.{Labels}
+use Rattle.h41_asm.specs.Faults.{line_length, read_length}
+use Rattle.h41_asm.specs.KeptLines.{kept_said, said_from}
 use Rattle.h41_asm.specs.LabelTable.{labels_in}
+use Rattle.h41_asm.specs.Placing.{Labels}
 use Rattle.h41_asm.specs.SourceLines.{SourceLine, line_of, source_lines, words_of}
 use Rattle.h41_lines.proofs.LineCount.{length-lines}
+use Rattle.h41_asm.proofs.Keeping.{kept_next}
 use Rattle.h41_asm.proofs.Placed.{IsPlaced, placed_next, placed_none, placed_within}
 use Rattle.h41_asm.proofs.assembler.place.Goals as goal
 
-pub loop-line-init : goal.loop-line-init
-loop-line-init c =
+pub loop-start-init : goal.loop-start-init
+loop-start-init c =
     let count = length-lines c.args.text.now in
-    rw (c.into_iter-line-iterator.ensures.into_iter_gives, c.new-line-items.ensures, c.from-address.ensures)
-    (record { within = omega arith; count = omega (arith, count); placed = placed_none (labels_in c.new-labels.result) (source_lines c.args.text.now) c.args.origin (λ name. rw c.new-labels.ensures.empty refl) })
+    rw (c.from-address.ensures, c.new-kept.ensures.items)
+    (record { within = omega arith; count = omega (arith, count); placed = placed_none (labels_in c.new-labels.result) (source_lines c.args.text.now) c.args.origin (λ name. rw c.new-labels.ensures.empty refl); kept = refl })
 
-pub loop-line-preserved : goal.loop-line-preserved
-loop-line-preserved c =
-    let before : Labels = labels_in c.loop-line.labels in
+pub loop-start-preserved : goal.loop-start-preserved
+loop-start-preserved c =
+    let text : List ℕ = c.args.text.now in
+    let number = c.loop-start.number in
+    let start = c.loop-start.start in
+    let address = c.loop-start.address in
+    let before : Labels = labels_in c.loop-start.labels in
     let after : Labels = labels_in c.place_line.new.labels in
-    let all : List SourceLine = source_lines c.args.text.now in
+    let all : List SourceLine = source_lines text in
     let line : SourceLine = in_line c.read_line.result in
-    let rest : List SourceLine = source_lines c.next.new.self.rest.now in
-    let own : line ≡ line_of (words_of c.in-Some.line.now) = c.read_line.ensures in
-    let left : source_lines c.loop-line.line-iterator.rest.now ≡ line ∷ rest =
-    ap (map (λ text. line_of (words_of text))) c.in-Some.ensures.steps ∙ ap (λ line. line ∷ rest) (sym own) in
-    let placed : IsPlaced before all c.args.origin c.loop-line.number c.loop-line.address (line ∷ rest) = rw left at c.loop-line.invariant.placed in
+    let rest : List SourceLine = source_lines (drop c.line_at-next.result.1 text) in
+    let own : line ≡ line_of (words_of c.line_at-next.result.0.now) = c.read_line.ensures in
+    let left : source_lines (drop start text) ≡ line ∷ rest =
+    ap (map (λ text. line_of (words_of text))) c.line_at-next.ensures.line ∙ ap (λ line. line ∷ rest) (sym own) in
+    let placed : IsPlaced before all c.args.origin number address (line ∷ rest) = rw left at c.loop-start.invariant.placed in
     let gave = c.in-Ok.ensures in
-    let count = ap length c.in-Some.ensures.steps in
-    let within = placed_within _ c.loop-line.address line gave.ok in
+    let count = ap length c.line_at-next.ensures.line in
+    let within = placed_within _ address line gave.ok in
+    let long : c.length.result ≡ line_length line = c.length.ensures ∙ ap read_length gave.read in
     record {
-      within = omega (arith, within, gave.length);
-      count = omega (arith, count, c.loop-line.invariant.count);
-      placed = rw gave.length (placed_next before after all c.args.origin c.loop-line.number c.loop-line.address line rest placed gave.ok gave.labels);
+      within = omega (arith, within, long);
+      count = omega (arith, count, c.loop-start.invariant.count);
+      placed = rw long (placed_next before after all c.args.origin number address line rest placed gave.ok gave.labels);
+      kept = kept_next text number start c.in-Ok.statement line rest c.loop-start.kept.items c.keep.new.kept.items gave.read left c.in_ok-keep-in-Ok.ensures
+          ∙ ap (λ some. map (kept_said text) c.loop-start.kept.items ++ said_from number some) (sym left) ∙ c.loop-start.invariant.kept;
     }

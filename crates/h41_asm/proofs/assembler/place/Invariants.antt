@@ -1,14 +1,20 @@
-use Rattle.std.proofs.Common.{◌+◌, ◌≤◌, length}
+use Rattle.std.proofs.Common.{◌≡◌, ◌+◌, ◌-◌, ◌≤◌, ◌++◌, drop, length, map}
+use Rattle.h41_asm.specs.KeptLines.{kept_said, said_from}
 use Rattle.h41_asm.specs.LabelTable.{labels_in}
 use Rattle.h41_asm.specs.SourceLines.{lines, source_lines}
 use Rattle.h41_asm.proofs.Placed.{IsPlaced}
 use Rattle.h41_asm.proofs.assembler.place.Given as goal
 
-abbrev pub invariant-loop-line : goal.invariant-loop-line
-invariant-loop-line l = record {
+abbrev pub invariant-loop-start : goal.invariant-loop-start
+invariant-loop-start l = record {
   within : l.address ≤ 65536;
   -- their number, and how many are left
-  count : l.number + length (lines l.line-iterator.rest.now) ≤ length l.text + 1;
+  count : l.number + length (lines (drop l.start l.text)) ≤ length l.text + 1;
   -- the lines before are placed, without a fault
-  placed : IsPlaced (labels_in l.labels) (source_lines l.text) l.origin l.number l.address (source_lines l.line-iterator.rest.now);
+  placed : IsPlaced (labels_in l.labels) (source_lines l.text) l.origin l.number l.address (source_lines (drop l.start l.text));
+  -- and what they say is kept
+  kept : map (kept_said l.text) l.kept.items ++ said_from l.number (source_lines (drop l.start l.text)) ≡ said_from 1 (source_lines l.text);
 }
+
+abbrev pub decreases-loop-start : goal.decreases-loop-start
+decreases-loop-start l = length l.text - l.start

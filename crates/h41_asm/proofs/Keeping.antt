@@ -1,0 +1,178 @@
+-- What is kept of the lines that have words: the faults and the words of these are those of all lines.
+use Rattle.std.proofs.Common.{◌≡◌, ℕ, zero, suc, ◌+◌, ◌<◌, ◌≤◌, Bool, true, false, ◌==◌, List, [], ◌∷◌, ◌++◌, length, drop, map, if◌then◌else◌, refl, sym, ap, ◌∙◌, subst, append_assoc, arith, add-one, IsOk, Some, None, Option, Ok, Err, Result, inl, inr}
+use Rattle.std.specs.Option.{option_or}
+use Rattle.std.proofs.lemmas.Bool.{cases_Bool, eqb-true}
+use Rattle.std.proofs.lemmas.List.{map-append}
+use Rattle.h41_asm.specs.declared.fault.SourceFault.{SourceFault}
+use Rattle.h41_asm.specs.declared.fault.SpellError.{SpellError}
+use Rattle.h41_asm.specs.declared.fault.SpellError.TheVariants as spell_errors
+use Rattle.h41_asm.specs.declared.kept.KeptLine.{KeptLine}
+use Rattle.h41_asm.specs.declared.statement.Statement as code
+use Rattle.h41_asm.specs.declared.statement.Statement.TheVariants as codes_of
+use Rattle.h41_asm.specs.Assembly.{address_count}
+use Rattle.h41_asm.specs.CodeStatements.{in_code}
+use Rattle.h41_asm.specs.Faults.{LineFault, at_line, read_fault, read_length}
+use Rattle.h41_asm.specs.KeptLines.{AddsRead, Said, first_reading, kept_of, kept_reading, kept_said, kept_words, said_from, with_words}
+use Rattle.h41_asm.specs.LabelTable.{IsReady}
+use Rattle.h41_asm.specs.Placing.{Labels, LinesSpell, SpellsRead}
+use Rattle.h41_asm.specs.Refusals.{IsFault, IsRefusal, refusal_of}
+use Rattle.h41_asm.specs.SourceLines.{SourceLine, source_lines}
+use Rattle.h41_asm.specs.Statements.{Statement, Words, OutOfReach, LongJumpTo, ShortJumpTo, EntryAt, reading, statement_length}
+use Rattle.h41_asm.proofs.Determined.{length-line}
+use Rattle.h41_asm.proofs.Walks.{reference_faults}
+
+-- the first fault of a reference in what lines say from an address on
+abbrev pub said_faults : Labels → ℕ → List Said → LineFault
+said_faults labels address [] = None
+said_faults labels address (said ∷ rest) =
+    option_or (at_line said.0 (read_fault labels address said.1)) (said_faults labels (address + read_length said.1) rest)
+
+-- all could be read, and end within the addresses
+abbrev pub AreReady : ℕ → List Said → Type 0
+AreReady address [] = Unit {0}
+AreReady address (said ∷ rest) =
+    IsOk said.1 × (address + read_length said.1 ≤ address_count) × AreReady (address + read_length said.1) rest
+
+-- and they spell these words, each its own
+abbrev pub SaidSpell : Labels → ℕ → List Said → List ℕ → Type 0
+SaidSpell labels address [] words = words ≡ []
+SaidSpell labels address (said ∷ rest) words =
+    (own : List ℕ) × (others : List ℕ) × (words ≡ own ++ others) × SpellsRead labels address said.1 own
+    × SaidSpell labels (address + read_length said.1) rest others
+
+-- what has no words has no fault of a reference, and spells nothing
+no_words-no_fault : (labels : Labels) (address : ℕ) (said : Result Statement SourceFault) → read_length said ≡ 0 → read_fault labels address said ≡ None
+no_words-no_fault labels address (Ok (Words words)) none = refl
+no_words-no_fault labels address (Ok OutOfReach) none = absurd (omega (arith, none))
+no_words-no_fault labels address (Ok (LongJumpTo condition kind name)) none = absurd (omega (arith, none))
+no_words-no_fault labels address (Ok (ShortJumpTo condition name)) none = absurd (omega (arith, none))
+no_words-no_fault labels address (Ok (EntryAt bits name)) none = absurd (omega (arith, none))
+no_words-no_fault labels address (Err fault) none = refl
+
+is_empty : (words : List ℕ) → length words ≡ 0 → [] ≡ words
+is_empty [] none = refl
+is_empty (word ∷ words) none = absurd (omega (arith, none))
+
+no_words-spells_none : (labels : Labels) (address : ℕ) (said : Result Statement SourceFault) → IsOk said → read_length said ≡ 0 → SpellsRead labels address said []
+no_words-spells_none labels address (Ok (Words words)) ok none = is_empty words none
+no_words-spells_none labels address (Ok OutOfReach) ok none = absurd (omega (arith, none))
+no_words-spells_none labels address (Ok (LongJumpTo condition kind name)) ok none = absurd (omega (arith, none))
+no_words-spells_none labels address (Ok (ShortJumpTo condition name)) ok none = absurd (omega (arith, none))
+no_words-spells_none labels address (Ok (EntryAt bits name)) ok none = absurd (omega (arith, none))
+no_words-spells_none labels address (Err fault) ok none = let no : false ≡ true = ok in cc
+
+-- the faults of lines
+faults_with : (labels : Labels) (number address : ℕ) (said : Result Statement SourceFault) (rest : List Said)
+    → said_faults labels address (with_words number said ++ rest)
+    ≡ option_or (at_line number (read_fault labels address said)) (said_faults labels (address + read_length said) rest)
+faults_with labels number address said rest =
+    elim (cases_Bool (read_length said == 0)) [
+      | inl none ↦
+          let empty : read_length said ≡ 0 = eqb-true (read_length said) 0 none in
+          let same : address ≡ address + read_length said = omega (arith, empty) in
+          rw (none, no_words-no_fault labels address said empty) (ap (λ (n : ℕ). said_faults labels n rest) same)
+      | inr some ↦ rw some refl
+    ]
+
+pub faults_said : (labels : Labels) (number address : ℕ) (lines : List SourceLine) → reference_faults labels number address lines ≡ said_faults labels address (said_from number lines)
+faults_said labels number address [] = refl
+faults_said labels number address (line ∷ rest) =
+    let said = reading line.code in
+    ap (option_or (at_line number (read_fault labels address said))) (faults_said labels (suc number) (address + read_length said) rest)
+    ∙ sym (faults_with labels number address said (said_from (suc number) rest))
+
+-- whether they are ready
+ready_with : (number address : ℕ) (said : Result Statement SourceFault) (rest : List Said) → IsOk said → address + read_length said ≤ address_count
+    → AreReady (address + read_length said) rest → AreReady address (with_words number said ++ rest)
+ready_with number address said rest ok within ready =
+    elim (cases_Bool (read_length said == 0)) [
+      | inl none ↦
+          let empty : read_length said ≡ 0 = eqb-true (read_length said) 0 none in
+          let same : address + read_length said ≡ address = omega (arith, empty) in
+          rw none (subst (λ (n : ℕ). AreReady n rest) same ready)
+      | inr some ↦ rw some (ok, within, ready)
+    ]
+
+pub ready_said : (labels : Labels) (number address : ℕ) (lines : List SourceLine) → IsReady labels address lines → AreReady address (said_from number lines)
+ready_said labels number address [] ready = tt
+ready_said labels number address (line ∷ rest) ready =
+    let said = reading line.code in
+    ready_with number address said (said_from (suc number) rest) ready.0 ready.1 (ready_said labels (suc number) (address + read_length said) rest ready.3)
+
+-- and the words
+spelled_with : (labels : Labels) (number address : ℕ) (said : Result Statement SourceFault) (rest : List Said) (words : List ℕ) → IsOk said
+    → SaidSpell labels address (with_words number said ++ rest) words → SaidSpell labels address ((number, said) ∷ rest) words
+spelled_with labels number address said rest words ok spelled =
+    elim (cases_Bool (read_length said == 0)) [
+      | inl none ↦
+          let empty : read_length said ≡ 0 = eqb-true (read_length said) 0 none in
+          let same : address ≡ address + read_length said = omega (arith, empty) in
+          let others : SaidSpell labels address rest words = rw none at spelled in
+          ([], words, refl, no_words-spells_none labels address said ok empty, subst (λ (n : ℕ). SaidSpell labels n rest words) same others)
+      | inr some ↦ rw some at spelled
+    ]
+
+pub spelled_said : (labels : Labels) (number address : ℕ) (lines : List SourceLine) (words : List ℕ) → IsReady labels address lines
+    → SaidSpell labels address (said_from number lines) words → LinesSpell labels address lines words
+spelled_said labels number address [] words ready spelled = spelled
+spelled_said labels number address (line ∷ rest) words ready spelled =
+    let said = reading line.code in
+    let apart = spelled_with labels number address said (said_from (suc number) rest) words ready.0 spelled in
+    let long = length-line labels address said apart.0 apart.3 in
+    let others = spelled_said labels (suc number) (address + read_length said) rest apart.1 ready.3 apart.4 in (
+      apart.0,
+      apart.1,
+      apart.2,
+      record { label = ready.2; words = apart.3 },
+      subst (λ (n : ℕ). LinesSpell labels (address + n) rest apart.1) (sym long) others,
+    )
+
+-- the words with those of one more
+pub spelled_next : (labels : Labels) (address : ℕ) (said : Said) (rest : List Said) (before after others : List ℕ) → AddsRead labels address said.1 before after
+    → SaidSpell labels (address + read_length said.1) rest others
+    → (more : List ℕ) × (after ++ others ≡ before ++ more) × SaidSpell labels address (said ∷ rest) more
+spelled_next labels address said rest before after others next spelled =
+    let own = next.own in (
+      own ++ others,
+      ap (λ words. words ++ others) next.added ∙ append_assoc before own others,
+      (own, others, refl, next.spelled, spelled),
+    )
+
+-- what is kept of a line is what it says
+kept_words-reading : (text : List ℕ) (start : ℕ) (statement : code.Statement) → Ok (in_code statement) ≡ first_reading (source_lines (drop start text))
+    → kept_reading text (kept_words start statement) ≡ Ok (in_code statement)
+kept_words-reading text start codes_of.Nothing read = sym read
+kept_words-reading text start (codes_of.One word) read = refl
+kept_words-reading text start (codes_of.Two first second) read = refl
+kept_words-reading text start (codes_of.Name name) read = sym read
+kept_words-reading text start codes_of.OutOfReach read = sym read
+kept_words-reading text start (codes_of.LongJumpTo condition kind name) read = sym read
+kept_words-reading text start (codes_of.ShortJumpTo condition name) read = sym read
+kept_words-reading text start (codes_of.EntryAt kind name) read = sym read
+
+kept_of-said : (text : List ℕ) (number start : ℕ) (statement : code.Statement) → Ok (in_code statement) ≡ first_reading (source_lines (drop start text))
+    → map (kept_said text) (kept_of number start statement) ≡ with_words number (Ok (in_code statement))
+kept_of-said text number start statement read =
+    elim (cases_Bool (statement_length (in_code statement) == 0)) [
+      | inl none ↦ rw none refl
+      | inr some ↦ rw some (ap (λ said. (number, said) ∷ []) (kept_words-reading text start statement read))
+    ]
+
+-- what is kept with one more line
+pub kept_next : (text : List ℕ) (number start : ℕ) (statement : code.Statement) (line : SourceLine) (rest : List SourceLine) (before after : List KeptLine) → Ok (in_code statement) ≡ reading line.code
+    → source_lines (drop start text) ≡ line ∷ rest → after ≡ before ++ kept_of number start statement
+    → map (kept_said text) after ++ said_from (number + 1) rest ≡ map (kept_said text) before ++ said_from number (line ∷ rest)
+kept_next text number start statement line rest before after read left added =
+    let again : Ok (in_code statement) ≡ first_reading (source_lines (drop start text)) = read ∙ ap first_reading (sym left) in
+    let own = kept_of-said text number start statement again ∙ ap (with_words number) read in
+    let more : map (kept_said text) after ≡ map (kept_said text) before ++ with_words number (reading line.code) =
+    ap (map (kept_said text)) added ∙ map-append (kept_said text) before (kept_of number start statement) ∙ ap (λ others. map (kept_said text) before ++ others) own in
+    ap (λ others. others ++ said_from (number + 1) rest) more
+    ∙ append_assoc (map (kept_said text) before) (with_words number (reading line.code)) (said_from (number + 1) rest)
+    ∙ rw add-one refl
+
+-- a fault of the first line is the first of all
+pub refused_first : (found : Option SourceFault) (error : SpellError) (number : ℕ) (others : LineFault) → IsFault found error
+    → IsRefusal (option_or (at_line number found) others) (refusal_of error number)
+refused_first found (spell_errors.Fault fault) number others is = rw is refl
+refused_first found spell_errors.OutOfMemory number others is = tt

@@ -1,5 +1,5 @@
 -- What is kept of the lines that have words: the faults and the words of these are those of all lines.
-use Rattle.std.proofs.Common.{◌≡◌, ℕ, zero, suc, ◌+◌, ◌<◌, ◌≤◌, Bool, true, false, ◌==◌, List, [], ◌∷◌, ◌++◌, length, drop, map, if◌then◌else◌, refl, sym, ap, ◌∙◌, subst, append_assoc, arith, add-one, IsOk, Some, None, Option, Ok, Err, Result, inl, inr}
+use Rattle.std.proofs.Common.{◌≡◌, ℕ, suc, ◌+◌, ◌≤◌, true, false, ◌==◌, List, [], ◌∷◌, ◌++◌, length, drop, map, refl, sym, ap, ◌∙◌, subst, append_assoc, arith, add-one, IsOk, None, Option, Ok, Err, Result, inl, inr}
 use Rattle.std.specs.Option.{option_or}
 use Rattle.std.proofs.lemmas.Bool.{cases_Bool, eqb-true}
 use Rattle.std.proofs.lemmas.List.{map-append}
@@ -11,9 +11,9 @@ use Rattle.h41_asm.specs.declared.statement.Statement as code
 use Rattle.h41_asm.specs.declared.statement.Statement.TheVariants as codes_of
 use Rattle.h41_asm.specs.Assembly.{address_count}
 use Rattle.h41_asm.specs.CodeStatements.{in_code}
-use Rattle.h41_asm.specs.Faults.{LineFault, at_line, read_fault, read_length}
-use Rattle.h41_asm.specs.KeptLines.{AddsRead, Said, first_reading, kept_of, kept_reading, kept_said, kept_words, said_from, with_words}
-use Rattle.h41_asm.specs.LabelTable.{IsReady}
+use Rattle.h41_asm.specs.Faults.{LineFault, at_line, read_fault, read_length, reference_fault}
+use Rattle.h41_asm.specs.KeptLines.{Said, first_reading, kept_of, kept_reading, kept_said, kept_words, said_from, with_words}
+use Rattle.h41_asm.specs.LabelTable.{IsReady, SpellsNext}
 use Rattle.h41_asm.specs.Placing.{Labels, LinesSpell, SpellsRead}
 use Rattle.h41_asm.specs.Refusals.{IsFault, IsRefusal, refusal_of}
 use Rattle.h41_asm.specs.SourceLines.{SourceLine, source_lines}
@@ -128,15 +128,23 @@ spelled_said labels number address (line ∷ rest) words ready spelled =
     )
 
 -- the words with those of one more
-pub spelled_next : (labels : Labels) (address : ℕ) (said : Said) (rest : List Said) (before after others : List ℕ) → AddsRead labels address said.1 before after
-    → SaidSpell labels (address + read_length said.1) rest others
+pub spelled_next : (labels : Labels) (address : ℕ) (said : Said) (statement : Statement) (rest : List Said) (before after others : List ℕ) → Ok statement ≡ said.1
+    → SpellsNext labels address statement before after → SaidSpell labels (address + read_length said.1) rest others
     → (more : List ℕ) × (after ++ others ≡ before ++ more) × SaidSpell labels address (said ∷ rest) more
-spelled_next labels address said rest before after others next spelled =
+spelled_next labels address said statement rest before after others read next spelled =
     let own = next.own in (
       own ++ others,
       ap (λ words. words ++ others) next.added ∙ append_assoc before own others,
-      (own, others, refl, next.spelled, spelled),
+      (own, others, refl, subst (λ r. SpellsRead labels address r own) read next.spelled, spelled),
     )
+
+-- the faults behind what has none
+pub faults_next : (labels : Labels) (address : ℕ) (said : Said) (statement : Statement) (rest : List Said) → Ok statement ≡ said.1
+    → reference_fault labels address statement ≡ None
+    → said_faults labels (address + read_length said.1) rest ≡ said_faults labels address (said ∷ rest)
+faults_next labels address said statement rest read none =
+    let own : read_fault labels address said.1 ≡ None = sym (ap (read_fault labels address) read) ∙ none in
+    sym (ap (λ fault. option_or (at_line said.0 fault) (said_faults labels (address + read_length said.1) rest)) own)
 
 -- what is kept of a line is what it says
 kept_words-reading : (text : List ℕ) (start : ℕ) (statement : code.Statement) → Ok (in_code statement) ≡ first_reading (source_lines (drop start text))

@@ -1,7 +1,6 @@
 -- What the code keeps of the lines that have words: it is what these lines say. It only connects the code with the definitions of
 -- assembly.
-use Rattle.std.specs.Prelude.{◌≡◌, Vec, ℕ, suc, List, [], ◌∷◌, ◌++◌, map, drop, ◌==◌, if◌then◌else◌, Option, Result, Ok, Err}
-use Rattle.std.specs.Global.{Global}
+use Rattle.std.specs.Prelude.{◌≡◌, ℕ, suc, List, [], ◌∷◌, ◌++◌, map, drop, ◌==◌, if◌then◌else◌, Result, Ok, Err}
 use Rattle.h41_asm.specs.declared.fault.SourceFault.{SourceFault}
 use Rattle.h41_asm.specs.declared.fault.SourceFault.TheVariants.{BadLine}
 use Rattle.h41_asm.specs.declared.kept.KeptLine.{KeptLine}
@@ -11,9 +10,7 @@ use Rattle.h41_asm.specs.declared.source.SourceLine as code_lines
 use Rattle.h41_asm.specs.declared.statement.Statement as code
 use Rattle.h41_asm.specs.declared.statement.Statement.TheVariants as codes_of
 use Rattle.h41_asm.specs.CodeStatements.{in_code, in_line}
-use Rattle.h41_asm.specs.Faults.{read_fault, read_length}
-use Rattle.h41_asm.specs.LabelTable.{Table, labels_in}
-use Rattle.h41_asm.specs.Placing.{Labels, SpellsRead}
+use Rattle.h41_asm.specs.Faults.{read_length}
 use Rattle.h41_asm.specs.SourceLines.{SourceLine, source_lines}
 use Rattle.h41_asm.specs.Statements.{Statement, Words, reading, statement_length}
 
@@ -26,11 +23,15 @@ abbrev pub first_reading : List SourceLine → Result Statement SourceFault
 first_reading [] = Err BadLine
 first_reading (line ∷ rest) = reading line.code
 
+-- what the line says that begins at a place in a text
+abbrev pub reading_at : List ℕ → ℕ → Result Statement SourceFault
+reading_at text start = first_reading (source_lines (drop start text))
+
 -- what was kept of a line, by the text that it may have to be read again from
 abbrev pub kept_reading : List ℕ → KeptWords → Result Statement SourceFault
 kept_reading text (One word) = Ok (Words (word ∷ []))
 kept_reading text (Two first second) = Ok (Words (first ∷ second ∷ []))
-kept_reading text (Again start) = first_reading (source_lines (drop start text))
+kept_reading text (Again start) = reading_at text start
 
 abbrev pub kept_said : List ℕ → KeptLine → Said
 kept_said text kept = (kept.number, kept_reading text kept.words)
@@ -66,17 +67,3 @@ kept_of number start statement =
 -- a line of the code says what a statement of the code does
 abbrev pub Says : code.Statement → code_lines.SourceLine → Type 0
 Says statement line = Ok (in_code statement) ≡ reading (in_line line).code
-
--- words that a line which was read adds to those before it
-pub record AddsRead (labels : Labels) (address : ℕ) (said : Result Statement SourceFault) (before after : List ℕ) : Type 0 where
-  pub own : List ℕ
-  pub added : after ≡ before ++ own
-  pub spelled : SpellsRead labels address said own
-
--- what a line adds by what was kept of it, and the fault of its reference
-abbrev pub AddsKept : {S : Type 0} → Table S → ℕ → List ℕ → KeptWords → Vec ℕ Global → Vec ℕ Global → Type 0
-AddsKept table address text kept before after =
-    AddsRead (labels_in table) address (kept_reading text kept) before.items after.items
-
-abbrev pub kept_fault : {S : Type 0} → Table S → ℕ → List ℕ → KeptWords → Option SourceFault
-kept_fault table address text kept = read_fault (labels_in table) address (kept_reading text kept)

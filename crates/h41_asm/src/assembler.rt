@@ -1,17 +1,17 @@
 //! From lines to words, in two passes: first the addresses of the labels, then the words.
 
-ghost use Rattle.std.specs.Prelude.{◌≡◌, ◌+◌, ◌-ℤ◌, pos, ◌<◌, ◌≤◌, ◌++◌, [], ◌∷◌, None, IfOk, IfErr, OnOk, IsOk};
+ghost use Rattle.std.specs.Prelude.{◌≡◌, ◌-ℤ◌, pos, ◌<◌, ◌≤◌, ◌++◌, [], ◌∷◌, None, IfOk, IfErr, OnOk};
 ghost use Rattle.std.specs.Option.{ok_or};
 ghost use Rattle.h41_asm.specs.Assembly.{Assembles, address_count};
 ghost use Rattle.h41_asm.specs.CodeStatements.{in_label};
-ghost use Rattle.h41_asm.specs.Faults.{assembly_fault, is_past, read_length};
-ghost use Rattle.h41_asm.specs.KeptLines.{AddsKept, KeepsLines, Says, kept_fault, kept_reading};
+ghost use Rattle.h41_asm.specs.Faults.{assembly_fault, is_past};
+ghost use Rattle.h41_asm.specs.KeptLines.{KeepsLines, Says};
 ghost use Rattle.h41_asm.specs.LabelTable.{AddsLabel, AddsName, AddsOwn, HoldsLabels, IsReadyBy, SpellsBy, fault_by, first_fault_by, first_own_fault, is_held_in, jump_word, labels_in, line_fault_in};
 ghost use Rattle.h41_asm.specs.Refusals.{IsFault, IsRefusal};
 
 use crate::emit::{entry_words, push_name};
 use crate::fault::{AssembleError, SourceFault, SpellError};
-use crate::kept::{KeptLine, KeptWords, keep};
+use crate::kept::{KeptLine, keep};
 use crate::source::{SourceLine, line_at, read_line};
 use crate::statement::{Statement, long_jump_words, read};
 use crate::table::EntryKind;
@@ -145,66 +145,13 @@ fn spell(
     let mut words = Vec::new(alloc);
     let mut address = u32::from(origin);
     for line in kept {
-        match push_kept(&mut words, text, labels, address, line.words) {
-            Ok(length) => address += length,
+        let statement = line.words.statement(text);
+        match push_statement(&mut words, labels, address, &statement) {
+            Ok(()) => address += statement.length() as u32,
             Err(error) => return Err(error.at_line(line.number)),
         }
     }
     Ok(words)
-}
-
-/// Appends the words of a line at an address, and answers how many these are.
-#[inline(always)]
-fn push_kept(
-    words: &mut Vec<Word>,
-    text: &[u8],
-    labels: &Labels<'_>,
-    address: u32,
-    kept: KeptWords,
-) -> Result<u32, SpellError>
-    requires within { address + read_length (kept_reading text.now kept) ≤ address_count }
-    requires read { IsOk (kept_reading text.now kept) }
-    ensures ok { OnOk result (kept_fault labels.now address text.now kept ≡ None) }
-    ensures length { IfOk result (λ length. length ≡ read_length (kept_reading text.now kept)) }
-    ensures own { OnOk result (AddsKept labels.now address text.now kept words.old words.new) }
-    ensures err { IfErr result (IsFault (kept_fault labels.now address text.now kept)) }
-{
-    match kept {
-        KeptWords::One(word) => {
-            words.push(word)?;
-            Ok(1)
-        }
-        KeptWords::Two(first, second) => {
-            push_two(words, first, second)?;
-            Ok(2)
-        }
-        KeptWords::Again(start) => push_again(words, text, labels, address, start),
-    }
-}
-
-/// Appends the words of the line that begins at a place in the text, and answers how many these are.
-fn push_again(
-    words: &mut Vec<Word>,
-    text: &[u8],
-    labels: &Labels<'_>,
-    address: u32,
-    start: usize,
-) -> Result<u32, SpellError>
-    requires within { address + read_length (kept_reading text.now (KeptWords.Again start)) ≤ address_count }
-    requires read { IsOk (kept_reading text.now (KeptWords.Again start)) }
-    ensures ok { OnOk result (kept_fault labels.now address text.now (KeptWords.Again start) ≡ None) }
-    ensures length { IfOk result (λ length. length ≡ read_length (kept_reading text.now (KeptWords.Again start))) }
-    ensures own { OnOk result (AddsKept labels.now address text.now (KeptWords.Again start) words.old words.new) }
-    ensures err { IfErr result (IsFault (kept_fault labels.now address text.now (KeptWords.Again start))) }
-{
-    let (line, _) = line_at(text, start);
-    match read(read_line(line)) {
-        Ok(statement) => {
-            push_statement(words, labels, address, &statement)?;
-            Ok(statement.length() as u32)
-        }
-        Err(fault) => Err(SpellError::Fault(fault)),
-    }
 }
 
 /// Appends the words of a statement at an address.

@@ -222,7 +222,11 @@ impl Calculator {
         ensures err { OnErr result (self.new ≡ self.old) }
     {
         match self.mode {
-            Mode::Idle | Mode::Run => self.step_line(),
+            Mode::Idle | Mode::Run => {
+                // A place of its own for a line's result, so that a word's stays in registers.
+                self.step_line()?;
+                Ok(())
+            }
             Mode::Micro(caller) => self.step_word(caller),
         }
     }

@@ -1,6 +1,7 @@
 -- Runs: how single steps make one, why it leaves nothing open, and how two make one.
 use Rattle.std.proofs.Common.{◌≡◌, ◌<◌, ◌≤◌, ◌⊎◌, ℕ, zero, suc, ◌+◌, ◌-◌, inl, inr, Bool, true, false, Option, Some, None, refl, sym, ap, subst, zero-add, arith}
 use Rattle.std.specs.Prelude.{MatchOption, if◌then◌else◌, nat_lt}
+use Rattle.std.specs.Option.{unwrap_or}
 use borrow.Author.Tests.{ltb-true, ltb-false}
 use Rattle.h41_xrom.specs.declared.refusal.CalculatorRefusal.{CalculatorRefusal}
 use Rattle.h41_xrom.specs.Calculator.{CalculatorState, RefusesStep, Step, is_idle}
@@ -72,6 +73,12 @@ begins limit s running = record {
   before = λ fewer u other below _ _. absurd (omega (arith, below));
 }
 
+-- so many steps were made, one at least, and there was no reason to stop after fewer
+pub record Made (limit made : ℕ) (s t : BenchState) : Type 0 where
+  pub some : 1 ≤ made
+  pub steps : Steps made s t None
+  pub before : NoneBefore limit made s
+
 -- a run of nothing
 pub stays_idle : (limit : ℕ) (s : BenchState) → is_idle s.calculator.mode ≡ true → Run limit s s 0 Idle
 stays_idle limit s idle = record {
@@ -137,6 +144,45 @@ stop_some true set why is = let same : Idle ≡ why = cc in inl (refl, sym same)
 stop_some false true why is = let same : Break ≡ why = cc in inr (refl, refl, sym same)
 stop_some false false why is = cc
 
+-- where there is no reason to stop behind a step the run goes on, and else it ends there
+pub goes_on : (limit made : ℕ) (s t : BenchState) → Made limit made s t → stop_at t ≡ None → GoesOn limit made s t
+goes_on limit made s t so_far stop =
+    let free = stop_none (is_idle t.calculator.mode) (is_set t.breakpoints (place_of t.calculator)) stop in record {
+      steps = so_far.steps;
+      running = free.0;
+      clear = λ some. free.1;
+      before = so_far.before;
+    }
+
+pub stops : (limit made : ℕ) (s t : BenchState) (why : Stop) → Made limit made s t → stop_at t ≡ Some why → Run limit s t made why
+stops limit made s t why so_far stop =
+    elim (stop_some (is_idle t.calculator.mode) (is_set t.breakpoints (place_of t.calculator)) why stop) [
+      | inl idle ↦ subst (λ (of : Stop). Run limit s t made of) (sym idle.1) (record {
+        steps = so_far.steps;
+        stops = idle.0;
+        first = λ other under _. absurd (omega (arith, under));
+        least = so_far.before;
+      })
+      | inr broken ↦ subst (λ (of : Stop). Run limit s t made of) (sym broken.2) (record {
+        steps = so_far.steps;
+        stops = (so_far.some, broken.1);
+        first = not_idle limit made t broken.0;
+        least = so_far.before;
+      })
+    ]
+
+-- a run of as many steps as may be
+pub ends_made : (limit : ℕ) (s t : BenchState) → Made limit limit s t → Run limit s t limit (unwrap_or (stop_at t) Limit)
+ends_made limit s t so_far =
+    elim (stop_at t) as (λ stop. stop_at t ≡ stop → Run limit s t limit (unwrap_or stop Limit)) [
+      | Some why ↦ λ is. stops limit limit s t why so_far is
+      | None ↦ λ is. ends_at_limit limit s t (goes_on limit limit s t so_far is)
+    ] refl
+
+-- a run of no step at all
+pub ends_unmade : (limit : ℕ) (s : BenchState) → limit ≡ 0 → is_idle s.calculator.mode ≡ false → Run limit s s 0 Limit
+ends_unmade limit s none running = subst (λ n. Run n s s 0 Limit) (sym none) (ends_at_limit 0 s s (begins 0 s running))
+
 -- numbers of which neither is below the other, and one that is below another or goes on from it
 equal_counts : (a b : ℕ) → (a < b → ⊥) → (b < a → ⊥) → a ≡ b
 equal_counts a b least most = omega (arith, least, most)
@@ -170,52 +216,22 @@ module _ (same_refusal : StepRefusalIsDetermined) (same_step : StepIsDetermined)
             (subst (λ (at : BenchState). StopsFor limit made at other) (sym here) (subst (λ k. StopsFor limit k u other) same holds))
       ]
 
-  -- one more step, and what follows of what it leaves
-  made_more : (limit made : ℕ) (s t next : BenchState) → GoesOn limit made s t → RefusesStep t.calculator None → Step t.calculator next.calculator
-      → next ≡ with_calculator next.calculator t → Steps (made + 1) s next None
-  made_more limit made s t next on accepted step others =
-      subst (λ (to : BenchState). Steps (made + 1) s to None) (sym others)
-      (steps_add made 1 s t (with_calculator next.calculator t) None on.steps (one_step t next.calculator accepted step))
-
-  pub goes_on : (limit made : ℕ) (s t next : BenchState) → GoesOn limit made s t → made < limit → RefusesStep t.calculator None → Step t.calculator next.calculator
-      → next ≡ with_calculator next.calculator t → stop_at next ≡ None → GoesOn limit (made + 1) s next
-  goes_on limit made s t next on below accepted step others stop =
-      let free = stop_none (is_idle next.calculator.mode) (is_set next.breakpoints (place_of next.calculator)) stop in record {
-        steps = made_more limit made s t next on accepted step others;
-        running = free.0;
-        clear = λ some. free.1;
-        before = none_more limit made s t on below accepted;
-      }
-
-  pub stops : (limit made : ℕ) (s t next : BenchState) (why : Stop) → GoesOn limit made s t → made < limit → RefusesStep t.calculator None → Step t.calculator next.calculator
-      → next ≡ with_calculator next.calculator t → stop_at next ≡ Some why → Run limit s next (made + 1) why
-  stops limit made s t next why on below accepted step others stop =
-      let steps = made_more limit made s t next on accepted step others in
-      let before = none_more limit made s t on below accepted in
-      elim (stop_some (is_idle next.calculator.mode) (is_set next.breakpoints (place_of next.calculator)) why stop) [
-        | inl idle ↦ subst (λ (of : Stop). Run limit s next (made + 1) of) (sym idle.1) (record {
-          steps = steps;
-          stops = idle.0;
-          first = λ other under _. absurd (omega (arith, under));
-          least = before;
-        })
-        | inr broken ↦ subst (λ (of : Stop). Run limit s next (made + 1) of) (sym broken.2) (record {
-          steps = steps;
-          stops = (omega arith, broken.1);
-          first = not_idle limit (made + 1) next broken.0;
-          least = before;
-        })
-      ]
+  -- one more step
+  pub made_more : (limit made : ℕ) (s t next : BenchState) → GoesOn limit made s t → made < limit → RefusesStep t.calculator None → Step t.calculator next.calculator
+      → next ≡ with_calculator next.calculator t → Made limit (made + 1) s next
+  made_more limit made s t next on below accepted step others = record {
+    some = omega arith;
+    steps = subst (λ (to : BenchState). Steps (made + 1) s to None) (sym others)
+        (steps_add made 1 s t (with_calculator next.calculator t) None on.steps (one_step t next.calculator accepted step));
+    before = none_more limit made s t on below accepted;
+  }
 
   -- a single step
   pub step_is_run : StepIsRun
   step_is_run s next running accepted step =
       let after : BenchState = with_calculator next s in
-      let on = begins 1 s running in
-      elim (stop_at after) as (λ stop. stop_at after ≡ stop → (why : Stop) × Run 1 s after 1 why) [
-        | Some why ↦ λ is. (why, stops 1 0 s s after why on (omega arith) accepted step refl is)
-        | None ↦ λ is. (Limit, ends_at_limit 1 s after (goes_on 1 0 s s after on (omega arith) accepted step refl is))
-      ] refl
+      let so_far = made_more 1 0 s s after (begins 1 s running) (omega arith) accepted step refl in
+      (unwrap_or (stop_at after) Limit, ends_made 1 s after so_far)
 
   -- one run and another from the same state
   same_stop : (limit made : ℕ) (t : BenchState) (why other : Stop) → turn_of why ≡ turn_of other → StopsFor limit made t why → StopsFor limit made t other → why ≡ other

@@ -1,10 +1,12 @@
 //! Runs: single steps up to a reason to stop.
 
-ghost use Rattle.std.specs.Prelude.{◌≡◌, false};
+ghost use Rattle.std.specs.Prelude.{◌≡◌, false, OnErr, OnOk};
 ghost use Rattle.std.specs.FinSet.{len};
+ghost use Rattle.std.specs.Result.{result_err};
+ghost use Rattle.h41_debug.specs.Bench.{with_calculator};
 ghost use Rattle.h41_debug.specs.Run.{Run};
 ghost use Rattle.h41_debug.specs.Running.{break_at, stop_at};
-ghost use Rattle.h41_xrom.specs.Calculator.{is_idle};
+ghost use Rattle.h41_xrom.specs.Calculator.{RefusesStep, Step, is_idle};
 
 use crate::bench::Bench;
 use crate::breakpoint::Breakpoint;
@@ -50,15 +52,33 @@ impl Bench {
         ensures { Run limit self.old self.new result.0 result.1 }
     {
         step_is_determined();
-        for made in 0..limit {
+        if limit == 0 {
+            return (0, Stop::Limit);
+        }
+        if let Err(refusal) = self.first_step() {
+            return (0, Stop::Refused(refusal));
+        }
+        for made in 1..limit {
+            if let Some(stop) = self.stop(watched) {
+                return (made, stop);
+            }
             if let Err(refusal) = self.step() {
                 return (made, Stop::Refused(refusal));
             }
-            if let Some(stop) = self.stop(watched) {
-                return (made + 1, stop);
-            }
         }
-        (limit, Stop::Limit)
+        (limit, self.stop(watched).unwrap_or(Stop::Limit))
+    }
+
+    /// A run's first step, in front of which no breakpoint is asked for. Its machine code stands apart: the loop has the steps behind it,
+    /// each of which asks for the mode once.
+    #[inline(never)]
+    fn first_step(&mut self) -> Result<(), CalculatorRefusal>
+        ensures refusal { RefusesStep self.old.calculator (result_err result) }
+        ensures change { OnOk result (Step self.old.calculator self.new.calculator) }
+        ensures others { self.new ≡ with_calculator self.new.calculator self.old }
+        ensures err { OnErr result (self.new ≡ self.old) }
+    {
+        self.step()
     }
 
     /// Why a run stops behind a step, whatever its limit. Breakpoints are asked for where the run is watched, and else none is set.

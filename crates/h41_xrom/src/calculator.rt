@@ -214,8 +214,8 @@ impl Calculator {
 
     /// One step: a word while a function runs, which ends where it arrives at 00F0, and else the line at the position. A word is
     /// refused as 6 to 12; a line as 15 where memory is not sound, as 14 where bytes are no line, as 13 where it is not carried
-    /// out. Nothing is changed then. Its machine code stands once, with that of all words in it.
-    #[inline(never)]
+    /// out. Nothing is changed then.
+    #[inline(always)]
     pub fn step(&mut self) -> Result<(), CalculatorRefusal>
         ensures refusal { RefusesStep self.old (result_err result) }
         ensures change { OnOk result (Step self.old self.new) }

@@ -96,7 +96,6 @@ impl Cpu {
     }
 
     /// `RTN`: goes to the newest return address, which is taken off.
-    #[inline(always)]
     pub(crate) fn return_to_newest(&mut self) -> Result<(), WordRefusal>
         ensures { GoesTo spec.newest_return spec.popped self.old self.new result }
     {
@@ -107,7 +106,6 @@ impl Cpu {
     }
 
     /// `?C RTN` and `?NC RTN`: returns where the carry is as the condition says.
-    #[inline(always)]
     pub(crate) fn return_if(&mut self, condition: Condition) -> Result<(), WordRefusal>
         ensures { ReturnsIf condition self.old self.new result }
     {
@@ -119,7 +117,6 @@ impl Cpu {
     }
 
     /// `XQ->GO`: drops the newest return address.
-    #[inline(always)]
     pub(crate) fn drop_return(&mut self) -> Result<(), WordRefusal>
         ensures { GoesOn spec.popped self.old self.new result }
     {
@@ -130,7 +127,6 @@ impl Cpu {
     }
 
     /// `PUSH ADR`: the address in C becomes the newest return address.
-    #[inline(always)]
     pub(crate) fn push_address(&mut self) -> Result<(), WordRefusal>
         ensures { GoesOn with_address_pushed self.old self.new result }
     {
@@ -141,7 +137,6 @@ impl Cpu {
     }
 
     /// `POP ADR`: the newest return address goes to C, and is taken off.
-    #[inline(always)]
     pub(crate) fn pop_address(&mut self) -> Result<(), WordRefusal>
         ensures { GoesOn with_address_popped self.old self.new result }
     {
@@ -154,7 +149,6 @@ impl Cpu {
     }
 
     /// `GOTO KEY`: goes to the next address with the key's code as its low byte.
-    #[inline(always)]
     pub(crate) fn go_to_key(&mut self, key: u8) -> Result<(), WordRefusal>
         ensures { GoesTo (spec.key_target key) (λ s. s) self.old self.new result }
     {
@@ -162,7 +156,6 @@ impl Cpu {
     }
 
     /// The newest return address, 0000 where there is none.
-    #[inline(always)]
     fn newest_return(&self) -> u16
         ensures { result ≡ spec.newest_return self.now }
     {
@@ -170,7 +163,6 @@ impl Cpu {
     }
 
     /// Takes the newest return address off; the oldest is 0000 then.
-    #[inline(always)]
     fn pop(&mut self)
         ensures { self.new ≡ spec.popped self.old }
     {
@@ -179,7 +171,6 @@ impl Cpu {
     }
 
     /// Puts a return address in front; the oldest is lost.
-    #[inline(always)]
     fn push(&mut self, address: u16)
         ensures { self.new ≡ spec.pushed address self.old }
     {

@@ -12,7 +12,6 @@ use h41_fields::Pointer;
 
 impl Cpu {
     /// Where the active pointer is, 0 to 13.
-    #[inline(always)]
     pub(crate) fn pointer(&self) -> usize
         ensures place { result ≡ spec.pointer_of self.now }
         ensures bound { result < 14 }
@@ -24,7 +23,6 @@ impl Cpu {
     }
 
     /// `R= n`, `R=R+1` and `R=R-1`: puts the active pointer at a place.
-    #[inline(always)]
     pub(crate) fn set_pointer(&mut self, place: usize) -> Result<(), WordRefusal>
         requires { place < 14 }
         ensures { GoesOn (spec.with_pointer place) self.old self.new result }
@@ -36,7 +34,6 @@ impl Cpu {
     }
 
     /// Puts the active pointer at a place.
-    #[inline(always)]
     pub(crate) fn move_pointer(&mut self, place: usize)
         requires { place < 14 }
         ensures { self.new ≡ spec.with_pointer place self.old }
@@ -48,7 +45,6 @@ impl Cpu {
     }
 
     /// `SLCT P` and `SLCT Q`: makes a pointer the active one.
-    #[inline(always)]
     pub(crate) fn select_pointer(&mut self, pointer: Pointer) -> Result<(), WordRefusal>
         ensures { GoesOn (spec.with_active pointer) self.old self.new result }
     {
@@ -60,7 +56,6 @@ impl Cpu {
 }
 
 /// The place above another; above 13 comes 0.
-#[inline(always)]
 pub(crate) fn place_above(place: usize) -> usize
     requires { place < 14 }
     ensures value { result ≡ spec.place_above place }
@@ -70,7 +65,6 @@ pub(crate) fn place_above(place: usize) -> usize
 }
 
 /// The place below another; below 0 comes 13.
-#[inline(always)]
 pub(crate) fn place_below(place: usize) -> usize
     requires { place < 14 }
     ensures value { result ≡ spec.place_below place }

@@ -17,7 +17,6 @@ use h41_words::{Digit, Place, RegisterTransfer, Word};
 
 impl Cpu {
     /// The address in C's digits 6 to 3.
-    #[inline(always)]
     pub(crate) fn address_in_c(&self) -> u16
         ensures { result ≡ spec.address_in_c self.now }
     {
@@ -25,7 +24,6 @@ impl Cpu {
     }
 
     /// The low ten bits of C's digits 2 to 0.
-    #[inline(always)]
     pub(crate) fn word_in_c(&self) -> u16
         ensures value { result ≡ spec.word_in_c self.now }
         ensures bound { result < word_count }
@@ -34,7 +32,6 @@ impl Cpu {
     }
 
     /// A word's digits to places 2 to 0 of C.
-    #[inline(always)]
     fn put_word(&mut self, word: Word)
         ensures { self.new ≡ spec.with_word_in_c word self.old }
     {
@@ -42,7 +39,6 @@ impl Cpu {
     }
 
     /// `LDI`: the second word goes to C; the processor goes on after it.
-    #[inline(always)]
     pub(crate) fn load_immediate(&mut self, second: Word) -> Result<(), WordRefusal>
         ensures { GoesTo address_after_both (spec.with_word_in_c second) self.old self.new result }
     {
@@ -53,7 +49,6 @@ impl Cpu {
     }
 
     /// `FETCH S&X`: a word goes to C.
-    #[inline(always)]
     pub(crate) fn load_word(&mut self, word: Word) -> Result<(), WordRefusal>
         ensures { GoesOn (spec.with_word_in_c word) self.old self.new result }
     {
@@ -64,7 +59,6 @@ impl Cpu {
     }
 
     /// `LD@R n`: a digit goes to C at the active pointer, which goes down.
-    #[inline(always)]
     pub(crate) fn load_digit(&mut self, digit: Digit) -> Result<(), WordRefusal>
         ensures { GoesOn (spec.with_digit_loaded digit) self.old self.new result }
     {
@@ -77,7 +71,6 @@ impl Cpu {
     }
 
     /// `C=KEY`: the key's code goes to C's digits 4 and 3.
-    #[inline(always)]
     pub(crate) fn load_key(&mut self, key: u8) -> Result<(), WordRefusal>
         ensures { GoesOn (spec.with_key_in_c key) self.old self.new result }
     {
@@ -88,7 +81,6 @@ impl Cpu {
     }
 
     /// `READ DATA`: a register of the memory goes to C.
-    #[inline(always)]
     pub(crate) fn load_register(&mut self, register: Reg) -> Result<(), WordRefusal>
         ensures { GoesOn (spec.with_c register) self.old self.new result }
     {
@@ -99,7 +91,6 @@ impl Cpu {
     }
 
     /// `RCR n`: rotates C right by so many digits.
-    #[inline(always)]
     pub(crate) fn rotate_right(&mut self, digits: Place) -> Result<(), WordRefusal>
         ensures { GoesOn (spec.with_c_rotated digits) self.old self.new result }
     {
@@ -110,7 +101,6 @@ impl Cpu {
     }
 
     /// `C=C OR A`: C keeps its bits and takes those of A.
-    #[inline(always)]
     pub(crate) fn or_with_a(&mut self) -> Result<(), WordRefusal>
         ensures { GoesOn spec.with_c_or_a self.old self.new result }
     {
@@ -121,7 +111,6 @@ impl Cpu {
     }
 
     /// `C=C AND A`: C keeps the bits that A has too.
-    #[inline(always)]
     pub(crate) fn and_with_a(&mut self) -> Result<(), WordRefusal>
         ensures { GoesOn spec.with_c_and_a self.old self.new result }
     {
@@ -132,7 +121,6 @@ impl Cpu {
     }
 
     /// `CLRABC`: clears A, B and C.
-    #[inline(always)]
     pub(crate) fn clear_registers(&mut self) -> Result<(), WordRefusal>
         ensures { GoesOn spec.with_abc_clear self.old self.new result }
     {
@@ -145,7 +133,6 @@ impl Cpu {
     }
 
     /// `RAM SLCT`, `WRIT n`: selects an address of the memory.
-    #[inline(always)]
     pub(crate) fn select(&mut self, address: u16) -> Result<(), WordRefusal>
         requires { address < word_count }
         ensures { GoesOn (selecting address) self.old self.new result }
@@ -157,7 +144,6 @@ impl Cpu {
     }
 
     /// `READ n`: selects an address of the memory, whose register goes to C.
-    #[inline(always)]
     pub(crate) fn select_and_load(&mut self, address: u16, register: Reg) -> Result<(), WordRefusal>
         requires { address < word_count }
         ensures { GoesOn (selecting_and_loading address register) self.old self.new result }
@@ -170,7 +156,6 @@ impl Cpu {
     }
 
     /// `SETHEX` and `SETDEC`: the base that arithmetic counts in from here on.
-    #[inline(always)]
     pub(crate) fn set_base(&mut self, base: Base) -> Result<(), WordRefusal>
         ensures { GoesOn (spec.with_base base) self.old self.new result }
     {
@@ -181,7 +166,6 @@ impl Cpu {
     }
 
     /// `DISOFF` and `DISTOG`: turns the display on or off.
-    #[inline(always)]
     pub(crate) fn set_display(&mut self, on: bool) -> Result<(), WordRefusal>
         ensures { GoesOn (spec.with_display on) self.old self.new result }
     {
@@ -192,7 +176,6 @@ impl Cpu {
     }
 
     /// `G=C`, `C=M`, `ST<>T` and the like: copies a register, or exchanges two.
-    #[inline(always)]
     pub(crate) fn transfer(&mut self, transfer: RegisterTransfer) -> Result<(), WordRefusal>
         ensures { GoesOn (spec.transferred transfer) self.old self.new result }
     {
@@ -230,7 +213,6 @@ impl Cpu {
     }
 
     /// The byte of C at the active pointer, its low digit there and its high digit one place above.
-    #[inline(always)]
     fn byte_at_pointer(&self) -> u8
         ensures { result ≡ spec.byte_at_pointer self.now }
     {
@@ -239,7 +221,6 @@ impl Cpu {
     }
 
     /// Puts a byte into C at the active pointer.
-    #[inline(always)]
     fn put_byte_at_pointer(&mut self, byte: u8)
         ensures { self.new ≡ spec.with_byte_at_pointer byte self.old }
     {
@@ -251,7 +232,6 @@ impl Cpu {
     }
 
     /// The address of a register, 0 to 15, in the selected block of 16.
-    #[inline(always)]
     pub(crate) fn block_address(&self, register: u8) -> u16
         requires { register < 16 }
         ensures value { result ≡ block_address register self.now }
@@ -262,7 +242,6 @@ impl Cpu {
 }
 
 /// A register rotated right by so many digits.
-#[inline(always)]
 fn rotated(register: Reg, digits: usize) -> Reg
     requires { digits < 14 }
     ensures { result ≡ spec.rotated register digits }
@@ -278,7 +257,6 @@ fn rotated(register: Reg, digits: usize) -> Reg
 }
 
 /// The bits that stand in one of two registers or in both.
-#[inline(always)]
 fn digits_or(x: Reg, y: Reg) -> Reg
     ensures { result ≡ spec.digits_or x y }
 {
@@ -286,7 +264,6 @@ fn digits_or(x: Reg, y: Reg) -> Reg
 }
 
 /// The bits that stand in both of two registers.
-#[inline(always)]
 fn digits_and(x: Reg, y: Reg) -> Reg
     ensures { result ≡ spec.digits_and x y }
 {

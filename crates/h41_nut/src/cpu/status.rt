@@ -13,7 +13,6 @@ use h41_words::StatusBit;
 
 impl Cpu {
     /// Whether a status bit is set.
-    #[inline(always)]
     pub(crate) fn is_status_set(&self, bit: StatusBit) -> bool
         ensures { result ≡ spec.is_status_set bit self.now }
     {
@@ -21,7 +20,6 @@ impl Cpu {
     }
 
     /// `SETF n` and `CLRF n`: sets or clears a status bit.
-    #[inline(always)]
     pub(crate) fn set_status(&mut self, bit: StatusBit, on: bool) -> Result<(), WordRefusal>
         ensures { GoesOn (spec.with_status bit on) self.old self.new result }
     {
@@ -32,7 +30,6 @@ impl Cpu {
     }
 
     /// Sets or clears a status bit.
-    #[inline(always)]
     fn put_status(&mut self, bit: StatusBit, on: bool)
         ensures { self.new ≡ spec.with_status bit on self.old }
     {
@@ -40,7 +37,6 @@ impl Cpu {
     }
 
     /// `ST=0`: clears S0 to S7.
-    #[inline(always)]
     pub(crate) fn clear_status_byte(&mut self) -> Result<(), WordRefusal>
         ensures { GoesOn (spec.with_status_byte 0) self.old self.new result }
     {
@@ -51,7 +47,6 @@ impl Cpu {
     }
 
     /// S0 to S7 as a byte.
-    #[inline(always)]
     pub(crate) fn status_byte(&self) -> u8
         ensures { result ≡ spec.status_byte self.now }
     {
@@ -59,7 +54,6 @@ impl Cpu {
     }
 
     /// Sets S0 to S7 as a byte.
-    #[inline(always)]
     pub(crate) fn set_status_byte(&mut self, byte: u8)
         ensures { self.new ≡ spec.with_status_byte byte self.old }
     {

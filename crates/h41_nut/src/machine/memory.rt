@@ -10,7 +10,6 @@ use h41_ram::Ram;
 use h41_words::{BlockRegister, ReadRegister};
 
 /// `WRIT n`: C goes to a register of the selected block, which stays selected.
-#[inline(always)]
 pub fn write_register<const REGS: usize>(
     cpu: &mut Cpu,
     ram: &mut Ram<REGS>,
@@ -27,7 +26,6 @@ pub fn write_register<const REGS: usize>(
 }
 
 /// `READ n`: a register of the selected block goes to C, and stays selected.
-#[inline(always)]
 pub fn read_register<const REGS: usize>(
     cpu: &mut Cpu,
     ram: &Ram<REGS>,
@@ -40,7 +38,6 @@ pub fn read_register<const REGS: usize>(
 }
 
 /// `WRIT DATA`: C goes to the selected register.
-#[inline(always)]
 pub fn write_data<const REGS: usize>(cpu: &mut Cpu, ram: &mut Ram<REGS>) -> Result<(), WordRefusal>
     ensures processor { GoesOn (λ s. s) cpu.old cpu.new result }
     ensures written { OnOk result (ram.new ≡ spec.with_c_at ram.old cpu.old.selected cpu.old) }

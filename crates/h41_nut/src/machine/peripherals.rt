@@ -10,7 +10,6 @@ use crate::refusal::WordRefusal;
 use h41_words::UnassignedWord;
 
 /// `CLRKEY`: clears the key flag.
-#[inline(always)]
 pub fn clear_key_flag(cpu: &mut Cpu, keys: &mut Keys) -> Result<(), WordRefusal>
     ensures processor { GoesOn (λ s. s) cpu.old cpu.new result }
     ensures flag { OnOk result (keys.new ≡ record keys.old { flag = false }) }
@@ -22,7 +21,6 @@ pub fn clear_key_flag(cpu: &mut Cpu, keys: &mut Keys) -> Result<(), WordRefusal>
 }
 
 /// `PRPH SLCT`: does nothing where C's digits 1 and 0 are zero, and is refused as 10 else.
-#[inline(always)]
 pub fn select_peripheral(cpu: &mut Cpu) -> Result<(), WordRefusal>
     ensures { GoesOnUnless (spec.peripheral_refusal cpu.old) (λ s. s) cpu.old cpu.new result }
 {
@@ -33,7 +31,6 @@ pub fn select_peripheral(cpu: &mut Cpu) -> Result<(), WordRefusal>
 }
 
 /// Why a word that stands for no instruction is refused: 3FC as 7, peripherals' words as 10, each other as 6.
-#[inline(always)]
 pub fn constant_refusal(word: UnassignedWord, address: u16) -> WordRefusal
     ensures { result ≡ spec.constant_refusal word address }
 {
@@ -48,7 +45,6 @@ pub fn constant_refusal(word: UnassignedWord, address: u16) -> WordRefusal
 }
 
 /// Whether a word is one of a peripheral.
-#[inline(always)]
 fn is_peripheral(word: u16) -> bool
     ensures { result ≡ spec.is_peripheral word }
 {

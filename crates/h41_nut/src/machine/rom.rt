@@ -21,7 +21,6 @@ pub fn fetch(pages: &Pages, address: u16) -> Result<Word, WordRefusal>
 
 /// The word at an address, and 000 where nothing is plugged (this project's choice). Refused as 8 in pages 0 to 3.
 #[tactic(auto, unfolding(h41_pages::specs::PageMap::fetched))]
-#[inline(always)]
 fn fetch_or_zero(pages: &Pages, address: u16) -> Result<Word, WordRefusal>
     ensures refusal { result_err result ≡ system_refusal address }
     ensures word { IfOk result (λ word. word ≡ word_or_zero (fetched pages.now address)) }
@@ -34,7 +33,6 @@ fn fetch_or_zero(pages: &Pages, address: u16) -> Result<Word, WordRefusal>
 }
 
 /// `WROM`: the word in C is written at the address in C. Refused as 12 before all else where its page is not writable.
-#[inline(always)]
 pub fn write_rom(cpu: &mut Cpu, pages: &mut Pages) -> Result<(), WordRefusal>
     ensures processor { WritesWord pages.old cpu.old cpu.new result }
     ensures written { OnOk result (pages.new ≡ spec.with_word_written pages.old cpu.old) }
@@ -50,7 +48,6 @@ pub fn write_rom(cpu: &mut Cpu, pages: &mut Pages) -> Result<(), WordRefusal>
 
 /// `FETCH S&X`: the word at the address in C goes to C; 000 where no page is plugged there. Refused as 8 before all else in
 /// the system's pages.
-#[inline(always)]
 pub fn fetch_word(cpu: &mut Cpu, pages: &Pages) -> Result<(), WordRefusal>
     ensures { FetchesWord pages.now cpu.old cpu.new result }
 {

@@ -1,6 +1,6 @@
 -- What the private functions of sums promise one another: the loop over the digits of a span, and the carries of a sum of
 -- numbers. No public contract needs this file.
-use Rattle.std.specs.Prelude.{ℕ, ◌/◌, Bool, List, bit_and, bit_xor}
+use Rattle.std.specs.Prelude.{◌≡◌, ℕ, ◌+◌, ◌*◌, ◌/◌, Bool, List, bit_and, bit_xor}
 use Rattle.h41_arith.specs.DigitRule.{SumDigit, DifferenceDigit, HasCarries, HasResult, carry_digit}
 use Rattle.h41_arith.specs.declared.sums.DigitOperation.{DigitOperation}
 use Rattle.h41_arith.specs.declared.sums.DigitOperation.TheVariants.{Add, Subtract}
@@ -22,3 +22,10 @@ RuleInto operation base into x y carry_in lo hi z carry_out = HasResult (HasCarr
 -- of the two digits' sum
 abbrev pub carries_of : ℕ → ℕ → ℕ → ℕ → ℕ
 carries_of x y sum ones = bit_and (bit_xor (bit_xor x y) sum / 16) ones
+
+-- a total of two numbers in base 10, in parts below a limit: their sum in base 16, and six more at each digit that carries with six
+-- more in each digit of the first
+abbrev pub IsDecimalTotal : ℕ → ℕ → Bool → ℕ → ℕ → ℕ → Bool → Type 0
+IsDecimalTotal first second carry_in limit ones total carry =
+    let sum : ℕ = first + second + carry_digit carry_in in
+    total + limit * carry_digit carry ≡ sum + 6 * carries_of (first + 6 * ones) second (sum + 6 * ones) ones

@@ -3,7 +3,7 @@
 ghost use Rattle.std.specs.Prelude.{◌≡◌, ◌+◌, ◌*◌, ◌^◌, ◌<◌, ◌≤◌, ◌⊎◌, ◌==◌, not, true, false};
 ghost use Rattle.h41_digits.specs.Register.{IsRegister};
 ghost use Rattle.h41_arith.specs.DigitRule.{SumDigit, DifferenceDigit, SumInto, DifferenceInto, base_of, carry_digit, zeros};
-ghost use Rattle.h41_arith.specs.DigitOperations.{HasDigit, RuleInto, rule_of, carries_of};
+ghost use Rattle.h41_arith.specs.DigitOperations.{HasDigit, IsDecimalTotal, RuleInto, rule_of, carries_of};
 
 use crate::spans::{limit, number_in, ones};
 use h41_digits::Reg;
@@ -157,8 +157,7 @@ fn decimal_total(first: u64, second: u64, carry_in: bool, limit: u64, ones: u64)
     requires limit { limit ≤ 2 ^ 56 }
     requires first { first ≤ 9 * ones }
     requires second { second < limit }
-    ensures parts { let sum = first + second + carry_digit carry_in in result.0 + limit * carry_digit result.1
-        ≡ sum + 6 * carries_of (first + 6 * ones) second (sum + 6 * ones) ones }
+    ensures parts { IsDecimalTotal first second carry_in limit ones result.0 result.1 }
     ensures fits { result.0 < limit }
 {
     let sum = first + second + u64::from(carry_in);

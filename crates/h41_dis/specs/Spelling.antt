@@ -54,6 +54,10 @@ words_column piece = hexadecimal_text 3 piece.first ++ second_column piece.secon
 abbrev pub columns_text : ℕ → Piece → List ℕ
 columns_text address piece = hexadecimal_text 4 address ++ codes "  " ++ words_column piece ++ codes "  "
 
+-- a text with the line of an instruction behind it, with its columns
+abbrev pub with_columns_line : List ℕ → ℕ → Piece → List ℕ
+with_columns_line text address piece = (text ++ columns_text address piece) ++ piece_line piece
+
 -- a line with its columns; an address has 16 bits
 abbrev pub columns_line : ℕ → Piece → List ℕ
 columns_line address piece = columns_text (address % 0x10000) piece ++ piece_line piece

@@ -12,7 +12,10 @@ use Rattle.h41_asm.specs.declared.fault.SourceFault.{SourceFault}
 use Rattle.h41_asm.specs.declared.fault.SourceFault.TheVariants.{BadLine, BadOperand}
 use Rattle.h41_asm.specs.declared.table.Opening as table
 use Rattle.h41_asm.specs.declared.table.Opening.TheVariants as openings
-use Rattle.h41_asm.specs.CodeStatements.{takes_in_code, takes_numbered}
+use Rattle.h41_asm.specs.declared.statement.Statement as code
+use Rattle.h41_asm.specs.declared.words.LineWords as rests
+use Rattle.h41_asm.specs.CodeStatements.{read_in_code, takes_in_code, takes_numbered}
+use Rattle.h41_asm.specs.SourceLines.{words_of}
 use Rattle.h41_asm.specs.Statements.{Statement, Words, Taking, is_whole, reading, taken, takes_address}
 
 -- the words behind an instruction that takes none, by its word
@@ -28,6 +31,13 @@ data_or number takes words = if is_whole words (codes "DATA") then Ok (Words (nu
 abbrev pub by_second : (List ℕ → List (List ℕ) → Result Statement SourceFault) → List (List ℕ) → Result Statement SourceFault
 by_second says [] = Err BadLine
 by_second says (second ∷ others) = says second others
+
+-- what the code read of the words behind an opening, by a rule for them, or by one for the second word and those behind it
+abbrev pub Reads : (List (List ℕ) → Result Statement SourceFault) → rests.LineWords → Result code.Statement SourceFault → Type 0
+Reads says others read = read_in_code read ≡ says (words_of others.rest.now)
+
+abbrev pub ReadsSecond : (List ℕ → List (List ℕ) → Result Statement SourceFault) → rests.LineWords → Result code.Statement SourceFault → Type 0
+ReadsSecond says others read = Reads (by_second says) others read
 
 abbrev pub pair : List ℕ → ℕ → List ℕ → List (List ℕ) → Result Statement SourceFault
 pair name number second others = if bytes_eq second name then alone number others else Err BadLine

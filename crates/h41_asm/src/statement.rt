@@ -3,6 +3,7 @@
 ghost use Rattle.std.specs.Prelude.{◌≡◌, ◌+◌, ◌≤◌, ◌==◌, [], ◌∷◌, codes, length};
 ghost use Rattle.h41_asm.specs.CodeStatements.{found_in_code, in_code, in_line, read_in_code, taken_operand, takes_in_code, takes_numbered};
 ghost use Rattle.h41_asm.specs.Openings as openings;
+ghost use Rattle.h41_asm.specs.Openings.{Reads, ReadsSecond};
 ghost use Rattle.h41_asm.specs.SourceLines.{words_of};
 ghost use Rattle.h41_asm.specs.Statements as spec;
 
@@ -79,9 +80,10 @@ fn read_from<'a>(first: &[u8], others: LineWords<'a>) -> Result<Statement<'a>, S
 }
 
 /// What the words behind a known one say.
+#[inline(always)]
 fn opened(opening: Opening, others: LineWords<'_>) -> Result<Statement<'_>, SourceFault>
     requires { openings.TellsWords opening }
-    ensures { read_in_code result ≡ openings.opened opening (words_of others.entry.rest.now) }
+    ensures { Reads (openings.opened opening) others.entry result }
 {
     match opening {
         Opening::Single(number) => alone(rom_word(number), others),
@@ -108,7 +110,7 @@ fn opened(opening: Opening, others: LineWords<'_>) -> Result<Statement<'_>, Sour
 /// An instruction behind which no word stands.
 #[inline(always)]
 fn alone(instruction: Word, others: LineWords<'_>) -> Result<Statement<'_>, SourceFault>
-    ensures { read_in_code result ≡ openings.alone instruction (words_of others.entry.rest.now) }
+    ensures { Reads (openings.alone instruction) others.entry result }
 {
     if is_nothing(others) {
         Ok(Statement::One(instruction))
@@ -123,7 +125,7 @@ fn data_or(
     numbered: Numbered,
     others: LineWords<'_>,
 ) -> Result<Statement<'_>, SourceFault>
-    ensures { read_in_code result ≡ openings.data_or instruction (takes_numbered numbered) (words_of others.entry.rest.now) }
+    ensures { Reads (openings.data_or instruction (takes_numbered numbered)) others.entry result }
 {
     if is_data(others) {
         Ok(Statement::One(instruction))
@@ -149,7 +151,7 @@ fn pair<'a>(
     instruction: Word,
     others: LineWords<'a>,
 ) -> Result<Statement<'a>, SourceFault>
-    ensures { read_in_code result ≡ openings.by_second (openings.pair name.now instruction) (words_of others.entry.rest.now) }
+    ensures { ReadsSecond (openings.pair name.now instruction) others.entry result }
 {
     let mut others = others;
     match others.next() {
@@ -166,7 +168,7 @@ fn either<'a>(
     other: Word,
     others: LineWords<'a>,
 ) -> Result<Statement<'a>, SourceFault>
-    ensures { read_in_code result ≡ openings.by_second (openings.either name.now instruction other_name.now other) (words_of others.entry.rest.now) }
+    ensures { ReadsSecond (openings.either name.now instruction other_name.now other) others.entry result }
 {
     let mut others = others;
     match others.next() {
@@ -178,7 +180,7 @@ fn either<'a>(
 
 /// `C=C OR A` or `C=C AND A`.
 fn logic(others: LineWords<'_>) -> Result<Statement<'_>, SourceFault>
-    ensures { read_in_code result ≡ openings.by_second openings.logic (words_of others.entry.rest.now) }
+    ensures { ReadsSecond openings.logic others.entry result }
 {
     let mut others = others;
     match others.next() {
@@ -190,7 +192,7 @@ fn logic(others: LineWords<'_>) -> Result<Statement<'_>, SourceFault>
 
 /// A return where the carry is as the condition says, or a jump by address.
 fn at_carry(condition: Condition, others: LineWords<'_>) -> Result<Statement<'_>, SourceFault>
-    ensures { read_in_code result ≡ openings.by_second (openings.at_carry condition) (words_of others.entry.rest.now) }
+    ensures { ReadsSecond (openings.at_carry condition) others.entry result }
 {
     let mut others = others;
     match others.next() {

@@ -1,5 +1,5 @@
 -- Runs: how single steps make one, why it leaves nothing open, and how two make one.
-use Rattle.std.proofs.Common.{◌≡◌, ◌<◌, ◌≤◌, ◌⊎◌, ℕ, zero, suc, ◌+◌, ◌-◌, inl, inr, Bool, true, false, Option, Some, None, refl, sym, ap, subst, zero-add, arith}
+use Rattle.std.proofs.Common.{◌≡◌, ◌<◌, ◌≤◌, ◌⊎◌, ℕ, zero, suc, ◌+◌, ◌-◌, inl, inr, Bool, true, false, Option, Some, None, refl, sym, ap, ◌∙◌, subst, zero-add, arith}
 use Rattle.std.specs.Prelude.{MatchOption, if◌then◌else◌, nat_lt}
 use Rattle.std.specs.Option.{unwrap_or}
 use borrow.Author.Tests.{ltb-true, ltb-false}
@@ -10,10 +10,10 @@ use Rattle.h41_debug.specs.Bench.{BenchState, Steps, with_calculator}
 use Rattle.h41_debug.specs.BenchLaws.{RefusedStepIsRun, RunsAddUp, RunsAreDetermined, StepIsRun}
 use Rattle.h41_debug.specs.Breakpoints.{is_set}
 use Rattle.h41_debug.specs.Run.{Run, StopsFor, place_of, turn_of}
-use Rattle.h41_debug.specs.Running.{stop_at}
+use Rattle.h41_debug.specs.Running.{EndsFor, stop_at, stop_behind}
 use Rattle.h41_debug.specs.declared.run.Stop.{Stop}
 use Rattle.h41_debug.specs.declared.run.Stop.TheVariants.{Break, Idle, Limit, Refused}
-use Rattle.h41_debug.proofs.StepsInTurn.{steps_determined}
+use Rattle.h41_debug.proofs.StepsInTurn.{steps-refused, steps_determined}
 
 -- the first of some steps, none of them refused, and the others
 First : ℕ → BenchState → BenchState → Type 0
@@ -54,6 +54,32 @@ steps_split (suc count) more s u steps =
 pub one_step : (s : BenchState) (next : CalculatorState) → RefusesStep s.calculator None → Step s.calculator next → Steps 1 s (with_calculator next s) None
 one_step s next accepted step = (None, accepted, (next, step, (refl, refl)))
 
+-- one step that was made
+pub one_made : (s t : BenchState) → Steps 1 s t None → RefusesStep s.calculator None × Step s.calculator t.calculator × (t ≡ with_calculator t.calculator s)
+unfolding First
+one_made s t steps =
+    let first = first_step 0 s t steps in
+    let made : t ≡ with_calculator first.1.0 s = first.1.2.0 in
+    let next : t.calculator ≡ first.1.0 = ap (λ (at : BenchState). at.calculator) made in
+    (first.0, subst (Step s.calculator) (sym next) first.1.1, made ∙ ap (λ at. with_calculator at s) (sym next))
+
+pub none_made : (made : ℕ) (s t : BenchState) → made < 1 → Steps made s t None → t ≡ s
+none_made zero s t below steps = steps.0
+none_made (suc made) s t below steps = absurd (omega (arith, below))
+
+-- the steps that are left behind some
+pub steps_left : (left made : ℕ) (s t u : BenchState) (refusal : Option CalculatorRefusal) → made ≤ left → Steps made s t None
+    → Steps (left - made) t u refusal → Steps left s u refusal
+steps_left left made s t u refusal most steps rest =
+    let sum : made + (left - made) ≡ left = omega (arith, most) in
+    subst (λ k. Steps k s u refusal) sum (steps_add made (left - made) s t u refusal steps rest)
+
+pub steps_to_refusal : (left made : ℕ) (s t : BenchState) (why : CalculatorRefusal) → made < left → Steps made s t None
+    → RefusesStep t.calculator (Some why) → Steps left s t (Some why)
+steps_to_refusal left made s t why below steps refused =
+    let more : left - made ≡ suc (left - made - 1) = omega (arith, below) in
+    steps_left left made s t t (Some why) (omega (arith, below)) steps (steps-refused (left - made) (left - made - 1) t why more refused)
+
 -- no reason to stop after fewer steps
 abbrev pub NoneBefore : ℕ → ℕ → BenchState → Type 0
 NoneBefore limit made s = (fewer : ℕ) (u : BenchState) (other : Stop) → fewer < made → Steps fewer s u None → StopsFor limit fewer u other → ⊥
@@ -73,11 +99,16 @@ begins limit s running = record {
   before = λ fewer u other below _ _. absurd (omega (arith, below));
 }
 
--- so many steps were made, one at least, and there was no reason to stop after fewer
+-- so many steps were made, the first of them whatever was there; where something ran, there was no reason to stop after fewer
 pub record Made (limit made : ℕ) (s t : BenchState) : Type 0 where
-  pub some : 1 ≤ made
   pub steps : Steps made s t None
-  pub before : NoneBefore limit made s
+  pub before : is_idle s.calculator.mode ≡ false → NoneBefore limit made s
+
+pub made_none : (limit : ℕ) (s : BenchState) → Made limit 0 s s
+made_none limit s = record {
+  steps = (refl, refl);
+  before = λ running fewer u other below _ _. absurd (omega (arith, below));
+}
 
 -- a run of nothing
 pub stays_idle : (limit : ℕ) (s : BenchState) → is_idle s.calculator.mode ≡ true → Run limit s s 0 Idle
@@ -144,40 +175,93 @@ stop_some true set why is = let same : Idle ≡ why = cc in inl (refl, sym same)
 stop_some false true why is = let same : Break ≡ why = cc in inr (refl, refl, sym same)
 stop_some false false why is = cc
 
+-- why steps ended, and where something ran at first, that this was a run
+abbrev pub Ended : ℕ → ℕ → BenchState → BenchState → Stop → Type 0
+Ended limit made s t why = EndsFor limit made t why × (is_idle s.calculator.mode ≡ false → Run limit s t made why)
+
 -- where there is no reason to stop behind a step the run goes on, and else it ends there
-pub goes_on : (limit made : ℕ) (s t : BenchState) → Made limit made s t → stop_at t ≡ None → GoesOn limit made s t
-goes_on limit made s t so_far stop =
+on_behind : (limit made : ℕ) (s t : BenchState) → Made limit made s t → stop_at t ≡ None → is_idle s.calculator.mode ≡ false → GoesOn limit made s t
+on_behind limit made s t so_far stop running =
     let free = stop_none (is_idle t.calculator.mode) (is_set t.breakpoints (place_of t.calculator)) stop in record {
       steps = so_far.steps;
       running = free.0;
       clear = λ some. free.1;
-      before = so_far.before;
+      before = so_far.before running;
     }
 
-pub stops : (limit made : ℕ) (s t : BenchState) (why : Stop) → Made limit made s t → stop_at t ≡ Some why → Run limit s t made why
-stops limit made s t why so_far stop =
+stops_behind : (limit made : ℕ) (s t : BenchState) (why : Stop) → Made limit made s t → 1 ≤ made → stop_at t ≡ Some why → Ended limit made s t why
+stops_behind limit made s t why so_far some stop =
     elim (stop_some (is_idle t.calculator.mode) (is_set t.breakpoints (place_of t.calculator)) why stop) [
-      | inl idle ↦ subst (λ (of : Stop). Run limit s t made of) (sym idle.1) (record {
-        steps = so_far.steps;
-        stops = idle.0;
-        first = λ other under _. absurd (omega (arith, under));
-        least = so_far.before;
-      })
-      | inr broken ↦ subst (λ (of : Stop). Run limit s t made of) (sym broken.2) (record {
-        steps = so_far.steps;
-        stops = (so_far.some, broken.1);
-        first = not_idle limit made t broken.0;
-        least = so_far.before;
-      })
+      | inl idle ↦ subst (Ended limit made s t) (sym idle.1) (
+        some,
+        λ running. record {
+          steps = so_far.steps;
+          stops = idle.0;
+          first = λ other under _. absurd (omega (arith, under));
+          least = so_far.before running;
+        },
+      )
+      | inr broken ↦ subst (Ended limit made s t) (sym broken.2) (
+        some,
+        λ running. record {
+          steps = so_far.steps;
+          stops = (some, broken.1);
+          first = not_idle limit made t broken.0;
+          least = so_far.before running;
+        },
+      )
     ]
 
--- a run of as many steps as may be
-pub ends_made : (limit : ℕ) (s t : BenchState) → Made limit limit s t → Run limit s t limit (unwrap_or (stop_at t) Limit)
-ends_made limit s t so_far =
-    elim (stop_at t) as (λ stop. stop_at t ≡ stop → Run limit s t limit (unwrap_or stop Limit)) [
-      | Some why ↦ λ is. stops limit limit s t why so_far is
-      | None ↦ λ is. ends_at_limit limit s t (goes_on limit limit s t so_far is)
+-- in front of the first step none is asked for
+at_first : (made : ℕ) (s t : BenchState) → nat_lt 0 made ≡ false → Steps made s t None → t ≡ s
+at_first zero s t none steps = steps.0
+at_first (suc made) s t none steps = absurd (omega (arith, ltb-false _ _ none))
+
+pub goes_on : (limit made : ℕ) (s t : BenchState) → Made limit made s t → stop_behind (nat_lt 0 made) t ≡ None → is_idle s.calculator.mode ≡ false
+    → GoesOn limit made s t
+goes_on limit made s t so_far stop running =
+    elim (nat_lt 0 made) as (λ behind. nat_lt 0 made ≡ behind → stop_behind behind t ≡ None → GoesOn limit made s t) [
+      | true ↦ λ some stop. on_behind limit made s t so_far stop running
+      | false ↦ λ none stop. record {
+        steps = so_far.steps;
+        running = subst (λ (at : BenchState). is_idle at.calculator.mode ≡ false) (sym (at_first made s t none so_far.steps)) running;
+        clear = λ some. absurd (omega (arith, some, ltb-false _ _ none));
+        before = so_far.before running;
+      }
+    ] refl stop
+
+pub stops : (limit made : ℕ) (s t : BenchState) (why : Stop) → Made limit made s t → stop_behind (nat_lt 0 made) t ≡ Some why → Ended limit made s t why
+stops limit made s t why so_far stop =
+    elim (nat_lt 0 made) as (λ behind. nat_lt 0 made ≡ behind → stop_behind behind t ≡ Some why → Ended limit made s t why) [
+      | true ↦ λ some stop. stops_behind limit made s t why so_far (ltb-true _ _ some) stop
+      | false ↦ λ none stop. let no : None ≡ Some why = stop in cc
+    ] refl stop
+
+-- the next step is refused
+pub ends_at_refusal : (limit made : ℕ) (s t : BenchState) (why : CalculatorRefusal) → Made limit made s t → stop_behind (nat_lt 0 made) t ≡ None → made < limit
+    → RefusesStep t.calculator (Some why) → Ended limit made s t (Refused why)
+ends_at_refusal limit made s t why so_far stop below refused =
+    ((below, refused), λ running. ends_refused limit made s t why (goes_on limit made s t so_far stop running) below refused)
+
+-- as many steps were made as may be
+pub ends_made : (limit : ℕ) (s t : BenchState) → 1 ≤ limit → Made limit limit s t → Ended limit limit s t (unwrap_or (stop_at t) Limit)
+ends_made limit s t some so_far =
+    elim (stop_at t) as (λ stop. stop_at t ≡ stop → Ended limit limit s t (unwrap_or stop Limit)) [
+      | Some why ↦ λ is. stops_behind limit limit s t why so_far some is
+      | None ↦ λ is. (refl, λ running. ends_at_limit limit s t (on_behind limit limit s t so_far is running))
     ] refl
+
+-- what follows from why steps ended
+pub refused_for : (limit made : ℕ) (t : BenchState) (why : Stop) (refusal : CalculatorRefusal) → EndsFor limit made t why → why ≡ Refused refusal
+    → (made < limit) × RefusesStep t.calculator (Some refusal)
+refused_for limit made t why refusal ends is = subst (EndsFor limit made t) is ends
+
+pub some_made : (limit made : ℕ) (t : BenchState) (why : Stop) → 1 ≤ limit → EndsFor limit made t why → ((refusal : CalculatorRefusal) → why ≡ Refused refusal → ⊥)
+    → 1 ≤ made
+some_made limit made t Idle some ends other = ends
+some_made limit made t Break some ends other = ends
+some_made limit made t Limit some ends other = omega (arith, some, ends)
+some_made limit made t (Refused refusal) some ends other = absurd (other refusal refl)
 
 -- a run of no step at all
 pub ends_unmade : (limit : ℕ) (s : BenchState) → limit ≡ 0 → is_idle s.calculator.mode ≡ false → Run limit s s 0 Limit
@@ -217,21 +301,20 @@ module _ (same_refusal : StepRefusalIsDetermined) (same_step : StepIsDetermined)
       ]
 
   -- one more step
-  pub made_more : (limit made : ℕ) (s t next : BenchState) → GoesOn limit made s t → made < limit → RefusesStep t.calculator None → Step t.calculator next.calculator
-      → next ≡ with_calculator next.calculator t → Made limit (made + 1) s next
-  made_more limit made s t next on below accepted step others = record {
-    some = omega arith;
+  pub made_more : (limit made : ℕ) (s t next : BenchState) → Made limit made s t → stop_behind (nat_lt 0 made) t ≡ None → made < limit
+      → RefusesStep t.calculator None → Step t.calculator next.calculator → next ≡ with_calculator next.calculator t → Made limit (made + 1) s next
+  made_more limit made s t next so_far stop below accepted step others = record {
     steps = subst (λ (to : BenchState). Steps (made + 1) s to None) (sym others)
-        (steps_add made 1 s t (with_calculator next.calculator t) None on.steps (one_step t next.calculator accepted step));
-    before = none_more limit made s t on below accepted;
+        (steps_add made 1 s t (with_calculator next.calculator t) None so_far.steps (one_step t next.calculator accepted step));
+    before = λ running. none_more limit made s t (goes_on limit made s t so_far stop running) below accepted;
   }
 
   -- a single step
   pub step_is_run : StepIsRun
   step_is_run s next running accepted step =
       let after : BenchState = with_calculator next s in
-      let so_far = made_more 1 0 s s after (begins 1 s running) (omega arith) accepted step refl in
-      (unwrap_or (stop_at after) Limit, ends_made 1 s after so_far)
+      let so_far = made_more 1 0 s s after (made_none 1 s) refl (omega arith) accepted step refl in
+      (unwrap_or (stop_at after) Limit, (ends_made 1 s after (omega arith) so_far).1 running)
 
   -- one run and another from the same state
   same_stop : (limit made : ℕ) (t : BenchState) (why other : Stop) → turn_of why ≡ turn_of other → StopsFor limit made t why → StopsFor limit made t other → why ≡ other

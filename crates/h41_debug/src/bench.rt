@@ -9,6 +9,7 @@ ghost use Rattle.h41_debug.specs.Breakpoints.{is_set, lacks_breakpoint, most_bre
 ghost use Rattle.h41_xrom.specs.Calculator.{RefusesStep, Step};
 
 use crate::breakpoint::{BreakFull, Breakpoint, Breakpoints, NoBreak};
+use crate::run::Stop;
 use h41_keys::Key;
 use h41_xrom::{Calculator, CalculatorRefusal};
 use std::alloc::{AllocError, Global};
@@ -64,8 +65,22 @@ impl Bench {
     }
 
     /// One single step. What is refused changes nothing.
-    #[inline(always)]
     pub fn step(&mut self) -> Result<(), CalculatorRefusal>
+        ensures refusal { RefusesStep self.old.calculator (result_err result) }
+        ensures change { OnOk result (Step self.old.calculator self.new.calculator) }
+        ensures others { self.new ≡ with_calculator self.new.calculator self.old }
+        ensures err { OnErr result (self.new ≡ self.old) }
+    {
+        let (_made, stop) = self.advance(1);
+        if let Stop::Refused(refusal) = stop {
+            return Err(refusal);
+        }
+        Ok(())
+    }
+
+    /// The same, inlined: for the loop of all single steps.
+    #[inline(always)]
+    pub(crate) fn step_here(&mut self) -> Result<(), CalculatorRefusal>
         ensures refusal { RefusesStep self.old.calculator (result_err result) }
         ensures change { OnOk result (Step self.old.calculator self.new.calculator) }
         ensures others { self.new ≡ with_calculator self.new.calculator self.old }
@@ -78,8 +93,13 @@ impl Bench {
     pub fn steps(&mut self, count: u32) -> Result<(), CalculatorRefusal>
         ensures { Steps count self.old self.new (result_err result) }
     {
-        for _step in 0..count {
-            self.calculator.step()?;
+        let mut left = count;
+        while left > 0 {
+            let (made, stop) = self.advance(left);
+            if let Stop::Refused(refusal) = stop {
+                return Err(refusal);
+            }
+            left -= made;
         }
         Ok(())
     }

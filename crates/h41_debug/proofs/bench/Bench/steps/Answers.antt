@@ -1,21 +1,24 @@
-use Rattle.std.proofs.Common.{◌≡◌, ◌-◌, ◌+◌, suc, arith}
-use Rattle.std.proofs.lemmas.Result.{err_from_is_err_and}
-use Rattle.h41_debug.specs.Bench.{BenchState}
-use Rattle.h41_debug.proofs.StepsInTurn.{steps-more, steps-refused}
+use Rattle.std.proofs.Common.{◌≡◌, Some, None, arith, refl, subst}
+use Rattle.h41_debug.specs.Bench.{Steps}
+use Rattle.h41_debug.proofs.Runs.{refused_for, steps_left, steps_to_refusal}
 use Rattle.h41_debug.proofs.bench.Bench.steps.Goals as goal
 
-pub returns-in_err-step : goal.returns-in_err-step
-returns-in_err-step c =
-    let left : c.args.count - c.loop-step._step ≡ suc (c.args.count - (c.loop-step._step + 1)) = omega arith in
-    let at : BenchState = record { calculator = c.loop-step.self-inside.calculator; breakpoints = c.loop-step.self-inside.breakpoints } in
-    let ended = steps-refused (c.args.count - c.loop-step._step) (c.args.count - (c.loop-step._step + 1)) at c.in_err-step.field-0.0 left (c.in_err-step.ensures).refusal in
-    let stays = (c.in_err-step.ensures).err in
-    let p = err_from_is_err_and c.from_residual.result c.from_residual.ensures.1 in
-    rw (p.1, p.2, stays) (c.loop-step.invariant _ _ ended)
+pub loop-left-init : goal.loop-left-init
+loop-left-init c t refusal steps = steps
 
-pub loop-step-preserved : goal.loop-step-preserved
-loop-step-preserved c t refusal rest =
-    let left : c.args.count - c.loop-step._step ≡ suc (c.args.count - (c.loop-step._step + 1)) = omega arith in
-    let at : BenchState = record { calculator = c.loop-step.self-inside.calculator; breakpoints = c.loop-step.self-inside.breakpoints } in
-    c.loop-step.invariant t refusal
-    (steps-more (c.args.count - c.loop-step._step) (c.args.count - (c.loop-step._step + 1)) at t c.step.new.self refusal left (c.in_ok-step.ensures).refusal (c.in_ok-step.ensures).change rest)
+pub returns-in-Refused : goal.returns-in-Refused
+returns-in-Refused c =
+    let ended = refused_for c.loop-left.left c.advance-made.result.0 c.advance-made.new.self c.advance-made.result.1 c.in-Refused.refusal
+    c.advance-made.ensures.ends c.in-Refused.is in
+    c.loop-left.invariant c.advance-made.new.self (Some c.in-Refused.refusal)
+    (steps_to_refusal c.loop-left.left c.advance-made.result.0 c.loop-left.self c.advance-made.new.self c.in-Refused.refusal ended.0 c.advance-made.ensures.steps ended.1)
+
+pub loop-left-preserved : goal.loop-left-preserved
+loop-left-preserved c t refusal rest =
+    c.loop-left.invariant t refusal
+    (steps_left c.loop-left.left c.advance-made.result.0 c.loop-left.self c.advance-made.new.self t refusal c.advance-made.ensures.most c.advance-made.ensures.steps rest)
+
+pub returns : goal.returns
+returns c =
+    let none : 0 ≡ c.loop-left.left = omega (arith, c.loop-left-test.false) in
+    c.loop-left.invariant c.loop-left.self None (subst (λ n. Steps n c.loop-left.self c.loop-left.self None) none (refl, refl))

@@ -1,8 +1,8 @@
 -- Some places of a register as a number.
-use Rattle.std.proofs.Common.{◌≡◌, ℕ, suc, zero, ◌+◌, ◌-◌, ◌*◌, ◌/◌, ◌%◌, ◌^◌, ◌<◌, ◌≤◌, List, [], ◌∷◌, ◌++◌, length, take, drop, refl, sym, ap, arith, ◌∙◌, length-append, append_assoc}
-use Rattle.std.proofs.Math.Nat.{pow-succ', div-div-eq-div-mul, div-one}
+use Rattle.std.proofs.Common.{◌≡◌, ℕ, suc, zero, ◌+◌, ◌-◌, ◌*◌, ◌/◌, ◌%◌, ◌^◌, ◌<◌, ◌≤◌, List, [], ◌∷◌, ◌++◌, length, take, drop, refl, sym, ap, subst, arith, ◌∙◌, length-append, append_assoc}
+use Rattle.std.proofs.Math.Nat.{pow-succ', div-div-eq-div-mul, div-one, mod-eq_of_lt}
 use Rattle.std.proofs.lemmas.Nat.{mod-pow-add, and_mask, one_shl}
-use Rattle.std.proofs.lemmas.List.{take_at, drop_at, take-append-drop, drop-drop, length-take-le, length-drop}
+use Rattle.std.proofs.lemmas.List.{take_at, drop_all, drop_at, take-append-drop, drop-drop, length-take-le, length-drop}
 use Rattle.std.proofs.lemmas.List.Elements.{All-append, All-take, All-drop}
 use Rattle.std.specs.Int.RustNames.{bit_and}
 use Rattle.h41_digits.specs.Register.{IsRegister, value}
@@ -48,6 +48,25 @@ number_read places word lo hi digits seen few ordered inside =
     ap (λ ones. bit_and (word / 2 ^ (4 * lo)) (ones - 1)) (one_shl (4 * count) 64 (omega arith)) ∙ and_mask (word / 2 ^ (4 * lo)) (4 * count)
     ∙ ap (λ weight. word / weight % 2 ^ (4 * count)) (bits_of_places lo) ∙ ap (λ weight. word / 16 ^ lo % weight) (bits_of_places count)
     ∙ sym (part_read places word lo count digits seen (omega arith))
+
+-- the places are all those of the register
+abbrev AreAll : ℕ → ℕ → ℕ → Type 0
+AreAll places lo hi = (lo ≤ hi) × (hi < places) × (hi + 1 - lo ≡ places)
+
+pub all_read : (places word lo hi : ℕ) (digits : List ℕ) → digits_of places word ≡ digits → word < 16 ^ places → AreAll places lo hi
+    → word ≡ value (take (hi + 1 - lo) (drop lo digits))
+all_read places word lo hi digits seen fits all =
+    let first : lo ≡ 0 = omega (arith, all.0, all.1, all.2) in
+    let part : word / 16 ^ lo % 16 ^ (hi + 1 - lo) ≡ word = ap (λ n. word / 16 ^ n % 16 ^ (hi + 1 - lo)) first ∙ ap (λ n. word / 1 % 16 ^ n) all.2 ∙ ap (λ n. n % 16 ^ places) (div-one word) ∙ mod-eq_of_lt fits in
+    sym (part_read places word lo (hi + 1 - lo) digits seen (omega (arith, all.0, all.1)) ∙ part)
+
+pub none_below : (places lo hi : ℕ) (digits others : List ℕ) → AreAll places lo hi → take lo digits ≡ take lo others
+none_below places lo hi digits others all =
+    let first : 0 ≡ lo = omega (arith, all.0, all.1, all.2) in subst (λ n. take n digits ≡ take n others) first refl
+
+pub none_above : (places lo hi : ℕ) (digits others : List ℕ) → IsRegister places digits → IsRegister places others → AreAll places lo hi → drop (hi + 1) digits ≡ drop (hi + 1) others
+none_above places lo hi digits others one other all =
+    drop_all (hi + 1) digits (omega (arith, one.size, all.0, all.1, all.2)) ∙ sym (drop_all (hi + 1) others (omega (arith, other.size, all.0, all.1, all.2)))
 
 -- a register with a number's digits in the place of some
 abbrev pub spliced : List ℕ → ℕ → ℕ → ℕ → List ℕ

@@ -141,6 +141,9 @@ impl<const N: usize> Digits<N> {
         ensures number { result ≡ value (take (hi + 1 - lo) (drop lo self.now)) }
         ensures register { IsRegister N self.now }
     {
+        if hi + 1 - lo == N {
+            return self.word;
+        }
         let digits = self.word >> (4 * lo);
         digits & ((1 << (4 * (hi + 1 - lo))) - 1)
     }
@@ -157,8 +160,12 @@ impl<const N: usize> Digits<N> {
         ensures from { IsRegister N self.now }
         ensures register { IsRegister N result }
     {
+        let word = self.word;
+        if hi + 1 - lo == N {
+            return Digits { word: number };
+        }
         Digits {
-            word: with_bits(self.word, 4 * lo, 4 * (hi + 1 - lo), number),
+            word: with_bits(word, 4 * lo, 4 * (hi + 1 - lo), number),
         }
     }
 

@@ -10,7 +10,8 @@ use Rattle.h41_debug.specs.Bench.{BenchState, Steps, with_calculator}
 use Rattle.h41_debug.specs.BenchLaws.{RefusedStepIsRun, RunsAddUp, RunsAreDetermined, StepIsRun}
 use Rattle.h41_debug.specs.Breakpoints.{is_set}
 use Rattle.h41_debug.specs.Run.{Run, StopsFor, place_of, turn_of}
-use Rattle.h41_debug.specs.Running.{EndsFor, stop_at, stop_behind}
+use Rattle.h41_debug.specs.Advancing.{EndsFor, Made, NoneBefore}
+use Rattle.h41_debug.specs.Running.{stop_at, stop_behind}
 use Rattle.h41_debug.specs.declared.run.Stop.{Stop}
 use Rattle.h41_debug.specs.declared.run.Stop.TheVariants.{Break, Idle, Limit, Refused}
 use Rattle.h41_debug.proofs.StepsInTurn.{steps-refused, steps_determined}
@@ -80,10 +81,6 @@ steps_to_refusal left made s t why below steps refused =
     let more : left - made ≡ suc (left - made - 1) = omega (arith, below) in
     steps_left left made s t t (Some why) (omega (arith, below)) steps (steps-refused (left - made) (left - made - 1) t why more refused)
 
--- no reason to stop after fewer steps
-abbrev pub NoneBefore : ℕ → ℕ → BenchState → Type 0
-NoneBefore limit made s = (fewer : ℕ) (u : BenchState) (other : Stop) → fewer < made → Steps fewer s u None → StopsFor limit fewer u other → ⊥
-
 -- a run that goes on: so many steps were made, and but for the limit and a refusal there is no reason to stop
 pub record GoesOn (limit made : ℕ) (s t : BenchState) : Type 0 where
   pub steps : Steps made s t None
@@ -98,11 +95,6 @@ begins limit s running = record {
   clear = λ some. absurd (omega (arith, some));
   before = λ fewer u other below _ _. absurd (omega (arith, below));
 }
-
--- so many steps were made, the first of them whatever was there; where something ran, there was no reason to stop after fewer
-pub record Made (limit made : ℕ) (s t : BenchState) : Type 0 where
-  pub steps : Steps made s t None
-  pub before : is_idle s.calculator.mode ≡ false → NoneBefore limit made s
 
 pub made_none : (limit : ℕ) (s : BenchState) → Made limit 0 s s
 made_none limit s = record {

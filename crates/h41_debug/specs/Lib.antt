@@ -1,3 +1,4 @@
+pub mod Advancing
 pub mod Bench
 pub mod BenchLaws
 pub mod Breakpoints

@@ -1,14 +1,14 @@
 -- What private functions promise one another of runs and breakpoints. A reader of the promises can leave it out.
-use Rattle.std.specs.Prelude.{◌≡◌, ◌<◌, ◌≤◌, ◌==◌, ◌%◌, ℕ, Bool, false, IsTrue, List, length, get_or, Option, Some, None, if◌then◌else◌}
+use Rattle.std.specs.Prelude.{◌≡◌, ◌==◌, ◌%◌, ℕ, Bool, false, IsTrue, List, length, get_or, Option, Some, None, if◌then◌else◌}
 use Rattle.std.specs.FinSet.{from_list, len}
-use Rattle.h41_xrom.specs.Calculator.{RefusesStep, is_idle}
+use Rattle.h41_xrom.specs.Calculator.{is_idle}
 use Rattle.h41_debug.specs.Bench.{BenchState}
 use Rattle.h41_debug.specs.Breakpoints.{BreakpointSet, is_set}
 use Rattle.h41_debug.specs.Run.{place_of}
 use Rattle.h41_debug.specs.declared.breakpoint.Breakpoint.{Breakpoint}
 use Rattle.h41_debug.specs.declared.breakpoint.Breakpoint.TheVariants.{Line, Word}
 use Rattle.h41_debug.specs.declared.run.Stop.{Stop}
-use Rattle.h41_debug.specs.declared.run.Stop.TheVariants.{Break, Idle, Limit, Refused}
+use Rattle.h41_debug.specs.declared.run.Stop.TheVariants.{Break, Idle}
 
 -- why a run stops at a place, and behind a step, but for its limit and a refusal
 abbrev pub break_at : BreakpointSet → Breakpoint → Option Stop
@@ -23,17 +23,6 @@ break_behind behind breakpoints place = if behind then break_at breakpoints plac
 
 abbrev pub stop_behind : Bool → BenchState → Option Stop
 stop_behind behind s = if behind then stop_at s else None
-
--- what holds where something runs
-abbrev pub IfRunning : BenchState → Type 0 → Type 0
-IfRunning s holds = is_idle s.calculator.mode ≡ false → holds
-
--- why steps of which the first is made whatever is there end after so many, of at most so many
-abbrev pub EndsFor : ℕ → ℕ → BenchState → Stop → Type 0
-EndsFor limit made t Idle = 1 ≤ made
-EndsFor limit made t Break = 1 ≤ made
-EndsFor limit made t Limit = made ≡ limit
-EndsFor limit made t (Refused refusal) = (made < limit) × RefusesStep t.calculator (Some refusal)
 
 -- whether two breakpoints are the same: of one kind, with one number
 abbrev pub is_same : Breakpoint → Breakpoint → Bool

@@ -6,12 +6,13 @@ ghost use Rattle.std.specs.Result.{result_err};
 ghost use Rattle.std.specs.Borrow.{sem};
 ghost use Rattle.h41_debug.specs.Bench.{PressesInTurn, Steps, start, with_calculator, with_set, without_set};
 ghost use Rattle.h41_debug.specs.Breakpoints.{is_set, lacks_breakpoint, most_breakpoints, refuses_breakpoint};
-ghost use Rattle.h41_xrom.specs.Calculator.{RefusesStep, Step};
+ghost use Rattle.h41_xrom.specs.Calculator.{RefusesLine, RefusesStep, Step, StepsByLine, mode_behind_word};
+ghost use Rattle.h41_xrom.specs.declared.calculator.Mode.TheVariants.{Micro};
 
 use crate::breakpoint::{BreakFull, Breakpoint, Breakpoints, NoBreak};
 use crate::run::Stop;
 use h41_keys::Key;
-use h41_xrom::{Calculator, CalculatorRefusal};
+use h41_xrom::{Calculator, CalculatorRefusal, Caller};
 use std::alloc::{AllocError, Global};
 use std::marker::Model;
 
@@ -78,15 +79,29 @@ impl Bench {
         Ok(())
     }
 
-    /// The same, inlined: for the loop of all single steps.
+    /// One word, while a function runs, as a single step; tells whether the function still runs. Inlined, so that the loop over words
+    /// has it in one piece.
     #[inline(always)]
-    pub(crate) fn step_here(&mut self) -> Result<(), CalculatorRefusal>
+    pub(crate) fn step_word(&mut self, caller: Caller) -> Result<bool, CalculatorRefusal>
+        requires { self.old.calculator.mode ≡ Micro caller }
         ensures refusal { RefusesStep self.old.calculator (result_err result) }
         ensures change { OnOk result (Step self.old.calculator self.new.calculator) }
+        ensures running { IfOk result (λ runs. self.new.calculator.mode ≡ mode_behind_word runs caller) }
         ensures others { self.new ≡ with_calculator self.new.calculator self.old }
         ensures err { OnErr result (self.new ≡ self.old) }
     {
-        self.calculator.step()
+        self.calculator.step_word(caller)
+    }
+
+    /// The line at the position, as a single step while no function runs.
+    #[inline(always)]
+    pub(crate) fn step_line(&mut self) -> Result<(), CalculatorRefusal>
+        ensures refusal { RefusesLine self.old.calculator (result_err result) }
+        ensures change { OnOk result (StepsByLine self.old.calculator self.new.calculator) }
+        ensures others { self.new ≡ with_calculator self.new.calculator self.old }
+        ensures err { OnErr result (self.new ≡ self.old) }
+    {
+        self.calculator.step_line()
     }
 
     /// So many single steps, up to the first that is refused.

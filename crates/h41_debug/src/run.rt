@@ -1,15 +1,17 @@
 //! Runs: single steps up to a reason to stop.
 
-ghost use Rattle.std.specs.Prelude.{◌≡◌, ◌≤◌, false, None};
+ghost use Rattle.std.specs.Prelude.{◌≡◌, ◌<◌, ◌≤◌, false, nat_lt, None};
 ghost use Rattle.std.specs.FinSet.{len};
+ghost use Rattle.h41_debug.specs.Advancing.{Advances, EndsFor, IfRunning};
 ghost use Rattle.h41_debug.specs.Bench.{Steps};
 ghost use Rattle.h41_debug.specs.Run.{Run};
-ghost use Rattle.h41_debug.specs.Running.{EndsFor, IfRunning, break_behind, stop_behind};
+ghost use Rattle.h41_debug.specs.Running.{break_behind, stop_behind};
+ghost use Rattle.h41_xrom.specs.declared.calculator.Mode.TheVariants.{Micro};
 
 use crate::bench::Bench;
 use crate::breakpoint::Breakpoint;
 use h41_xrom::laws::step_is_determined;
-use h41_xrom::{CalculatorRefusal, Mode};
+use h41_xrom::{CalculatorRefusal, Caller, Mode};
 
 /// Why a run stops.
 #[derive(Clone, Copy, Debug, PartialEq, Eq)]
@@ -41,8 +43,7 @@ impl Bench {
     }
 
     /// One single step whatever is there, and more of them up to the first reason to stop: a run, where something runs. All single
-    /// steps are made here, so that their machine code stands once.
-    #[inline(never)]
+    /// steps are made here.
     pub(crate) fn advance(&mut self, limit: u32) -> (u32, Stop)
         requires some { 1 ≤ limit }
         ensures most { result.0 ≤ limit }
@@ -50,17 +51,67 @@ impl Bench {
         ensures ends { EndsFor limit result.0 self.new result.1 }
         ensures run { IfRunning self.old (Run limit self.old self.new result.0 result.1) }
     {
-        step_is_determined();
         let watched = self.breakpoint_count() != 0;
-        for made in 0..limit {
+        let mut made = 0;
+        while made < limit {
             if let Some(stop) = self.stop(made > 0, watched) {
                 return (made, stop);
             }
-            if let Err(refusal) = self.step_here() {
-                return (made, Stop::Refused(refusal));
+            let (now, refused) = self.go_on(made, limit, watched);
+            if let Some(refusal) = refused {
+                return (now, Stop::Refused(refusal));
             }
+            made = now;
         }
         (limit, self.stop(true, watched).unwrap_or(Stop::Limit))
+    }
+
+    /// Where there is no reason to stop: the next words of a function, or the next line. Tells how many steps are made then, and why the
+    /// next is refused.
+    fn go_on(&mut self, from: u32, limit: u32, watched: bool) -> (u32, Option<CalculatorRefusal>)
+        requires below { from < limit }
+        requires clear { stop_behind (nat_lt 0 from) self.old ≡ None }
+        requires free { watched ≡ false → len self.old.breakpoints ≡ 0 }
+        ensures { Advances limit from self.old result.0 self.new result.1 }
+    {
+        step_is_determined();
+        if let Mode::Micro(caller) = self.calculator().mode() {
+            return self.words(caller, from, limit, watched);
+        }
+        match self.step_line() {
+            Ok(()) => (from + 1, None),
+            Err(refusal) => (from, Some(refusal)),
+        }
+    }
+
+    /// The same, while a function runs: words up to the limit, to the function's end, to one where a breakpoint is set, or to one that is
+    /// refused. The machine code of words stands in this loop alone.
+    #[inline(never)]
+    fn words(
+        &mut self,
+        caller: Caller,
+        from: u32,
+        limit: u32,
+        watched: bool,
+    ) -> (u32, Option<CalculatorRefusal>)
+        requires below { from < limit }
+        requires mode { self.old.calculator.mode ≡ Micro caller }
+        requires clear { stop_behind (nat_lt 0 from) self.old ≡ None }
+        requires free { watched ≡ false → len self.old.breakpoints ≡ 0 }
+        ensures { Advances limit from self.old result.0 self.new result.1 }
+    {
+        step_is_determined();
+        for made in from..limit {
+            match self.step_word(caller) {
+                Ok(true) => {}
+                Ok(false) => return (made + 1, None),
+                Err(refusal) => return (made, Some(refusal)),
+            }
+            if watched && self.has_breakpoint(Breakpoint::Word(self.calculator().cpu().pc())) {
+                return (made + 1, None);
+            }
+        }
+        (limit, None)
     }
 
     /// Why a run stops, whatever its limit: for nothing in front of its first step. Breakpoints are asked for where the run is watched,

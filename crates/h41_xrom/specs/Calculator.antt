@@ -172,6 +172,10 @@ RefusesStep s why = RefusesStepIn s.mode s why
 abbrev pub mode_at : ℕ → Caller → Mode
 mode_at address caller = if address == end_of_function then mode_of caller else modes.Micro caller
 
+-- the mode behind a word, by whether the function still runs
+abbrev pub mode_behind_word : Bool → Caller → Mode
+mode_behind_word runs caller = if runs then modes.Micro caller else mode_of caller
+
 abbrev pub lift_at : ℕ → Bool → Bool
 lift_at address lift = if address == end_of_function then true else lift
 

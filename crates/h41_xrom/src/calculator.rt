@@ -3,7 +3,7 @@
 ghost use Rattle.std.specs.Prelude.{◌≡◌, None, IfOk, IfErr, OnOk, OnErr, option_map};
 ghost use Rattle.std.specs.Result.{result_err};
 ghost use Rattle.h41_pages.specs.PageMap.{unplug_refusal};
-ghost use Rattle.h41_xrom.specs.Calculator.{RefusesLine, RefusesPage, RefusesStep, RefusesStepIn, Step, StepIn, StepsByLine, TakesPage, after_answer, call_refusal, called, caller_in, entering, mode_after, mode_of, not_typing, restarted, start, with_page, with_shown, without_page};
+ghost use Rattle.h41_xrom.specs.Calculator.{RefusesLine, RefusesPage, RefusesStep, RefusesStepIn, Step, StepIn, StepsByLine, TakesPage, after_answer, call_refusal, called, caller_in, entering, mode_after, mode_behind_word, mode_of, not_typing, restarted, start, with_page, with_shown, without_page};
 ghost use Rattle.h41_xrom.specs.KeyActions as keys;
 ghost use Rattle.h41_xrom.specs.KeyCalls.{after_effect, after_end};
 ghost use Rattle.h41_xrom.specs.KeyCalls as keys_calls;
@@ -222,18 +222,18 @@ impl Calculator {
         ensures err { OnErr result (self.new ≡ self.old) }
     {
         match self.mode {
-            Mode::Idle | Mode::Run => {
-                // A place of its own for a line's result, so that a word's stays in registers.
-                self.step_line()?;
+            Mode::Idle | Mode::Run => self.step_line(),
+            Mode::Micro(caller) => {
+                self.step_word(caller)?;
                 Ok(())
             }
-            Mode::Micro(caller) => self.step_word(caller),
         }
     }
 
-    /// The line at the position, with what it leaves in the display; or a module's function begins.
+    /// The line at the position, with what it leaves in the display; or a module's function begins. It is the step while no function
+    /// runs, and is refused as that is.
     #[inline(never)]
-    fn step_line(&mut self) -> Result<(), CalculatorRefusal>
+    pub fn step_line(&mut self) -> Result<(), CalculatorRefusal>
         ensures refusal { RefusesLine self.old (result_err result) }
         ensures change { OnOk result (StepsByLine self.old self.new) }
         ensures err { OnErr result (self.new ≡ self.old) }
@@ -386,12 +386,14 @@ impl Calculator {
         }
     }
 
-    /// One word, while a function runs; lift is on where the function ends.
+    /// One word, while a function runs; lift is on where the function ends. It is the step then, and is refused as that is. Tells whether
+    /// the function still runs.
     #[inline(always)]
-    fn step_word(&mut self, caller: Caller) -> Result<(), CalculatorRefusal>
+    pub fn step_word(&mut self, caller: Caller) -> Result<bool, CalculatorRefusal>
         requires { self.old.mode ≡ Micro caller }
         ensures refusal { RefusesStepIn (Micro caller) self.old (result_err result) }
         ensures change { OnOk result (StepIn (Micro caller) self.old self.new) }
+        ensures running { IfOk result (λ runs. self.new.mode ≡ mode_behind_word runs caller) }
         ensures err { OnErr result (self.new ≡ self.old) }
     {
         step(
@@ -403,8 +405,9 @@ impl Calculator {
         if self.cpu.pc() == END_OF_FUNCTION {
             self.mode = caller.mode();
             self.focal.lift = true;
+            return Ok(false);
         }
-        Ok(())
+        Ok(true)
     }
 
     /// Loads the lines of bytes behind the programs of memory, goes to line 00 of the first of them, and forgets the positions

@@ -1,0 +1,75 @@
+-- How the loops of all single steps go on.
+use Rattle.std.proofs.Common.{◌≡◌, ◌<◌, ◌≤◌, ℕ, ◌+◌, Bool, true, false, nat_lt, Option, Some, None, refl, sym, ap, subst, ◌∙◌, arith}
+use Rattle.std.specs.Prelude.{if◌then◌else◌}
+use Rattle.std.specs.FinSet.{len}
+use Rattle.h41_xrom.specs.declared.calculator.Caller.{Caller}
+use Rattle.h41_xrom.specs.declared.calculator.Mode.{Mode}
+use Rattle.h41_xrom.specs.declared.calculator.Mode.TheVariants as modes
+use Rattle.h41_xrom.specs.declared.refusal.CalculatorRefusal.{CalculatorRefusal}
+use Rattle.h41_xrom.specs.Calculator.{CalculatorState, RefusesLine, RefusesStep, RefusesStepIn, Step, StepIn, StepsByLine, is_idle}
+use Rattle.h41_xrom.specs.CalculatorLaws.{StepIsDetermined, StepRefusalIsDetermined}
+use Rattle.h41_debug.specs.Advancing.{Advances, IsRefused, Made, runs_function}
+use Rattle.h41_debug.specs.Bench.{BenchState, with_calculator}
+use Rattle.h41_debug.specs.Breakpoints.{is_set}
+use Rattle.h41_debug.specs.Run.{place_in}
+use Rattle.h41_debug.specs.Running.{break_at, stop_at, stop_behind}
+use Rattle.h41_debug.specs.declared.breakpoint.Breakpoint.TheVariants.{Word}
+use Rattle.h41_debug.specs.declared.run.Stop.TheVariants.{Idle}
+use Rattle.h41_debug.proofs.Runs.{made_more}
+
+-- while no function runs, a step is a line
+pub no_function : (m : Mode) → ((caller : Caller) → m ≡ modes.Micro caller → ⊥) → runs_function m ≡ false
+no_function modes.Idle other = refl
+no_function modes.Run other = refl
+no_function (modes.Micro caller) other = absurd (other caller refl)
+
+pub line_refuses : (m : Mode) (s : CalculatorState) (why : Option CalculatorRefusal) → runs_function m ≡ false → RefusesLine s why → RefusesStepIn m s why
+line_refuses modes.Idle s why none refuses = refuses
+line_refuses modes.Run s why none refuses = refuses
+line_refuses (modes.Micro caller) s why none refuses = cc
+
+pub line_steps : (m : Mode) (s t : CalculatorState) → runs_function m ≡ false → StepsByLine s t → StepIn m s t
+line_steps modes.Idle s t none steps = steps
+line_steps modes.Run s t none steps = steps
+line_steps (modes.Micro caller) s t none steps = cc
+
+-- behind a word of a function that still runs there is no reason to stop but a breakpoint
+stop_either : (behind : Bool) (t : BenchState) → stop_at t ≡ None → stop_behind behind t ≡ None
+stop_either true t none = none
+stop_either false t none = refl
+
+pub clear_behind : (behind : Bool) (t : BenchState) (caller : Caller) → t.calculator.mode ≡ modes.Micro caller
+    → is_set t.breakpoints (Word t.calculator.nut.processor.pc) ≡ false → stop_behind behind t ≡ None
+clear_behind behind t caller mode free =
+    stop_either behind t
+    (subst (λ (m : Mode). (if is_idle m then Some Idle else break_at t.breakpoints (place_in t.calculator m)) ≡ None) (sym mode) (rw free refl))
+
+module _ (same_refusal : StepRefusalIsDetermined) (same_step : StepIsDetermined) where
+  -- one step more
+  pub one_more : (limit from made : ℕ) (first s t : BenchState) → ((start : BenchState) → Made limit from start first → Made limit made start s)
+      → stop_behind (nat_lt 0 made) s ≡ None → made < limit → RefusesStep s.calculator None → Step s.calculator t.calculator → t ≡ with_calculator t.calculator s
+      → (start : BenchState) → Made limit from start first → Made limit (made + 1) start t
+  one_more limit from made first s t so_far clear below accepted step others start begun =
+      made_more same_refusal same_step limit made start s t (so_far start begun) clear below accepted step others
+
+  -- a piece of steps, the last of which is this one
+  pub ends_piece : (limit from made : ℕ) (first s t : BenchState) → ((start : BenchState) → Made limit from start first → Made limit made start s) → s.breakpoints ≡ first.breakpoints
+      → from ≤ made → stop_behind (nat_lt 0 made) s ≡ None → made < limit → RefusesStep s.calculator None → Step s.calculator t.calculator → t ≡ with_calculator t.calculator s
+      → Advances limit from first (made + 1) t None
+  ends_piece limit from made first s t so_far kept behind clear below accepted step others = record {
+    most = omega (arith, below);
+    goes_on = one_more limit from made first s t so_far clear below accepted step others;
+    kept = ap (λ (at : BenchState). at.breakpoints) others ∙ kept;
+    ends = omega (arith, behind);
+  }
+
+-- a piece of steps, behind which the next is refused
+pub refused_piece : (limit from made : ℕ) (first s t : BenchState) (why : CalculatorRefusal) → ((start : BenchState) → Made limit from start first → Made limit made start s) → s.breakpoints ≡ first.breakpoints
+    → stop_behind (nat_lt 0 made) s ≡ None → made < limit → RefusesStep s.calculator (Some why) → t ≡ s → Advances limit from first made t (Some why)
+refused_piece limit from made first s t why so_far kept clear below refused stays =
+    subst (λ (at : BenchState). Advances limit from first made at (Some why)) (sym stays) (record {
+      most = omega (arith, below);
+      goes_on = so_far;
+      kept = kept;
+      ends = (below, clear, refused);
+    })

@@ -1,14 +1,13 @@
 -- How the loops of all single steps go on.
 use Rattle.std.proofs.Common.{◌≡◌, ◌<◌, ◌≤◌, ℕ, ◌+◌, Bool, true, false, nat_lt, Option, Some, None, refl, sym, ap, subst, ◌∙◌, arith}
 use Rattle.std.specs.Prelude.{if◌then◌else◌}
-use Rattle.std.specs.FinSet.{len}
 use Rattle.h41_xrom.specs.declared.calculator.Caller.{Caller}
 use Rattle.h41_xrom.specs.declared.calculator.Mode.{Mode}
 use Rattle.h41_xrom.specs.declared.calculator.Mode.TheVariants as modes
 use Rattle.h41_xrom.specs.declared.refusal.CalculatorRefusal.{CalculatorRefusal}
 use Rattle.h41_xrom.specs.Calculator.{CalculatorState, RefusesLine, RefusesStep, RefusesStepIn, Step, StepIn, StepsByLine, is_idle}
 use Rattle.h41_xrom.specs.CalculatorLaws.{StepIsDetermined, StepRefusalIsDetermined}
-use Rattle.h41_debug.specs.Advancing.{Advances, IsRefused, Made, runs_function}
+use Rattle.h41_debug.specs.Advancing.{Advances, Made, runs_function}
 use Rattle.h41_debug.specs.Bench.{BenchState, with_calculator}
 use Rattle.h41_debug.specs.Breakpoints.{is_set}
 use Rattle.h41_debug.specs.Run.{place_in}

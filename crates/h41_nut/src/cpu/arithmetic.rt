@@ -41,8 +41,8 @@ impl Cpu {
         Ok(())
     }
 
-    /// Works on a field, in base 10 where `DEC`, else in base 16. The carry is clear before. The fields of most sums have machine code
-    /// of their own, in which their places are constants.
+    /// Works on a field, in base 10 where `DEC`, else in base 16. The carry is clear before. The fields that no pointer decides have
+    /// machine code of their own, in which their places are constants.
     #[inline(always)]
     fn operate_on<const DEC: bool>(&mut self, operation: Operation, field: Field)
         requires base { base_of DEC ≡ base_number self.old.base }
@@ -64,6 +64,18 @@ impl Cpu {
                 self.operate::<DEC, 0, 2>(
                     operation,
                     span(Field::SignAndExponent, self.p, self.q, self.active),
+                )
+            }
+            Field::ExponentSign => {
+                self.operate::<DEC, 2, 2>(
+                    operation,
+                    span(Field::ExponentSign, self.p, self.q, self.active),
+                )
+            }
+            Field::MantissaSign => {
+                self.operate::<DEC, 13, 13>(
+                    operation,
+                    span(Field::MantissaSign, self.p, self.q, self.active),
                 )
             }
             field => self.operate::<DEC, 0, ANY>(

@@ -1,3 +1,4 @@
 pub mod Packed
 pub mod Parts
+pub mod Spans
 pub mod Values

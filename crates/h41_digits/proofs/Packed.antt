@@ -90,17 +90,17 @@ mask_at width at inside =
     let whole : (2 ^ width - 1) * 2 ^ at + 2 ^ at ≡ 2 ^ (width + at) = mul_one_more (2 ^ width - 1) (2 ^ at) ∙ ap (λ n. n * 2 ^ at) ones ∙ sym (pow-add 2 width at) in
     shl_whole (2 ^ width - 1) width at 64 (omega arith) inside ∙ omega (arith, whole)
 
-mask-lt : (width at : ℕ) → width + at ≤ 64 → 2 ^ (width + at) - 2 ^ at < 2 ^ 64
+pub mask-lt : (width at : ℕ) → width + at ≤ 64 → 2 ^ (width + at) - 2 ^ at < 2 ^ 64
 mask-lt width at inside = omega (arith, pow-le-pow_right {n = 2} (omega arith) {i = width + at} {j = 64} inside, pow_pos at)
 
-apart_from_mask : (word mask bits : ℕ) → mask < 2 ^ 64 → bit_and bits mask ≡ bits → bit_and (bit_and word (2 ^ 64 - 1 - mask)) bits ≡ 0
+pub apart_from_mask : (word mask bits : ℕ) → mask < 2 ^ 64 → bit_and bits mask ≡ bits → bit_and (bit_and word (2 ^ 64 - 1 - mask)) bits ≡ 0
 apart_from_mask word mask bits fits own =
     let kept = bit_and word (2 ^ 64 - 1 - mask) in
     let cleared : bit_and kept mask ≡ 0 = and-not_self word (2 ^ 64 - 1) mask mask refl (omega arith) refl in
     ap (bit_and kept) (sym own ∙ and_comm bits mask) ∙ sym (and_assoc bits kept mask) ∙ ap (λ n. bit_and n bits) cleared ∙ omega (arith, and_le_l 0 bits)
 
 -- what is kept and what is put in
-three_parts : (joined kept moved covered word : ℕ) → joined ≡ kept + moved → kept + covered ≡ word → joined + covered ≡ word + moved
+pub three_parts : (joined kept moved covered word : ℕ) → joined ≡ kept + moved → kept + covered ≡ word → joined + covered ≡ word + moved
 three_parts joined kept moved covered word e parts = omega arith
 
 -- other bits in the place of some

@@ -36,7 +36,7 @@ drop-digits_of (suc count) (suc places) number few =
     ∙ ap (λ left. digits_of left (number / 16 ^ suc count)) (omega arith)
 
 -- the number of some places of a word
-part_read : (places word lo count : ℕ) (digits : List ℕ) → digits_of places word ≡ digits → lo + count ≤ places → value (take count (drop lo digits)) ≡ word / 16 ^ lo % 16 ^ count
+pub part_read : (places word lo count : ℕ) (digits : List ℕ) → digits_of places word ≡ digits → lo + count ≤ places → value (take count (drop lo digits)) ≡ word / 16 ^ lo % 16 ^ count
 part_read places word lo count digits seen inside =
     ap (λ d. value (take count (drop lo d))) (sym seen) ∙ ap (λ d. value (take count d)) (drop-digits_of lo places word (omega arith))
     ∙ ap value (take-digits_of count (places - lo) (word / 16 ^ lo) (omega arith)) ∙ value-digits_of_any count (word / 16 ^ lo)

@@ -1,3 +1,4 @@
 pub mod Packed
 pub mod Register
 pub mod RegisterLaws
+pub mod Spans

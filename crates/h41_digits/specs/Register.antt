@@ -1,5 +1,5 @@
 -- A register: a list of hexadecimal digits, the digit of place 0 (the rightmost) first. The Nut processor's have 14.
-use Rattle.std.specs.Prelude.{◌≡◌, ℕ, zero, suc, ◌+◌, ◌*◌, ◌/◌, ◌%◌, ◌^◌, ◌<◌, List, [], ◌∷◌, ◌++◌, map, reverse, length, slice_index, slice_set, All, true}
+use Rattle.std.specs.Prelude.{◌≡◌, ℕ, zero, suc, ◌+◌, ◌-◌, ◌*◌, ◌/◌, ◌%◌, ◌^◌, ◌<◌, List, [], ◌∷◌, ◌++◌, take, drop, map, reverse, length, slice_index, slice_set, All, true}
 use Rattle.std.specs.Fmt.{digit_glyph}
 
 -- what a register of so many places is: one digit for each place, each from 0 to 15
@@ -15,6 +15,10 @@ value_from place (digit ∷ digits) = digit * 16 ^ place + value_from (place + 1
 -- the number that a register holds: the sum of each digit times 16 to the power of its place
 abbrev pub value : List ℕ → ℕ
 value digits = value_from 0 digits
+
+-- the number of the digits from place lo to place hi, of which the one at lo is the least
+abbrev pub value_between : List ℕ → ℕ → ℕ → ℕ
+value_between digits lo hi = value (take (hi + 1 - lo) (drop lo digits))
 
 -- a register as text: a hexadecimal digit in upper case for each place, the highest place first
 abbrev pub text : List ℕ → List ℕ

@@ -5,12 +5,16 @@ ghost use Rattle.std.specs.Prelude.{◌≡◌, ℕ, true, ◌+◌, ◌-◌, ◌*
 ghost use Rattle.h41_digits.specs.Packed.{digits_of, value-digits_of};
 ghost use Rattle.std.specs.Fmt.{digit_glyph};
 ghost use Rattle.std.proofs.Common.{ap};
-ghost use Rattle.h41_digits.specs.Register.{IsRegister, value, text, hexadecimal_text, byte_at, set_byte};
+ghost use Rattle.h41_digits.specs.Register.{IsRegister, value, value_between, text, hexadecimal_text, byte_at, set_byte};
+ghost use Rattle.h41_digits.specs.Spans.{in_places};
 
 use std::marker::Model;
 use std::{fmt, str};
 
 pub mod laws;
+mod span;
+
+pub use span::Span;
 
 /// How many digits a register of the processor or of the memory has.
 pub const PLACES: usize = 14;
@@ -166,6 +170,32 @@ impl<const N: usize> Digits<N> {
         }
         Digits {
             word: with_bits(word, 4 * lo, 4 * (hi + 1 - lo), number),
+        }
+    }
+
+    /// The digits of a span in their places, as a word of which all other digits are zero: their number times 16 to the power of the
+    /// span's first place.
+    pub fn in_span(&self, span: Span) -> u64
+        requires { span.hi < N }
+        ensures digits { result ≡ value_between self.now span.lo span.hi * 16 ^ span.lo }
+        ensures within { result ≤ span.mask }
+        ensures register { IsRegister N self.now }
+    {
+        let word = self.word;
+        word & span.mask
+    }
+
+    /// The same register with the digits that a word has in the places of a span. Other digits of the word have no part in it.
+    pub fn with_span(&self, span: Span, word: u64) -> Self
+        requires { span.hi < N }
+        ensures number { value_between result span.lo span.hi ≡ in_places word span.lo span.hi }
+        ensures below { take span.lo result ≡ take span.lo self.now }
+        ensures above { drop (span.hi + 1) result ≡ drop (span.hi + 1) self.now }
+        ensures from { IsRegister N self.now }
+        ensures register { IsRegister N result }
+    {
+        Digits {
+            word: self.word & !span.mask | word & span.mask,
         }
     }
 

@@ -1,13 +1,12 @@
 //! A line of a source: its label, and the words behind that.
 
 ghost use Rattle.std.specs.Prelude.{◌≡◌, ◌<◌, ◌≤◌, ◌∷◌, drop, length};
-ghost use Rattle.std.specs.Str.Lines.{strip_carriage_return};
 ghost use Rattle.h41_asm.specs.CodeStatements.{in_line};
 ghost use Rattle.h41_asm.specs.SourceLines.{line_of, lines, words_of};
 
 use crate::names::label_in;
 use crate::words::LineWords;
-use h41_lines::lines::line_end;
+use h41_lines::lines::{line_end, without_return};
 
 /// A line of a source.
 #[derive(Clone, Copy, Debug)]
@@ -59,16 +58,5 @@ pub(crate) fn line_at(text: &[u8], start: usize) -> (&[u8], usize)
     match line_end(rest) {
         Some(end) => (without_return(&rest[..end]), start + end + 1),
         None => (rest, text.len()),
-    }
-}
-
-/// A line without the CR at its end, if it has one.
-#[inline(always)]
-fn without_return(line: &[u8]) -> &[u8]
-    ensures { result.now ≡ strip_carriage_return line.now }
-{
-    match line {
-        [line @ .., b'\r'] => line,
-        _ => line,
     }
 }

@@ -163,16 +163,16 @@ fn pair<'a>(
 /// One of two instructions, by the second word.
 fn either<'a>(
     name: &str,
-    instruction: Word,
+    word: Word,
     other_name: &str,
     other: Word,
     others: LineWords<'a>,
 ) -> Result<Statement<'a>, SourceFault>
-    ensures { ReadsSecond (openings.either name.now instruction other_name.now other) others.entry result }
+    ensures { ReadsSecond (openings.either name.now word other_name.now other) others.entry result }
 {
     let mut others = others;
     match others.next() {
-        Some(second) if second == name.as_bytes() => alone(instruction, others),
+        Some(second) if second == name.as_bytes() => alone(word, others),
         Some(second) if second == other_name.as_bytes() => alone(other, others),
         _ => Err(SourceFault::BadLine),
     }

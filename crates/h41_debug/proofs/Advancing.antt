@@ -7,7 +7,7 @@ use Rattle.h41_xrom.specs.declared.calculator.Mode.TheVariants as modes
 use Rattle.h41_xrom.specs.declared.refusal.CalculatorRefusal.{CalculatorRefusal}
 use Rattle.h41_xrom.specs.Calculator.{CalculatorState, RefusesLine, RefusesStep, RefusesStepIn, Step, StepIn, StepsByLine, is_idle}
 use Rattle.h41_xrom.specs.CalculatorLaws.{StepIsDetermined, StepRefusalIsDetermined}
-use Rattle.h41_debug.specs.Advancing.{Advances, Made, runs_function}
+use Rattle.h41_debug.specs.Advancing.{Advances, Made}
 use Rattle.h41_debug.specs.Bench.{BenchState, with_calculator}
 use Rattle.h41_debug.specs.Breakpoints.{is_set}
 use Rattle.h41_debug.specs.Run.{place_in}
@@ -15,6 +15,12 @@ use Rattle.h41_debug.specs.Running.{break_at, stop_at, stop_behind}
 use Rattle.h41_debug.specs.declared.breakpoint.Breakpoint.TheVariants.{Word}
 use Rattle.h41_debug.specs.declared.run.Stop.TheVariants.{Idle}
 use Rattle.h41_debug.proofs.Runs.{made_more}
+
+-- whether a function in microcode runs
+abbrev pub runs_function : Mode → Bool
+runs_function modes.Idle = false
+runs_function modes.Run = false
+runs_function (modes.Micro caller) = true
 
 -- while no function runs, a step is a line
 pub no_function : (m : Mode) → ((caller : Caller) → m ≡ modes.Micro caller → ⊥) → runs_function m ≡ false

@@ -10,12 +10,6 @@ use Rattle.h41_debug.specs.Running.{stop_behind}
 use Rattle.h41_debug.specs.declared.run.Stop.{Stop}
 use Rattle.h41_debug.specs.declared.run.Stop.TheVariants.{Break, Idle, Limit, Refused}
 
--- whether a function in microcode runs
-abbrev pub runs_function : Mode → Bool
-runs_function modes.Idle = false
-runs_function modes.Run = false
-runs_function (modes.Micro caller) = true
-
 -- what holds where something runs
 abbrev pub IfRunning : BenchState → Type 0 → Type 0
 IfRunning s holds = is_idle s.calculator.mode ≡ false → holds

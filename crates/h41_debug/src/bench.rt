@@ -86,7 +86,7 @@ impl Bench {
         requires { self.old.calculator.mode ≡ Micro caller }
         ensures refusal { RefusesStep self.old.calculator (result_err result) }
         ensures change { OnOk result (Step self.old.calculator self.new.calculator) }
-        ensures running { IfOk result (λ runs. self.new.calculator.mode ≡ mode_behind_word runs caller) }
+        ensures mode { IfOk result (λ on. self.new.calculator.mode ≡ mode_behind_word on caller) }
         ensures others { self.new ≡ with_calculator self.new.calculator self.old }
         ensures err { OnErr result (self.new ≡ self.old) }
     {

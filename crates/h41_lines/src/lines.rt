@@ -58,7 +58,7 @@ pub fn line_end(text: &[u8]) -> Option<usize>
 
 /// A line without the CR at its end, if it has one.
 #[inline(always)]
-fn without_return(line: &[u8]) -> &[u8]
+pub fn without_return(line: &[u8]) -> &[u8]
     ensures { result.now ≡ strip_carriage_return line.now }
 {
     match line {

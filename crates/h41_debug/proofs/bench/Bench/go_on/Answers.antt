@@ -1,8 +1,7 @@
 use Rattle.std.proofs.Common.{◌≡◌, false, None, Some, refl, ap, subst, ◌∙◌, arith}
 use Rattle.h41_xrom.specs.declared.calculator.Mode.{Mode}
 use Rattle.h41_xrom.specs.Calculator.{CalculatorState}
-use Rattle.h41_debug.specs.Advancing.{runs_function}
-use Rattle.h41_debug.proofs.Advancing.{ends_piece, line_refuses, line_steps, no_function, refused_piece}
+use Rattle.h41_debug.proofs.Advancing.{ends_piece, line_refuses, line_steps, no_function, refused_piece, runs_function}
 use Rattle.h41_debug.proofs.bench.Bench.go_on.Goals as goal
 
 pub returns-in-Ok : goal.returns-in-Ok

@@ -25,7 +25,7 @@ returns-then-has_breakpoint c =
 pub loop-made-preserved : goal.loop-made-preserved
 loop-made-preserved c =
     let kept = ap (λ (at : BenchState). at.breakpoints) c.step_word.ensures.others ∙ c.loop-made.invariant.3 in
-    let mode : c.step_word.new.self.calculator.mode ≡ Micro c.args.caller = rw c.in-Ok-true.field-0-test at c.in-Ok-true.ensures.running in
+    let mode : c.step_word.new.self.calculator.mode ≡ Micro c.args.caller = rw c.in-Ok-true.field-0-test at c.in-Ok-true.ensures.mode in
     let free : is_set c.step_word.new.self.breakpoints (Word c.step_word.new.self.calculator.nut.processor.pc) ≡ false = elim c.else-watched.branch [
       | else-watched-via-then-watched+else-has_breakpoint w ↦
           let pc = w.pc.ensures ∙ ap (λ (p : Processor). p.pc) w.cpu.ensures ∙ ap (λ (s : CalculatorState). s.nut.processor.pc) w.calculator.ensures in

@@ -112,7 +112,7 @@ pub carry_le : (carry : Bool) → carry_digit carry ≤ 1
 carry_le true = omega arith
 carry_le false = omega arith
 
-same_carry_bit : (a b : Bool) → carry_digit a ≡ carry_digit b → a ≡ b
+pub same_carry_bit : (a b : Bool) → carry_digit a ≡ carry_digit b → a ≡ b
 same_carry_bit true true h = refl
 same_carry_bit true false h = absurd (omega (arith, h))
 same_carry_bit false true h = absurd (omega (arith, h))

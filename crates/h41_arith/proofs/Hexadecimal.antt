@@ -1,9 +1,8 @@
 -- In base 16 a sum or a difference of numbers is that of their digits.
-use Rattle.std.proofs.Common.{◌≡◌, ℕ, ◌+◌, ◌-◌, ◌*◌, ◌^◌, ◌<◌, ◌≤◌, Bool, true, false, not, List, [], ◌∷◌, length, take, drop, refl, sym, subst, arith, inl, inr, ◌∙◌}
+use Rattle.std.proofs.Common.{◌≡◌, ℕ, ◌+◌, ◌-◌, ◌*◌, ◌^◌, ◌<◌, ◌≤◌, Bool, List, [], ◌∷◌, length, take, drop, refl, sym, subst, arith, inl, inr, ◌∙◌}
 use Rattle.std.proofs.Math.Nat.{pow-succ'}
 use Rattle.std.proofs.lemmas.Bool.{cases_lt}
 use Rattle.std.specs.List.{AllByRecursion}
-use mir.Val.{bool_byte}
 use Rattle.h41_digits.specs.Register.{IsRegister, value}
 use Rattle.h41_digits.specs.Packed.{value-cons}
 use Rattle.h41_arith.specs.DigitRule.{SumDigit, DifferenceDigit, SumInto, DifferenceInto, carry_digit}
@@ -98,18 +97,3 @@ difference_result into x y z borrow_in borrow lo hi p q r ordered inside whole b
           (subst (λ count. Steps (DifferenceDigit 16) (part x lo hi) (part y lo hi) (carry_digit borrow_in) (part z lo hi) count (carry_digit borrow)) d.size steps);
       outside = keeps_outside into z lo hi below above;
     }
-
--- a carry as a byte
-pub carry_byte : (carry : Bool) → bool_byte carry ≡ carry_digit carry
-carry_byte true = refl
-carry_byte false = refl
-
--- what the code computes of a sum and of a difference
-pub whole_sum : (z digits limit power carry first second px py byte bit : ℕ) → z ≡ digits → limit ≡ power → first ≡ px → second ≡ py → byte ≡ bit
-    → digits + limit * carry ≡ first + second + byte → z + power * carry ≡ px + py + bit
-whole_sum z digits limit power carry first second px py byte bit is_z is_limit is_first is_second is_byte whole = rw (is_z, ← is_limit, ← is_first, ← is_second, ← is_byte) whole
-
-pub whole_difference : (z digits limit power first second px py byte bit : ℕ) (enough : Bool) → z ≡ digits → limit ≡ power → first ≡ px → second ≡ py → byte ≡ bit → bit ≤ 1 → second < power
-    → digits + limit * carry_digit enough ≡ first + limit - (second + byte) → z + py + bit ≡ px + power * carry_digit (not enough)
-whole_difference z digits limit power first second px py byte bit true is_z is_limit is_first is_second is_byte small less whole = omega arith
-whole_difference z digits limit power first second px py byte bit false is_z is_limit is_first is_second is_byte small less whole = omega arith

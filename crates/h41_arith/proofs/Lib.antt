@@ -6,4 +6,6 @@ pub mod Compared
 pub mod Steps
 pub mod Hexadecimal
 pub mod Decimal
+pub mod InPlace
 pub mod WholeNumbers
+pub mod Totals

@@ -1,6 +1,6 @@
 -- The places of a span as one number.
 use Rattle.std.proofs.Common.{if◌then◌else◌, ◌==◌, ◌≡◌, ℕ, suc, ◌+◌, ◌-◌, ◌*◌, ◌/◌, ◌%◌, ◌^◌, ◌<◌, ◌≤◌, List, [], ◌∷◌, ◌++◌, length, take, drop, slice_index, refl, sym, ap, subst, arith, inl, inr, ◌∙◌}
-use Rattle.std.proofs.Math.Nat.{pow-succ', pow-le-pow_right, mod-eq_of_lt}
+use Rattle.std.proofs.Math.Nat.{pow-succ'}
 use Rattle.std.proofs.lemmas.Nat.{mod-mul-add}
 use Rattle.std.proofs.lemmas.Bool.{cases_lt}
 use Rattle.std.proofs.lemmas.Bool.Decides.{nat_tests}
@@ -153,15 +153,3 @@ down_at digits lo hi place register inside from to =
 -- a part of a number is below its limit
 pub sixteenth : (number limit : ℕ) → number < limit → number / 16 < limit
 sixteenth number limit small = omega arith
-
--- at most 14 digits go up one place with no bit lost
-pub shifted_whole : (digits : List ℕ) (lo hi number : ℕ) → IsRegister 14 digits → lo ≤ hi → hi < 14 → number ≡ value (part digits lo hi) → number * 16 % 2 ^ 64 ≡ value (part digits lo hi) * 16
-shifted_whole digits lo hi number register ordered inside is =
-    let small : value (part digits lo hi) < 16 ^ (hi + 1 - lo) = part-lt digits lo hi register ordered inside in
-    let most : 16 ^ (hi + 1 - lo) ≤ 16 ^ 14 = pow-le-pow_right {n = 16} (omega arith) {i = hi + 1 - lo} {j = 14} (omega arith) in
-    let fits : value (part digits lo hi) * 16 < 2 ^ 64 = omega arith in
-    rw is (mod-eq_of_lt fits)
-
--- no limit is above that of 14 digits
-pub limit-le : (lo hi : ℕ) → hi < 14 → 16 ^ (hi + 1 - lo) ≤ 2 ^ 56
-limit-le lo hi inside = pow-le-pow_right {n = 16} (omega arith) {i = hi + 1 - lo} {j = 14} (omega arith)

@@ -1,5 +1,5 @@
 -- Registers whose digits are known place by place.
-use Rattle.std.proofs.Common.{if◌then◌else◌, ◌≡◌, ◌≢◌, ℕ, ◌+◌, ◌-◌, ◌<◌, ◌≤◌, true, false, not, ◌==◌, ◌&&◌, nat_le, List, length, slice_index, set, ap, sym, arith, inl, inr, ◌∙◌, get_or-set_other, get_or-set_same}
+use Rattle.std.proofs.Common.{if◌then◌else◌, ◌≡◌, ◌≢◌, ℕ, ◌+◌, ◌-◌, ◌<◌, ◌≤◌, true, false, not, ◌==◌, ◌&&◌, nat_le, List, length, slice_index, ap, sym, arith, inl, inr, ◌∙◌}
 use Rattle.std.proofs.lemmas.List.{ext_get_or, get_or_past}
 use Rattle.std.specs.List.{range_with_len}
 use Rattle.std.proofs.lemmas.List.Folds.{list_any_none, list_any_at, Any-from_list_any}
@@ -15,30 +15,6 @@ pub record FilledTo (into : List ℕ) (lo next : ℕ) (digit : ℕ → ℕ) (z :
   pub inside : (place : ℕ) → lo ≤ place → place < next → slice_index z place ≡ digit place
   pub below : (place : ℕ) → place < lo → slice_index z place ≡ slice_index into place
   pub above : (place : ℕ) → next ≤ place → slice_index z place ≡ slice_index into place
-
--- one place more
-pub filled_more : (into z : List ℕ) (lo next : ℕ) (digit : ℕ → ℕ) (new : ℕ) → next < length z → lo ≤ next → new ≡ digit next
-    → FilledTo into lo next digit z → FilledTo into lo (next + 1) digit (set z next new)
-filled_more into z lo next digit new within from is so_far = record {
-  inside = λ place low high. elim (cases_lt place next) [
-    | inl less ↦
-        let other : place ≢ next = omega arith in
-        get_or-set_other z next place new 0 other ∙ so_far.inside place low less
-    | inr here ↦
-        let same : place ≡ next = omega arith in
-        rw same (get_or-set_same z next new 0 within ∙ is)
-  ];
-  below = λ place low.
-      let other : place ≢ next = omega arith in
-      get_or-set_other z next place new 0 other ∙ so_far.below place low;
-  above = λ place high.
-      let other : place ≢ next = omega arith in
-      get_or-set_other z next place new 0 other ∙ so_far.above place (omega arith);
-}
-
--- a place is itself
-pub place_itself : (place : ℕ) → (place == place) ≡ true
-place_itself place = grind (arith, nat_tests)
 
 -- the digit of a replaced span at a place
 replaced_at : (into : List ℕ) (lo hi : ℕ) (digit : ℕ → ℕ) (place : ℕ) → place < 14

@@ -1,8 +1,7 @@
 -- Sums and differences as whole numbers.
-use Rattle.std.proofs.Common.{◌≡◌, ℕ, zero, suc, ◌+◌, ◌-◌, ◌*◌, ◌^◌, ◌%◌, ◌<◌, ◌≤◌, ◌⊎◌, Bool, List, slice_index, sym, ap, subst, arith, inl, inr, ◌∙◌}
+use Rattle.std.proofs.Common.{◌≡◌, ℕ, zero, suc, ◌+◌, ◌-◌, ◌*◌, ◌^◌, ◌<◌, ◌≤◌, List, slice_index, sym, ap, arith, inl, inr, ◌∙◌}
 use Rattle.std.proofs.Math.Nat.{pow-succ', pow-zero}
 use Rattle.std.specs.List.{sum_by, range_with_len}
-use Rattle.h41_digits.specs.Register.{IsRegister}
 use Rattle.h41_fields.specs.Field.{from_to}
 use Rattle.h41_arith.specs.DigitRule.{SumDigit, DifferenceDigit, HasCarries, carry_digit}
 use Rattle.h41_arith.specs.DigitRuleLaws.{DifferenceIsOfNumbers, IsNumberIn, SumIsOfNumbers}

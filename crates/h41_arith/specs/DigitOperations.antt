@@ -1,7 +1,8 @@
 -- What the private functions of sums promise one another: the loop over the digits of a span, and the carries of a sum of
 -- numbers. No public contract needs this file.
-use Rattle.std.specs.Prelude.{◌≡◌, ℕ, ◌+◌, ◌*◌, ◌/◌, Bool, List, bit_and, bit_xor}
-use Rattle.h41_arith.specs.DigitRule.{SumDigit, DifferenceDigit, HasCarries, HasResult, carry_digit}
+use Rattle.std.specs.Prelude.{◌≡◌, ℕ, ◌+◌, ◌-◌, ◌*◌, ◌/◌, ◌^◌, Bool, not, List, bit_and, bit_xor}
+use Rattle.h41_digits.specs.Register.{value_between}
+use Rattle.h41_arith.specs.DigitRule.{SumDigit, DifferenceDigit, HasCarries, HasResult, carry_digit, zeros}
 use Rattle.h41_arith.specs.declared.sums.DigitOperation.{DigitOperation}
 use Rattle.h41_arith.specs.declared.sums.DigitOperation.TheVariants.{Add, Subtract}
 
@@ -18,14 +19,30 @@ HasDigit rule x y carry_in z carry_out = rule x y (carry_digit carry_in) z (carr
 abbrev pub RuleInto : DigitOperation → ℕ → List ℕ → List ℕ → List ℕ → Bool → ℕ → ℕ → List ℕ → Bool → Type 0
 RuleInto operation base into x y carry_in lo hi z carry_out = HasResult (HasCarries (rule_of operation base)) into x y carry_in lo hi z carry_out
 
+-- a difference is told by the carry of a complement's sum, which is there where there is no borrow
+abbrev pub is_marked : DigitOperation → Bool → Bool
+is_marked Add carry = carry
+is_marked Subtract borrow = not borrow
+
+-- the digits of a sum or a difference in base 10 as one number in the places from lo to hi, with that carry above them
+pub record IsRuleTotal (operation : DigitOperation) (x y : List ℕ) (carry_in : Bool) (lo hi total : ℕ) : Type 0 where
+  pub digits : List ℕ
+  pub carry_out : Bool
+  pub rule : RuleInto operation 10 zeros x y carry_in lo hi digits carry_out
+  pub number : total ≡ (value_between digits lo hi + 16 ^ (hi + 1 - lo) * carry_digit (is_marked operation carry_out)) * 16 ^ lo
+
 -- a one in each digit of a mask of ones at which the sum of two numbers carries into the next: there its last bit is not that
 -- of the two digits' sum
 abbrev pub carries_of : ℕ → ℕ → ℕ → ℕ → ℕ
 carries_of x y sum ones = bit_and (bit_xor (bit_xor x y) sum / 16) ones
 
--- a total of two numbers in base 10, in parts below a limit: their sum in base 16, and six more at each digit that carries with six
--- more in each digit of the first
-abbrev pub IsDecimalTotal : ℕ → ℕ → Bool → ℕ → ℕ → ℕ → Bool → Type 0
-IsDecimalTotal first second carry_in limit ones total carry =
-    let sum : ℕ = first + second + carry_digit carry_in in
-    total + limit * carry_digit carry ≡ sum + 6 * carries_of (first + 6 * ones) second (sum + 6 * ones) ones
+-- a total of two numbers in base 10: their sum in base 16 with a carry, and six more at each digit that carries with six more in
+-- each digit of the first
+abbrev pub decimal_total_of : ℕ → ℕ → ℕ → ℕ → ℕ
+decimal_total_of first second carry ones =
+    let sum : ℕ = first + second + carry in
+    sum + 6 * carries_of (first + 6 * ones) second (sum + 6 * ones) ones
+
+-- a number of a span that may have a 1 above its digits: these are in the register, and there is a carry where it has that 1
+abbrev pub IsInParts : ℕ → ℕ → ℕ → List ℕ → Bool → Type 0
+IsInParts number lo hi z carry = value_between z lo hi + 16 ^ (hi + 1 - lo) * carry_digit carry ≡ number

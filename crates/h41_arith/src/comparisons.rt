@@ -3,16 +3,14 @@
 ghost use Rattle.std.specs.Prelude.{◌≡◌};
 ghost use Rattle.h41_arith.specs.DigitRule.{is_less, is_different, is_nonzero};
 
-use crate::spans::number_in;
-use h41_digits::Reg;
-use h41_fields::Span;
+use h41_digits::{Reg, Span};
 
 /// Whether `x` is below `y` in the span: the borrow of `x` - `y`, which is the same in either base.
 #[inline(always)]
 pub fn less(x: Reg, y: Reg, span: Span) -> bool
     ensures { result ≡ is_less x y span.lo span.hi }
 {
-    number_in(x, span) < number_in(y, span)
+    x.in_span(span) < y.in_span(span)
 }
 
 /// Whether `x` and `y` have different digits in the span.
@@ -20,7 +18,7 @@ pub fn less(x: Reg, y: Reg, span: Span) -> bool
 pub fn differs(x: Reg, y: Reg, span: Span) -> bool
     ensures { result ≡ is_different x y span.lo span.hi }
 {
-    number_in(x, span) != number_in(y, span)
+    x.in_span(span) != y.in_span(span)
 }
 
 /// Whether `x` has a digit other than 0 in the span.

@@ -3,9 +3,7 @@
 ghost use Rattle.std.specs.Prelude.{◌≡◌, false};
 ghost use Rattle.h41_arith.specs.DigitRule.{copied, shifted_left, shifted_right};
 
-use crate::spans::{limit, number_in};
-use h41_digits::Reg;
-use h41_fields::Span;
+use h41_digits::{Reg, Span};
 
 /// `into` with the digits of `x` in the span, and no carry.
 #[inline(always)]
@@ -13,8 +11,7 @@ pub fn copy(into: Reg, x: Reg, span: Span) -> (Reg, bool)
     ensures digits { result.0 ≡ copied into x span.lo span.hi }
     ensures carry { result.1 ≡ false }
 {
-    let digits = number_in(x, span);
-    (into.with_number(span.lo, span.hi, digits), false)
+    (into.with_span(span, x.in_span(span)), false)
 }
 
 /// `into` with the digits of `x` in the span, each one place further to the left; the span's first digit becomes 0. There
@@ -24,9 +21,7 @@ pub fn shift_left(into: Reg, x: Reg, span: Span) -> (Reg, bool)
     ensures digits { result.0 ≡ shifted_left into x span.lo span.hi }
     ensures carry { result.1 ≡ false }
 {
-    let digits = number_in(x, span);
-    let moved = (digits << 4) % limit(span);
-    (into.with_number(span.lo, span.hi, moved), false)
+    (into.with_span(span, x.in_span(span) << 4), false)
 }
 
 /// `into` with the digits of `x` in the span, each one place further to the right; the span's last digit becomes 0. There
@@ -36,8 +31,7 @@ pub fn shift_right(into: Reg, x: Reg, span: Span) -> (Reg, bool)
     ensures digits { result.0 ≡ shifted_right into x span.lo span.hi }
     ensures carry { result.1 ≡ false }
 {
-    let digits = number_in(x, span);
-    (into.with_number(span.lo, span.hi, digits >> 4), false)
+    (into.with_span(span, x.in_span(span) >> 4), false)
 }
 
 /// The two registers with their digits in the span exchanged.

@@ -1,38 +1,28 @@
-//! The digits of a span as one number.
+//! Numbers of a span's digits, in their places: times 16 to the power of its first place.
 
-ghost use Rattle.std.specs.Prelude.{◌≡◌, ◌<◌, ◌≤◌, ◌+◌, ◌-◌, ◌*◌, ◌^◌, replicate, take, drop};
-ghost use Rattle.h41_digits.specs.Register.{IsRegister, value};
+ghost use Rattle.std.specs.Prelude.{◌≡◌, ◌<◌, ◌≤◌, ◌+◌, ◌-◌, ◌*◌, ◌/◌, ◌%◌, ◌^◌, take, drop};
+ghost use Rattle.h41_digits.specs.Register.{IsRegister};
+ghost use Rattle.h41_arith.specs.DigitRule.{carry_digit};
+ghost use Rattle.h41_arith.specs.DigitOperations.{IsInParts};
 
-use h41_digits::Reg;
-use h41_fields::Span;
+use h41_digits::{Reg, Span};
 
-/// The first number with one digit more than a span has: 16 to the power of their count.
-#[inline(always)]
-pub fn limit(span: Span) -> u64
-    ensures value { result ≡ 16 ^ (span.hi + 1 - span.lo) }
-    ensures positive { 0 < result }
-    ensures most { result ≤ 2 ^ 56 }
+/// A one at the span's first place where there is a carry, else zero.
+pub fn carry_in_span(carry: bool, span: Span) -> u64
+    ensures value { result ≡ carry_digit carry * 16 ^ span.lo }
+    ensures most { result ≤ 16 ^ span.lo }
 {
-    1 << (4 * (span.hi + 1 - span.lo))
+    if carry { span.first() } else { 0 }
 }
 
-/// The number of a span's digits.
-#[inline(always)]
-pub fn number_in(x: Reg, span: Span) -> u64
-    ensures number { result ≡ value (take (span.hi + 1 - span.lo) (drop span.lo x)) }
-    ensures fits { result < 16 ^ (span.hi + 1 - span.lo) }
-    ensures small { result < 2 ^ 56 }
-    ensures register { IsRegister 14 x }
+/// `into` with a number's digits in the span, and whether the number has a 1 above them.
+pub fn put(into: Reg, number: u64, span: Span) -> (Reg, bool)
+    requires places { number % 16 ^ span.lo ≡ 0 }
+    requires most { number < 2 * 16 ^ (span.hi + 1) }
+    ensures parts { IsInParts (number / 16 ^ span.lo) span.lo span.hi result.0 result.1 }
+    ensures below { take span.lo result.0 ≡ take span.lo into }
+    ensures above { drop (span.hi + 1) result.0 ≡ drop (span.hi + 1) into }
+    ensures register { IsRegister 14 result.0 }
 {
-    x.number(span.lo, span.hi)
-}
-
-/// A one at each of a span's places.
-#[inline(always)]
-pub fn ones(span: Span) -> u64
-    ensures value { result ≡ value (replicate (span.hi + 1 - span.lo) 1) }
-    ensures fifteen { 15 * result + 1 ≡ 16 ^ (span.hi + 1 - span.lo) }
-    ensures small { result < 2 ^ 56 }
-{
-    (limit(span) - 1) / 15
+    (into.with_span(span, number), number > span.mask)
 }

@@ -1,13 +1,13 @@
 //! Sums and differences of two registers over a span, of the numbers of its digits. In base 10 a letter has them made digit by digit.
 
-ghost use Rattle.std.specs.Prelude.{◌≡◌, ◌+◌, ◌*◌, ◌^◌, ◌<◌, ◌≤◌, ◌⊎◌, ◌==◌, not, true, false};
+ghost use Rattle.std.specs.Prelude.{◌≡◌, ℕ, ◌+◌, ◌*◌, ◌^◌, ◌<◌, ◌≤◌, ◌⊎◌, ◌==◌, not, true, false};
 ghost use Rattle.h41_digits.specs.Register.{IsRegister};
+ghost use Rattle.h41_digits.specs.Spans.{IsMask};
 ghost use Rattle.h41_arith.specs.DigitRule.{SumDigit, DifferenceDigit, SumInto, DifferenceInto, base_of, carry_digit, zeros};
-ghost use Rattle.h41_arith.specs.DigitOperations.{HasDigit, IsDecimalTotal, RuleInto, rule_of, carries_of};
+ghost use Rattle.h41_arith.specs.DigitOperations.{HasDigit, IsRuleTotal, RuleInto, rule_of, carries_of, decimal_total_of};
 
-use crate::spans::{limit, number_in, ones};
-use h41_digits::Reg;
-use h41_fields::Span;
+use crate::spans::{carry_in_span, put};
+use h41_digits::{Reg, Span};
 
 /// What is done with the digits of two registers.
 #[derive(Clone, Copy)]
@@ -19,91 +19,88 @@ pub enum DigitOperation {
 }
 
 impl DigitOperation {
-    /// One place: the digit, and whether there is a carry or borrow out.
-    fn digit(self, base: u8, x: u8, y: u8, carry_in: bool) -> (u8, bool)
-        requires is_base { (base ≡ 10) ⊎ (base ≡ 16) }
+    /// One place in base 10: the digit, and whether there is a carry or borrow out.
+    fn digit(self, x: u8, y: u8, carry_in: bool) -> (u8, bool)
         requires x_is_digit { x < 16 }
         requires y_is_digit { y < 16 }
-        ensures rule { HasDigit (rule_of self base) x y carry_in result.0 result.1 }
+        ensures rule { HasDigit (rule_of self 10) x y carry_in result.0 result.1 }
         ensures is_digit { result.0 < 16 }
     {
         match self {
-            DigitOperation::Add => sum_digit(base, x, y, carry_in),
-            DigitOperation::Subtract => difference_digit(base, x, y, carry_in),
+            DigitOperation::Add => sum_digit(x, y, carry_in),
+            DigitOperation::Subtract => difference_digit(x, y, carry_in),
         }
     }
 
-    /// `into` with the digits of `x` and `y` added or subtracted in the span, and the carry or borrow out of its top digit.
-    #[cold]
-    #[inline(never)]
-    pub fn over_span(
-        self,
-        base: u8,
-        into: Reg,
-        x: Reg,
-        y: Reg,
-        carry_in: bool,
-        span: Span,
-    ) -> (Reg, bool)
-        requires { (base ≡ 10) ⊎ (base ≡ 16) }
-        ensures result { RuleInto self base into x y carry_in span.lo span.hi result.0 result.1 }
+    /// The digits of `x` and `y` added or subtracted in base 10 from place `lo` to place `hi`, in their places of a register of zeros,
+    /// and the carry or borrow out of the last.
+    fn over_places(self, x: Reg, y: Reg, carry_in: bool, lo: usize, hi: usize) -> (Reg, bool)
+        requires ordered { lo ≤ hi }
+        requires in_register { hi < 14 }
+        ensures result { RuleInto self 10 zeros x y carry_in lo hi result.0 result.1 }
         ensures first { IsRegister 14 x }
         ensures second { IsRegister 14 y }
+        ensures register { IsRegister 14 result.0 }
     {
-        let mut digits = into;
+        let mut digits = Reg::zero();
         let mut carry = carry_in;
-        for place in span.lo..span.hi + 1 {
-            let (digit, carry_out) = self.digit(base, x.get(place), y.get(place), carry);
+        for place in lo..hi + 1 {
+            let (digit, carry_out) = self.digit(x.get(place), y.get(place), carry);
             digits.set(place, digit);
             carry = carry_out;
         }
         (digits, carry)
     }
-}
 
-/// One place of a sum: the digit, and whether there is a carry out.
-fn sum_digit(base: u8, x: u8, y: u8, carry_in: bool) -> (u8, bool)
-    requires is_base { (base ≡ 10) ⊎ (base ≡ 16) }
-    requires x_is_digit { x < 16 }
-    requires y_is_digit { y < 16 }
-    ensures rule { HasDigit (SumDigit base) x y carry_in result.0 result.1 }
-    ensures is_digit { result.0 < 16 }
-{
-    let sum = x + y + u8::from(carry_in);
-    if sum < base {
-        (sum, false)
-    } else {
-        ((sum - base) % 16, true)
+    /// The same as one number, in its places, with a 1 above its digits where a sum carries or a difference does not borrow. The places
+    /// are those that have the mask.
+    #[cold]
+    #[inline(never)]
+    fn total(self, x: Reg, y: Reg, carry_in: bool, mask: u64) -> u64
+        ensures { (lo hi : ℕ) → IsMask mask lo hi → IsRuleTotal self x y carry_in lo hi result }
+    {
+        let span = Span::from_mask(mask);
+        let (digits, carry) = self.over_places(x, y, carry_in, span.lo, span.hi);
+        let number = digits.in_span(span);
+        let is_marked = match self {
+            DigitOperation::Add => carry,
+            DigitOperation::Subtract => !carry,
+        };
+        if is_marked {
+            number + (span.mask + span.first())
+        } else {
+            number
+        }
     }
 }
 
-/// One place of a difference: the digit, and whether there is a borrow out.
-fn difference_digit(base: u8, x: u8, y: u8, borrow_in: bool) -> (u8, bool)
-    requires is_base { (base ≡ 10) ⊎ (base ≡ 16) }
+/// One place of a sum in base 10: the digit, and whether there is a carry out.
+fn sum_digit(x: u8, y: u8, carry_in: bool) -> (u8, bool)
     requires x_is_digit { x < 16 }
     requires y_is_digit { y < 16 }
-    ensures rule { HasDigit (DifferenceDigit base) x y borrow_in result.0 result.1 }
+    ensures rule { HasDigit (SumDigit 10) x y carry_in result.0 result.1 }
+    ensures is_digit { result.0 < 16 }
+{
+    let sum = x + y + u8::from(carry_in);
+    if sum < 10 {
+        (sum, false)
+    } else {
+        ((sum - 10) % 16, true)
+    }
+}
+
+/// One place of a difference in base 10: the digit, and whether there is a borrow out.
+fn difference_digit(x: u8, y: u8, borrow_in: bool) -> (u8, bool)
+    requires x_is_digit { x < 16 }
+    requires y_is_digit { y < 16 }
+    ensures rule { HasDigit (DifferenceDigit 10) x y borrow_in result.0 result.1 }
     ensures is_digit { result.0 < 16 }
 {
     let taken = y + u8::from(borrow_in);
     if taken <= x {
         (x - taken, false)
     } else {
-        ((x + base + 16 - taken) % 16, true)
-    }
-}
-
-/// A number of a span that may have one digit too many: the span's digits, and whether there is a 1 above them.
-#[inline(always)]
-fn carried(number: u64, limit: u64) -> (u64, bool)
-    requires { number < 2 * limit }
-    ensures parts { result.0 + limit * carry_digit result.1 ≡ number }
-    ensures fits { result.0 < limit }
-{
-    if number < limit {
-        (number, false)
-    } else {
-        (number - limit, true)
+        ((x + 26 - taken) % 16, true)
     }
 }
 
@@ -112,11 +109,9 @@ fn carried(number: u64, limit: u64) -> (u64, bool)
 fn hexadecimal_sum(into: Reg, x: Reg, y: Reg, carry_in: bool, span: Span) -> (Reg, bool)
     ensures { SumInto 16 into x y carry_in span.lo span.hi result.0 result.1 }
 {
-    let limit = limit(span);
-    let first = number_in(x, span);
-    let second = number_in(y, span);
-    let (digits, carry) = carried(first + second + u64::from(carry_in), limit);
-    (into.with_number(span.lo, span.hi, digits), carry)
+    let first = x.in_span(span);
+    let second = y.in_span(span);
+    put(into, first + second + carry_in_span(carry_in, span), span)
 }
 
 /// `into` with `x` - `y` - the borrow in, in base 16, in the span, and the borrow out.
@@ -124,15 +119,15 @@ fn hexadecimal_sum(into: Reg, x: Reg, y: Reg, carry_in: bool, span: Span) -> (Re
 fn hexadecimal_difference(into: Reg, x: Reg, y: Reg, borrow_in: bool, span: Span) -> (Reg, bool)
     ensures { DifferenceInto 16 into x y borrow_in span.lo span.hi result.0 result.1 }
 {
-    let limit = limit(span);
-    let first = number_in(x, span);
-    let second = number_in(y, span);
-    let (digits, enough) = carried(first + limit - (second + u64::from(borrow_in)), limit);
-    (into.with_number(span.lo, span.hi, digits), !enough)
+    let first = x.in_span(span);
+    let taken = y.in_span(span) + carry_in_span(borrow_in, span);
+    (
+        into.with_span(span, first.wrapping_sub(taken)),
+        first < taken,
+    )
 }
 
 /// A one in each digit, of those where `ones` has one, out of which the sum of `x` and `y` carries into the next.
-#[inline(always)]
 fn carries(x: u64, y: u64, sum: u64, ones: u64) -> u64
     ensures carries { result ≡ carries_of x y sum ones }
     ensures most { result ≤ ones }
@@ -141,7 +136,6 @@ fn carries(x: u64, y: u64, sum: u64, ones: u64) -> u64
 }
 
 /// Whether a number has a digit from A to F: where six is added to each digit, one carries.
-#[inline(always)]
 fn has_letter(number: u64, ones: u64) -> bool
     requires { number + 6 * ones < 2 ^ 64 }
     ensures { result ≡ not (carries_of number (6 * ones) (number + 6 * ones) ones == 0) }
@@ -149,20 +143,19 @@ fn has_letter(number: u64, ones: u64) -> bool
     carries(number, 6 * ones, number + 6 * ones, ones) != 0
 }
 
-/// The sum of two numbers in base 10, of which the first has no digit from A to F: the sum in base 16, and six more at each
-/// digit that carries. It carries where it does so with six more at each digit of the first.
-#[inline(always)]
-fn decimal_total(first: u64, second: u64, carry_in: bool, limit: u64, ones: u64) -> (u64, bool)
-    requires ones { 15 * ones + 1 ≡ limit }
-    requires limit { limit ≤ 2 ^ 56 }
+/// The sum of two numbers in base 10 with a carry, of which the first has no digit from A to F: the sum in base 16, and six more at
+/// each digit that carries. It carries where it does so with six more at each digit of the first.
+fn decimal_total(first: u64, second: u64, carry: u64, ones: u64) -> u64
+    requires ones { ones < 2 ^ 53 }
     requires first { first ≤ 9 * ones }
-    requires second { second < limit }
-    ensures parts { IsDecimalTotal first second carry_in limit ones result.0 result.1 }
-    ensures fits { result.0 < limit }
+    requires second { second ≤ 15 * ones }
+    requires carry { carry ≤ ones }
+    ensures total { result ≡ decimal_total_of first second carry ones }
+    ensures most { result ≤ 30 * ones + carry }
 {
-    let sum = first + second + u64::from(carry_in);
+    let sum = first + second + carry;
     let tens = carries(first + 6 * ones, second, sum + 6 * ones, ones);
-    carried(sum + 6 * tens, limit)
+    sum + 6 * tens
 }
 
 /// `into` with `x` + `y` + the carry in, in base 10, in the span, and the carry out.
@@ -170,15 +163,15 @@ fn decimal_total(first: u64, second: u64, carry_in: bool, limit: u64, ones: u64)
 fn decimal_sum(into: Reg, x: Reg, y: Reg, carry_in: bool, span: Span) -> (Reg, bool)
     ensures { SumInto 10 into x y carry_in span.lo span.hi result.0 result.1 }
 {
-    let limit = limit(span);
-    let ones = ones(span);
-    let first = number_in(x, span);
-    let second = number_in(y, span);
-    if has_letter(first, ones) {
-        return DigitOperation::Add.over_span(10, into, x, y, carry_in, span);
-    }
-    let (digits, carry) = decimal_total(first, second, carry_in, limit, ones);
-    (into.with_number(span.lo, span.hi, digits), carry)
+    let first = x.in_span(span);
+    let second = y.in_span(span);
+    let ones = span.ones();
+    let total = if has_letter(first, ones) {
+        DigitOperation::Add.total(x, y, carry_in, span.mask)
+    } else {
+        decimal_total(first, second, carry_in_span(carry_in, span), ones)
+    };
+    put(into, total, span)
 }
 
 /// `into` with `x` - `y` - the borrow in, in base 10, in the span, and the borrow out: x and the complement of y to nines, and
@@ -187,15 +180,21 @@ fn decimal_sum(into: Reg, x: Reg, y: Reg, carry_in: bool, span: Span) -> (Reg, b
 fn decimal_difference(into: Reg, x: Reg, y: Reg, borrow_in: bool, span: Span) -> (Reg, bool)
     ensures { DifferenceInto 10 into x y borrow_in span.lo span.hi result.0 result.1 }
 {
-    let limit = limit(span);
-    let ones = ones(span);
-    let first = number_in(x, span);
-    let second = number_in(y, span);
-    if has_letter(second, ones) {
-        return DigitOperation::Subtract.over_span(10, into, x, y, borrow_in, span);
-    }
-    let (digits, enough) = decimal_total(9 * ones - second, first, !borrow_in, limit, ones);
-    (into.with_number(span.lo, span.hi, digits), !enough)
+    let first = x.in_span(span);
+    let second = y.in_span(span);
+    let ones = span.ones();
+    let total = if has_letter(second, ones) {
+        DigitOperation::Subtract.total(x, y, borrow_in, span.mask)
+    } else {
+        decimal_total(
+            9 * ones - second,
+            first,
+            carry_in_span(!borrow_in, span),
+            ones,
+        )
+    };
+    let (digits, enough) = put(into, total, span);
+    (digits, !enough)
 }
 
 /// `into` with `x` + `y` + the carry in, in the span, and the carry out of the span's top digit. The base is 10 where `DEC`,

@@ -7,7 +7,7 @@ use Rattle.h41_fields.specs.declared.field.Field.TheVariants.{AtPointer, SignAnd
 use Rattle.std.proofs.lemmas.Bool.{cases_lt}
 use Rattle.h41_fields.specs.declared.field.Field.{Field}
 use Rattle.h41_fields.specs.declared.field.Pointer.{Pointer}
-use Rattle.h41_fields.specs.Field.{active_place, is_place, register_places, places, first_place, last_place, from_to}
+use Rattle.h41_fields.specs.Field.{active_place, is_place, is_pointed, register_places, places, first_place, last_place, from_to}
 use Rattle.h41_fields.specs.FieldLaws.{PlacesAreOrdered}
 
 -- the test passes from lo to hi, and nowhere else
@@ -101,6 +101,18 @@ span_mantissa p q active = record { first = refl; last = refl; each = refl }
 pub span_mantissa_sign : (p q : ℕ) (active : Pointer) → IsSpanOf MantissaSign p q active 13 13
 unfolding places register_places from_to first_place last_place
 span_mantissa_sign p q active = record { first = refl; last = refl; each = refl }
+
+-- the field of the pointers that is no other
+pub span_of_other : (field : Field) (p q : ℕ) (active : Pointer) → active_place p q active < 14 → is_pointed field ≡ true → (field ≡ AtPointer → ⊥) → (field ≡ PToQ → ⊥)
+    → IsSpanOf field p q active 0 (active_place p q active)
+span_of_other AtPointer p q active inside pointed first second = absurd (first refl)
+span_of_other SignAndExponent p q active inside pointed first second = cc
+span_of_other ToPointer p q active inside pointed first second = span_to_pointer p q active inside
+span_of_other All p q active inside pointed first second = cc
+span_of_other PToQ p q active inside pointed first second = absurd (second refl)
+span_of_other ExponentSign p q active inside pointed first second = cc
+span_of_other Mantissa p q active inside pointed first second = cc
+span_of_other MantissaSign p q active inside pointed first second = cc
 
 -- each number of a list is at least this
 abbrev AllFrom : ℕ → List ℕ → Type 0

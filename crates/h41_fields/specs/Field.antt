@@ -1,5 +1,5 @@
 -- The fields of a register: the places that a word of the Nut processor works on, by the names of this project's table of mnemonics.
-use Rattle.std.specs.Prelude.{ℕ, ◌+◌, ◌-◌, Bool, true, ◌&&◌, ◌||◌, List, [], ◌∷◌, length, slice_index, filter, nat_lt, nat_le, ◌==◌}
+use Rattle.std.specs.Prelude.{ℕ, ◌+◌, ◌-◌, Bool, true, false, ◌&&◌, ◌||◌, List, [], ◌∷◌, length, slice_index, filter, nat_lt, nat_le, ◌==◌}
 use Rattle.std.specs.List.{range_with_len}
 use Rattle.h41_fields.specs.declared.field.Field.{Field}
 use Rattle.h41_fields.specs.declared.field.Field.TheVariants.{AtPointer, SignAndExponent, ToPointer, All, PToQ, ExponentSign, Mantissa, MantissaSign}
@@ -29,6 +29,13 @@ is_place ExponentSign p q active place = place == 2
 is_place Mantissa p q active place = nat_le 3 place && nat_le place 12
 -- MS: the mantissa's sign, place 13
 is_place MantissaSign p q active place = place == 13
+
+-- whether the pointers decide a field's places
+abbrev pub is_pointed : Field → Bool
+is_pointed AtPointer = true
+is_pointed ToPointer = true
+is_pointed PToQ = true
+is_pointed field = false
 
 -- the places of a register, from the rightmost
 unfoldable pub register_places : List ℕ

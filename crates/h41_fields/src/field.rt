@@ -1,6 +1,4 @@
-//! Fields, the pointers that some of them follow, and spans of places.
-
-ghost use Rattle.std.specs.Prelude.{◌<◌, ◌≤◌};
+//! Fields, and the pointers that some of them follow.
 
 /// One of the two pointers of the processor.
 #[derive(Clone, Copy, Debug, PartialEq, Eq)]
@@ -30,15 +28,4 @@ pub enum Field {
     Mantissa,
     /// `MS`: the mantissa's sign, place 13.
     MantissaSign,
-}
-
-/// Places in a row, from `lo` to `hi`, both with them. There is at least one.
-#[derive(Clone, Copy, Debug, PartialEq, Eq)]
-pub struct Span {
-    /// The first place, 0 to 13, the rightmost one.
-    pub lo: usize,
-    /// The last place, 0 to 13, not below the first.
-    pub hi: usize,
-    ghost ordered: { lo ≤ hi },
-    ghost in_register: { hi < 14 },
 }

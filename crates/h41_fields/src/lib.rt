@@ -5,5 +5,6 @@ mod field;
 pub mod laws;
 mod places;
 
-pub use field::{Field, Pointer, Span};
+pub use field::{Field, Pointer};
+pub use h41_digits::Span;
 pub use places::span;

@@ -1,6 +1,6 @@
 //! The words that work on a field of A, B and C.
 
-ghost use Rattle.std.specs.Prelude.{◌≡◌, ◌<◌, false, OnOk, OnErr};
+ghost use Rattle.std.specs.Prelude.{◌≡◌, false, OnOk, OnErr};
 ghost use Rattle.std.specs.Result.{result_err};
 ghost use Rattle.h41_arith.specs.DigitRule.{base_of};
 ghost use Rattle.h41_nut.specs.Arithmetic.{Operates, OperatesOn, base_number};
@@ -13,12 +13,9 @@ use crate::refusal::WordRefusal;
 use h41_arith::{
     add, copy, dec, differs, exchange, inc, less, neg, neg1, nonzero, shift_left, shift_right, sub,
 };
-use h41_digits::{PLACES, Reg};
-use h41_fields::{Field, Span, span};
+use h41_digits::{Reg, Span};
+use h41_fields::{Field, span};
 use h41_words::Operation;
-
-/// No place: in the place of a span's last one it stands for any.
-const ANY: usize = PLACES;
 
 impl Cpu {
     /// `OPERATION FIELD`: works on a field in the base that is set.
@@ -34,71 +31,21 @@ impl Cpu {
     {
         let next = arrival(self.next_address())?;
         self.arrive(next, false);
+        let places = span(field, self.p, self.q, self.active);
         match self.base {
-            Base::Hexadecimal => self.operate_on::<false>(operation, field),
-            Base::Decimal => self.operate_on::<true>(operation, field),
+            Base::Hexadecimal => self.operate::<false>(operation, places),
+            Base::Decimal => self.operate::<true>(operation, places),
         }
         Ok(())
     }
 
-    /// Works on a field, in base 10 where `DEC`, else in base 16. The carry is clear before. The fields that no pointer decides have
-    /// machine code of their own, in which their places are constants.
+    /// Works on a span of places, in base 10 where `DEC`, else in base 16. The carry is clear before.
     #[inline(always)]
-    fn operate_on<const DEC: bool>(&mut self, operation: Operation, field: Field)
+    fn operate<const DEC: bool>(&mut self, operation: Operation, span: Span)
         requires base { base_of DEC ≡ base_number self.old.base }
         requires carry { self.old.carry ≡ false }
-        ensures { OperatesOn operation field self.old self.new }
-    {
-        match field {
-            Field::All => self.operate::<DEC, 0, 13>(
-                operation,
-                span(Field::All, self.p, self.q, self.active),
-            ),
-            Field::Mantissa => {
-                self.operate::<DEC, 3, 12>(
-                    operation,
-                    span(Field::Mantissa, self.p, self.q, self.active),
-                )
-            }
-            Field::SignAndExponent => {
-                self.operate::<DEC, 0, 2>(
-                    operation,
-                    span(Field::SignAndExponent, self.p, self.q, self.active),
-                )
-            }
-            Field::ExponentSign => {
-                self.operate::<DEC, 2, 2>(
-                    operation,
-                    span(Field::ExponentSign, self.p, self.q, self.active),
-                )
-            }
-            Field::MantissaSign => {
-                self.operate::<DEC, 13, 13>(
-                    operation,
-                    span(Field::MantissaSign, self.p, self.q, self.active),
-                )
-            }
-            field => self.operate::<DEC, 0, ANY>(
-                operation,
-                span(field, self.p, self.q, self.active),
-            ),
-        }
-    }
-
-    /// Works on a span of places, in base 10 where `DEC`, else in base 16. The carry is clear before. The places are those from
-    /// `LO` to `HI`, or any where `HI` is no place.
-    #[inline(never)]
-    fn operate<const DEC: bool, const LO: usize, const HI: usize>(
-        &mut self,
-        operation: Operation,
-        span: Span,
-    )
-        requires base { base_of DEC ≡ base_number self.old.base }
-        requires carry { self.old.carry ≡ false }
-        requires places { HI < 14 → (span.lo ≡ LO) × (span.hi ≡ HI) }
         ensures { Operates operation span.lo span.hi self.old self.new }
     {
-        let span = known_span::<LO, HI>(span);
         match operation {
             Operation::ClearA => (self.a, self.carry) = copy(self.a, Reg::zero(), span),
             Operation::ClearB => (self.b, self.carry) = copy(self.b, Reg::zero(), span),
@@ -147,18 +94,5 @@ impl Cpu {
             Operation::ShiftRightC => (self.c, self.carry) = shift_right(self.c, self.c, span),
             Operation::ShiftLeftA => (self.a, self.carry) = shift_left(self.a, self.a, span),
         }
-    }
-}
-
-/// The span itself: that from `LO` to `HI`, or any where `HI` is no place.
-#[inline(always)]
-fn known_span<const LO: usize, const HI: usize>(span: Span) -> Span
-    requires { HI < 14 → (span.lo ≡ LO) × (span.hi ≡ HI) }
-    ensures { result ≡ span }
-{
-    if HI < ANY {
-        Span { lo: LO, hi: HI }
-    } else {
-        span
     }
 }

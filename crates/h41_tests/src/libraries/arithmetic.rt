@@ -13,7 +13,7 @@ use std::test::Fail;
 
 #[test]
 fn sums_and_differences(rt: HostRuntime) -> Result<(), Fail> {
-    let span = Span { lo: 0, hi: 2 };
+    let span = Span::new(0, 2);
     let nines = Reg::holding(0x1999);
     let letters = Reg::holding(0x1FFF);
     let rows = [
@@ -51,7 +51,7 @@ fn sums_and_differences(rt: HostRuntime) -> Result<(), Fail> {
 
 #[test]
 fn moves_and_comparisons(rt: HostRuntime) -> Result<(), Fail> {
-    let span = Span { lo: 1, hi: 3 };
+    let span = Span::new(1, 3);
     let x = Reg::holding(0x12345);
     let y = Reg::holding(0xABCDE);
     let rows = [
@@ -72,11 +72,11 @@ fn moves_and_comparisons(rt: HostRuntime) -> Result<(), Fail> {
         ("differs", differs(x, y, span), true),
         (
             "no place differs",
-            differs(x, first, Span { lo: 0, hi: 0 }),
+            differs(x, first, Span::new(0, 0)),
             false,
         ),
         ("nonzero", nonzero(x, span), true),
-        ("zeros", nonzero(x, Span { lo: 5, hi: 13 }), false),
+        ("zeros", nonzero(x, Span::new(5, 13)), false),
     ];
     for (name, found, wanted) in rows {
         wants(&rt, name, found == wanted);
@@ -125,10 +125,7 @@ fn sum_of_digits<const DEC: bool>(rt: &impl Abort, place: usize, x: u8, y: u8, c
     } else {
         ((sum - base) % 16, true)
     };
-    let span = Span {
-        lo: place,
-        hi: place,
-    };
+    let span = Span::new(place, place);
     let (register, carry_out) = add::<DEC>(
         Reg::zero(),
         Reg::zero().with(place, x),
@@ -153,10 +150,7 @@ fn difference_of_digits<const DEC: bool>(rt: &impl Abort, place: usize, x: u8, y
     } else {
         ((x + base + 16 - taken) % 16, true)
     };
-    let span = Span {
-        lo: place,
-        hi: place,
-    };
+    let span = Span::new(place, place);
     let (register, borrow_out) = sub::<DEC>(
         Reg::zero(),
         Reg::zero().with(place, x),

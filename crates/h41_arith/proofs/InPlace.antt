@@ -1,0 +1,232 @@
+-- The numbers of a span's digits in their places: times the weight of its first place.
+use Rattle.std.proofs.Common.{◌≡◌, ℕ, ◌+◌, ◌-◌, ◌*◌, ◌/◌, ◌%◌, ◌^◌, ◌<◌, ◌≤◌, ◌==◌, Bool, true, false, not, nat_lt, List, refl, sym, ap, subst, arith, inl, inr, ◌∙◌}
+use Rattle.std.proofs.Math.Nat.{mul-le-mul_right, mul-mod_left, mul-add-mod_self_right, mod-add-div, add-mod_right, mod-eq_of_lt, mul-div_cancel, div-div-eq-div-mul, mul_comm, mul_assoc, lt_of_mul-lt-mul_right}
+use Rattle.std.proofs.lemmas.Bool.{cases_lt, cases_eq}
+use Rattle.std.proofs.lemmas.Bool.Decides.{nat_tests}
+use Rattle.std.proofs.lemmas.Nat.{pow-add, xor_block, and_block, and_le_r, pow_pos}
+use Rattle.std.specs.Int.RustNames.{bit_and, bit_xor}
+use Rattle.h41_digits.proofs.Packed.{bits_of_places, weight_positive}
+use Rattle.h41_arith.specs.DigitRule.{carry_digit}
+use Rattle.h41_arith.specs.DigitOperations.{carries_of, decimal_total_of}
+use Rattle.h41_arith.proofs.Decimal.{ones, fifteen_ones, part_decimal, part_most}
+use Rattle.h41_arith.proofs.Parts.{part}
+use Rattle.h41_digits.specs.Register.{IsRegister, value}
+use Rattle.std.specs.List.{AllByRecursion}
+
+-- the weight of the place behind the last
+pub whole_weight : (lo hi : ℕ) → lo ≤ hi → 16 ^ (hi + 1) ≡ 16 ^ (hi + 1 - lo) * 16 ^ lo
+whole_weight lo hi ordered = ap (λ places. 16 ^ places) (omega arith) ∙ pow-add 16 (hi + 1 - lo) lo
+
+-- a number in its places is a whole number times the weight, and no other
+pub is_multiple : (number n weight : ℕ) → number ≡ n * weight → number % weight ≡ 0
+is_multiple number n weight is = ap (λ k. k % weight) is ∙ mul-mod_left n weight
+
+pub is_quotient : (number n weight : ℕ) → 0 < weight → number ≡ n * weight → number / weight ≡ n
+is_quotient number n weight positive is = ap (λ k. k / weight) is ∙ mul-div_cancel n positive
+
+pub whole_quotient : (number weight : ℕ) → 0 < weight → number % weight ≡ 0 → number ≡ number / weight * weight
+whole_quotient number weight positive multiple = omega (arith, mod-add-div number weight, multiple, mul_comm weight (number / weight))
+
+-- one place down
+pub sixteenth_at : (number n weight : ℕ) → 0 < weight → number ≡ n * weight → number / 16 / weight ≡ n / 16
+sixteenth_at number n weight positive is =
+    div-div-eq-div-mul number 16 weight ∙ ap (λ m. number / m) (mul_comm 16 weight) ∙ sym (div-div-eq-div-mul number weight 16) ∙ ap (λ m. m / 16) (is_quotient number n weight positive is)
+
+-- numbers in the same places compare as they do in the first
+less_here : (a b weight : ℕ) → a < b → a * weight + weight ≤ b * weight
+less_here a b weight less = omega (arith, mul-le-mul_right {m = a + 1} {n = b} weight (omega arith))
+
+is_less_here : (a b : ℕ) → a < b → nat_lt a b ≡ true
+is_less_here a b less = grind (arith, nat_tests)
+
+not_less_here : (a b : ℕ) → b ≤ a → nat_lt a b ≡ false
+not_less_here a b more = grind (arith, nat_tests)
+
+pub in_place-lt : (x y a b weight : ℕ) → 0 < weight → x ≡ a * weight → y ≡ b * weight → nat_lt x y ≡ nat_lt a b
+in_place-lt x y a b weight positive is_x is_y = elim (cases_lt a b) [
+  | inl less ↦ is_less_here x y (omega (arith, is_x, is_y, less_here a b weight less)) ∙ sym (is_less_here a b less)
+  | inr more ↦ not_less_here x y (omega (arith, is_x, is_y, mul-le-mul_right {m = b} {n = a} weight more)) ∙ sym (not_less_here a b more)
+]
+
+is_same : (a b : ℕ) → a ≡ b → (a == b) ≡ true
+is_same a b same = grind (arith, nat_tests)
+
+is_other : (a b : ℕ) → (a ≡ b → ⊥) → (a == b) ≡ false
+is_other a b other = grind (arith, nat_tests)
+
+pub in_place-eq : (x y a b weight : ℕ) → 0 < weight → x ≡ a * weight → y ≡ b * weight → (x == y) ≡ (a == b)
+in_place-eq x y a b weight positive is_x is_y = elim (cases_eq a b) [
+  | inl same ↦ is_same x y (is_x ∙ ap (λ n. n * weight) same ∙ sym is_y) ∙ sym (is_same a b same)
+  | inr other ↦ is_other x y (λ equal. other (sym (is_quotient x a weight positive is_x) ∙ ap (λ n. n / weight) equal ∙ is_quotient y b weight positive is_y)) ∙ sym (is_other a b other)
+]
+
+-- below twice the weight behind the last place
+pub below_twice : (number n limit weight whole : ℕ) → 0 < weight → number ≡ n * weight → whole ≡ limit * weight → n < 2 * limit → number < 2 * whole
+below_twice number n limit weight whole positive is is_whole few =
+    omega (arith, is, is_whole, less_here n (2 * limit) weight few)
+
+pub few_of_twice : (number n limit weight whole : ℕ) → number ≡ n * weight → whole ≡ limit * weight → number < 2 * whole → n < 2 * limit
+few_of_twice number n limit weight whole is is_whole below = lt_of_mul-lt-mul_right weight {m = n} {n = 2 * limit} (omega (arith, is, is_whole, below))
+
+-- a number's digits and the 1 above them: it is there where the number is above the mask
+pub in_parts : (number n limit weight mask digits : ℕ) → 0 < weight → number ≡ n * weight → n < 2 * limit → mask + weight ≡ limit * weight → digits ≡ n % limit
+    → digits + limit * carry_digit (nat_lt mask number) ≡ n
+in_parts number n limit weight mask digits positive is few is_mask is_digits = elim (cases_lt n limit) [
+  | inl less ↦
+      let none : nat_lt mask number ≡ false = not_less_here mask number (omega (arith, is, is_mask, less_here n limit weight less)) in
+      rw (none, is_digits) (omega (arith, mod-eq_of_lt less))
+  | inr more ↦
+      let one : nat_lt mask number ≡ true = is_less_here mask number (omega (arith, is, is_mask, mul-le-mul_right {m = limit} {n = n} weight more)) in
+      let left : n % limit ≡ n - limit = omega (arith, ap (λ k. k % limit) (whole n limit more) ∙ add-mod_right (n - limit) limit ∙ mod-eq_of_lt (rest n limit few more)) in
+      rw (one, is_digits, left) (omega arith)
+]
+  where
+    whole : (n limit : ℕ) → limit ≤ n → n ≡ n - limit + limit
+    whole n limit more = omega arith
+
+    rest : (n limit : ℕ) → n < 2 * limit → limit ≤ n → n - limit < limit
+    rest n limit few more = omega arith
+
+-- what the code adds up
+pub sum_at : (first second carry v u b weight : ℕ) → first ≡ v * weight → second ≡ u * weight → carry ≡ b * weight → first + second + carry ≡ (v + u + b) * weight
+sum_at first second carry v u b weight is_first is_second is_carry = omega (arith, is_first, is_second, is_carry)
+
+-- a register's word is a whole number of times the weight behind the last place
+pub whole_word : (lo hi : ℕ) → lo ≤ hi → hi < 14 → 2 ^ 64 ≡ 16 ^ (15 - hi) * (16 ^ (hi + 1 - lo) * 16 ^ lo)
+whole_word lo hi ordered inside =
+    let split : 16 ≡ 15 - hi + (hi + 1) = omega arith in
+    ap (λ places. 16 ^ places) split ∙ pow-add 16 (15 - hi) (hi + 1) ∙ ap (λ n. 16 ^ (15 - hi) * n) (whole_weight lo hi ordered)
+
+-- what is left where more is taken away than there is, in a word that begins again above its limit
+wrapped : (left limit more : ℕ) → 1 ≤ more → left ≤ limit → 0 < left → (more * limit - left) % limit + left ≡ limit
+wrapped left limit more some fits positive =
+    let split : more * limit - left ≡ (more - 1) * limit + (limit - left) = omega (arith, once more limit some) in
+    omega (arith, ap (λ n. n % limit) split ∙ mul-add-mod_self_right (more - 1) limit (limit - left) ∙ mod-eq_of_lt (below limit left fits positive))
+  where
+    once : (more limit : ℕ) → 1 ≤ more → more * limit ≡ (more - 1) * limit + limit
+    once more limit some = let next : more ≡ more - 1 + 1 = omega arith in ap (λ n. n * limit) next ∙ opened (more - 1) limit
+      where
+        opened : (n limit : ℕ) → (n + 1) * limit ≡ n * limit + limit
+        opened n limit = omega arith
+
+    below : (limit left : ℕ) → left ≤ limit → 0 < left → limit - left < limit
+    below limit left fits positive = omega arith
+
+-- a difference of numbers in their places is in its place
+apart : (v t d weight : ℕ) → t ≡ v + d → t * weight ≡ v * weight + d * weight
+apart v t d weight is = rw is (omega arith)
+
+-- the difference in such a word, where less is there than is taken away, and where enough is there
+short_by : (first taken v t limit weight more word : ℕ) → 0 < weight → first ≡ v * weight → taken ≡ t * weight → v < t → t ≤ limit → 1 ≤ more → word ≡ more * (limit * weight)
+    → (first + (word - taken)) % word / weight % limit + t ≡ v + limit
+short_by first taken v t limit weight more word positive is_first is_taken short most some is_word =
+    let left = t - v in
+    let is_t : t ≡ v + left = omega arith in
+    let once : 1 * limit ≤ more * limit = mul-le-mul_right limit some in
+    let n = more * limit - left in
+    let all : more * limit ≡ n + left = omega (arith, once, most) in
+    let weighted : more * (limit * weight) ≡ n * weight + left * weight = sym (mul_assoc more limit weight) ∙ apart n (more * limit) left weight all in
+    let some_left : weight ≤ left * weight = omega (arith, mul-le-mul_right {m = 1} {n = left} weight (omega (arith, short))) in
+    let enough : t * weight ≤ more * (limit * weight) = omega (arith, mul-le-mul_right {m = t} {n = more * limit} weight (omega (arith, once, most)), mul_assoc more limit weight) in
+    let is : first + (word - taken) ≡ n * weight = omega (arith, is_first, is_taken, is_word, weighted, enough, apart v t left weight is_t) in
+    let small : n * weight < word = omega (arith, is_word, weighted, some_left, positive) in
+    let read : (first + (word - taken)) % word / weight ≡ n = ap (λ k. k % word / weight) is ∙ ap (λ k. k / weight) (mod-eq_of_lt small) ∙ mul-div_cancel n positive in
+    omega (arith, ap (λ k. k % limit) read, wrapped left limit more some (omega (arith, most)) (omega (arith, short)), is_t)
+
+enough_by : (first taken v t limit weight more word : ℕ) → 0 < weight → first ≡ v * weight → taken ≡ t * weight → v < limit → t ≤ v → 1 ≤ more → word ≡ more * (limit * weight)
+    → (first + (word - taken)) % word / weight % limit + t ≡ v
+enough_by first taken v t limit weight more word positive is_first is_taken less enough some is_word =
+    let d = v - t in
+    let is_v : v ≡ t + d = omega arith in
+    let whole : limit * weight ≤ more * (limit * weight) = omega (arith, mul-le-mul_right {m = 1} {n = more} (limit * weight) some) in
+    let fits : v * weight + weight ≤ limit * weight = less_here v limit weight less in
+    let parts : v * weight ≡ t * weight + d * weight = apart t v d weight is_v in
+    let small : d * weight < word = omega (arith, is_word, whole, fits, parts, positive) in
+    let is : first + (word - taken) ≡ d * weight + word = omega (arith, is_first, is_taken, is_word, whole, fits, parts) in
+    let read : (first + (word - taken)) % word / weight ≡ d = ap (λ k. k % word / weight) is ∙ ap (λ k. k / weight) (add-mod_right (d * weight) word ∙ mod-eq_of_lt small) ∙ mul-div_cancel d positive in
+    omega (arith, ap (λ k. k % limit) read ∙ mod-eq_of_lt (below d v limit less is_v), is_v)
+  where
+    below : (d v limit : ℕ) → v < limit → v ≡ t + d → d < limit
+    below d v limit less is = omega arith
+
+-- with whether it borrows
+pub difference_at : (first taken v t limit weight more word : ℕ) → 0 < weight → first ≡ v * weight → taken ≡ t * weight → v < limit → t ≤ limit → 1 ≤ more → word ≡ more * (limit * weight)
+    → (first + (word - taken)) % word / weight % limit + t ≡ v + limit * carry_digit (nat_lt first taken)
+difference_at first taken v t limit weight more word positive is_first is_taken less most some is_word = elim (cases_lt v t) [
+  | inl short ↦
+      let borrows : nat_lt first taken ≡ true = in_place-lt first taken v t weight positive is_first is_taken ∙ is_less_here v t short in
+      rw borrows (short_by first taken v t limit weight more word positive is_first is_taken short most some is_word ∙ omega arith)
+  | inr enough ↦
+      let none : nat_lt first taken ≡ false = in_place-lt first taken v t weight positive is_first is_taken ∙ not_less_here v t enough in
+      rw none (enough_by first taken v t limit weight more word positive is_first is_taken less enough some is_word ∙ omega arith)
+]
+
+-- the ones of a span are those of so many places, in their places
+pub ones_in_place : (lo hi mask span_ones : ℕ) → lo ≤ hi → mask + 16 ^ lo ≡ 16 ^ (hi + 1) → 15 * span_ones ≡ mask → span_ones ≡ ones (hi + 1 - lo) * 16 ^ lo
+ones_in_place lo hi mask span_ones ordered is_mask fifteen =
+    let count = hi + 1 - lo in
+    fifteenth (ones count) (16 ^ count) (16 ^ lo) span_ones (fifteen_ones count) (omega (arith, is_mask, fifteen, whole_weight lo hi ordered))
+  where
+    fifteenth : (ones limit weight span_ones : ℕ) → 15 * ones + 1 ≡ limit → 15 * span_ones + weight ≡ limit * weight → span_ones ≡ ones * weight
+    fifteenth ones limit weight span_ones fifteen is = omega (arith, rw (← fifteen) at is)
+
+-- the carries of numbers in their places are in their places
+xor_in_place : (a b k : ℕ) → bit_xor (a * 2 ^ k) (b * 2 ^ k) ≡ bit_xor a b * 2 ^ k
+xor_in_place a b k =
+    let none : (n : ℕ) → n * 2 ^ k ≡ n * 2 ^ k + 0 = λ n. omega arith in
+    ap (λ n. bit_xor n (b * 2 ^ k)) (none a) ∙ ap (bit_xor (a * 2 ^ k + 0)) (none b) ∙ xor_block k a b 0 0 (pow_pos k) (pow_pos k) ∙ omega arith
+
+masked_in_place : (n mask k : ℕ) → bit_and (n * 2 ^ k / 16) (mask * 2 ^ k) ≡ bit_and (n / 16) mask * 2 ^ k
+masked_in_place n mask k =
+    let word = n * 2 ^ k / 16 in
+    let high : word / 2 ^ k ≡ n / 16 = div-div-eq-div-mul (n * 2 ^ k) 16 (2 ^ k) ∙ ap (λ m. n * 2 ^ k / m) (mul_comm 16 (2 ^ k)) ∙ sym (div-div-eq-div-mul (n * 2 ^ k) (2 ^ k) 16) ∙ ap (λ m. m / 16) (mul-div_cancel n (pow_pos k)) in
+    let split : word ≡ n / 16 * 2 ^ k + word % 2 ^ k = omega (arith, mod-add-div word (2 ^ k), mul_comm (2 ^ k) (word / 2 ^ k), ap (λ m. m * 2 ^ k) high) in
+    let none : mask * 2 ^ k ≡ mask * 2 ^ k + 0 = omega arith in
+    ap (λ m. bit_and m (mask * 2 ^ k)) split ∙ ap (bit_and (n / 16 * 2 ^ k + word % 2 ^ k)) none ∙ and_block k (n / 16) mask (word % 2 ^ k) 0 (omega (arith, pow_pos k)) (pow_pos k)
+    ∙ omega (arith, and_le_r (word % 2 ^ k) 0)
+
+carries_in_place : (x y sum mask k : ℕ) → carries_of (x * 2 ^ k) (y * 2 ^ k) (sum * 2 ^ k) (mask * 2 ^ k) ≡ carries_of x y sum mask * 2 ^ k
+carries_in_place x y sum mask k =
+    ap (λ n. bit_and (bit_xor n (sum * 2 ^ k) / 16) (mask * 2 ^ k)) (xor_in_place x y k) ∙ ap (λ n. bit_and (n / 16) (mask * 2 ^ k)) (xor_in_place (bit_xor x y) sum k)
+    ∙ masked_in_place (bit_xor (bit_xor x y) sum) mask k
+
+pub carries_at : (first second sum mask x y s m lo : ℕ) → first ≡ x * 16 ^ lo → second ≡ y * 16 ^ lo → sum ≡ s * 16 ^ lo → mask ≡ m * 16 ^ lo → carries_of first second sum mask ≡ carries_of x y s m * 16 ^ lo
+carries_at first second sum mask x y s m lo is_first is_second is_sum is_mask =
+    rw (is_first, is_second, is_sum, is_mask) (subst (λ weight. carries_of (x * weight) (y * weight) (s * weight) (m * weight) ≡ carries_of x y s m * weight) (bits_of_places lo) (carries_in_place x y s m (4 * lo)))
+
+-- and the total in base 10
+pub total_at : (first second carry mask x y c m lo : ℕ) → first ≡ x * 16 ^ lo → second ≡ y * 16 ^ lo → carry ≡ c * 16 ^ lo → mask ≡ m * 16 ^ lo → decimal_total_of first second carry mask ≡ decimal_total_of x y c m * 16 ^ lo
+total_at first second carry mask x y c m lo is_first is_second is_carry is_mask =
+    let sum : first + second + carry ≡ (x + y + c) * 16 ^ lo = omega (arith, is_first, is_second, is_carry) in
+    let tens = carries_at (first + 6 * mask) second (first + second + carry + 6 * mask) mask (x + 6 * m) y (x + y + c + 6 * m) m lo (omega (arith, is_first, is_mask)) is_second (omega (arith, sum, is_mask)) is_mask in
+    omega (arith, sum, tens)
+
+-- whether there is a letter
+pub letter_at : (number mask n m lo : ℕ) → number ≡ n * 16 ^ lo → mask ≡ m * 16 ^ lo → not (carries_of number (6 * mask) (number + 6 * mask) mask == 0) ≡ not (carries_of n (6 * m) (n + 6 * m) m == 0)
+letter_at number mask n m lo is is_mask =
+    let tens = carries_at number (6 * mask) (number + 6 * mask) mask n (6 * m) (n + 6 * m) m lo is (omega (arith, is_mask)) (omega (arith, is, is_mask)) is_mask in
+    ap not (in_place-eq (carries_of number (6 * mask) (number + 6 * mask) mask) 0 (carries_of n (6 * m) (n + 6 * m) m) 0 (16 ^ lo) (weight_positive lo) tens (omega arith))
+
+-- digits of a span without a letter, as the code tells it of their number in its places
+pub span_decimal : (x : List ℕ) (lo hi mask span_ones number : ℕ) (answer : Bool) → IsRegister 14 x → lo ≤ hi → hi < 14 → mask + 16 ^ lo ≡ 16 ^ (hi + 1) → 15 * span_ones ≡ mask
+    → number ≡ value (part x lo hi) * 16 ^ lo → answer ≡ not (carries_of number (6 * span_ones) (number + 6 * span_ones) span_ones == 0) → answer ≡ false → AllByRecursion (λ digit. digit < 10) (part x lo hi)
+span_decimal x lo hi mask span_ones number answer register ordered inside is_mask fifteen is told none =
+    part_decimal x lo hi (value (part x lo hi)) (ones (hi + 1 - lo)) answer register ordered inside refl refl
+    (told ∙ letter_at number span_ones (value (part x lo hi)) (ones (hi + 1 - lo)) lo is (ones_in_place lo hi mask span_ones ordered is_mask fifteen)) none
+
+pub span_most : (x : List ℕ) (lo hi mask span_ones number : ℕ) → IsRegister 14 x → lo ≤ hi → hi < 14 → mask + 16 ^ lo ≡ 16 ^ (hi + 1) → 15 * span_ones ≡ mask
+    → number ≡ value (part x lo hi) * 16 ^ lo → AllByRecursion (λ digit. digit < 10) (part x lo hi) → number ≤ 9 * span_ones
+span_most x lo hi mask span_ones number register ordered inside is_mask fifteen is each =
+    let most = part_most x lo hi (value (part x lo hi)) (ones (hi + 1 - lo)) register ordered inside refl refl each in
+    let placed : value (part x lo hi) * 16 ^ lo ≤ 9 * ones (hi + 1 - lo) * 16 ^ lo = mul-le-mul_right (16 ^ lo) most in
+    omega (arith, is, placed, ones_in_place lo hi mask span_ones ordered is_mask fifteen)
+
+-- the complement to nines
+pub nines_at : (second span_ones u m weight : ℕ) → second ≡ u * weight → span_ones ≡ m * weight → u ≤ 9 * m → 9 * span_ones - second ≡ (9 * m - u) * weight
+nines_at second span_ones u m weight is_second is_ones most =
+    let all : 9 * m - u + u ≡ 9 * m = omega arith in
+    let weighted : (9 * m - u) * weight + u * weight ≡ 9 * m * weight = split (9 * m - u) u (9 * m) weight all in
+    omega (arith, weighted, is_second, is_ones)
+  where
+    split : (left u whole weight : ℕ) → left + u ≡ whole → left * weight + u * weight ≡ whole * weight
+    split left u whole weight is = rw (← is) (omega arith)

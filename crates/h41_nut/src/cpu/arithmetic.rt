@@ -30,31 +30,39 @@ impl Cpu {
         ensures stays { OnErr result (self.new ≡ self.old) }
     {
         let next = arrival(self.next_address())?;
-        self.arrive(next, false);
         let places = span(field, self.p, self.q, self.active);
         match self.base {
             Base::Hexadecimal => self.operate::<false>(operation, places),
             Base::Decimal => self.operate::<true>(operation, places),
         }
+        self.pc = next;
         Ok(())
     }
 
-    /// Works on a span of places, in base 10 where `DEC`, else in base 16. The carry is clear before.
+    /// Works on a span of places, in base 10 where `DEC`, else in base 16, as where the carry is clear before.
     #[inline(always)]
     fn operate<const DEC: bool>(&mut self, operation: Operation, span: Span)
         requires base { base_of DEC ≡ base_number self.old.base }
-        requires carry { self.old.carry ≡ false }
-        ensures { Operates operation span.lo span.hi self.old self.new }
+        ensures { Operates operation span.lo span.hi (record self.old { carry = false }) self.new }
     {
         match operation {
             Operation::ClearA => (self.a, self.carry) = copy(self.a, Reg::zero(), span),
             Operation::ClearB => (self.b, self.carry) = copy(self.b, Reg::zero(), span),
             Operation::ClearC => (self.c, self.carry) = copy(self.c, Reg::zero(), span),
-            Operation::ExchangeAB => (self.a, self.b) = exchange(self.a, self.b, span),
+            Operation::ExchangeAB => {
+                (self.a, self.b) = exchange(self.a, self.b, span);
+                self.carry = false;
+            }
             Operation::AToB => (self.b, self.carry) = copy(self.b, self.a, span),
-            Operation::ExchangeAC => (self.a, self.c) = exchange(self.a, self.c, span),
+            Operation::ExchangeAC => {
+                (self.a, self.c) = exchange(self.a, self.c, span);
+                self.carry = false;
+            }
             Operation::BToC => (self.c, self.carry) = copy(self.c, self.b, span),
-            Operation::ExchangeBC => (self.b, self.c) = exchange(self.b, self.c, span),
+            Operation::ExchangeBC => {
+                (self.b, self.c) = exchange(self.b, self.c, span);
+                self.carry = false;
+            }
             Operation::CToA => (self.a, self.carry) = copy(self.a, self.c, span),
             Operation::AddBToA => (self.a, self.carry) = add::<DEC>(
                 self.a, self.a, self.b, false, span,

@@ -5,14 +5,13 @@ use Rattle.std.proofs.lemmas.Bool.{cases_lt}
 use Rattle.std.proofs.lemmas.Bool.Decides.{nat_tests}
 use Rattle.std.proofs.lemmas.List.{length-replicate, length-map, get_or-map}
 use Rattle.std.proofs.lemmas.List.Elements.{recursion_from_All, All-from_recursion}
-use Rattle.std.proofs.lemmas.Nat.{xor_shr, and_block, and_mask, and_le_r}
+use Rattle.std.proofs.lemmas.Nat.{xor_shr, and_block, and_mask, and_le_l}
 use Rattle.std.proofs.lemmas.Nat.Bits.{bit_at_lowest, bit_at_xor}
 use Rattle.std.specs.Int.RustNames.{bit_and, bit_xor}
 use Rattle.std.specs.List.{AllByRecursion}
 use Rattle.h41_digits.specs.Register.{IsRegister, value}
 use Rattle.h41_digits.specs.Packed.{value-cons}
 use Rattle.h41_arith.specs.DigitRule.{SumDigit, DifferenceDigit, SumInto, DifferenceInto, carry_digit}
-use Rattle.h41_arith.specs.DigitOperations.{carries_of}
 use Rattle.h41_arith.proofs.Carries.{carry_le}
 use Rattle.h41_arith.proofs.Parts.{part, part-register, keeps_outside}
 use Rattle.h41_arith.proofs.Steps.{Steps, steps_none, steps_more, has_carries}
@@ -38,9 +37,13 @@ carry_word (a ∷ x) (b ∷ y) carry = (a + b + carry) / 16 + 16 * carry_word x 
 last_of_xor : (x y : ℕ) → bit_xor x y % 2 ≡ (x % 2 + y % 2) % 2
 last_of_xor x y = omega (arith, sym (bit_at_lowest (bit_xor x y)) ∙ bit_at_xor x y 0, bit_at_lowest x, bit_at_lowest y)
 
--- the last bit of two numbers and their sum tells the carry in
-carry_bit : (x y sum carry : ℕ) → carry ≤ 1 → sum ≡ x + y + carry → bit_xor (bit_xor x y) sum % 2 ≡ carry
-carry_bit x y sum carry bit is = omega (arith, last_of_xor (bit_xor x y) sum, last_of_xor x y)
+-- the last bit of two numbers and their sum tells the carry in, whatever even number more is in the sum
+carry_bit : (x y sum carry half : ℕ) → carry ≤ 1 → sum ≡ x + y + carry + 2 * half → bit_xor (bit_xor x y) sum % 2 ≡ carry
+carry_bit x y sum carry half bit is = omega (arith, last_of_xor (bit_xor x y) sum, last_of_xor x y)
+
+-- and the bits of the carry itself are even with it
+pub even_with_carry : (x y sum carry half : ℕ) → sum ≡ x + y + carry + 2 * half → bit_xor (bit_xor (bit_xor x y) carry) sum % 2 ≡ 0
+even_with_carry x y sum carry half is = omega (arith, last_of_xor (bit_xor (bit_xor x y) carry) sum, last_of_xor (bit_xor x y) carry, last_of_xor x y)
 
 -- one digit less of the sum of two numbers
 shifted_xor : (a b s x y sum : ℕ) → a < 16 → b < 16 → s < 16 → bit_xor (bit_xor (a + 16 * x) (b + 16 * y)) (s + 16 * sum) / 16 ≡ bit_xor (bit_xor x y) sum
@@ -52,31 +55,12 @@ shifted_xor a b s x y sum a_small b_small s_small =
     ∙ ap (bit_xor (bit_xor x y)) is_sum
 
 -- a mask of ones, one digit at a time
-masked_more : (n mask : ℕ) → bit_and n (1 + 16 * mask) ≡ n % 2 + 16 * bit_and (n / 16) mask
+pub masked_more : (n mask : ℕ) → bit_and n (1 + 16 * mask) ≡ n % 2 + 16 * bit_and (n / 16) mask
 masked_more n mask =
     let split : n ≡ n / 16 * 16 + n % 16 = omega arith in
     let turned : 1 + 16 * mask ≡ mask * 16 + 1 = omega arith in
     let low : bit_and (n % 16) 1 ≡ n % 16 % 2 = and_mask (n % 16) 1 in
     omega (arith, ap (λ k. bit_and k (1 + 16 * mask)) split ∙ ap (bit_and (n / 16 * 16 + n % 16)) turned ∙ and_block 4 (n / 16) mask (n % 16) 1 (omega arith) (omega arith), low)
-
--- the bits of two numbers and their sum tell the carries
-pub carries_read : (x y : List ℕ) (carry : ℕ) → AllByRecursion (λ digit. digit < 16) x → AllByRecursion (λ digit. digit < 16) y → length x ≡ length y → carry ≤ 1
-    → carries_of (value x) (value y) (value x + value y + carry) (ones (length y)) ≡ carry_word x y carry
-carries_read [] [] carry p q same bit = omega (arith, and_le_r (bit_xor (bit_xor 0 0) (0 + 0 + carry) / 16) 0)
-carries_read [] (b ∷ y) carry p q same bit = absurd (omega (arith, same))
-carries_read (a ∷ x) [] carry p q same bit = absurd (omega (arith, same))
-carries_read (a ∷ x) (b ∷ y) carry p q same bit =
-    let s = a + b + carry in
-    let next = s / 16 in
-    let next_bit : next ≤ 1 = omega (arith, p.0, q.0) in
-    let sum = value x + value y + next in
-    let is_sum : value (a ∷ x) + value (b ∷ y) + carry ≡ s % 16 + 16 * sum = omega (arith, value-cons a x, value-cons b y) in
-    let parts = ap (λ n. bit_xor n (value (a ∷ x) + value (b ∷ y) + carry) / 16) (ap (λ n. bit_xor n (value (b ∷ y))) (value-cons a x) ∙ ap (bit_xor (a + 16 * value x)) (value-cons b y)) in
-    let word : bit_xor (bit_xor (value (a ∷ x)) (value (b ∷ y))) (value (a ∷ x) + value (b ∷ y) + carry) / 16 ≡ bit_xor (bit_xor (value x) (value y)) sum =
-    parts ∙ ap (λ n. bit_xor (bit_xor (a + 16 * value x) (b + 16 * value y)) n / 16) is_sum ∙ shifted_xor a b (s % 16) (value x) (value y) sum p.0 q.0 (omega arith) in
-    let masked = ap (λ n. bit_and n (ones (suc (length y)))) word ∙ ap (bit_and (bit_xor (bit_xor (value x) (value y)) sum)) (ones_more (length y)) ∙ masked_more (bit_xor (bit_xor (value x) (value y)) sum) (ones (length y)) in
-    masked ∙ ap (λ n. n + 16 * carries_of (value x) (value y) sum (ones (length y))) (carry_bit (value x) (value y) sum next next_bit refl)
-    ∙ ap (λ n. next + 16 * n) (carries_read x y next p.1 q.1 (omega (arith, same)) next_bit)
 
 -- six more at each digit
 abbrev pub with_sixes : List ℕ → List ℕ
@@ -87,35 +71,67 @@ value-with_sixes [] = refl
 value-with_sixes (digit ∷ digits) =
     omega (arith, value-cons (digit + 6) (with_sixes digits), value-cons digit digits, value-with_sixes digits, ones_more (length digits))
 
-sixes_small : (digits : List ℕ) → AllByRecursion (λ digit. digit < 10) digits → AllByRecursion (λ digit. digit < 16) (with_sixes digits)
-sixes_small [] each = tt
-sixes_small (digit ∷ digits) each = (omega (arith, each.0), sixes_small digits each.1)
+-- a one at each digit that carries, of so many, in a sum with a carry and with sixes more
+abbrev pub tens : ℕ → ℕ → ℕ → ℕ → ℕ → ℕ
+tens first second carry sixes places = bit_and (bit_xor (bit_xor first second) (first + second + carry + sixes) / 16) (ones places)
 
-pub value-sixes : (count : ℕ) → value (replicate count 6) ≡ 6 * ones count
-value-sixes zero = refl
-value-sixes (suc count) = omega (arith, value-cons 6 (replicate count 6), value-sixes count, ones_more count)
+-- the total in base 10 with them
+abbrev pub total_with_tens : ℕ → ℕ → ℕ → ℕ → ℕ → ℕ
+total_with_tens first second carry mask places = first + second + carry + 6 * tens first second carry (6 * mask) places
 
-sixes_digits : (count : ℕ) → AllByRecursion (λ digit. digit < 16) (replicate count 6)
-sixes_digits zero = tt
-sixes_digits (suc count) = (omega arith, sixes_digits count)
+nothing_to_read : (sum places : ℕ) → sum < 16 → bit_and (bit_xor (bit_xor 0 0) sum / 16) (ones places) ≡ 0
+nothing_to_read sum places small =
+    let none : sum / 16 ≡ 0 = omega arith in
+    ap (λ n. bit_and n (ones places)) (xor_shr (bit_xor 0 0) sum 4 ∙ ap (bit_xor (bit_xor 0 0 / 16)) none) ∙ omega (arith, and_le_l 0 (ones places))
+
+-- the bits of two numbers and their sum tell the carries
+pub tens_read : (x y : List ℕ) (carry places : ℕ) → AllByRecursion (λ digit. digit < 10) x → AllByRecursion (λ digit. digit < 16) y → length x ≡ length y → length y ≤ places → carry ≤ 1
+    → tens (value x) (value y) carry (6 * ones (length y)) places ≡ carry_word (with_sixes x) y carry
+tens_read [] [] carry places p q same few bit = nothing_to_read _ places (omega (arith, bit))
+tens_read [] (b ∷ y) carry places p q same few bit = absurd (omega (arith, same))
+tens_read (a ∷ x) [] carry places p q same few bit = absurd (omega (arith, same))
+tens_read (a ∷ x) (b ∷ y) carry zero p q same few bit = absurd (omega (arith, few))
+tens_read (a ∷ x) (b ∷ y) carry (suc places) p q same few bit =
+    let s = a + 6 + b + carry in
+    let next = s / 16 in
+    let next_bit : next ≤ 1 = omega (arith, p.0, q.0) in
+    let sixes = 6 * ones (length y) in
+    let sum = value x + value y + next + sixes in
+    let whole = value (a ∷ x) + value (b ∷ y) + carry + 6 * ones (suc (length y)) in
+    let is_sum : whole ≡ s % 16 + 16 * sum = omega (arith, value-cons a x, value-cons b y, ones_more (length y)) in
+    let small : a < 16 = omega (arith, p.0) in
+    let parts = ap (λ n. bit_xor n whole / 16) (ap (λ n. bit_xor n (value (b ∷ y))) (value-cons a x) ∙ ap (bit_xor (a + 16 * value x)) (value-cons b y)) in
+    let word : bit_xor (bit_xor (value (a ∷ x)) (value (b ∷ y))) whole / 16 ≡ bit_xor (bit_xor (value x) (value y)) sum =
+    parts ∙ ap (λ n. bit_xor (bit_xor (a + 16 * value x) (b + 16 * value y)) n / 16) is_sum ∙ shifted_xor a b (s % 16) (value x) (value y) sum small q.0 (omega arith) in
+    let masked = ap (λ n. bit_and n (ones (suc places))) word ∙ ap (bit_and (bit_xor (bit_xor (value x) (value y)) sum)) (ones_more places) ∙ masked_more (bit_xor (bit_xor (value x) (value y)) sum) (ones places) in
+    masked ∙ ap (λ n. n + 16 * tens (value x) (value y) next sixes places) (carry_bit (value x) (value y) sum next (3 * ones (length y)) next_bit (omega arith))
+    ∙ ap (λ n. next + 16 * n) (tens_read x y next places p.1 q.1 (omega (arith, same)) (omega (arith, few)) next_bit)
+
+-- a letter is told by adding nothing else
+value-zeros : (count : ℕ) → value (replicate count 0) ≡ 0
+value-zeros zero = refl
+value-zeros (suc count) = omega (arith, value-cons 0 (replicate count 0), value-zeros count)
+
+zeros_small : (count : ℕ) → AllByRecursion (λ digit. digit < 10) (replicate count 0)
+zeros_small zero = tt
+zeros_small (suc count) = (omega arith, zeros_small count)
 
 -- where nothing carries when six is added to each digit, each is below 10
-no_letter : (digits : List ℕ) → carry_word digits (replicate (length digits) 6) 0 ≡ 0 → AllByRecursion (λ digit. digit < 10) digits
+no_letter : (digits : List ℕ) → carry_word (with_sixes (replicate (length digits) 0)) digits 0 ≡ 0 → AllByRecursion (λ digit. digit < 10) digits
 no_letter [] none = tt
 no_letter (digit ∷ digits) none =
-    let here : (digit + 6 + 0) / 16 ≡ 0 = omega (arith, none) in
-    let rest : carry_word digits (replicate (length digits) 6) ((digit + 6 + 0) / 16) ≡ 0 = omega (arith, none) in
-    (omega (arith, here), no_letter digits (subst (λ carry. carry_word digits (replicate (length digits) 6) carry ≡ 0) here rest))
+    let here : (0 + 6 + digit + 0) / 16 ≡ 0 = omega (arith, none) in
+    let rest : carry_word (with_sixes (replicate (length digits) 0)) digits ((0 + 6 + digit + 0) / 16) ≡ 0 = omega (arith, none) in
+    (omega (arith, here), no_letter digits (subst (λ carry. carry_word (with_sixes (replicate (length digits) 0)) digits carry ≡ 0) here rest))
 
-pub decimal_digits : (digits : List ℕ) (number mask : ℕ) → AllByRecursion (λ digit. digit < 16) digits → number ≡ value digits → mask ≡ ones (length digits)
-    → carries_of number (6 * mask) (number + 6 * mask) mask ≡ 0 → AllByRecursion (λ digit. digit < 10) digits
-decimal_digits digits number mask each is is_mask none =
+pub decimal_digits : (digits : List ℕ) (number mask places : ℕ) → AllByRecursion (λ digit. digit < 16) digits → number ≡ value digits → mask ≡ ones (length digits) → length digits ≤ places
+    → tens 0 number 0 (6 * mask) places ≡ 0 → AllByRecursion (λ digit. digit < 10) digits
+decimal_digits digits number mask places each is is_mask few none =
     let count = length digits in
-    let size : length (replicate {A = ℕ} count 6) ≡ count = length-replicate count 6 in
-    let read = carries_read digits (replicate count 6) 0 each (sixes_digits count) (sym size) (omega arith) in
-    let known : carries_of (value digits) (6 * ones count) (value digits + 6 * ones count + 0) (ones count) ≡ carry_word digits (replicate count 6) 0 = rw (value-sixes count, size) at read in
-    let same : value digits + 6 * ones count ≡ value digits + 6 * ones count + 0 = omega arith in
-    no_letter digits (sym known ∙ sym (ap (λ sum. carries_of (value digits) (6 * ones count) sum (ones count)) same) ∙ rw (is, is_mask) at none)
+    let size : length (replicate {A = ℕ} count 0) ≡ count = length-replicate count 0 in
+    let read = tens_read (replicate count 0) digits 0 places (zeros_small count) each size few (omega arith) in
+    let known : tens 0 (value digits) 0 (6 * ones count) places ≡ carry_word (with_sixes (replicate count 0)) digits 0 = rw (value-zeros count) at read in
+    no_letter digits (sym known ∙ rw (is, is_mask) at none)
 
 -- the lowest digit of a sum in base 10
 tens_step : (a b carry d x y z above : ℕ) → a < 10 → b < 16 → carry ≤ 1 → d < 16
@@ -153,33 +169,46 @@ pub nine_most : (digits : List ℕ) → AllByRecursion (λ digit. digit < 10) di
 nine_most [] each = omega arith
 nine_most (digit ∷ digits) each = omega (arith, each.0, value-cons digit digits, nine_most digits each.1, ones_more (length digits))
 
+fifteen_most : (digits : List ℕ) → AllByRecursion (λ digit. digit < 16) digits → value digits ≤ 15 * ones (length digits)
+fifteen_most [] each = omega arith
+fifteen_most (digit ∷ digits) each = omega (arith, each.0, value-cons digit digits, fifteen_most digits each.1, ones_more (length digits))
+
+-- a total is below twice the first number with a digit more
+carry_word-le : (x y : List ℕ) (carry : ℕ) → AllByRecursion (λ digit. digit < 10) x → AllByRecursion (λ digit. digit < 16) y → length x ≡ length y → carry ≤ 1 → carry_word (with_sixes x) y carry ≤ ones (length y)
+carry_word-le [] [] carry p q same bit = omega arith
+carry_word-le [] (b ∷ y) carry p q same bit = absurd (omega (arith, same))
+carry_word-le (a ∷ x) [] carry p q same bit = absurd (omega (arith, same))
+carry_word-le (a ∷ x) (b ∷ y) carry p q same bit =
+    let next_bit : (a + 6 + b + carry) / 16 ≤ 1 = omega (arith, p.0, q.0) in
+    omega (arith, next_bit, ones_more (length y), carry_word-le x y ((a + 6 + b + carry) / 16) p.1 q.1 (omega (arith, same)) next_bit)
+
+pub total_small : (x y : List ℕ) (carry places : ℕ) → AllByRecursion (λ digit. digit < 10) x → AllByRecursion (λ digit. digit < 16) y → length x ≡ length y → length y ≤ places → carry ≤ 1
+    → total_with_tens (value x) (value y) carry (ones (length y)) places < 2 * 16 ^ length y
+total_small x y carry places p q same few bit =
+    let first : value x ≤ 9 * ones (length y) = rw same at (nine_most x p) in
+    omega (arith, first, fifteen_most y q, bit, fifteen_ones (length y), tens_read x y carry places p q same few bit, carry_word-le x y carry p q same bit)
+
 -- what the test of a letter tells
 pub no_carry : (answer : Bool) (carries : ℕ) → answer ≡ not (carries == 0) → answer ≡ false → carries ≡ 0
 no_carry answer carries told is = grind (arith, nat_tests)
 
 -- the steps of a sum that was computed with its carries
-pub tens_of : (x y z : List ℕ) (carry out count digits first second limit mask : ℕ) → AllByRecursion (λ digit. digit < 10) x → AllByRecursion (λ digit. digit < 16) y → AllByRecursion (λ digit. digit < 16) z
-    → length x ≡ count → length y ≡ count → length z ≡ count → carry ≤ 1 → value z ≡ digits → first ≡ value x → second ≡ value y → limit ≡ 16 ^ count → mask ≡ ones count
-    → digits + limit * out ≡ first + second + carry + 6 * carries_of (first + 6 * mask) second (first + second + carry + 6 * mask) mask
-    → Steps (SumDigit 10) x y carry z count out
-tens_of x y z carry out count digits first second limit mask p q r size_x size_y size_z bit is_z is_first is_second is_limit is_mask whole =
-    let each = sixes_small x p in
-    let sixes : value (with_sixes x) ≡ first + 6 * mask = value-with_sixes x ∙ rw (size_x, ← is_first, ← is_mask) refl in
-    let same : length (with_sixes x) ≡ length y = length-map x (λ digit. digit + 6) ∙ size_x ∙ sym size_y in
-    let read : carries_of (value (with_sixes x)) (value y) (value (with_sixes x) + value y + carry) (ones (length y)) ≡ carry_word (with_sixes x) y carry = carries_read (with_sixes x) y carry each q same bit in
-    let known : carries_of (first + 6 * mask) second (first + 6 * mask + second + carry) mask ≡ carry_word (with_sixes x) y carry = rw (sixes, ← is_second, size_y, ← is_mask) at read in
-    let order : first + second + carry + 6 * mask ≡ first + 6 * mask + second + carry = omega arith in
-    let told : digits + limit * out ≡ first + second + carry + 6 * carry_word (with_sixes x) y carry =
-    whole ∙ ap (λ sum. first + second + carry + 6 * carries_of (first + 6 * mask) second sum mask) order ∙ ap (λ n. first + second + carry + 6 * n) known in
+pub tens_of : (x y z : List ℕ) (carry out count places digits first second limit mask : ℕ) → AllByRecursion (λ digit. digit < 10) x → AllByRecursion (λ digit. digit < 16) y → AllByRecursion (λ digit. digit < 16) z
+    → length x ≡ count → length y ≡ count → length z ≡ count → count ≤ places → carry ≤ 1 → value z ≡ digits → first ≡ value x → second ≡ value y → limit ≡ 16 ^ count → mask ≡ ones count
+    → digits + limit * out ≡ total_with_tens first second carry mask places → Steps (SumDigit 10) x y carry z count out
+tens_of x y z carry out count places digits first second limit mask p q r size_x size_y size_z few bit is_z is_first is_second is_limit is_mask whole =
+    let read : tens (value x) (value y) carry (6 * ones (length y)) places ≡ carry_word (with_sixes x) y carry = tens_read x y carry places p q (size_x ∙ sym size_y) (omega (arith, size_y, few)) bit in
+    let known : tens first second carry (6 * mask) places ≡ carry_word (with_sixes x) y carry = rw (← is_first, ← is_second, size_y, ← is_mask) at read in
+    let told : digits + limit * out ≡ first + second + carry + 6 * carry_word (with_sixes x) y carry = whole ∙ ap (λ n. first + second + carry + 6 * n) known in
     let final : value z + 16 ^ length z * out ≡ value x + value y + carry + 6 * carry_word (with_sixes x) y carry = rw (is_z, size_z, ← is_limit, ← is_first, ← is_second) told in
     subst (λ n. Steps (SumDigit 10) x y carry z n out) size_z (tens_steps x y z carry out p q r (size_x ∙ sym size_z) (size_y ∙ sym size_z) bit final)
 
 -- the digits of a span, of which none is a letter
-pub part_decimal : (x : List ℕ) (lo hi number mask : ℕ) (answer : Bool) → IsRegister 14 x → lo ≤ hi → hi < 14 → number ≡ value (part x lo hi) → mask ≡ ones (hi + 1 - lo)
-    → answer ≡ not (carries_of number (6 * mask) (number + 6 * mask) mask == 0) → answer ≡ false → AllByRecursion (λ digit. digit < 10) (part x lo hi)
-part_decimal x lo hi number mask answer register ordered inside is is_mask told none =
+pub part_decimal : (x : List ℕ) (lo hi number mask places : ℕ) → IsRegister 14 x → lo ≤ hi → hi < 14 → number ≡ value (part x lo hi) → mask ≡ ones (hi + 1 - lo) → hi + 1 - lo ≤ places
+    → tens 0 number 0 (6 * mask) places ≡ 0 → AllByRecursion (λ digit. digit < 10) (part x lo hi)
+part_decimal x lo hi number mask places register ordered inside is is_mask few none =
     let digits = part-register x lo hi register ordered inside in
-    decimal_digits (part x lo hi) number mask (recursion_from_All _ _ digits.each) is (is_mask ∙ ap ones (sym digits.size)) (no_carry answer _ told none)
+    decimal_digits (part x lo hi) number mask places (recursion_from_All _ _ digits.each) is (is_mask ∙ ap ones (sym digits.size)) (omega (arith, digits.size, few)) none
 
 pub part_most : (x : List ℕ) (lo hi number mask : ℕ) → IsRegister 14 x → lo ≤ hi → hi < 14 → number ≡ value (part x lo hi) → mask ≡ ones (hi + 1 - lo)
     → AllByRecursion (λ digit. digit < 10) (part x lo hi) → number ≤ 9 * mask
@@ -189,16 +218,16 @@ part_most x lo hi number mask register ordered inside is is_mask each =
     omega (arith, is, is_mask, most)
 
 -- a sum in base 10 put into a span
-pub tens_result : (into x y z : List ℕ) (carry_in carry : Bool) (lo hi digits first second limit mask : ℕ) → IsRegister 14 x → IsRegister 14 y → IsRegister 14 z → lo ≤ hi → hi < 14
+pub tens_result : (into x y z : List ℕ) (carry_in carry : Bool) (lo hi places digits first second limit mask : ℕ) → IsRegister 14 x → IsRegister 14 y → IsRegister 14 z → lo ≤ hi → hi < 14
     → AllByRecursion (λ digit. digit < 10) (part x lo hi) → value (part z lo hi) ≡ digits → first ≡ value (part x lo hi) → second ≡ value (part y lo hi) → limit ≡ 16 ^ (hi + 1 - lo) → mask ≡ ones (hi + 1 - lo)
-    → digits + limit * carry_digit carry ≡ first + second + carry_digit carry_in + 6 * carries_of (first + 6 * mask) second (first + second + carry_digit carry_in + 6 * mask) mask
+    → hi + 1 - lo ≤ places → digits + limit * carry_digit carry ≡ total_with_tens first second (carry_digit carry_in) mask places
     → take lo z ≡ take lo into → drop (hi + 1) z ≡ drop (hi + 1) into → SumInto 10 into x y carry_in lo hi z carry
-tens_result into x y z carry_in carry lo hi digits first second limit mask p q r ordered inside each is_z is_first is_second is_limit is_mask whole below above =
+tens_result into x y z carry_in carry lo hi places digits first second limit mask p q r ordered inside each is_z is_first is_second is_limit is_mask few whole below above =
     let a = part-register x lo hi p ordered inside in
     let b = part-register y lo hi q ordered inside in
     let d = part-register z lo hi r ordered inside in
-    let steps = tens_of (part x lo hi) (part y lo hi) (part z lo hi) (carry_digit carry_in) (carry_digit carry) (hi + 1 - lo) digits first second limit mask each (recursion_from_All _ _ b.each) (recursion_from_All _ _ d.each)
-    a.size b.size d.size (carry_le carry_in) is_z is_first is_second is_limit is_mask whole in record {
+    let steps = tens_of (part x lo hi) (part y lo hi) (part z lo hi) (carry_digit carry_in) (carry_digit carry) (hi + 1 - lo) places digits first second limit mask each (recursion_from_All _ _ b.each) (recursion_from_All _ _ d.each)
+    a.size b.size d.size few (carry_le carry_in) is_z is_first is_second is_limit is_mask whole in record {
       register = r;
       digits = has_carries (SumDigit 10) x y z lo hi (carry_digit carry_in) (carry_digit carry) (carry_le carry_in) ordered steps;
       outside = keeps_outside into z lo hi below above;
@@ -250,22 +279,38 @@ bit_other true = refl
 bit_other false = refl
 
 -- a difference in base 10 put into a span
-pub nines_result : (into x y z : List ℕ) (borrow_in enough : Bool) (lo hi digits first second limit mask : ℕ) → IsRegister 14 x → IsRegister 14 y → IsRegister 14 z → lo ≤ hi → hi < 14
+pub nines_result : (into x y z : List ℕ) (borrow_in enough : Bool) (lo hi places digits first second limit mask : ℕ) → IsRegister 14 x → IsRegister 14 y → IsRegister 14 z → lo ≤ hi → hi < 14
     → AllByRecursion (λ digit. digit < 10) (part y lo hi) → value (part z lo hi) ≡ digits → first ≡ value (part x lo hi) → second ≡ value (part y lo hi) → limit ≡ 16 ^ (hi + 1 - lo) → mask ≡ ones (hi + 1 - lo)
-    → digits + limit * carry_digit enough ≡ 9 * mask - second + first + carry_digit (not borrow_in) + 6 * carries_of (9 * mask - second + 6 * mask) first (9 * mask - second + first + carry_digit (not borrow_in) + 6 * mask) mask
+    → hi + 1 - lo ≤ places → digits + limit * carry_digit enough ≡ total_with_tens (9 * mask - second) first (carry_digit (not borrow_in)) mask places
     → take lo z ≡ take lo into → drop (hi + 1) z ≡ drop (hi + 1) into → DifferenceInto 10 into x y borrow_in lo hi z (not enough)
-nines_result into x y z borrow_in enough lo hi digits first second limit mask p q r ordered inside each is_z is_first is_second is_limit is_mask whole below above =
+nines_result into x y z borrow_in enough lo hi places digits first second limit mask p q r ordered inside each is_z is_first is_second is_limit is_mask few whole below above =
     let a = part-register x lo hi p ordered inside in
     let b = part-register y lo hi q ordered inside in
     let d = part-register z lo hi r ordered inside in
     let count = hi + 1 - lo in
     let complement : 9 * mask - second ≡ value (nines_less (part y lo hi)) = omega (arith, is_mask, is_second, ap ones b.size, value-nines_less (part y lo hi) each) in
     let bit = carry_le (not borrow_in) in
-    let steps = tens_of (nines_less (part y lo hi)) (part x lo hi) (part z lo hi) (carry_digit (not borrow_in)) (carry_digit enough) count digits (9 * mask - second) first limit mask
-    (nines_decimal (part y lo hi)) (recursion_from_All _ _ a.each) (recursion_from_All _ _ d.each) (length-map (part y lo hi) (λ digit. 9 - digit) ∙ b.size) a.size d.size bit is_z complement is_first is_limit is_mask whole in
+    let steps = tens_of (nines_less (part y lo hi)) (part x lo hi) (part z lo hi) (carry_digit (not borrow_in)) (carry_digit enough) count places digits (9 * mask - second) first limit mask
+    (nines_decimal (part y lo hi)) (recursion_from_All _ _ a.each) (recursion_from_All _ _ d.each) (length-map (part y lo hi) (λ digit. 9 - digit) ∙ b.size) a.size d.size few bit is_z complement is_first is_limit is_mask whole in
     let back = borrowed (part x lo hi) (part y lo hi) (part z lo hi) (carry_digit (not borrow_in)) count (carry_digit enough) each (recursion_from_All _ _ a.each) b.size a.size bit steps in
     let told : Steps (DifferenceDigit 10) (part x lo hi) (part y lo hi) (carry_digit borrow_in) (part z lo hi) count (carry_digit (not enough)) = rw (other_bit borrow_in, bit_other enough) at back in record {
       register = r;
       digits = has_carries (DifferenceDigit 10) x y z lo hi (carry_digit borrow_in) (carry_digit (not enough)) (carry_le borrow_in) ordered told;
       outside = keeps_outside into z lo hi below above;
     }
+
+-- the totals of a span are small
+pub part_total_small : (x y : List ℕ) (carry : Bool) (lo hi places : ℕ) → IsRegister 14 x → IsRegister 14 y → lo ≤ hi → hi < 14 → AllByRecursion (λ digit. digit < 10) (part x lo hi) → hi + 1 - lo ≤ places
+    → total_with_tens (value (part x lo hi)) (value (part y lo hi)) (carry_digit carry) (ones (hi + 1 - lo)) places < 2 * 16 ^ (hi + 1 - lo)
+part_total_small x y carry lo hi places p q ordered inside each few =
+    let a = part-register x lo hi p ordered inside in
+    let b = part-register y lo hi q ordered inside in
+    rw b.size at (total_small (part x lo hi) (part y lo hi) (carry_digit carry) places each (recursion_from_All _ _ b.each) (a.size ∙ sym b.size) (omega (arith, b.size, few)) (carry_le carry))
+
+pub nines_total_small : (x y : List ℕ) (carry : Bool) (lo hi places : ℕ) → IsRegister 14 x → IsRegister 14 y → lo ≤ hi → hi < 14 → AllByRecursion (λ digit. digit < 10) (part y lo hi) → hi + 1 - lo ≤ places
+    → total_with_tens (9 * ones (hi + 1 - lo) - value (part y lo hi)) (value (part x lo hi)) (carry_digit carry) (ones (hi + 1 - lo)) places < 2 * 16 ^ (hi + 1 - lo)
+nines_total_small x y carry lo hi places p q ordered inside each few =
+    let a = part-register x lo hi p ordered inside in
+    let b = part-register y lo hi q ordered inside in
+    let complement : value (nines_less (part y lo hi)) ≡ 9 * ones (hi + 1 - lo) - value (part y lo hi) = omega (arith, ap ones b.size, value-nines_less (part y lo hi) each) in
+    rw (complement, a.size) at (total_small (nines_less (part y lo hi)) (part x lo hi) (carry_digit carry) places (nines_decimal (part y lo hi)) (recursion_from_All _ _ a.each) (length-map (part y lo hi) (λ digit. 9 - digit) ∙ b.size ∙ sym a.size) (omega (arith, a.size, few)) (carry_le carry))

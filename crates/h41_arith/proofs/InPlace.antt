@@ -1,14 +1,15 @@
 -- The numbers of a span's digits in their places: times the weight of its first place.
-use Rattle.std.proofs.Common.{◌≡◌, ℕ, ◌+◌, ◌-◌, ◌*◌, ◌/◌, ◌%◌, ◌^◌, ◌<◌, ◌≤◌, ◌==◌, Bool, true, false, not, nat_lt, List, refl, sym, ap, subst, arith, inl, inr, ◌∙◌}
-use Rattle.std.proofs.Math.Nat.{mul-le-mul_right, mul-mod_left, mul-add-mod_self_right, mod-add-div, add-mod_right, mod-eq_of_lt, mul-div_cancel, div-div-eq-div-mul, mul_comm, mul_assoc, lt_of_mul-lt-mul_right}
+use Rattle.std.proofs.Common.{◌≡◌, ℕ, zero, suc, ◌+◌, ◌-◌, ◌*◌, ◌/◌, ◌%◌, ◌^◌, ◌<◌, ◌≤◌, ◌==◌, Bool, true, false, not, nat_lt, List, refl, sym, ap, subst, arith, inl, inr, ◌∙◌}
+use Rattle.std.proofs.Math.Nat.{pow-succ', mul-le-mul_right, mul-mod_left, mul-add-mod_self_right, mod-add-div, add-mod_right, mod-eq_of_lt, mul-div_cancel, div-div-eq-div-mul, mul_comm, mul_assoc, lt_of_mul-lt-mul_right}
 use Rattle.std.proofs.lemmas.Bool.{cases_lt, cases_eq}
 use Rattle.std.proofs.lemmas.Bool.Decides.{nat_tests}
-use Rattle.std.proofs.lemmas.Nat.{pow-add, xor_block, and_block, and_le_r, pow_pos}
+use Rattle.std.proofs.lemmas.Nat.{pow-add, xor_shr, xor_block, pow_pos}
+use Rattle.std.specs.Int.Bits.{xor_zero_r}
 use Rattle.std.specs.Int.RustNames.{bit_and, bit_xor}
 use Rattle.h41_digits.proofs.Packed.{bits_of_places, weight_positive}
 use Rattle.h41_arith.specs.DigitRule.{carry_digit}
-use Rattle.h41_arith.specs.DigitOperations.{carries_of, decimal_total_of}
-use Rattle.h41_arith.proofs.Decimal.{ones, fifteen_ones, part_decimal, part_most}
+use Rattle.h41_arith.specs.DigitOperations.{all_ones, carried_of, decimal_total_of}
+use Rattle.h41_arith.proofs.Decimal.{ones, ones_more, fifteen_ones, masked_more, even_with_carry, tens, total_with_tens, no_carry, part_decimal, part_most}
 use Rattle.h41_arith.proofs.Parts.{part}
 use Rattle.h41_digits.specs.Register.{IsRegister, value}
 use Rattle.std.specs.List.{AllByRecursion}
@@ -161,72 +162,110 @@ difference_at first taken v t limit weight more word positive is_first is_taken 
       rw none (enough_by first taken v t limit weight more word positive is_first is_taken less enough some is_word ∙ omega arith)
 ]
 
--- the ones of a span are those of so many places, in their places
-pub ones_in_place : (lo hi mask span_ones : ℕ) → lo ≤ hi → mask + 16 ^ lo ≡ 16 ^ (hi + 1) → 15 * span_ones ≡ mask → span_ones ≡ ones (hi + 1 - lo) * 16 ^ lo
-ones_in_place lo hi mask span_ones ordered is_mask fifteen =
+-- the sixes of a span are those of so many places, in their places
+pub sixes_in_place : (lo hi mask sixes : ℕ) → lo ≤ hi → mask + 16 ^ lo ≡ 16 ^ (hi + 1) → 5 * sixes ≡ 2 * mask → sixes ≡ 6 * ones (hi + 1 - lo) * 16 ^ lo
+sixes_in_place lo hi mask sixes ordered is_mask fifths =
     let count = hi + 1 - lo in
-    fifteenth (ones count) (16 ^ count) (16 ^ lo) span_ones (fifteen_ones count) (omega (arith, is_mask, fifteen, whole_weight lo hi ordered))
+    two_fifths (ones count) (16 ^ count) (16 ^ lo) mask sixes (fifteen_ones count) (is_mask ∙ whole_weight lo hi ordered) fifths
   where
-    fifteenth : (ones limit weight span_ones : ℕ) → 15 * ones + 1 ≡ limit → 15 * span_ones + weight ≡ limit * weight → span_ones ≡ ones * weight
-    fifteenth ones limit weight span_ones fifteen is = omega (arith, rw (← fifteen) at is)
+    two_fifths : (ones limit weight mask sixes : ℕ) → 15 * ones + 1 ≡ limit → mask + weight ≡ limit * weight → 5 * sixes ≡ 2 * mask → sixes ≡ 6 * ones * weight
+    two_fifths ones limit weight mask sixes fifteen is fifths = omega (arith, rw (← fifteen) at is, fifths)
 
--- the carries of numbers in their places are in their places
+-- bits of numbers in their places are in their places
 xor_in_place : (a b k : ℕ) → bit_xor (a * 2 ^ k) (b * 2 ^ k) ≡ bit_xor a b * 2 ^ k
 xor_in_place a b k =
     let none : (n : ℕ) → n * 2 ^ k ≡ n * 2 ^ k + 0 = λ n. omega arith in
     ap (λ n. bit_xor n (b * 2 ^ k)) (none a) ∙ ap (bit_xor (a * 2 ^ k + 0)) (none b) ∙ xor_block k a b 0 0 (pow_pos k) (pow_pos k) ∙ omega arith
 
-masked_in_place : (n mask k : ℕ) → bit_and (n * 2 ^ k / 16) (mask * 2 ^ k) ≡ bit_and (n / 16) mask * 2 ^ k
-masked_in_place n mask k =
-    let word = n * 2 ^ k / 16 in
-    let high : word / 2 ^ k ≡ n / 16 = div-div-eq-div-mul (n * 2 ^ k) 16 (2 ^ k) ∙ ap (λ m. n * 2 ^ k / m) (mul_comm 16 (2 ^ k)) ∙ sym (div-div-eq-div-mul (n * 2 ^ k) (2 ^ k) 16) ∙ ap (λ m. m / 16) (mul-div_cancel n (pow_pos k)) in
-    let split : word ≡ n / 16 * 2 ^ k + word % 2 ^ k = omega (arith, mod-add-div word (2 ^ k), mul_comm (2 ^ k) (word / 2 ^ k), ap (λ m. m * 2 ^ k) high) in
-    let none : mask * 2 ^ k ≡ mask * 2 ^ k + 0 = omega arith in
-    ap (λ m. bit_and m (mask * 2 ^ k)) split ∙ ap (bit_and (n / 16 * 2 ^ k + word % 2 ^ k)) none ∙ and_block k (n / 16) mask (word % 2 ^ k) 0 (omega (arith, pow_pos k)) (pow_pos k)
-    ∙ omega (arith, and_le_r (word % 2 ^ k) 0)
+xor_at : (a b lo : ℕ) → bit_xor (a * 16 ^ lo) (b * 16 ^ lo) ≡ bit_xor a b * 16 ^ lo
+xor_at a b lo = subst (λ weight. bit_xor (a * weight) (b * weight) ≡ bit_xor a b * weight) (bits_of_places lo) (xor_in_place a b (4 * lo))
 
-carries_in_place : (x y sum mask k : ℕ) → carries_of (x * 2 ^ k) (y * 2 ^ k) (sum * 2 ^ k) (mask * 2 ^ k) ≡ carries_of x y sum mask * 2 ^ k
-carries_in_place x y sum mask k =
-    ap (λ n. bit_and (bit_xor n (sum * 2 ^ k) / 16) (mask * 2 ^ k)) (xor_in_place x y k) ∙ ap (λ n. bit_and (n / 16) (mask * 2 ^ k)) (xor_in_place (bit_xor x y) sum k)
-    ∙ masked_in_place (bit_xor (bit_xor x y) sum) mask k
+-- and ones below them find nothing there
+ones_at : (n places lo : ℕ) → bit_and (n * 16 ^ lo) (ones (places + lo)) ≡ bit_and n (ones places) * 16 ^ lo
+ones_at n places zero =
+    let all : places + 0 ≡ places = omega arith in
+    let once : n * 1 ≡ n = omega arith in
+    ap (λ k. bit_and k (ones (places + 0))) once ∙ ap (λ k. bit_and n (ones k)) all ∙ omega arith
+ones_at n places (suc lo) =
+    let word = n * 16 ^ suc lo in
+    let more : places + suc lo ≡ suc (places + lo) = omega arith in
+    let is : word ≡ 16 * (n * 16 ^ lo) = ap (λ weight. n * weight) (pow-succ' 16 lo) ∙ turned n (16 ^ lo) in
+    let even : word % 2 ≡ 0 = omega (arith, is) in
+    let down : word / 16 ≡ n * 16 ^ lo = omega (arith, is) in
+    let weight : bit_and n (ones places) * 16 ^ suc lo ≡ 16 * (bit_and n (ones places) * 16 ^ lo) = ap (λ weight. bit_and n (ones places) * weight) (pow-succ' 16 lo) ∙ turned (bit_and n (ones places)) (16 ^ lo) in
+    ap (λ k. bit_and word (ones k)) more ∙ ap (bit_and word) (ones_more (places + lo)) ∙ masked_more word (ones (places + lo)) ∙ ap (λ k. word % 2 + 16 * bit_and k (ones (places + lo))) down
+    ∙ omega (arith, even, weight, ones_at n places lo)
+  where
+    turned : (n weight : ℕ) → n * (16 * weight) ≡ 16 * (n * weight)
+    turned n weight = omega arith
 
-pub carries_at : (first second sum mask x y s m lo : ℕ) → first ≡ x * 16 ^ lo → second ≡ y * 16 ^ lo → sum ≡ s * 16 ^ lo → mask ≡ m * 16 ^ lo → carries_of first second sum mask ≡ carries_of x y s m * 16 ^ lo
-carries_at first second sum mask x y s m lo is_first is_second is_sum is_mask =
-    rw (is_first, is_second, is_sum, is_mask) (subst (λ weight. carries_of (x * weight) (y * weight) (s * weight) (m * weight) ≡ carries_of x y s m * weight) (bits_of_places lo) (carries_in_place x y s m (4 * lo)))
+-- what carries into each digit is what carried out of the one before it
+carried_here : (x y c half places : ℕ) → c < 16 → bit_and (bit_xor (bit_xor (bit_xor x y) c) (x + y + c + 2 * half)) (ones (suc places)) ≡ 16 * tens x y c (2 * half) places
+carried_here x y c half places small =
+    let sum = x + y + c + 2 * half in
+    let word = bit_xor (bit_xor (bit_xor x y) c) sum in
+    let none : c / 16 ≡ 0 = omega arith in
+    let without : bit_xor (bit_xor x y) c / 16 ≡ bit_xor x y / 16 = xor_shr (bit_xor x y) c 4 ∙ ap (bit_xor (bit_xor x y / 16)) none ∙ xor_zero_r (bit_xor x y / 16) in
+    let down : word / 16 ≡ bit_xor (bit_xor x y) sum / 16 = xor_shr (bit_xor (bit_xor x y) c) sum 4 ∙ ap (λ n. bit_xor n (sum / 16)) without ∙ sym (xor_shr (bit_xor x y) sum 4) in
+    ap (bit_and word) (ones_more places) ∙ masked_more word (ones places) ∙ ap (λ n. word % 2 + 16 * bit_and n (ones places)) down ∙ omega (arith, even_with_carry x y sum c half refl)
+
+pub carried_at : (first second carry sixes x y c m lo : ℕ) → lo < 14 → c < 16 → first ≡ x * 16 ^ lo → second ≡ y * 16 ^ lo → carry ≡ c * 16 ^ lo → sixes ≡ 6 * m * 16 ^ lo
+    → carried_of first second carry sixes ≡ 16 * tens x y c (6 * m) (14 - lo) * 16 ^ lo
+carried_at first second carry sixes x y c m lo inside small is_first is_second is_carry is_sixes =
+    let half = 3 * m in
+    let sum = x + y + c + 2 * half in
+    let is_sum : first + second + carry + sixes ≡ sum * 16 ^ lo = added x y c m (16 ^ lo) _ _ _ _ is_first is_second is_carry is_sixes in
+    let all : all_ones ≡ ones (suc (14 - lo) + lo) = ap ones (split lo inside) in
+    let six : 2 * half ≡ 6 * m = omega arith in
+    rw (is_first, is_second, is_carry) (ap (λ n. bit_and (bit_xor (bit_xor (bit_xor (x * 16 ^ lo) (y * 16 ^ lo)) (c * 16 ^ lo)) n) all_ones) (rw (is_first, is_second, is_carry) at is_sum))
+    ∙ ap (λ n. bit_and (bit_xor (bit_xor n (c * 16 ^ lo)) (sum * 16 ^ lo)) all_ones) (xor_at x y lo) ∙ ap (λ n. bit_and (bit_xor n (sum * 16 ^ lo)) all_ones) (xor_at (bit_xor x y) c lo)
+    ∙ ap (λ n. bit_and n all_ones) (xor_at (bit_xor (bit_xor x y) c) sum lo) ∙ ap (bit_and (bit_xor (bit_xor (bit_xor x y) c) sum * 16 ^ lo)) all
+    ∙ ones_at (bit_xor (bit_xor (bit_xor x y) c) sum) (suc (14 - lo)) lo ∙ ap (λ n. n * 16 ^ lo) (carried_here x y c half (14 - lo) small ∙ ap (λ n. 16 * tens x y c n (14 - lo)) six)
+  where
+    split : (lo : ℕ) → lo < 14 → 15 ≡ suc (14 - lo) + lo
+    split lo inside = omega arith
+
+    added : (x y c m weight first second carry sixes : ℕ) → first ≡ x * weight → second ≡ y * weight → carry ≡ c * weight → sixes ≡ 6 * m * weight → first + second + carry + sixes ≡ (x + y + c + 2 * (3 * m)) * weight
+    added x y c m weight first second carry sixes is_first is_second is_carry is_sixes = omega (arith, is_first, is_second, is_carry, is_sixes)
 
 -- and the total in base 10
-pub total_at : (first second carry mask x y c m lo : ℕ) → first ≡ x * 16 ^ lo → second ≡ y * 16 ^ lo → carry ≡ c * 16 ^ lo → mask ≡ m * 16 ^ lo → decimal_total_of first second carry mask ≡ decimal_total_of x y c m * 16 ^ lo
-total_at first second carry mask x y c m lo is_first is_second is_carry is_mask =
-    let sum : first + second + carry ≡ (x + y + c) * 16 ^ lo = omega (arith, is_first, is_second, is_carry) in
-    let tens = carries_at (first + 6 * mask) second (first + second + carry + 6 * mask) mask (x + 6 * m) y (x + y + c + 6 * m) m lo (omega (arith, is_first, is_mask)) is_second (omega (arith, sum, is_mask)) is_mask in
-    omega (arith, sum, tens)
-
--- whether there is a letter
-pub letter_at : (number mask n m lo : ℕ) → number ≡ n * 16 ^ lo → mask ≡ m * 16 ^ lo → not (carries_of number (6 * mask) (number + 6 * mask) mask == 0) ≡ not (carries_of n (6 * m) (n + 6 * m) m == 0)
-letter_at number mask n m lo is is_mask =
-    let tens = carries_at number (6 * mask) (number + 6 * mask) mask n (6 * m) (n + 6 * m) m lo is (omega (arith, is_mask)) (omega (arith, is, is_mask)) is_mask in
-    ap not (in_place-eq (carries_of number (6 * mask) (number + 6 * mask) mask) 0 (carries_of n (6 * m) (n + 6 * m) m) 0 (16 ^ lo) (weight_positive lo) tens (omega arith))
+pub total_at : (first second carry sixes x y c m lo : ℕ) → lo < 14 → c < 16 → first ≡ x * 16 ^ lo → second ≡ y * 16 ^ lo → carry ≡ c * 16 ^ lo → sixes ≡ 6 * m * 16 ^ lo
+    → decimal_total_of first second carry sixes ≡ total_with_tens x y c m (14 - lo) * 16 ^ lo
+total_at first second carry sixes x y c m lo inside small is_first is_second is_carry is_sixes =
+    let carried = carried_at first second carry sixes x y c m lo inside small is_first is_second is_carry is_sixes in
+    put_together first second carry _ x y c (tens x y c (6 * m) (14 - lo)) (16 ^ lo) is_first is_second is_carry carried
+  where
+    put_together : (first second carry carried x y c tens weight : ℕ) → first ≡ x * weight → second ≡ y * weight → carry ≡ c * weight → carried ≡ 16 * tens * weight
+        → first + second + carry + 3 * carried / 8 ≡ (x + y + c + 6 * tens) * weight
+    put_together first second carry carried x y c tens weight is_first is_second is_carry is = omega (arith, is_first, is_second, is_carry, is)
 
 -- digits of a span without a letter, as the code tells it of their number in its places
-pub span_decimal : (x : List ℕ) (lo hi mask span_ones number : ℕ) (answer : Bool) → IsRegister 14 x → lo ≤ hi → hi < 14 → mask + 16 ^ lo ≡ 16 ^ (hi + 1) → 15 * span_ones ≡ mask
-    → number ≡ value (part x lo hi) * 16 ^ lo → answer ≡ not (carries_of number (6 * span_ones) (number + 6 * span_ones) span_ones == 0) → answer ≡ false → AllByRecursion (λ digit. digit < 10) (part x lo hi)
-span_decimal x lo hi mask span_ones number answer register ordered inside is_mask fifteen is told none =
-    part_decimal x lo hi (value (part x lo hi)) (ones (hi + 1 - lo)) answer register ordered inside refl refl
-    (told ∙ letter_at number span_ones (value (part x lo hi)) (ones (hi + 1 - lo)) lo is (ones_in_place lo hi mask span_ones ordered is_mask fifteen)) none
+pub span_decimal : (x : List ℕ) (lo hi mask sixes number : ℕ) (answer : Bool) → IsRegister 14 x → lo ≤ hi → hi < 14 → mask + 16 ^ lo ≡ 16 ^ (hi + 1) → 5 * sixes ≡ 2 * mask
+    → number ≡ value (part x lo hi) * 16 ^ lo → answer ≡ not (carried_of 0 number 0 sixes == 0) → answer ≡ false → AllByRecursion (λ digit. digit < 10) (part x lo hi)
+span_decimal x lo hi mask sixes number answer register ordered inside is_mask fifths is told none =
+    let none_of : carried_of 0 number 0 sixes ≡ 0 = no_carry answer _ told none in
+    let n = value (part x lo hi) in
+    let m = ones (hi + 1 - lo) in
+    let carried = carried_at 0 number 0 sixes 0 n 0 m lo (omega (arith, ordered, inside)) (omega arith) (omega arith) is (omega arith) (sixes_in_place lo hi mask sixes ordered is_mask fifths) in
+    part_decimal x lo hi n m (14 - lo) register ordered inside refl refl (omega (arith, ordered, inside)) (nothing _ (tens 0 n 0 (6 * m) (14 - lo)) (16 ^ lo) (weight_positive lo) carried none_of)
+  where
+    nothing : (carried tens weight : ℕ) → 0 < weight → carried ≡ 16 * tens * weight → carried ≡ 0 → tens ≡ 0
+    nothing carried zero weight positive is none = refl
+    nothing carried (suc tens) weight positive is none = absurd (omega (arith, is, none, positive))
 
-pub span_most : (x : List ℕ) (lo hi mask span_ones number : ℕ) → IsRegister 14 x → lo ≤ hi → hi < 14 → mask + 16 ^ lo ≡ 16 ^ (hi + 1) → 15 * span_ones ≡ mask
-    → number ≡ value (part x lo hi) * 16 ^ lo → AllByRecursion (λ digit. digit < 10) (part x lo hi) → number ≤ 9 * span_ones
-span_most x lo hi mask span_ones number register ordered inside is_mask fifteen is each =
+pub span_most : (x : List ℕ) (lo hi mask sixes number : ℕ) → IsRegister 14 x → lo ≤ hi → hi < 14 → mask + 16 ^ lo ≡ 16 ^ (hi + 1) → 5 * sixes ≡ 2 * mask
+    → number ≡ value (part x lo hi) * 16 ^ lo → AllByRecursion (λ digit. digit < 10) (part x lo hi) → 2 * number ≤ 3 * sixes
+span_most x lo hi mask sixes number register ordered inside is_mask fifths is each =
     let most = part_most x lo hi (value (part x lo hi)) (ones (hi + 1 - lo)) register ordered inside refl refl each in
     let placed : value (part x lo hi) * 16 ^ lo ≤ 9 * ones (hi + 1 - lo) * 16 ^ lo = mul-le-mul_right (16 ^ lo) most in
-    omega (arith, is, placed, ones_in_place lo hi mask span_ones ordered is_mask fifteen)
+    omega (arith, is, placed, sixes_in_place lo hi mask sixes ordered is_mask fifths)
 
 -- the complement to nines
-pub nines_at : (second span_ones u m weight : ℕ) → second ≡ u * weight → span_ones ≡ m * weight → u ≤ 9 * m → 9 * span_ones - second ≡ (9 * m - u) * weight
-nines_at second span_ones u m weight is_second is_ones most =
+pub nines_at : (second mask sixes u m weight : ℕ) → second ≡ u * weight → 5 * sixes ≡ 2 * mask → sixes ≡ 6 * m * weight → u ≤ 9 * m → mask - sixes - second ≡ (9 * m - u) * weight
+nines_at second mask sixes u m weight is_second fifths is_sixes most =
     let all : 9 * m - u + u ≡ 9 * m = omega arith in
     let weighted : (9 * m - u) * weight + u * weight ≡ 9 * m * weight = split (9 * m - u) u (9 * m) weight all in
-    omega (arith, weighted, is_second, is_ones)
+    omega (arith, weighted, is_second, is_sixes, fifths)
   where
     split : (left u whole weight : ℕ) → left + u ≡ whole → left * weight + u * weight ≡ whole * weight
     split left u whole weight is = rw (← is) (omega arith)

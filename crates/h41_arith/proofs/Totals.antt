@@ -6,11 +6,11 @@ use Rattle.h41_digits.specs.Register.{IsRegister, value_between}
 use Rattle.h41_digits.proofs.Packed.{weight_positive}
 use Rattle.h41_digits.proofs.Values.{same_register}
 use Rattle.h41_arith.specs.DigitRule.{HasCarries, HasResult, carry_digit, zeros}
-use Rattle.h41_arith.specs.DigitOperations.{RuleInto, IsRuleTotal, IsInParts, rule_of, is_marked, decimal_total_of}
+use Rattle.h41_arith.specs.DigitOperations.{RuleInto, IsRuleTotal, IsInParts, rule_of, is_marked}
 use Rattle.h41_arith.specs.declared.sums.DigitOperation.{DigitOperation}
 use Rattle.h41_arith.specs.declared.sums.DigitOperation.TheVariants.{Add, Subtract}
 use Rattle.h41_arith.proofs.Carries.{carry_le, same_carry_bit}
-use Rattle.h41_arith.proofs.Decimal.{ones, tens_result, nines_result}
+use Rattle.h41_arith.proofs.Decimal.{ones, total_with_tens, part_total_small, nines_total_small, tens_result, nines_result}
 use Rattle.h41_arith.proofs.InPlace.{whole_weight, is_multiple, is_quotient, below_twice}
 use Rattle.h41_arith.proofs.Parts.{part, part_at, part-lt, part-register, keeps_outside}
 
@@ -90,25 +90,27 @@ rule_tells operation x y carry_in lo hi total ordered inside made =
 
 -- and that of a sum of numbers, of which the first has no letter
 pub sum_tells : (x y : List ℕ) (carry_in : Bool) (lo hi total : ℕ) → IsRegister 14 x → IsRegister 14 y → lo ≤ hi → hi < 14 → AllByRecursion (λ digit. digit < 10) (part x lo hi)
-    → total ≡ decimal_total_of (value_between x lo hi) (value_between y lo hi) (carry_digit carry_in) (ones (hi + 1 - lo)) * 16 ^ lo → total < 2 * 16 ^ (hi + 1) → Tells Add x y carry_in lo hi total
-sum_tells x y carry_in lo hi total p q ordered inside each is most = record {
-  places = is_multiple total _ _ is;
-  most = most;
-  result = λ into z carry register parts below above.
-      tens_result into x y z carry_in carry lo hi (value_between z lo hi) (value_between x lo hi) (value_between y lo hi) (16 ^ (hi + 1 - lo)) (ones (hi + 1 - lo)) p q register ordered inside each refl refl refl refl refl
-      (parts ∙ is_quotient total _ _ (weight_positive lo) is) below above;
-}
+    → total ≡ total_with_tens (value_between x lo hi) (value_between y lo hi) (carry_digit carry_in) (ones (hi + 1 - lo)) (14 - lo) * 16 ^ lo → Tells Add x y carry_in lo hi total
+sum_tells x y carry_in lo hi total p q ordered inside each is =
+    let few : hi + 1 - lo ≤ 14 - lo = omega (arith, ordered, inside) in record {
+      places = is_multiple total _ _ is;
+      most = below_twice total _ (16 ^ (hi + 1 - lo)) (16 ^ lo) (16 ^ (hi + 1)) (weight_positive lo) is (whole_weight lo hi ordered) (part_total_small x y carry_in lo hi (14 - lo) p q ordered inside each few);
+      result = λ into z carry register parts below above.
+          tens_result into x y z carry_in carry lo hi (14 - lo) (value_between z lo hi) (value_between x lo hi) (value_between y lo hi) (16 ^ (hi + 1 - lo)) (ones (hi + 1 - lo)) p q register ordered inside each refl refl refl refl refl few
+          (parts ∙ is_quotient total _ _ (weight_positive lo) is) below above;
+    }
 
 pub difference_tells : (x y : List ℕ) (borrow_in : Bool) (lo hi total : ℕ) → IsRegister 14 x → IsRegister 14 y → lo ≤ hi → hi < 14 → AllByRecursion (λ digit. digit < 10) (part y lo hi)
-    → total ≡ decimal_total_of (9 * ones (hi + 1 - lo) - value_between y lo hi) (value_between x lo hi) (carry_digit (not borrow_in)) (ones (hi + 1 - lo)) * 16 ^ lo → total < 2 * 16 ^ (hi + 1)
+    → total ≡ total_with_tens (9 * ones (hi + 1 - lo) - value_between y lo hi) (value_between x lo hi) (carry_digit (not borrow_in)) (ones (hi + 1 - lo)) (14 - lo) * 16 ^ lo
     → Tells Subtract x y borrow_in lo hi total
-difference_tells x y borrow_in lo hi total p q ordered inside each is most = record {
-  places = is_multiple total _ _ is;
-  most = most;
-  result = λ into z enough register parts below above.
-      nines_result into x y z borrow_in enough lo hi (value_between z lo hi) (value_between x lo hi) (value_between y lo hi) (16 ^ (hi + 1 - lo)) (ones (hi + 1 - lo)) p q register ordered inside each refl refl refl refl refl
-      (parts ∙ is_quotient total _ _ (weight_positive lo) is) below above;
-}
+difference_tells x y borrow_in lo hi total p q ordered inside each is =
+    let few : hi + 1 - lo ≤ 14 - lo = omega (arith, ordered, inside) in record {
+      places = is_multiple total _ _ is;
+      most = below_twice total _ (16 ^ (hi + 1 - lo)) (16 ^ lo) (16 ^ (hi + 1)) (weight_positive lo) is (whole_weight lo hi ordered) (nines_total_small x y (not borrow_in) lo hi (14 - lo) p q ordered inside each few);
+      result = λ into z enough register parts below above.
+          nines_result into x y z borrow_in enough lo hi (14 - lo) (value_between z lo hi) (value_between x lo hi) (value_between y lo hi) (16 ^ (hi + 1 - lo)) (ones (hi + 1 - lo)) p q register ordered inside each refl refl refl refl refl few
+          (parts ∙ is_quotient total _ _ (weight_positive lo) is) below above;
+    }
 
 -- what the code makes of the digits' number
 pub total_with : (digits : List ℕ) (lo hi number next : ℕ) → lo ≤ hi → number ≡ value_between digits lo hi * 16 ^ lo → next ≡ 16 ^ (hi + 1)

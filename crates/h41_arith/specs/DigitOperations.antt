@@ -31,17 +31,18 @@ pub record IsRuleTotal (operation : DigitOperation) (x y : List ℕ) (carry_in :
   pub rule : RuleInto operation 10 zeros x y carry_in lo hi digits carry_out
   pub number : total ≡ (value_between digits lo hi + 16 ^ (hi + 1 - lo) * carry_digit (is_marked operation carry_out)) * 16 ^ lo
 
--- a one in each digit of a mask of ones at which the sum of two numbers carries into the next: there its last bit is not that
--- of the two digits' sum
-abbrev pub carries_of : ℕ → ℕ → ℕ → ℕ → ℕ
-carries_of x y sum ones = bit_and (bit_xor (bit_xor x y) sum / 16) ones
+-- a one in each digit of a register, and in the next
+abbrev pub all_ones : ℕ
+all_ones = 0x111111111111111
 
--- a total of two numbers in base 10: their sum in base 16 with a carry, and six more at each digit that carries with six more in
--- each digit of the first
+-- where two numbers and a carry are added up with six more in each digit of a span, a one in each digit that the one before it
+-- carries into: there the last bit of the sum is not that of what is added, since six is even
+abbrev pub carried_of : ℕ → ℕ → ℕ → ℕ → ℕ
+carried_of first second carry sixes = bit_and (bit_xor (bit_xor (bit_xor first second) carry) (first + second + carry + sixes)) all_ones
+
+-- a total of two numbers in base 10: their sum in base 16 with a carry, and six more at each digit that carries with six more in it
 abbrev pub decimal_total_of : ℕ → ℕ → ℕ → ℕ → ℕ
-decimal_total_of first second carry ones =
-    let sum : ℕ = first + second + carry in
-    sum + 6 * carries_of (first + 6 * ones) second (sum + 6 * ones) ones
+decimal_total_of first second carry sixes = first + second + carry + 3 * carried_of first second carry sixes / 8
 
 -- a number of a span that may have a 1 above its digits: these are in the register, and there is a carry where it has that 1
 abbrev pub IsInParts : ℕ → ℕ → ℕ → List ℕ → Bool → Type 0

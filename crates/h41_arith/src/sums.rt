@@ -2,12 +2,15 @@
 
 ghost use Rattle.std.specs.Prelude.{◌≡◌, ℕ, ◌+◌, ◌*◌, ◌^◌, ◌<◌, ◌≤◌, ◌⊎◌, ◌==◌, not, true, false};
 ghost use Rattle.h41_digits.specs.Register.{IsRegister};
-ghost use Rattle.h41_digits.specs.Spans.{IsMask};
+ghost use Rattle.h41_digits.specs.Spans.{IsFilled};
 ghost use Rattle.h41_arith.specs.DigitRule.{SumDigit, DifferenceDigit, SumInto, DifferenceInto, base_of, carry_digit, zeros};
-ghost use Rattle.h41_arith.specs.DigitOperations.{HasDigit, IsRuleTotal, RuleInto, rule_of, carries_of, decimal_total_of};
+ghost use Rattle.h41_arith.specs.DigitOperations.{HasDigit, IsRuleTotal, RuleInto, all_ones, carried_of, decimal_total_of, rule_of};
 
 use crate::spans::{carry_in_span, put};
 use h41_digits::{Reg, Span};
+
+/// A one in each digit of a register, and in the next.
+const ONES: u64 = 0x111_1111_1111_1111;
 
 /// What is done with the digits of two registers.
 #[derive(Clone, Copy)]
@@ -57,7 +60,7 @@ impl DigitOperation {
     #[cold]
     #[inline(never)]
     fn total(self, x: Reg, y: Reg, carry_in: bool, mask: u64) -> u64
-        ensures { (lo hi : ℕ) → IsMask mask lo hi → IsRuleTotal self x y carry_in lo hi result }
+        ensures { (lo hi : ℕ) → IsFilled mask lo hi → IsRuleTotal self x y carry_in lo hi result }
     {
         let span = Span::from_mask(mask);
         let (digits, carry) = self.over_places(x, y, carry_in, span.lo, span.hi);
@@ -127,35 +130,34 @@ fn hexadecimal_difference(into: Reg, x: Reg, y: Reg, borrow_in: bool, span: Span
     )
 }
 
-/// A one in each digit, of those where `ones` has one, out of which the sum of `x` and `y` carries into the next.
-fn carries(x: u64, y: u64, sum: u64, ones: u64) -> u64
-    ensures carries { result ≡ carries_of x y sum ones }
-    ensures most { result ≤ ones }
+/// Two numbers and a carry are added up with six more in each digit of a span: a one in each digit that the one before it carries into.
+/// There the last bit of the sum is not that of what is added, since six is even.
+fn carried(first: u64, second: u64, carry: u64, sixes: u64) -> u64
+    requires { first + second + carry + sixes < 2 ^ 64 }
+    ensures carried { result ≡ carried_of first second carry sixes }
+    ensures most { result ≤ all_ones }
 {
-    (x ^ y ^ sum) >> 4 & ones
+    (first ^ second ^ carry ^ (first + second + carry + sixes)) & ONES
 }
 
-/// Whether a number has a digit from A to F: where six is added to each digit, one carries.
-fn has_letter(number: u64, ones: u64) -> bool
-    requires { number + 6 * ones < 2 ^ 64 }
-    ensures { result ≡ not (carries_of number (6 * ones) (number + 6 * ones) ones == 0) }
+/// Whether a number has a digit from A to F in a span: where six is added to each digit, one carries.
+fn has_letter(number: u64, sixes: u64) -> bool
+    requires { number + sixes < 2 ^ 64 }
+    ensures { result ≡ not (carried_of 0 number 0 sixes == 0) }
 {
-    carries(number, 6 * ones, number + 6 * ones, ones) != 0
+    carried(0, number, 0, sixes) != 0
 }
 
 /// The sum of two numbers in base 10 with a carry, of which the first has no digit from A to F: the sum in base 16, and six more at
-/// each digit that carries. It carries where it does so with six more at each digit of the first.
-fn decimal_total(first: u64, second: u64, carry: u64, ones: u64) -> u64
-    requires ones { ones < 2 ^ 53 }
-    requires first { first ≤ 9 * ones }
-    requires second { second ≤ 15 * ones }
-    requires carry { carry ≤ ones }
-    ensures total { result ≡ decimal_total_of first second carry ones }
-    ensures most { result ≤ 30 * ones + carry }
+/// each digit that carries. It carries where it does so with six more at each digit.
+fn decimal_total(first: u64, second: u64, carry: u64, sixes: u64) -> u64
+    requires sixes { sixes < 2 ^ 56 }
+    requires first { 2 * first ≤ 3 * sixes }
+    requires second { 2 * second ≤ 5 * sixes }
+    requires carry { carry ≤ sixes }
+    ensures { result ≡ decimal_total_of first second carry sixes }
 {
-    let sum = first + second + carry;
-    let tens = carries(first + 6 * ones, second, sum + 6 * ones, ones);
-    sum + 6 * tens
+    first + second + carry + 3 * carried(first, second, carry, sixes) / 8
 }
 
 /// `into` with `x` + `y` + the carry in, in base 10, in the span, and the carry out.
@@ -165,11 +167,11 @@ fn decimal_sum(into: Reg, x: Reg, y: Reg, carry_in: bool, span: Span) -> (Reg, b
 {
     let first = x.in_span(span);
     let second = y.in_span(span);
-    let ones = span.ones();
-    let total = if has_letter(first, ones) {
+    let sixes = span.sixes();
+    let total = if has_letter(first, sixes) {
         DigitOperation::Add.total(x, y, carry_in, span.mask)
     } else {
-        decimal_total(first, second, carry_in_span(carry_in, span), ones)
+        decimal_total(first, second, carry_in_span(carry_in, span), sixes)
     };
     put(into, total, span)
 }
@@ -182,15 +184,15 @@ fn decimal_difference(into: Reg, x: Reg, y: Reg, borrow_in: bool, span: Span) ->
 {
     let first = x.in_span(span);
     let second = y.in_span(span);
-    let ones = span.ones();
-    let total = if has_letter(second, ones) {
+    let sixes = span.sixes();
+    let total = if has_letter(second, sixes) {
         DigitOperation::Subtract.total(x, y, borrow_in, span.mask)
     } else {
         decimal_total(
-            9 * ones - second,
+            span.mask - sixes - second,
             first,
             carry_in_span(!borrow_in, span),
-            ones,
+            sixes,
         )
     };
     let (digits, enough) = put(into, total, span);

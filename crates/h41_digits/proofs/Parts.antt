@@ -1,5 +1,5 @@
 -- Some places of a register as a number.
-use Rattle.std.proofs.Common.{◌≡◌, ℕ, suc, zero, ◌+◌, ◌-◌, ◌*◌, ◌/◌, ◌%◌, ◌^◌, ◌<◌, ◌≤◌, List, [], ◌∷◌, ◌++◌, length, take, drop, refl, sym, ap, subst, arith, ◌∙◌, length-append, append_assoc}
+use Rattle.std.proofs.Common.{◌≡◌, ℕ, suc, zero, ◌+◌, ◌-◌, ◌*◌, ◌/◌, ◌%◌, ◌^◌, ◌<◌, ◌≤◌, List, [], ◌∷◌, ◌++◌, length, take, drop, refl, sym, ap, arith, ◌∙◌, length-append, append_assoc}
 use Rattle.std.proofs.Math.Nat.{pow-succ', div-div-eq-div-mul, div-one, mod-eq_of_lt}
 use Rattle.std.proofs.lemmas.Nat.{mod-pow-add, and_mask, one_shl}
 use Rattle.std.proofs.lemmas.List.{take_at, drop_all, drop_at, take-append-drop, drop-drop, length-take-le, length-drop}
@@ -59,10 +59,6 @@ all_read places word lo hi digits seen fits all =
     let first : lo ≡ 0 = omega (arith, all.0, all.1, all.2) in
     let part : word / 16 ^ lo % 16 ^ (hi + 1 - lo) ≡ word = ap (λ n. word / 16 ^ n % 16 ^ (hi + 1 - lo)) first ∙ ap (λ n. word / 1 % 16 ^ n) all.2 ∙ ap (λ n. n % 16 ^ places) (div-one word) ∙ mod-eq_of_lt fits in
     sym (part_read places word lo (hi + 1 - lo) digits seen (omega (arith, all.0, all.1)) ∙ part)
-
-pub none_below : (places lo hi : ℕ) (digits others : List ℕ) → AreAll places lo hi → take lo digits ≡ take lo others
-none_below places lo hi digits others all =
-    let first : 0 ≡ lo = omega (arith, all.0, all.1, all.2) in subst (λ n. take n digits ≡ take n others) first refl
 
 pub none_above : (places lo hi : ℕ) (digits others : List ℕ) → IsRegister places digits → IsRegister places others → AreAll places lo hi → drop (hi + 1) digits ≡ drop (hi + 1) others
 none_above places lo hi digits others one other all =

@@ -132,30 +132,31 @@ fifteen_times lo hi mask ordered is =
     without_one : (mask ones limit weight : ℕ) → 15 * ones + 1 ≡ limit → mask + weight ≡ limit * weight → mask ≡ 15 * (ones * weight)
     without_one mask ones limit weight fifteen is = omega (arith, rw (← fifteen) at is)
 
--- the ones of a mask
-ones_of_fifteens : (few more : ℕ) → few ≤ more → bit_and (15 * repunit few) (repunit more) ≡ repunit few
-ones_of_fifteens zero more less = omega (arith, and_le_l 0 (repunit more))
-ones_of_fifteens (suc few) zero less = absurd (omega (arith, less))
-ones_of_fifteens (suc few) (suc more) less =
+-- the sixes of a mask
+sixes_of_fifteens : (few more : ℕ) → few ≤ more → bit_and (15 * repunit few) (6 * repunit more) ≡ 6 * repunit few
+sixes_of_fifteens zero more less = omega (arith, and_le_l 0 (6 * repunit more))
+sixes_of_fifteens (suc few) zero less = absurd (omega (arith, less))
+sixes_of_fifteens (suc few) (suc more) less =
     let first : 15 * repunit (suc few) ≡ 15 * repunit few * 2 ^ 4 + 15 = omega arith in
-    let second : repunit (suc more) ≡ repunit more * 2 ^ 4 + 1 = omega arith in
-    ap (λ n. bit_and n (repunit (suc more))) first ∙ ap (bit_and (15 * repunit few * 2 ^ 4 + 15)) second ∙ and_block 4 (15 * repunit few) (repunit more) 15 1 (omega arith) (omega arith)
-    ∙ omega (arith, ones_of_fifteens few more (omega (arith, less)))
+    let second : 6 * repunit (suc more) ≡ 6 * repunit more * 2 ^ 4 + 6 = omega arith in
+    ap (λ n. bit_and n (6 * repunit (suc more))) first ∙ ap (bit_and (15 * repunit few * 2 ^ 4 + 15)) second ∙ and_block 4 (15 * repunit few) (6 * repunit more) 15 6 (omega arith) (omega arith)
+    ∙ omega (arith, sixes_of_fifteens few more (omega (arith, less)))
 
-pub mask_ones : (lo hi mask : ℕ) → lo ≤ hi → hi < 14 → mask + 16 ^ lo ≡ 16 ^ (hi + 1) → bit_and mask (repunit 14) ≡ repunit (hi + 1 - lo) * 16 ^ lo
-mask_ones lo hi mask ordered inside is =
+pub mask_sixes : (lo hi mask : ℕ) → lo ≤ hi → hi < 14 → mask + 16 ^ lo ≡ 16 ^ (hi + 1) → bit_and mask (6 * repunit 14) ≡ 6 * (repunit (hi + 1 - lo) * 16 ^ lo)
+mask_sixes lo hi mask ordered inside is =
     let count = hi + 1 - lo in
     let k = 4 * lo in
     let weight = bits_of_places lo in
     let first : mask ≡ 15 * repunit count * 2 ^ k + 0 = omega (arith, fifteen_times lo hi mask ordered is, ap (λ n. 15 * repunit count * n) weight) in
     let split : 14 ≡ 14 - lo + lo = omega arith in
-    let second : repunit 14 ≡ repunit (14 - lo) * 2 ^ k + repunit lo = ap repunit split ∙ repunit_sum (14 - lo) lo ∙ ap (λ n. repunit (14 - lo) * n + repunit lo) (sym weight) in
-    let small : repunit lo < 2 ^ k = omega (arith, weight, repunit_fifteen lo) in
-    ap (λ n. bit_and n (repunit 14)) first ∙ ap (bit_and (15 * repunit count * 2 ^ k + 0)) second ∙ and_block k (15 * repunit count) (repunit (14 - lo)) 0 (repunit lo) (pow_pos k) small
-    ∙ ap (λ n. n * 2 ^ k + bit_and 0 (repunit lo)) (ones_of_fifteens count (14 - lo) (omega arith)) ∙ omega (arith, and_le_l 0 (repunit lo), ap (λ n. repunit count * n) weight)
+    let all : repunit 14 ≡ repunit (14 - lo) * 16 ^ lo + repunit lo = ap repunit split ∙ repunit_sum (14 - lo) lo in
+    let second : 6 * repunit 14 ≡ 6 * repunit (14 - lo) * 2 ^ k + 6 * repunit lo = omega (arith, all, ap (λ n. repunit (14 - lo) * n) weight) in
+    let small : 6 * repunit lo < 2 ^ k = omega (arith, weight, repunit_fifteen lo) in
+    ap (λ n. bit_and n (6 * repunit 14)) first ∙ ap (bit_and (15 * repunit count * 2 ^ k + 0)) second ∙ and_block k (15 * repunit count) (6 * repunit (14 - lo)) 0 (6 * repunit lo) (pow_pos k) small
+    ∙ ap (λ n. n * 2 ^ k + bit_and 0 (6 * repunit lo)) (sixes_of_fifteens count (14 - lo) (omega arith)) ∙ omega (arith, and_le_l 0 (6 * repunit lo), ap (λ n. repunit count * n) weight)
 
-pub some_ones : (lo hi : ℕ) → lo ≤ hi → 16 ^ lo ≤ repunit (hi + 1 - lo) * 16 ^ lo
-some_ones lo hi ordered =
+pub some_sixes : (lo hi : ℕ) → lo ≤ hi → 16 ^ lo ≤ 6 * (repunit (hi + 1 - lo) * 16 ^ lo)
+some_sixes lo hi ordered =
     let next : hi + 1 - lo ≡ suc (hi - lo) = omega arith in
     let one : repunit (hi + 1 - lo) ≡ 1 + 16 * repunit (hi - lo) = ap repunit next in
     omega (arith, mul-le-mul_right {m = 1} {n = repunit (hi + 1 - lo)} (16 ^ lo) (omega arith))

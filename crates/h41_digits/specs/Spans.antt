@@ -6,7 +6,7 @@ abbrev pub in_places : ℕ → ℕ → ℕ → ℕ
 in_places number lo hi = number / 16 ^ lo % 16 ^ (hi + 1 - lo)
 
 -- the number with an F at each place from lo to hi of a register, and zeros elsewhere
-pub record IsMask (mask lo hi : ℕ) : Type 0 where
+pub record IsFilled (number lo hi : ℕ) : Type 0 where
   pub ordered : lo ≤ hi
   pub in_register : hi < 14
-  pub weights : mask + 16 ^ lo ≡ 16 ^ (hi + 1)
+  pub weights : number + 16 ^ lo ≡ 16 ^ (hi + 1)

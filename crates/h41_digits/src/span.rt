@@ -1,12 +1,12 @@
 //! Places in a row.
 
 ghost use Rattle.std.specs.Prelude.{◌≡◌, ℕ, ◌<◌, ◌≤◌, ◌+◌, ◌*◌, ◌^◌};
-ghost use Rattle.h41_digits.specs.Spans.{IsMask};
+ghost use Rattle.h41_digits.specs.Spans.{IsFilled};
 
 use crate::PLACES;
 
-/// A one at each of the 14 places of a register.
-const ONES: u64 = 0x11_1111_1111_1111;
+/// A six at each of the 14 places of a register.
+const SIXES: u64 = 0x66_6666_6666_6666;
 
 /// Places in a row, from `lo` to `hi`, both with them. There is at least one.
 #[derive(Clone, Copy, Debug, PartialEq, Eq)]
@@ -41,7 +41,7 @@ impl Span {
     /// The places that have this mask; where none have it, all those of a register.
     #[cold]
     pub fn from_mask(mask: u64) -> Self
-        ensures { (lo hi : ℕ) → IsMask mask lo hi → (result.lo ≡ lo) × (result.hi ≡ hi) }
+        ensures { (lo hi : ℕ) → IsFilled mask lo hi → (result.lo ≡ lo) × (result.hi ≡ hi) }
     {
         let first = mask & mask.wrapping_neg();
         let lo = place_of(first);
@@ -63,12 +63,12 @@ impl Span {
         self.mask & self.mask.wrapping_neg()
     }
 
-    /// A one at each place.
-    pub fn ones(&self) -> u64
-        ensures fifteen { 15 * result ≡ self.now.mask }
+    /// A six at each place: what a digit of base 10 lacks to carry as one of base 16 does.
+    pub fn sixes(&self) -> u64
+        ensures fifths { 5 * result ≡ 2 * self.now.mask }
         ensures first { 16 ^ self.now.lo ≤ result }
     {
-        self.mask & ONES
+        self.mask & SIXES
     }
 }
 

@@ -1,33 +1,35 @@
-use Rattle.std.proofs.Common.{◌+◌, ◌*◌, ◌^◌, ◌<◌, ◌∙◌, arith, refl}
-use Rattle.h41_digits.proofs.Packed.{weight_positive}
+use Rattle.std.proofs.Common.{◌^◌, ◌<◌, ◌∙◌, arith, not, refl}
+use Rattle.h41_arith.specs.DigitRule.{carry_digit}
 use Rattle.h41_arith.specs.declared.sums.DigitOperation.TheVariants.{Subtract}
 use Rattle.h41_arith.proofs.Decimal.{part_most}
-use Rattle.h41_arith.proofs.InPlace.{ones_in_place, span_decimal, span_most, nines_at, total_at}
+use Rattle.h41_arith.proofs.Carries.{carry_le}
+use Rattle.h41_arith.proofs.InPlace.{sixes_in_place, span_decimal, span_most, nines_at, total_at}
 use Rattle.h41_arith.proofs.Totals.{Tells, rule_tells, difference_tells}
 use Rattle.h41_arith.proofs.sums.decimal_difference.Goals as goal
 use Rattle.h41_arith.proofs.sums.decimal_difference.Goals.{then-has_letter, else-has_letter}
 
-pub overflow_sub-ones : goal.overflow_sub-ones
-overflow_sub-ones c =
+pub overflow_sub-span-else-has_letter : goal.overflow_sub-span-else-has_letter
+overflow_sub-span-else-has_letter c =
     let span = c.args.span in
     let second = c.in_span-second.ensures in
-    span_most c.args.y span.lo span.hi span.mask c.ones-ones.result _ second.register span.ordered span.in_register span.weights c.ones-ones.ensures.fifteen second.digits
-    (span_decimal c.args.y span.lo span.hi span.mask c.ones-ones.result _ _ second.register span.ordered span.in_register span.weights c.ones-ones.ensures.fifteen second.digits c.has_letter.ensures c.if-has_letter.false)
+    omega (arith, c.sixes-sixes.ensures.fifths, span_most c.args.y span.lo span.hi span.mask c.sixes-sixes.result _ second.register span.ordered span.in_register span.weights c.sixes-sixes.ensures.fifths second.digits
+    (span_decimal c.args.y span.lo span.hi span.mask c.sixes-sixes.result _ _ second.register span.ordered span.in_register span.weights c.sixes-sixes.ensures.fifths second.digits c.has_letter.ensures c.if-has_letter.false))
 
 tells : (c : goal.Joined-has_letter) → Tells Subtract c.args.x c.args.y c.args.borrow_in c.args.span.lo c.args.span.hi c.if-has_letter.total
 tells c =
     let span = c.args.span in
     let first = c.in_span-first.ensures in
     let second = c.in_span-second.ensures in
-    let is_ones = ones_in_place span.lo span.hi span.mask c.ones-ones.result span.ordered span.weights c.ones-ones.ensures.fifteen in
+    let is_sixes = sixes_in_place span.lo span.hi span.mask c.sixes-sixes.result span.ordered span.weights c.sixes-sixes.ensures.fifths in
+    let inside : span.lo < 14 = omega (arith, span.ordered, span.in_register) in
+    let bit : carry_digit (not c.args.borrow_in) < 16 = omega (arith, carry_le (not c.args.borrow_in)) in
     elim c.if-has_letter.branch [
       | then-has_letter w ↦ rw w.total-is (rule_tells Subtract c.args.x c.args.y c.args.borrow_in span.lo span.hi _ span.ordered span.in_register (w.total-total.ensures span.lo span.hi (record { ordered = span.ordered; in_register = span.in_register; weights = span.weights })))
       | else-has_letter w ↦
-          let each = span_decimal c.args.y span.lo span.hi span.mask c.ones-ones.result _ _ second.register span.ordered span.in_register span.weights c.ones-ones.ensures.fifteen second.digits c.has_letter.ensures w.if-has_letter.false in
-          let nines = nines_at _ _ _ _ (16 ^ span.lo) second.digits is_ones (part_most c.args.y span.lo span.hi _ _ second.register span.ordered span.in_register refl refl each) in
-          let total = w.decimal_total-total.ensures.total ∙ total_at _ _ _ _ _ _ _ _ span.lo nines first.digits w.carry_in_span.ensures.value is_ones in
-          let most : w.decimal_total-total.result < 2 * 16 ^ (span.hi + 1) = omega (arith, w.decimal_total-total.ensures.most, w.carry_in_span.ensures.most, c.ones-ones.ensures.fifteen, span.weights, weight_positive span.lo) in
-          rw w.total-is (difference_tells c.args.x c.args.y c.args.borrow_in span.lo span.hi _ first.register second.register span.ordered span.in_register each total most)
+          let each = span_decimal c.args.y span.lo span.hi span.mask c.sixes-sixes.result _ _ second.register span.ordered span.in_register span.weights c.sixes-sixes.ensures.fifths second.digits c.has_letter.ensures w.if-has_letter.false in
+          let nines = nines_at _ _ _ _ _ (16 ^ span.lo) second.digits c.sixes-sixes.ensures.fifths is_sixes (part_most c.args.y span.lo span.hi _ _ second.register span.ordered span.in_register refl refl each) in
+          let total = w.decimal_total-total.ensures ∙ total_at _ _ _ _ _ _ _ _ span.lo inside bit nines first.digits w.carry_in_span.ensures.value is_sixes in
+          rw w.total-is (difference_tells c.args.x c.args.y c.args.borrow_in span.lo span.hi _ first.register second.register span.ordered span.in_register each total)
     ]
 
 pub put-digits-requires-clause-places : goal.put-digits-requires-clause-places
@@ -41,15 +43,16 @@ told c =
     let span = c.args.span in
     let first = c.in_span-first.ensures in
     let second = c.in_span-second.ensures in
-    let is_ones = ones_in_place span.lo span.hi span.mask c.ones-ones.result span.ordered span.weights c.ones-ones.ensures.fifteen in
+    let is_sixes = sixes_in_place span.lo span.hi span.mask c.sixes-sixes.result span.ordered span.weights c.sixes-sixes.ensures.fifths in
+    let inside : span.lo < 14 = omega (arith, span.ordered, span.in_register) in
+    let bit : carry_digit (not c.args.borrow_in) < 16 = omega (arith, carry_le (not c.args.borrow_in)) in
     elim c.if-has_letter.branch [
       | then-has_letter w ↦ rw w.total-is (rule_tells Subtract c.args.x c.args.y c.args.borrow_in span.lo span.hi _ span.ordered span.in_register (w.total-total.ensures span.lo span.hi (record { ordered = span.ordered; in_register = span.in_register; weights = span.weights })))
       | else-has_letter w ↦
-          let each = span_decimal c.args.y span.lo span.hi span.mask c.ones-ones.result _ _ second.register span.ordered span.in_register span.weights c.ones-ones.ensures.fifteen second.digits c.has_letter.ensures w.if-has_letter.false in
-          let nines = nines_at _ _ _ _ (16 ^ span.lo) second.digits is_ones (part_most c.args.y span.lo span.hi _ _ second.register span.ordered span.in_register refl refl each) in
-          let total = w.decimal_total-total.ensures.total ∙ total_at _ _ _ _ _ _ _ _ span.lo nines first.digits w.carry_in_span.ensures.value is_ones in
-          let most : w.decimal_total-total.result < 2 * 16 ^ (span.hi + 1) = omega (arith, w.decimal_total-total.ensures.most, w.carry_in_span.ensures.most, c.ones-ones.ensures.fifteen, span.weights, weight_positive span.lo) in
-          rw w.total-is (difference_tells c.args.x c.args.y c.args.borrow_in span.lo span.hi _ first.register second.register span.ordered span.in_register each total most)
+          let each = span_decimal c.args.y span.lo span.hi span.mask c.sixes-sixes.result _ _ second.register span.ordered span.in_register span.weights c.sixes-sixes.ensures.fifths second.digits c.has_letter.ensures w.if-has_letter.false in
+          let nines = nines_at _ _ _ _ _ (16 ^ span.lo) second.digits c.sixes-sixes.ensures.fifths is_sixes (part_most c.args.y span.lo span.hi _ _ second.register span.ordered span.in_register refl refl each) in
+          let total = w.decimal_total-total.ensures ∙ total_at _ _ _ _ _ _ _ _ span.lo inside bit nines first.digits w.carry_in_span.ensures.value is_sixes in
+          rw w.total-is (difference_tells c.args.x c.args.y c.args.borrow_in span.lo span.hi _ first.register second.register span.ordered span.in_register each total)
     ]
 
 pub returns : goal.returns

@@ -1,7 +1,8 @@
-use Rattle.std.proofs.Common.{◌+◌, ◌*◌, ◌^◌, ◌<◌, ◌∙◌, arith}
-use Rattle.h41_digits.proofs.Packed.{weight_positive}
+use Rattle.std.proofs.Common.{◌<◌, ◌∙◌, arith}
+use Rattle.h41_arith.specs.DigitRule.{carry_digit}
 use Rattle.h41_arith.specs.declared.sums.DigitOperation.TheVariants.{Add}
-use Rattle.h41_arith.proofs.InPlace.{ones_in_place, span_decimal, span_most, total_at}
+use Rattle.h41_arith.proofs.Carries.{carry_le}
+use Rattle.h41_arith.proofs.InPlace.{sixes_in_place, span_decimal, span_most, total_at}
 use Rattle.h41_arith.proofs.Totals.{Tells, rule_tells, sum_tells}
 use Rattle.h41_arith.proofs.sums.decimal_sum.Goals as goal
 use Rattle.h41_arith.proofs.sums.decimal_sum.Goals.{then-has_letter, else-has_letter}
@@ -10,22 +11,23 @@ pub decimal_total-total-requires-clause-first : goal.decimal_total-total-require
 decimal_total-total-requires-clause-first c =
     let span = c.args.span in
     let first = c.in_span-first.ensures in
-    span_most c.args.x span.lo span.hi span.mask c.ones-ones.result _ first.register span.ordered span.in_register span.weights c.ones-ones.ensures.fifteen first.digits
-    (span_decimal c.args.x span.lo span.hi span.mask c.ones-ones.result _ _ first.register span.ordered span.in_register span.weights c.ones-ones.ensures.fifteen first.digits c.has_letter.ensures c.if-has_letter.false)
+    span_most c.args.x span.lo span.hi span.mask c.sixes-sixes.result _ first.register span.ordered span.in_register span.weights c.sixes-sixes.ensures.fifths first.digits
+    (span_decimal c.args.x span.lo span.hi span.mask c.sixes-sixes.result _ _ first.register span.ordered span.in_register span.weights c.sixes-sixes.ensures.fifths first.digits c.has_letter.ensures c.if-has_letter.false)
 
 tells : (c : goal.Joined-has_letter) → Tells Add c.args.x c.args.y c.args.carry_in c.args.span.lo c.args.span.hi c.if-has_letter.total
 tells c =
     let span = c.args.span in
     let first = c.in_span-first.ensures in
     let second = c.in_span-second.ensures in
-    let is_ones = ones_in_place span.lo span.hi span.mask c.ones-ones.result span.ordered span.weights c.ones-ones.ensures.fifteen in
+    let is_sixes = sixes_in_place span.lo span.hi span.mask c.sixes-sixes.result span.ordered span.weights c.sixes-sixes.ensures.fifths in
+    let inside : span.lo < 14 = omega (arith, span.ordered, span.in_register) in
+    let bit : carry_digit c.args.carry_in < 16 = omega (arith, carry_le c.args.carry_in) in
     elim c.if-has_letter.branch [
       | then-has_letter w ↦ rw w.total-is (rule_tells Add c.args.x c.args.y c.args.carry_in span.lo span.hi _ span.ordered span.in_register (w.total-total.ensures span.lo span.hi (record { ordered = span.ordered; in_register = span.in_register; weights = span.weights })))
       | else-has_letter w ↦
-          let each = span_decimal c.args.x span.lo span.hi span.mask c.ones-ones.result _ _ first.register span.ordered span.in_register span.weights c.ones-ones.ensures.fifteen first.digits c.has_letter.ensures w.if-has_letter.false in
-          let total = w.decimal_total-total.ensures.total ∙ total_at _ _ _ _ _ _ _ _ span.lo first.digits second.digits w.carry_in_span.ensures.value is_ones in
-          let most : w.decimal_total-total.result < 2 * 16 ^ (span.hi + 1) = omega (arith, w.decimal_total-total.ensures.most, w.carry_in_span.ensures.most, c.ones-ones.ensures.fifteen, span.weights, weight_positive span.lo) in
-          rw w.total-is (sum_tells c.args.x c.args.y c.args.carry_in span.lo span.hi _ first.register second.register span.ordered span.in_register each total most)
+          let each = span_decimal c.args.x span.lo span.hi span.mask c.sixes-sixes.result _ _ first.register span.ordered span.in_register span.weights c.sixes-sixes.ensures.fifths first.digits c.has_letter.ensures w.if-has_letter.false in
+          let total = w.decimal_total-total.ensures ∙ total_at _ _ _ _ _ _ _ _ span.lo inside bit first.digits second.digits w.carry_in_span.ensures.value is_sixes in
+          rw w.total-is (sum_tells c.args.x c.args.y c.args.carry_in span.lo span.hi _ first.register second.register span.ordered span.in_register each total)
     ]
 
 pub put-requires-clause-places : goal.put-requires-clause-places
@@ -39,14 +41,15 @@ told c =
     let span = c.args.span in
     let first = c.in_span-first.ensures in
     let second = c.in_span-second.ensures in
-    let is_ones = ones_in_place span.lo span.hi span.mask c.ones-ones.result span.ordered span.weights c.ones-ones.ensures.fifteen in
+    let is_sixes = sixes_in_place span.lo span.hi span.mask c.sixes-sixes.result span.ordered span.weights c.sixes-sixes.ensures.fifths in
+    let inside : span.lo < 14 = omega (arith, span.ordered, span.in_register) in
+    let bit : carry_digit c.args.carry_in < 16 = omega (arith, carry_le c.args.carry_in) in
     elim c.if-has_letter.branch [
       | then-has_letter w ↦ rw w.total-is (rule_tells Add c.args.x c.args.y c.args.carry_in span.lo span.hi _ span.ordered span.in_register (w.total-total.ensures span.lo span.hi (record { ordered = span.ordered; in_register = span.in_register; weights = span.weights })))
       | else-has_letter w ↦
-          let each = span_decimal c.args.x span.lo span.hi span.mask c.ones-ones.result _ _ first.register span.ordered span.in_register span.weights c.ones-ones.ensures.fifteen first.digits c.has_letter.ensures w.if-has_letter.false in
-          let total = w.decimal_total-total.ensures.total ∙ total_at _ _ _ _ _ _ _ _ span.lo first.digits second.digits w.carry_in_span.ensures.value is_ones in
-          let most : w.decimal_total-total.result < 2 * 16 ^ (span.hi + 1) = omega (arith, w.decimal_total-total.ensures.most, w.carry_in_span.ensures.most, c.ones-ones.ensures.fifteen, span.weights, weight_positive span.lo) in
-          rw w.total-is (sum_tells c.args.x c.args.y c.args.carry_in span.lo span.hi _ first.register second.register span.ordered span.in_register each total most)
+          let each = span_decimal c.args.x span.lo span.hi span.mask c.sixes-sixes.result _ _ first.register span.ordered span.in_register span.weights c.sixes-sixes.ensures.fifths first.digits c.has_letter.ensures w.if-has_letter.false in
+          let total = w.decimal_total-total.ensures ∙ total_at _ _ _ _ _ _ _ _ span.lo inside bit first.digits second.digits w.carry_in_span.ensures.value is_sixes in
+          rw w.total-is (sum_tells c.args.x c.args.y c.args.carry_in span.lo span.hi _ first.register second.register span.ordered span.in_register each total)
     ]
 
 pub returns : goal.returns

@@ -1,6 +1,6 @@
 -- The listing of words: they are cut into instructions, and each is told on a line of its own. The texts are those of
 -- this project's table of mnemonics, and so is the form of a line.
-use Rattle.std.specs.Prelude.{ℕ, ◌+◌, ◌%◌, List, [], ◌∷◌, ◌++◌, flat_map, Option, Some, None, codes, ◌==◌, if◌then◌else◌}
+use Rattle.std.specs.Prelude.{◌≡◌, ℕ, ◌+◌, ◌%◌, List, [], ◌∷◌, ◌++◌, flat_map, Option, Some, None, String, codes, string_bytes, ◌==◌, if◌then◌else◌}
 use Rattle.h41_digits.specs.Register.{hexadecimal_text}
 use Rattle.h41_words.specs.Mnemonics.{row_text, instruction_text}
 use Rattle.h41_words.specs.WordTable.{row_of, length_of}
@@ -54,9 +54,9 @@ words_column piece = hexadecimal_text 3 piece.first ++ second_column piece.secon
 abbrev pub columns_text : ℕ → Piece → List ℕ
 columns_text address piece = hexadecimal_text 4 address ++ codes "  " ++ words_column piece ++ codes "  "
 
--- a text with the line of an instruction behind it, with its columns
-abbrev pub with_columns_line : List ℕ → ℕ → Piece → List ℕ
-with_columns_line text address piece = (text ++ columns_text address piece) ++ piece_line piece
+-- a text has gained the line of an instruction, with its columns
+abbrev pub GainsLine : ℕ → Piece → String → String → Type 0
+GainsLine address piece old new = string_bytes new ≡ (string_bytes old ++ columns_text address piece) ++ piece_line piece
 
 -- a line with its columns; an address has 16 bits
 abbrev pub columns_line : ℕ → Piece → List ℕ

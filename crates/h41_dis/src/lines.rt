@@ -3,7 +3,7 @@
 ghost use Rattle.std.specs.Prelude.{◌≡◌, ◌+◌, ◌%◌, ◌≤◌, ◌<◌, ◌++◌, IfOk, length};
 ghost use Rattle.std.specs.String.{string_bytes};
 ghost use Rattle.arrayvec.specs.ArrayString.{array_string_len};
-ghost use Rattle.h41_dis.specs.Spelling.{columns_text, listing_text, piece_line, spell, with_columns_line};
+ghost use Rattle.h41_dis.specs.Spelling.{columns_text, GainsLine, listing_text, piece_line, spell};
 
 use crate::cut::{Piece, Pieces};
 use crate::text::{push_byte, push_instruction, push_word};
@@ -53,7 +53,7 @@ fn push_line(text: &mut String, piece: Piece) -> Result<(), AllocError>
 /// Appends the line of an instruction at an address, with its columns.
 #[inline]
 fn push_columns_line(text: &mut String, address: u16, piece: Piece) -> Result<(), AllocError>
-    ensures { IfOk result (λ _. string_bytes text.new ≡ with_columns_line (string_bytes text.old) address piece) }
+    ensures { IfOk result (λ _. GainsLine address piece text.old text.new) }
 {
     let mut line = ArrayString::<LINE>::new();
     let (first, second) = (piece.first, piece.second);

@@ -153,14 +153,6 @@ module _ (members : List Breakpoint) (b x : Breakpoint) (i : ℕ) (once : IsEach
   pub set_taken : set_of rest ≡ without_breakpoint b (set_of members)
   set_taken = same_set cmp_total cmp_apart (set_of rest) (remove (set_of members) b) (λ q. left q ∙ sym (contains-remove cmp_total (set_of members) b q))
 
--- the marks of low bytes
-pub unmarked : (marks : List Bool) (members : List Breakpoint) (q : Breakpoint) → AreMarked marks members → get_or marks (low_byte q) false ≡ false → is_set (set_of members) q ≡ false
-unmarked marks members q marked clear =
-    elim (is_set (set_of members) q) as (λ had. is_set (set_of members) q ≡ had → had ≡ false) [
-      | true ↦ λ is. sym (marked q is) ∙ clear
-      | false ↦ λ _. refl
-    ] refl
-
 -- one that is in a set with one more is that one or was in it
 was_in : (members : List Breakpoint) (b q : Breakpoint) → is_set (set_of (members ++ b ∷ [])) q ≡ true → eq_by_cmp breakpoint_cmp q b ≡ false → is_set (set_of members) q ≡ true
 was_in members b q had apart =

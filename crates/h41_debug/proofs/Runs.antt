@@ -102,15 +102,6 @@ made_none limit s = record {
   before = λ running fewer u other below _ _. absurd (omega (arith, below));
 }
 
--- a run of nothing
-pub stays_idle : (limit : ℕ) (s : BenchState) → is_idle s.calculator.mode ≡ true → Run limit s s 0 Idle
-stays_idle limit s idle = record {
-  steps = (refl, refl);
-  stops = idle;
-  first = λ other below _. absurd (omega (arith, below));
-  least = λ fewer u other below _ _. absurd (omega (arith, below));
-}
-
 -- why a reason that is asked for before another does not hold
 module _ (limit made : ℕ) (t : BenchState) (running : is_idle t.calculator.mode ≡ false) where
   not_idle : (other : Stop) → turn_of other < 1 → StopsFor limit made t other → ⊥
@@ -254,10 +245,6 @@ some_made limit made t Idle some ends other = ends
 some_made limit made t Break some ends other = ends
 some_made limit made t Limit some ends other = omega (arith, some, ends)
 some_made limit made t (Refused refusal) some ends other = absurd (other refusal refl)
-
--- a run of no step at all
-pub ends_unmade : (limit : ℕ) (s : BenchState) → limit ≡ 0 → is_idle s.calculator.mode ≡ false → Run limit s s 0 Limit
-ends_unmade limit s none running = subst (λ n. Run n s s 0 Limit) (sym none) (ends_at_limit 0 s s (begins 0 s running))
 
 -- numbers of which neither is below the other, and one that is below another or goes on from it
 equal_counts : (a b : ℕ) → (a < b → ⊥) → (b < a → ⊥) → a ≡ b

@@ -7,11 +7,6 @@ use Rattle.h41_xrom.specs.CalculatorLaws.{StepIsDetermined, StepRefusalIsDetermi
 use Rattle.h41_debug.specs.Bench.{BenchState, Steps, with_calculator}
 use Rattle.h41_debug.specs.BenchLaws.{StepsAreDetermined}
 
--- one step, and those after it
-pub steps-more : (left more : ℕ) (s t : BenchState) (next : CalculatorState) (refusal : Option CalculatorRefusal) → left ≡ suc more
-    → RefusesStep s.calculator None → Step s.calculator next → Steps more (with_calculator next s) t refusal → Steps left s t refusal
-steps-more left more s t next refusal size accepted step rest = rw size (None, accepted, (next, step, rest))
-
 -- a step that is refused ends them
 pub steps-refused : (left more : ℕ) (s : BenchState) (why : CalculatorRefusal) → left ≡ suc more → RefusesStep s.calculator (Some why)
     → Steps left s s (Some why)

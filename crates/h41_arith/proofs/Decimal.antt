@@ -1,17 +1,17 @@
 -- In base 10 a sum is that of the numbers, and six more at each digit that carries.
-use Rattle.std.proofs.Common.{◌≡◌, ℕ, suc, zero, ◌+◌, ◌-◌, ◌*◌, ◌/◌, ◌%◌, ◌^◌, ◌<◌, ◌≤◌, ◌==◌, Bool, true, false, not, List, [], ◌∷◌, map, replicate, length, take, drop, slice_index, refl, sym, ap, subst, arith, inl, inr, ◌∙◌}
+use Rattle.std.proofs.Common.{◌≡◌, ℕ, suc, zero, ◌+◌, ◌-◌, ◌*◌, ◌/◌, ◌%◌, ◌^◌, ◌<◌, ◌≤◌, ◌==◌, Bool, false, not, List, [], ◌∷◌, map, replicate, length, take, drop, refl, sym, ap, subst, arith, inl, inr, ◌∙◌}
 use Rattle.std.proofs.Math.Nat.{pow-succ'}
 use Rattle.std.proofs.lemmas.Bool.{cases_lt}
 use Rattle.std.proofs.lemmas.Bool.Decides.{nat_tests}
-use Rattle.std.proofs.lemmas.List.{length-replicate, length-map, get_or-map}
-use Rattle.std.proofs.lemmas.List.Elements.{recursion_from_All, All-from_recursion}
+use Rattle.std.proofs.lemmas.List.{length-replicate}
+use Rattle.std.proofs.lemmas.List.Elements.{recursion_from_All}
 use Rattle.std.proofs.lemmas.Nat.{xor_shr, and_block, and_mask, and_le_l}
 use Rattle.std.proofs.lemmas.Nat.Bits.{bit_at_lowest, bit_at_xor}
 use Rattle.std.specs.Int.RustNames.{bit_and, bit_xor}
 use Rattle.std.specs.List.{AllByRecursion}
 use Rattle.h41_digits.specs.Register.{IsRegister, value}
 use Rattle.h41_digits.specs.Packed.{value-cons}
-use Rattle.h41_arith.specs.DigitRule.{SumDigit, DifferenceDigit, SumInto, DifferenceInto, carry_digit}
+use Rattle.h41_arith.specs.DigitRule.{SumDigit, SumInto, carry_digit}
 use Rattle.h41_arith.proofs.Carries.{carry_le}
 use Rattle.h41_arith.proofs.Parts.{part, part-register, keeps_outside}
 use Rattle.h41_arith.proofs.Steps.{Steps, steps_none, steps_more, has_carries}
@@ -34,7 +34,7 @@ carry_word [] y carry = 0
 carry_word (a ∷ x) [] carry = 0
 carry_word (a ∷ x) (b ∷ y) carry = (a + b + carry) / 16 + 16 * carry_word x y ((a + b + carry) / 16)
 
-last_of_xor : (x y : ℕ) → bit_xor x y % 2 ≡ (x % 2 + y % 2) % 2
+pub last_of_xor : (x y : ℕ) → bit_xor x y % 2 ≡ (x % 2 + y % 2) % 2
 last_of_xor x y = omega (arith, sym (bit_at_lowest (bit_xor x y)) ∙ bit_at_xor x y 0, bit_at_lowest x, bit_at_lowest y)
 
 -- the last bit of two numbers and their sum tells the carry in, whatever even number more is in the sum
@@ -46,7 +46,7 @@ pub even_with_carry : (x y sum carry half : ℕ) → sum ≡ x + y + carry + 2 *
 even_with_carry x y sum carry half is = omega (arith, last_of_xor (bit_xor (bit_xor x y) carry) sum, last_of_xor (bit_xor x y) carry, last_of_xor x y)
 
 -- one digit less of the sum of two numbers
-shifted_xor : (a b s x y sum : ℕ) → a < 16 → b < 16 → s < 16 → bit_xor (bit_xor (a + 16 * x) (b + 16 * y)) (s + 16 * sum) / 16 ≡ bit_xor (bit_xor x y) sum
+pub shifted_xor : (a b s x y sum : ℕ) → a < 16 → b < 16 → s < 16 → bit_xor (bit_xor (a + 16 * x) (b + 16 * y)) (s + 16 * sum) / 16 ≡ bit_xor (bit_xor x y) sum
 shifted_xor a b s x y sum a_small b_small s_small =
     let is_x : (a + 16 * x) / 16 ≡ x = omega arith in
     let is_y : (b + 16 * y) / 16 ≡ y = omega arith in
@@ -71,9 +71,13 @@ value-with_sixes [] = refl
 value-with_sixes (digit ∷ digits) =
     omega (arith, value-cons (digit + 6) (with_sixes digits), value-cons digit digits, value-with_sixes digits, ones_more (length digits))
 
--- a one at each digit that carries, of so many, in a sum with a carry and with sixes more
+-- a one at each of so many digits behind which the last bit of a result is not that of two numbers
+abbrev pub changed : ℕ → ℕ → ℕ → ℕ → ℕ
+changed first second result places = bit_and (bit_xor (bit_xor first second) result / 16) (ones places)
+
+-- a one at each digit that carries in a sum with a carry and with sixes more
 abbrev pub tens : ℕ → ℕ → ℕ → ℕ → ℕ → ℕ
-tens first second carry sixes places = bit_and (bit_xor (bit_xor first second) (first + second + carry + sixes) / 16) (ones places)
+tens first second carry sixes places = changed first second (first + second + carry + sixes) places
 
 -- the total in base 10 with them
 abbrev pub total_with_tens : ℕ → ℕ → ℕ → ℕ → ℕ → ℕ
@@ -233,72 +237,6 @@ tens_result into x y z carry_in carry lo hi places digits first second limit mas
       outside = keeps_outside into z lo hi below above;
     }
 
--- the complement of digits to nines
-abbrev pub nines_less : List ℕ → List ℕ
-nines_less digits = map (λ digit. 9 - digit) digits
-
-pub value-nines_less : (digits : List ℕ) → AllByRecursion (λ digit. digit < 10) digits → value (nines_less digits) + value digits ≡ 9 * ones (length digits)
-value-nines_less [] each = refl
-value-nines_less (digit ∷ digits) each =
-    omega (arith, each.0, value-cons (9 - digit) (nines_less digits), value-cons digit digits, value-nines_less digits each.1, ones_more (length digits))
-
-nines_decimal : (digits : List ℕ) → AllByRecursion (λ digit. digit < 10) (nines_less digits)
-nines_decimal [] = tt
-nines_decimal (digit ∷ digits) = (omega arith, nines_decimal digits)
-
--- a sum with the complement is a difference, whose borrows are the carries that are not there
-borrow_digit : (x y carry z out : ℕ) → y < 10 → x < 16 → carry ≤ 1 → SumDigit 10 (9 - y) x carry z out → DifferenceDigit 10 x y (1 - carry) z (1 - out)
-borrow_digit x y carry z out y_small x_small bit (inl p) = inr (omega (arith, p.0), omega (arith, p.0, p.1), omega (arith, p.2))
-borrow_digit x y carry z out y_small x_small bit (inr p) = inl (omega (arith, p.0), omega (arith, p.0, p.1), omega (arith, p.2))
-
-sum_bit : (base x y carry z out : ℕ) → SumDigit base x y carry z out → out ≤ 1
-sum_bit base x y carry z out (inl p) = omega (arith, p.2)
-sum_bit base x y carry z out (inr p) = omega (arith, p.2)
-
-borrowed : (x y z : List ℕ) (carry count out : ℕ) → AllByRecursion (λ digit. digit < 10) y → AllByRecursion (λ digit. digit < 16) x → length y ≡ count → length x ≡ count → carry ≤ 1
-    → Steps (SumDigit 10) (nines_less y) x carry z count out → Steps (DifferenceDigit 10) x y (1 - carry) z count (1 - out)
-borrowed x y z carry count out p q size_y size_x bit steps = record {
-  carries = λ index. 1 - steps.carries index;
-  first = ap (λ n. 1 - n) steps.first;
-  last = ap (λ n. 1 - n) steps.last;
-  places = λ index few.
-      borrow_digit (slice_index x index) (slice_index y index) (steps.carries index) (slice_index z index) (steps.carries (suc index)) (All-from_recursion _ y p index 0 (omega (arith, size_y))) (All-from_recursion _ x q index 0 (omega (arith, size_x)))
-      (bits index (omega arith)) (rw (get_or-map (λ digit. 9 - digit) y index 0 0 (omega (arith, size_y))) at (steps.places index few));
-}
-  where
-    bits : (index : ℕ) → index ≤ count → steps.carries index ≤ 1
-    bits zero few = omega (arith, steps.first)
-    bits (suc index) few = sum_bit 10 _ _ _ _ _ (steps.places index (omega arith))
-
-other_bit : (carry : Bool) → 1 - carry_digit (not carry) ≡ carry_digit carry
-other_bit true = refl
-other_bit false = refl
-
-bit_other : (carry : Bool) → 1 - carry_digit carry ≡ carry_digit (not carry)
-bit_other true = refl
-bit_other false = refl
-
--- a difference in base 10 put into a span
-pub nines_result : (into x y z : List ℕ) (borrow_in enough : Bool) (lo hi places digits first second limit mask : ℕ) → IsRegister 14 x → IsRegister 14 y → IsRegister 14 z → lo ≤ hi → hi < 14
-    → AllByRecursion (λ digit. digit < 10) (part y lo hi) → value (part z lo hi) ≡ digits → first ≡ value (part x lo hi) → second ≡ value (part y lo hi) → limit ≡ 16 ^ (hi + 1 - lo) → mask ≡ ones (hi + 1 - lo)
-    → hi + 1 - lo ≤ places → digits + limit * carry_digit enough ≡ total_with_tens (9 * mask - second) first (carry_digit (not borrow_in)) mask places
-    → take lo z ≡ take lo into → drop (hi + 1) z ≡ drop (hi + 1) into → DifferenceInto 10 into x y borrow_in lo hi z (not enough)
-nines_result into x y z borrow_in enough lo hi places digits first second limit mask p q r ordered inside each is_z is_first is_second is_limit is_mask few whole below above =
-    let a = part-register x lo hi p ordered inside in
-    let b = part-register y lo hi q ordered inside in
-    let d = part-register z lo hi r ordered inside in
-    let count = hi + 1 - lo in
-    let complement : 9 * mask - second ≡ value (nines_less (part y lo hi)) = omega (arith, is_mask, is_second, ap ones b.size, value-nines_less (part y lo hi) each) in
-    let bit = carry_le (not borrow_in) in
-    let steps = tens_of (nines_less (part y lo hi)) (part x lo hi) (part z lo hi) (carry_digit (not borrow_in)) (carry_digit enough) count places digits (9 * mask - second) first limit mask
-    (nines_decimal (part y lo hi)) (recursion_from_All _ _ a.each) (recursion_from_All _ _ d.each) (length-map (part y lo hi) (λ digit. 9 - digit) ∙ b.size) a.size d.size few bit is_z complement is_first is_limit is_mask whole in
-    let back = borrowed (part x lo hi) (part y lo hi) (part z lo hi) (carry_digit (not borrow_in)) count (carry_digit enough) each (recursion_from_All _ _ a.each) b.size a.size bit steps in
-    let told : Steps (DifferenceDigit 10) (part x lo hi) (part y lo hi) (carry_digit borrow_in) (part z lo hi) count (carry_digit (not enough)) = rw (other_bit borrow_in, bit_other enough) at back in record {
-      register = r;
-      digits = has_carries (DifferenceDigit 10) x y z lo hi (carry_digit borrow_in) (carry_digit (not enough)) (carry_le borrow_in) ordered told;
-      outside = keeps_outside into z lo hi below above;
-    }
-
 -- the totals of a span are small
 pub part_total_small : (x y : List ℕ) (carry : Bool) (lo hi places : ℕ) → IsRegister 14 x → IsRegister 14 y → lo ≤ hi → hi < 14 → AllByRecursion (λ digit. digit < 10) (part x lo hi) → hi + 1 - lo ≤ places
     → total_with_tens (value (part x lo hi)) (value (part y lo hi)) (carry_digit carry) (ones (hi + 1 - lo)) places < 2 * 16 ^ (hi + 1 - lo)
@@ -306,11 +244,3 @@ part_total_small x y carry lo hi places p q ordered inside each few =
     let a = part-register x lo hi p ordered inside in
     let b = part-register y lo hi q ordered inside in
     rw b.size at (total_small (part x lo hi) (part y lo hi) (carry_digit carry) places each (recursion_from_All _ _ b.each) (a.size ∙ sym b.size) (omega (arith, b.size, few)) (carry_le carry))
-
-pub nines_total_small : (x y : List ℕ) (carry : Bool) (lo hi places : ℕ) → IsRegister 14 x → IsRegister 14 y → lo ≤ hi → hi < 14 → AllByRecursion (λ digit. digit < 10) (part y lo hi) → hi + 1 - lo ≤ places
-    → total_with_tens (9 * ones (hi + 1 - lo) - value (part y lo hi)) (value (part x lo hi)) (carry_digit carry) (ones (hi + 1 - lo)) places < 2 * 16 ^ (hi + 1 - lo)
-nines_total_small x y carry lo hi places p q ordered inside each few =
-    let a = part-register x lo hi p ordered inside in
-    let b = part-register y lo hi q ordered inside in
-    let complement : value (nines_less (part y lo hi)) ≡ 9 * ones (hi + 1 - lo) - value (part y lo hi) = omega (arith, ap ones b.size, value-nines_less (part y lo hi) each) in
-    rw (complement, a.size) at (total_small (nines_less (part y lo hi)) (part x lo hi) (carry_digit carry) places (nines_decimal (part y lo hi)) (recursion_from_All _ _ a.each) (length-map (part y lo hi) (λ digit. 9 - digit) ∙ b.size ∙ sym a.size) (omega (arith, a.size, few)) (carry_le carry))

@@ -9,7 +9,7 @@ use Rattle.std.specs.Int.RustNames.{bit_and, bit_xor}
 use Rattle.h41_digits.proofs.Packed.{bits_of_places, weight_positive}
 use Rattle.h41_arith.specs.DigitRule.{carry_digit}
 use Rattle.h41_arith.specs.DigitOperations.{all_ones, carried_of, decimal_total_of}
-use Rattle.h41_arith.proofs.Decimal.{ones, ones_more, fifteen_ones, masked_more, even_with_carry, tens, total_with_tens, no_carry, part_decimal, part_most}
+use Rattle.h41_arith.proofs.Decimal.{ones, ones_more, fifteen_ones, masked_more, even_with_carry, changed, tens, total_with_tens, no_carry, part_decimal, part_most}
 use Rattle.h41_arith.proofs.Parts.{part}
 use Rattle.h41_digits.specs.Register.{IsRegister, value}
 use Rattle.std.specs.List.{AllByRecursion}
@@ -199,40 +199,40 @@ ones_at n places (suc lo) =
     turned : (n weight : ℕ) → n * (16 * weight) ≡ 16 * (n * weight)
     turned n weight = omega arith
 
--- what carries into each digit is what carried out of the one before it
-carried_here : (x y c half places : ℕ) → c < 16 → bit_and (bit_xor (bit_xor (bit_xor x y) c) (x + y + c + 2 * half)) (ones (suc places)) ≡ 16 * tens x y c (2 * half) places
-carried_here x y c half places small =
-    let sum = x + y + c + 2 * half in
-    let word = bit_xor (bit_xor (bit_xor x y) c) sum in
+-- what changes in a digit is told by the one before it
+changed_here : (x y c result places : ℕ) → c < 16 → bit_xor (bit_xor (bit_xor x y) c) result % 2 ≡ 0 → bit_and (bit_xor (bit_xor (bit_xor x y) c) result) (ones (suc places)) ≡ 16 * changed x y result places
+changed_here x y c result places small even =
+    let word = bit_xor (bit_xor (bit_xor x y) c) result in
     let none : c / 16 ≡ 0 = omega arith in
     let without : bit_xor (bit_xor x y) c / 16 ≡ bit_xor x y / 16 = xor_shr (bit_xor x y) c 4 ∙ ap (bit_xor (bit_xor x y / 16)) none ∙ xor_zero_r (bit_xor x y / 16) in
-    let down : word / 16 ≡ bit_xor (bit_xor x y) sum / 16 = xor_shr (bit_xor (bit_xor x y) c) sum 4 ∙ ap (λ n. bit_xor n (sum / 16)) without ∙ sym (xor_shr (bit_xor x y) sum 4) in
-    ap (bit_and word) (ones_more places) ∙ masked_more word (ones places) ∙ ap (λ n. word % 2 + 16 * bit_and n (ones places)) down ∙ omega (arith, even_with_carry x y sum c half refl)
+    let down : word / 16 ≡ bit_xor (bit_xor x y) result / 16 = xor_shr (bit_xor (bit_xor x y) c) result 4 ∙ ap (λ n. bit_xor n (result / 16)) without ∙ sym (xor_shr (bit_xor x y) result 4) in
+    ap (bit_and word) (ones_more places) ∙ masked_more word (ones places) ∙ ap (λ n. word % 2 + 16 * bit_and n (ones places)) down ∙ omega (arith, even)
 
-pub carried_at : (first second carry sixes x y c m lo : ℕ) → lo < 14 → c < 16 → first ≡ x * 16 ^ lo → second ≡ y * 16 ^ lo → carry ≡ c * 16 ^ lo → sixes ≡ 6 * m * 16 ^ lo
-    → carried_of first second carry sixes ≡ 16 * tens x y c (6 * m) (14 - lo) * 16 ^ lo
-carried_at first second carry sixes x y c m lo inside small is_first is_second is_carry is_sixes =
-    let half = 3 * m in
-    let sum = x + y + c + 2 * half in
-    let is_sum : first + second + carry + sixes ≡ sum * 16 ^ lo = added x y c m (16 ^ lo) _ _ _ _ is_first is_second is_carry is_sixes in
+pub carried_at : (first second carry result x y c r lo : ℕ) → lo < 14 → c < 16 → first ≡ x * 16 ^ lo → second ≡ y * 16 ^ lo → carry ≡ c * 16 ^ lo → result ≡ r * 16 ^ lo
+    → bit_xor (bit_xor (bit_xor x y) c) r % 2 ≡ 0 → carried_of first second carry result ≡ 16 * changed x y r (14 - lo) * 16 ^ lo
+carried_at first second carry result x y c r lo inside small is_first is_second is_carry is_result even =
     let all : all_ones ≡ ones (suc (14 - lo) + lo) = ap ones (split lo inside) in
-    let six : 2 * half ≡ 6 * m = omega arith in
-    rw (is_first, is_second, is_carry) (ap (λ n. bit_and (bit_xor (bit_xor (bit_xor (x * 16 ^ lo) (y * 16 ^ lo)) (c * 16 ^ lo)) n) all_ones) (rw (is_first, is_second, is_carry) at is_sum))
-    ∙ ap (λ n. bit_and (bit_xor (bit_xor n (c * 16 ^ lo)) (sum * 16 ^ lo)) all_ones) (xor_at x y lo) ∙ ap (λ n. bit_and (bit_xor n (sum * 16 ^ lo)) all_ones) (xor_at (bit_xor x y) c lo)
-    ∙ ap (λ n. bit_and n all_ones) (xor_at (bit_xor (bit_xor x y) c) sum lo) ∙ ap (bit_and (bit_xor (bit_xor (bit_xor x y) c) sum * 16 ^ lo)) all
-    ∙ ones_at (bit_xor (bit_xor (bit_xor x y) c) sum) (suc (14 - lo)) lo ∙ ap (λ n. n * 16 ^ lo) (carried_here x y c half (14 - lo) small ∙ ap (λ n. 16 * tens x y c n (14 - lo)) six)
+    let word = bit_xor (bit_xor (bit_xor x y) c) r in
+    rw (is_first, is_second, is_carry, is_result) refl
+    ∙ ap (λ n. bit_and (bit_xor (bit_xor n (c * 16 ^ lo)) (r * 16 ^ lo)) all_ones) (xor_at x y lo) ∙ ap (λ n. bit_and (bit_xor n (r * 16 ^ lo)) all_ones) (xor_at (bit_xor x y) c lo)
+    ∙ ap (λ n. bit_and n all_ones) (xor_at (bit_xor (bit_xor x y) c) r lo) ∙ ap (bit_and (word * 16 ^ lo)) all
+    ∙ ones_at word (suc (14 - lo)) lo ∙ ap (λ n. n * 16 ^ lo) (changed_here x y c r (14 - lo) small even)
   where
     split : (lo : ℕ) → lo < 14 → 15 ≡ suc (14 - lo) + lo
     split lo inside = omega arith
 
-    added : (x y c m weight first second carry sixes : ℕ) → first ≡ x * weight → second ≡ y * weight → carry ≡ c * weight → sixes ≡ 6 * m * weight → first + second + carry + sixes ≡ (x + y + c + 2 * (3 * m)) * weight
-    added x y c m weight first second carry sixes is_first is_second is_carry is_sixes = omega (arith, is_first, is_second, is_carry, is_sixes)
+-- the same of a sum with sixes
+pub tens_at : (first second carry sixes x y c m lo : ℕ) → lo < 14 → c < 16 → first ≡ x * 16 ^ lo → second ≡ y * 16 ^ lo → carry ≡ c * 16 ^ lo → sixes ≡ 6 * m * 16 ^ lo
+    → carried_of first second carry (first + second + carry + sixes) ≡ 16 * tens x y c (6 * m) (14 - lo) * 16 ^ lo
+tens_at first second carry sixes x y c m lo inside small is_first is_second is_carry is_sixes =
+    let is_sum : first + second + carry + sixes ≡ (x + y + c + 6 * m) * 16 ^ lo = omega (arith, is_first, is_second, is_carry, is_sixes) in
+    carried_at first second carry (first + second + carry + sixes) x y c (x + y + c + 6 * m) lo inside small is_first is_second is_carry is_sum (even_with_carry x y (x + y + c + 6 * m) c (3 * m) (omega arith))
 
 -- and the total in base 10
 pub total_at : (first second carry sixes x y c m lo : ℕ) → lo < 14 → c < 16 → first ≡ x * 16 ^ lo → second ≡ y * 16 ^ lo → carry ≡ c * 16 ^ lo → sixes ≡ 6 * m * 16 ^ lo
     → decimal_total_of first second carry sixes ≡ total_with_tens x y c m (14 - lo) * 16 ^ lo
 total_at first second carry sixes x y c m lo inside small is_first is_second is_carry is_sixes =
-    let carried = carried_at first second carry sixes x y c m lo inside small is_first is_second is_carry is_sixes in
+    let carried = tens_at first second carry sixes x y c m lo inside small is_first is_second is_carry is_sixes in
     put_together first second carry _ x y c (tens x y c (6 * m) (14 - lo)) (16 ^ lo) is_first is_second is_carry carried
   where
     put_together : (first second carry carried x y c tens weight : ℕ) → first ≡ x * weight → second ≡ y * weight → carry ≡ c * weight → carried ≡ 16 * tens * weight
@@ -241,12 +241,14 @@ total_at first second carry sixes x y c m lo inside small is_first is_second is_
 
 -- digits of a span without a letter, as the code tells it of their number in its places
 pub span_decimal : (x : List ℕ) (lo hi mask sixes number : ℕ) (answer : Bool) → IsRegister 14 x → lo ≤ hi → hi < 14 → mask + 16 ^ lo ≡ 16 ^ (hi + 1) → 5 * sixes ≡ 2 * mask
-    → number ≡ value (part x lo hi) * 16 ^ lo → answer ≡ not (carried_of 0 number 0 sixes == 0) → answer ≡ false → AllByRecursion (λ digit. digit < 10) (part x lo hi)
+    → number ≡ value (part x lo hi) * 16 ^ lo → answer ≡ not (carried_of 0 number 0 (number + sixes) == 0) → answer ≡ false → AllByRecursion (λ digit. digit < 10) (part x lo hi)
 span_decimal x lo hi mask sixes number answer register ordered inside is_mask fifths is told none =
-    let none_of : carried_of 0 number 0 sixes ≡ 0 = no_carry answer _ told none in
+    let none_of : carried_of 0 number 0 (number + sixes) ≡ 0 = no_carry answer _ told none in
     let n = value (part x lo hi) in
     let m = ones (hi + 1 - lo) in
-    let carried = carried_at 0 number 0 sixes 0 n 0 m lo (omega (arith, ordered, inside)) (omega arith) (omega arith) is (omega arith) (sixes_in_place lo hi mask sixes ordered is_mask fifths) in
+    let plain : 0 + number + 0 + sixes ≡ number + sixes = omega arith in
+    let carried : carried_of 0 number 0 (number + sixes) ≡ 16 * tens 0 n 0 (6 * m) (14 - lo) * 16 ^ lo =
+    ap (carried_of 0 number 0) (sym plain) ∙ tens_at 0 number 0 sixes 0 n 0 m lo (omega (arith, ordered, inside)) (omega arith) (omega arith) is (omega arith) (sixes_in_place lo hi mask sixes ordered is_mask fifths) in
     part_decimal x lo hi n m (14 - lo) register ordered inside refl refl (omega (arith, ordered, inside)) (nothing _ (tens 0 n 0 (6 * m) (14 - lo)) (16 ^ lo) (weight_positive lo) carried none_of)
   where
     nothing : (carried tens weight : ℕ) → 0 < weight → carried ≡ 16 * tens * weight → carried ≡ 0 → tens ≡ 0
@@ -260,12 +262,21 @@ span_most x lo hi mask sixes number register ordered inside is_mask fifths is ea
     let placed : value (part x lo hi) * 16 ^ lo ≤ 9 * ones (hi + 1 - lo) * 16 ^ lo = mul-le-mul_right (16 ^ lo) most in
     omega (arith, is, placed, sixes_in_place lo hi mask sixes ordered is_mask fifths)
 
--- the complement to nines
-pub nines_at : (second mask sixes u m weight : ℕ) → second ≡ u * weight → 5 * sixes ≡ 2 * mask → sixes ≡ 6 * m * weight → u ≤ 9 * m → mask - sixes - second ≡ (9 * m - u) * weight
-nines_at second mask sixes u m weight is_second fifths is_sixes most =
-    let all : 9 * m - u + u ≡ 9 * m = omega arith in
-    let weighted : (9 * m - u) * weight + u * weight ≡ 9 * m * weight = split (9 * m - u) u (9 * m) weight all in
-    omega (arith, weighted, is_second, is_sixes, fifths)
-  where
-    split : (left u whole weight : ℕ) → left + u ≡ whole → left * weight + u * weight ≡ whole * weight
-    split left u whole weight is = rw (← is) (omega arith)
+-- a difference in such a word, whole: it is in its place, and goes on above where less is there than is taken away
+pub whole_difference : (first taken v t total weight word : ℕ) → 0 < weight → first ≡ v * weight → taken ≡ t * weight → word ≡ total * weight → v < total → t ≤ total
+    → (left : ℕ) × ((first + (word - taken)) % word ≡ left * weight) × (left + t ≡ v + total * carry_digit (nat_lt first taken)) × (left < total)
+whole_difference first taken v t total weight word positive is_first is_taken is_word less most = elim (cases_lt v t) [
+  | inl short ↦
+      let borrows : nat_lt first taken ≡ true = in_place-lt first taken v t weight positive is_first is_taken ∙ is_less_here v t short in
+      let parts : (v + total) * weight ≡ t * weight + (v + total - t) * weight = apart t (v + total) (v + total - t) weight (omega (arith, most)) in
+      let room : v * weight + weight ≤ t * weight = less_here v t weight short in
+      let enough : t * weight ≤ total * weight = mul-le-mul_right weight most in
+      let is : first + (word - taken) ≡ (v + total - t) * weight = omega (arith, is_first, is_taken, is_word, parts, enough) in
+      (v + total - t, mod-eq_of_lt (omega (arith, is, is_first, is_taken, is_word, room, enough, positive)) ∙ is, rw borrows (omega (arith, most)), omega (arith, short, most))
+  | inr enough ↦
+      let none : nat_lt first taken ≡ false = in_place-lt first taken v t weight positive is_first is_taken ∙ not_less_here v t enough in
+      let parts : v * weight ≡ t * weight + (v - t) * weight = apart t v (v - t) weight (omega (arith, enough)) in
+      let room : v * weight + weight ≤ total * weight = less_here v total weight less in
+      let is : first + (word - taken) ≡ (v - t) * weight + word = omega (arith, is_first, is_taken, is_word, parts, room) in
+      (v - t, ap (λ k. k % word) is ∙ add-mod_right ((v - t) * weight) word ∙ mod-eq_of_lt (omega (arith, is_word, parts, room, positive)), rw none (omega (arith, enough)), omega (arith, less))
+]

@@ -8,4 +8,5 @@ pub mod Hexadecimal
 pub mod Decimal
 pub mod InPlace
 pub mod WholeNumbers
+pub mod Remainders
 pub mod Totals

@@ -1,10 +1,9 @@
 //! Sums and differences of two registers over a span, of the numbers of its digits. In base 10 a letter has them made digit by digit.
 
 ghost use Rattle.std.specs.Prelude.{◌≡◌, ℕ, ◌+◌, ◌*◌, ◌^◌, ◌<◌, ◌≤◌, ◌⊎◌, ◌==◌, not, true, false};
-ghost use Rattle.h41_digits.specs.Register.{IsRegister};
 ghost use Rattle.h41_digits.specs.Spans.{IsFilled};
 ghost use Rattle.h41_arith.specs.DigitRule.{SumDigit, DifferenceDigit, SumInto, DifferenceInto, base_of, carry_digit, zeros};
-ghost use Rattle.h41_arith.specs.DigitOperations.{HasDigit, IsRuleTotal, RuleInto, all_ones, carried_of, decimal_total_of, rule_of};
+ghost use Rattle.h41_arith.specs.DigitOperations.{HasDigit, RuleInto, all_ones, carried_of, decimal_remainder_of, decimal_total_of, rule_of};
 
 use crate::spans::{carry_in_span, put};
 use h41_digits::{Reg, Span};
@@ -35,17 +34,22 @@ impl DigitOperation {
         }
     }
 
-    /// The digits of `x` and `y` added or subtracted in base 10 from place `lo` to place `hi`, in their places of a register of zeros,
-    /// and the carry or borrow out of the last.
-    fn over_places(self, x: Reg, y: Reg, carry_in: bool, lo: usize, hi: usize) -> (Reg, bool)
+    /// `into` with the digits of `x` and `y` added or subtracted in base 10, one after the other from place `lo` to place `hi`, and the
+    /// carry or borrow out of the last.
+    fn over_places(
+        self,
+        into: Reg,
+        x: Reg,
+        y: Reg,
+        carry_in: bool,
+        lo: usize,
+        hi: usize,
+    ) -> (Reg, bool)
         requires ordered { lo ≤ hi }
         requires in_register { hi < 14 }
-        ensures result { RuleInto self 10 zeros x y carry_in lo hi result.0 result.1 }
-        ensures first { IsRegister 14 x }
-        ensures second { IsRegister 14 y }
-        ensures register { IsRegister 14 result.0 }
+        ensures { RuleInto self into x y carry_in lo hi result.0 result.1 }
     {
-        let mut digits = Reg::zero();
+        let mut digits = into;
         let mut carry = carry_in;
         for place in lo..hi + 1 {
             let (digit, carry_out) = self.digit(x.get(place), y.get(place), carry);
@@ -55,25 +59,14 @@ impl DigitOperation {
         (digits, carry)
     }
 
-    /// The same as one number, in its places, with a 1 above its digits where a sum carries or a difference does not borrow. The places
-    /// are those that have the mask.
+    /// The same in the places that have the mask. Its machine code stands apart: digits from A to F in base 10 are rare.
     #[cold]
     #[inline(never)]
-    fn total(self, x: Reg, y: Reg, carry_in: bool, mask: u64) -> u64
-        ensures { (lo hi : ℕ) → IsFilled mask lo hi → IsRuleTotal self x y carry_in lo hi result }
+    fn digit_by_digit(self, into: Reg, x: Reg, y: Reg, carry: bool, mask: u64) -> (Reg, bool)
+        ensures { (lo hi : ℕ) → IsFilled mask lo hi → RuleInto self into x y carry lo hi result.0 result.1 }
     {
         let span = Span::from_mask(mask);
-        let (digits, carry) = self.over_places(x, y, carry_in, span.lo, span.hi);
-        let number = digits.in_span(span);
-        let is_marked = match self {
-            DigitOperation::Add => carry,
-            DigitOperation::Subtract => !carry,
-        };
-        if is_marked {
-            number + (span.mask + span.first())
-        } else {
-            number
-        }
+        self.over_places(into, x, y, carry, span.lo, span.hi)
     }
 }
 
@@ -130,26 +123,25 @@ fn hexadecimal_difference(into: Reg, x: Reg, y: Reg, borrow_in: bool, span: Span
     )
 }
 
-/// Two numbers and a carry are added up with six more in each digit of a span: a one in each digit that the one before it carries into.
-/// There the last bit of the sum is not that of what is added, since six is even.
-fn carried(first: u64, second: u64, carry: u64, sixes: u64) -> u64
-    requires { first + second + carry + sixes < 2 ^ 64 }
-    ensures carried { result ≡ carried_of first second carry sixes }
+/// A one in each digit of a sum or difference of two numbers that the digit below carries into or borrows from: its last bit is not that
+/// of the two numbers and of the carry or borrow at the first digit.
+fn carried(first: u64, second: u64, carry: u64, answer: u64) -> u64
+    ensures carried { result ≡ carried_of first second carry answer }
     ensures most { result ≤ all_ones }
 {
-    (first ^ second ^ carry ^ (first + second + carry + sixes)) & ONES
+    (first ^ second ^ carry ^ answer) & ONES
 }
 
 /// Whether a number has a digit from A to F in a span: where six is added to each digit, one carries.
 fn has_letter(number: u64, sixes: u64) -> bool
     requires { number + sixes < 2 ^ 64 }
-    ensures { result ≡ not (carried_of 0 number 0 sixes == 0) }
+    ensures { result ≡ not (carried_of 0 number 0 (number + sixes) == 0) }
 {
-    carried(0, number, 0, sixes) != 0
+    carried(0, number, 0, number + sixes) != 0
 }
 
 /// The sum of two numbers in base 10 with a carry, of which the first has no digit from A to F: the sum in base 16, and six more at
-/// each digit that carries. It carries where it does so with six more at each digit.
+/// each digit that carries. It carries where it does so with six more in each digit, which leave the last bits as they are.
 fn decimal_total(first: u64, second: u64, carry: u64, sixes: u64) -> u64
     requires sixes { sixes < 2 ^ 56 }
     requires first { 2 * first ≤ 3 * sixes }
@@ -157,7 +149,18 @@ fn decimal_total(first: u64, second: u64, carry: u64, sixes: u64) -> u64
     requires carry { carry ≤ sixes }
     ensures { result ≡ decimal_total_of first second carry sixes }
 {
-    first + second + carry + 3 * carried(first, second, carry, sixes) / 8
+    let sum = first + second + carry;
+    sum + 3 * carried(first, second, carry, sum + sixes) / 8
+}
+
+/// The difference of two numbers in base 10 with a borrow, of which the second has no digit from A to F: the difference in base 16, and
+/// six less at each digit that borrows. Above the span it goes on, where the last digit borrows.
+fn decimal_remainder(first: u64, second: u64, borrow: u64) -> u64
+    requires { second + borrow < 2 ^ 64 }
+    ensures { result ≡ decimal_remainder_of first second borrow }
+{
+    let difference = first.wrapping_sub(second + borrow);
+    difference.wrapping_sub(3 * carried(first, second, borrow, difference) / 8)
 }
 
 /// `into` with `x` + `y` + the carry in, in base 10, in the span, and the carry out.
@@ -168,35 +171,28 @@ fn decimal_sum(into: Reg, x: Reg, y: Reg, carry_in: bool, span: Span) -> (Reg, b
     let first = x.in_span(span);
     let second = y.in_span(span);
     let sixes = span.sixes();
-    let total = if has_letter(first, sixes) {
-        DigitOperation::Add.total(x, y, carry_in, span.mask)
-    } else {
-        decimal_total(first, second, carry_in_span(carry_in, span), sixes)
-    };
-    put(into, total, span)
+    if has_letter(first, sixes) {
+        return DigitOperation::Add.digit_by_digit(into, x, y, carry_in, span.mask);
+    }
+    let carry = carry_in_span(carry_in, span);
+    put(into, decimal_total(first, second, carry, sixes), span)
 }
 
-/// `into` with `x` - `y` - the borrow in, in base 10, in the span, and the borrow out: x and the complement of y to nines, and
-/// one more where there is no borrow in. A carry out of that is no borrow.
+/// `into` with `x` - `y` - the borrow in, in base 10, in the span, and the borrow out.
 #[inline(always)]
 fn decimal_difference(into: Reg, x: Reg, y: Reg, borrow_in: bool, span: Span) -> (Reg, bool)
     ensures { DifferenceInto 10 into x y borrow_in span.lo span.hi result.0 result.1 }
 {
     let first = x.in_span(span);
     let second = y.in_span(span);
-    let sixes = span.sixes();
-    let total = if has_letter(second, sixes) {
-        DigitOperation::Subtract.total(x, y, borrow_in, span.mask)
-    } else {
-        decimal_total(
-            span.mask - sixes - second,
-            first,
-            carry_in_span(!borrow_in, span),
-            sixes,
-        )
-    };
-    let (digits, enough) = put(into, total, span);
-    (digits, !enough)
+    if has_letter(second, span.sixes()) {
+        return DigitOperation::Subtract.digit_by_digit(into, x, y, borrow_in, span.mask);
+    }
+    let borrow = carry_in_span(borrow_in, span);
+    (
+        into.with_span(span, decimal_remainder(first, second, borrow)),
+        first < second + borrow,
+    )
 }
 
 /// `into` with `x` + `y` + the carry in, in the span, and the carry out of the span's top digit. The base is 10 where `DEC`,

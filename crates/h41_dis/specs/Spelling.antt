@@ -55,7 +55,7 @@ abbrev pub columns_text : ℕ → Piece → List ℕ
 columns_text address piece = hexadecimal_text 4 address ++ codes "  " ++ words_column piece ++ codes "  "
 
 -- a text has gained the line of an instruction, with its columns
-abbrev pub GainsLine : ℕ → Piece → String → String → Type 0
+abbrev pub GainsLine : {Z : Type 0} → ℕ → Piece → String Z → String Z → Type 0
 GainsLine address piece old new = string_bytes new ≡ (string_bytes old ++ columns_text address piece) ++ piece_line piece
 
 -- a line with its columns; an address has 16 bits

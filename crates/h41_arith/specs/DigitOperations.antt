@@ -2,7 +2,7 @@
 -- numbers. No public contract needs this file.
 use Rattle.std.specs.Prelude.{◌≡◌, ℕ, ◌+◌, ◌-◌, ◌*◌, ◌/◌, ◌%◌, ◌^◌, Bool, List, bit_and, bit_xor}
 use Rattle.h41_digits.specs.Register.{value_between}
-use Rattle.h41_arith.specs.DigitRule.{SumDigit, DifferenceDigit, HasCarries, HasResult, carry_digit}
+use Rattle.h41_arith.specs.DigitRule.{SumDigit, DifferenceDigit, HasCarries, HasResult, carry_digit, zeros}
 use Rattle.h41_arith.specs.declared.sums.DigitOperation.{DigitOperation}
 use Rattle.h41_arith.specs.declared.sums.DigitOperation.TheVariants.{Add, Subtract}
 
@@ -18,6 +18,13 @@ HasDigit rule x y carry_in z carry_out = rule x y (carry_digit carry_in) z (carr
 -- the register z is `into` with the sum or the difference of x and y in base 10, by what is done, in the places from lo to hi
 abbrev pub RuleInto : DigitOperation → List ℕ → List ℕ → List ℕ → Bool → ℕ → ℕ → List ℕ → Bool → Type 0
 RuleInto operation into x y carry_in lo hi z carry_out = HasResult (HasCarries (rule_of operation 10)) into x y carry_in lo hi z carry_out
+
+-- the digits of a sum or a difference in base 10 as one number in the places from lo to hi, with the carry above them
+pub record IsRuleTotal (operation : DigitOperation) (x y : List ℕ) (carry_in : Bool) (lo hi total : ℕ) : Type 0 where
+  pub digits : List ℕ
+  pub carry_out : Bool
+  pub rule : RuleInto operation zeros x y carry_in lo hi digits carry_out
+  pub number : total ≡ (value_between digits lo hi + 16 ^ (hi + 1 - lo) * carry_digit carry_out) * 16 ^ lo
 
 -- a one in each digit of a register, and in the next
 abbrev pub all_ones : ℕ

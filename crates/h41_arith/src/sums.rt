@@ -1,9 +1,10 @@
 //! Sums and differences of two registers over a span, of the numbers of its digits. In base 10 a letter has them made digit by digit.
 
 ghost use Rattle.std.specs.Prelude.{◌≡◌, ℕ, ◌+◌, ◌*◌, ◌^◌, ◌<◌, ◌≤◌, ◌⊎◌, ◌==◌, not, true, false};
+ghost use Rattle.h41_digits.specs.Register.{IsRegister};
 ghost use Rattle.h41_digits.specs.Spans.{IsFilled};
 ghost use Rattle.h41_arith.specs.DigitRule.{SumDigit, DifferenceDigit, SumInto, DifferenceInto, base_of, carry_digit, zeros};
-ghost use Rattle.h41_arith.specs.DigitOperations.{HasDigit, RuleInto, all_ones, carried_of, decimal_remainder_of, decimal_total_of, rule_of};
+ghost use Rattle.h41_arith.specs.DigitOperations.{HasDigit, IsRuleTotal, RuleInto, all_ones, carried_of, decimal_remainder_of, decimal_total_of, rule_of};
 
 use crate::spans::{carry_in_span, put};
 use h41_digits::{Reg, Span};
@@ -34,22 +35,16 @@ impl DigitOperation {
         }
     }
 
-    /// `into` with the digits of `x` and `y` added or subtracted in base 10, one after the other from place `lo` to place `hi`, and the
-    /// carry or borrow out of the last.
-    fn over_places(
-        self,
-        into: Reg,
-        x: Reg,
-        y: Reg,
-        carry_in: bool,
-        lo: usize,
-        hi: usize,
-    ) -> (Reg, bool)
+    /// The digits of `x` and `y` added or subtracted in base 10, one after the other from place `lo` to place `hi`, in a register of zeros,
+    /// and the carry or borrow out of the last.
+    fn over_places(self, x: Reg, y: Reg, carry_in: bool, lo: usize, hi: usize) -> (Reg, bool)
         requires ordered { lo ≤ hi }
         requires in_register { hi < 14 }
-        ensures { RuleInto self into x y carry_in lo hi result.0 result.1 }
+        ensures result { RuleInto self zeros x y carry_in lo hi result.0 result.1 }
+        ensures first { IsRegister 14 x }
+        ensures second { IsRegister 14 y }
     {
-        let mut digits = into;
+        let mut digits = Reg::zero();
         let mut carry = carry_in;
         for place in lo..hi + 1 {
             let (digit, carry_out) = self.digit(x.get(place), y.get(place), carry);
@@ -59,14 +54,21 @@ impl DigitOperation {
         (digits, carry)
     }
 
-    /// The same in the places that have the mask. Its machine code stands apart: digits from A to F in base 10 are rare.
+    /// The same in the places that have the mask, as one number, with a 1 above its digits where there is a carry or borrow out. Its
+    /// machine code stands apart: digits from A to F in base 10 are rare.
     #[cold]
     #[inline(never)]
-    fn digit_by_digit(self, into: Reg, x: Reg, y: Reg, carry: bool, mask: u64) -> (Reg, bool)
-        ensures { (lo hi : ℕ) → IsFilled mask lo hi → RuleInto self into x y carry lo hi result.0 result.1 }
+    fn digit_by_digit(self, x: Reg, y: Reg, carry: bool, mask: u64) -> u64
+        ensures { (lo hi : ℕ) → IsFilled mask lo hi → IsRuleTotal self x y carry lo hi result }
     {
         let span = Span::from_mask(mask);
-        self.over_places(into, x, y, carry, span.lo, span.hi)
+        let (digits, carry_out) = self.over_places(x, y, carry, span.lo, span.hi);
+        let number = digits.in_span(span);
+        if carry_out {
+            number + (span.mask + span.first())
+        } else {
+            number
+        }
     }
 }
 
@@ -171,11 +173,12 @@ fn decimal_sum(into: Reg, x: Reg, y: Reg, carry_in: bool, span: Span) -> (Reg, b
     let first = x.in_span(span);
     let second = y.in_span(span);
     let sixes = span.sixes();
-    if has_letter(first, sixes) {
-        return DigitOperation::Add.digit_by_digit(into, x, y, carry_in, span.mask);
-    }
-    let carry = carry_in_span(carry_in, span);
-    put(into, decimal_total(first, second, carry, sixes), span)
+    let total = if has_letter(first, sixes) {
+        DigitOperation::Add.digit_by_digit(x, y, carry_in, span.mask)
+    } else {
+        decimal_total(first, second, carry_in_span(carry_in, span), sixes)
+    };
+    put(into, total, span)
 }
 
 /// `into` with `x` - `y` - the borrow in, in base 10, in the span, and the borrow out.
@@ -186,7 +189,8 @@ fn decimal_difference(into: Reg, x: Reg, y: Reg, borrow_in: bool, span: Span) ->
     let first = x.in_span(span);
     let second = y.in_span(span);
     if has_letter(second, span.sixes()) {
-        return DigitOperation::Subtract.digit_by_digit(into, x, y, borrow_in, span.mask);
+        let total = DigitOperation::Subtract.digit_by_digit(x, y, borrow_in, span.mask);
+        return put(into, total, span);
     }
     let borrow = carry_in_span(borrow_in, span);
     (

@@ -101,14 +101,15 @@ impl Bench {
         ensures { Advances limit from self.old result.0 self.new result.1 }
     {
         step_is_determined();
-        for made in from..limit {
+        let mut left = limit - from;
+        while left > 0 {
             match self.step_word(caller) {
-                Ok(true) => {}
-                Ok(false) => return (made + 1, None),
-                Err(refusal) => return (made, Some(refusal)),
+                Ok(true) => left -= 1,
+                Ok(false) => return (limit - left + 1, None),
+                Err(refusal) => return (limit - left, Some(refusal)),
             }
             if watched && self.has_breakpoint(Breakpoint::Word(self.calculator().cpu().pc())) {
-                return (made + 1, None);
+                return (limit - left, None);
             }
         }
         (limit, None)

@@ -1,11 +1,24 @@
+use Rattle.h41_arith.specs.declared.sums.DigitOperation.TheVariants.{Subtract}
 use Rattle.h41_arith.proofs.InPlace.{span_decimal}
-use Rattle.h41_arith.proofs.Totals.{difference_tells}
+use Rattle.h41_arith.proofs.Totals.{Tells, rule_tells, difference_tells}
 use Rattle.h41_arith.proofs.sums.decimal_difference.Goals as goal
+
+tells : (c : goal.After-digit_by_digit-total) → Tells Subtract c.args.x c.args.y c.args.borrow_in c.args.span.lo c.args.span.hi c.digit_by_digit-total.result
+tells c =
+    let span = c.args.span in
+    rule_tells Subtract c.args.x c.args.y c.args.borrow_in span.lo span.hi _ span.ordered span.in_register
+    (c.digit_by_digit-total.ensures span.lo span.hi (record { ordered = span.ordered; in_register = span.in_register; weights = span.weights }))
+
+pub put-requires-clause-places : goal.put-requires-clause-places
+put-requires-clause-places c = (tells c).places
+
+pub put-requires-clause-most : goal.put-requires-clause-most
+put-requires-clause-most c = (tells c).most
 
 pub returns-then-has_letter : goal.returns-then-has_letter
 returns-then-has_letter c =
-    let span = c.args.span in
-    c.digit_by_digit.ensures span.lo span.hi (record { ordered = span.ordered; in_register = span.in_register; weights = span.weights })
+    let z = c.put.ensures in
+    (tells c.before).result c.args.into c.put.result.0 c.put.result.1 z.register z.parts z.below z.above
 
 pub returns : goal.returns
 returns c =

@@ -1,4 +1,4 @@
-use Rattle.std.proofs.Common.{refl, ◌≡◌, ◌+◌, ◌<◌, ◌≢◌, length, arith, subst, ◌∙◌}
+use Rattle.std.proofs.Common.{ap, slice_index, ◌≡◌, ◌+◌, ◌<◌, ◌≢◌, length, arith, subst, ◌∙◌}
 use Rattle.std.proofs.lemmas.List.{get_or-set_other}
 use Rattle.h41_arith.specs.DigitRule.{carry_digit}
 use Rattle.h41_arith.specs.DigitOperations.{rule_of}
@@ -7,9 +7,9 @@ use Rattle.h41_arith.proofs.sums.DigitOperation.over_places.Goals as goal
 
 pub loop-place-init : goal.loop-place-init
 loop-place-init c = record {
-  carried = carried_none (rule_of c.args.self 10) c.args.x c.args.y (carry_digit c.args.carry_in) c.args.lo c.args.into;
-  below = λ place h. refl;
-  above = λ place h. refl;
+  carried = carried_none (rule_of c.args.self 10) c.args.x c.args.y (carry_digit c.args.carry_in) c.args.lo c.zero-digits.result;
+  below = λ place h. ap (λ digits. slice_index digits place) c.zero-digits.ensures;
+  above = λ place h. ap (λ digits. slice_index digits place) c.zero-digits.ensures;
   registers = λ h. absurd (omega arith);
 }
 
@@ -28,11 +28,17 @@ loop-place-preserved c =
       registers = λ h. (c.set.ensures.register, c.get.ensures.register, c.get-in-loop-place.ensures.register);
     }
 
-pub returns : goal.returns
-returns c =
+pub returns-clause-result : goal.returns-clause-result
+returns-clause-result c =
     let past : c.loop-place.place ≡ c.args.hi + 1 = omega (arith, c.requires.ordered) in
     let done = subst (λ next. CarriedTo (rule_of c.args.self 10) c.args.x c.args.y (carry_digit c.args.carry_in) c.args.lo next c.loop-place.digits (carry_digit c.loop-place.carry)) past c.loop-place.invariant.carried in record {
       register = (c.loop-place.invariant.registers (omega (arith, c.requires.ordered))).0;
       digits = carried_all (rule_of c.args.self 10) c.args.x c.args.y (carry_digit c.args.carry_in) c.args.lo c.args.hi c.loop-place.digits (carry_digit c.loop-place.carry) (carry_le c.args.carry_in) done;
       outside = record { below = c.loop-place.invariant.below; above = λ place high. c.loop-place.invariant.above place (omega arith) };
     }
+
+pub returns-clause-first : goal.returns-clause-first
+returns-clause-first c = (c.loop-place.invariant.registers (omega (arith, c.requires.ordered))).1
+
+pub returns-clause-second : goal.returns-clause-second
+returns-clause-second c = (c.loop-place.invariant.registers (omega (arith, c.requires.ordered))).2

@@ -33,8 +33,8 @@ returns-then-has_breakpoint c =
     let next : c.args.limit - c.loop-left.left + 1 ≡ c.args.limit - (c.loop-left.left - 1) = omega (arith, c.loop-left.invariant.0, c.loop-left-test.true) in
     subst (λ made. Advances c.args.limit c.args.from c.args.self.now made c.step_word.new.self None) next
     (ends_piece c.step_is_determined.ensures.refusal c.step_is_determined.ensures.state c.args.limit c.args.from (c.args.limit - c.loop-left.left) c.args.self.now c.loop-left.self c.step_word.new.self
-        c.loop-left.invariant.1 c.loop-left.invariant.4 (omega (arith, c.loop-left.invariant.0)) c.loop-left.invariant.2 (omega (arith, c.loop-left.invariant.0, c.loop-left-test.true))
-        c.in-Ok-true.ensures.refusal c.in-Ok-true.ensures.change c.step_word.ensures.others)
+    c.loop-left.invariant.1 c.loop-left.invariant.4 (omega (arith, c.loop-left.invariant.0)) c.loop-left.invariant.2 (omega (arith, c.loop-left.invariant.0, c.loop-left-test.true))
+    c.in-Ok-true.ensures.refusal c.in-Ok-true.ensures.change c.step_word.ensures.others)
 
 pub loop-left-preserved : goal.loop-left-preserved
 loop-left-preserved c =
@@ -50,7 +50,7 @@ loop-left-preserved c =
       omega (arith, c.loop-left.invariant.0),
       λ start begun. subst (λ made. Made c.args.limit made start c.step_word.new.self) next
           (one_more c.step_is_determined.ensures.refusal c.step_is_determined.ensures.state c.args.limit c.args.from (c.args.limit - c.loop-left.left) c.args.self.now c.loop-left.self c.step_word.new.self
-              c.loop-left.invariant.1 c.loop-left.invariant.2 (omega (arith, c.loop-left.invariant.0, c.loop-left-test.true)) c.in-Ok-true.ensures.refusal c.in-Ok-true.ensures.change c.step_word.ensures.others start begun),
+          c.loop-left.invariant.1 c.loop-left.invariant.2 (omega (arith, c.loop-left.invariant.0, c.loop-left-test.true)) c.in-Ok-true.ensures.refusal c.in-Ok-true.ensures.change c.step_word.ensures.others start begun),
       clear_behind _ c.step_word.new.self c.args.caller mode free,
       mode,
       kept,

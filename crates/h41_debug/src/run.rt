@@ -101,15 +101,14 @@ impl Bench {
         ensures { Advances limit from self.old result.0 self.new result.1 }
     {
         step_is_determined();
-        let mut left = limit - from;
-        while left > 0 {
+        for made in from..limit {
             match self.step_word(caller) {
-                Ok(true) => left -= 1,
-                Ok(false) => return (limit - left + 1, None),
-                Err(refusal) => return (limit - left, Some(refusal)),
+                Ok(true) => {}
+                Ok(false) => return (made + 1, None),
+                Err(refusal) => return (made, Some(refusal)),
             }
             if watched && self.has_breakpoint(Breakpoint::Word(self.calculator().cpu().pc())) {
-                return (limit - left, None);
+                return (made + 1, None);
             }
         }
         (limit, None)

@@ -1,18 +1,12 @@
 -- What carrying out a row promises a step. No public contract needs this file.
-use Rattle.std.specs.Prelude.{Bool, Result, true, false}
+use Rattle.std.specs.Prelude.{Result}
 use Rattle.h41_words.specs.declared.rows.Row.{Row}
-use Rattle.h41_words.specs.declared.rows.Row.TheVariants.{Arithmetic}
 use Rattle.h41_pages.specs.PageMap.{PageMap}
 use Rattle.h41_ram.specs.RegisterMap.{RegisterMap}
 use Rattle.h41_nut.specs.declared.keys.Keys.{Keys}
 use Rattle.h41_nut.specs.declared.refusal.WordRefusal.{WordRefusal}
 use Rattle.h41_nut.specs.Processor.{Processor}
 use Rattle.h41_nut.specs.WordStep.{Effect, RefusesOr, nut_of, row_refusal}
-
--- whether a row is of arithmetic
-abbrev pub is_arithmetic : Row → Bool
-is_arithmetic (Arithmetic operation field) = true
-is_arithmetic other = false
 
 -- a row was carried out: refused as `row_refusal` says and then without a change, or with its `Effect`
 abbrev pub Ran : {T : Type 0} → Row → Result T WordRefusal → Processor → RegisterMap → PageMap → Keys → Processor → RegisterMap → PageMap → Keys → Type 0

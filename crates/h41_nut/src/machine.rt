@@ -1,7 +1,6 @@
 //! One step: the word at the processor's address, and what it changes.
 
-ghost use Rattle.std.specs.Prelude.{◌≡◌, false};
-ghost use Rattle.h41_nut.specs.RowStep.{Ran, is_arithmetic};
+ghost use Rattle.h41_nut.specs.RowStep.{Ran};
 ghost use Rattle.h41_nut.specs.WordStep.{Stepped};
 
 use crate::base::Base;
@@ -36,7 +35,7 @@ pub fn step<const REGS: usize>(
     execute_row(row(word), cpu, ram, pages, keys)
 }
 
-/// Carries out a row of the table of words. The answer of arithmetic is kept apart from those of other rows, so that it needs no memory.
+/// Carries out a row of the table of words.
 #[inline(always)]
 fn execute_row<const REGS: usize>(
     row: Row,
@@ -48,26 +47,7 @@ fn execute_row<const REGS: usize>(
     ensures { Ran row result cpu.old ram.old pages.old keys.old cpu.new ram.new pages.new keys.new }
 {
     match row {
-        Row::Arithmetic(operation, field) => cpu.arithmetic(operation, field)?,
-        other => execute_other(other, cpu, ram, pages, keys)?,
-    }
-    Ok(())
-}
-
-/// Carries out a row that is not of arithmetic.
-#[inline(always)]
-fn execute_other<const REGS: usize>(
-    row: Row,
-    cpu: &mut Cpu,
-    ram: &mut Ram<REGS>,
-    pages: &mut Pages,
-    keys: &mut Keys,
-) -> Result<(), WordRefusal>
-    requires { is_arithmetic row ≡ false }
-    ensures { Ran row result cpu.old ram.old pages.old keys.old cpu.new ram.new pages.new keys.new }
-{
-    match row {
-        Row::Arithmetic(_, _) => unreachable!(),
+        Row::Arithmetic(operation, field) => cpu.arithmetic(operation, field),
         Row::LongJump(low_byte) => {
             let second = fetch(pages, cpu.next_address())?;
             cpu.long_jump(low_byte, SecondWord::of(second))

@@ -31,11 +31,11 @@ impl Cpu {
     {
         let next = arrival(self.next_address())?;
         let places = span(field, self.p, self.q, self.active);
-        self.pc = next;
         match self.base {
             Base::Hexadecimal => self.operate::<false>(operation, places),
             Base::Decimal => self.operate::<true>(operation, places),
         }
+        self.pc = next;
         Ok(())
     }
 

@@ -1,6 +1,6 @@
 -- Each change leaves pages as pages are.
 use Rattle.std.proofs.Common.{◌≡◌, ◌≢◌, ◌⊎◌, ℕ, zero, suc, ◌+◌, ◌<◌, ◌≤◌, Bool, true, false, List, [], ◌∷◌, Option, Some, None, length, replicate, arith, refl, sym, ap, subst, ◌∙◌, inl, inr, get_or-set_other, get_or-set_same, length-set, slice_set, slice_index_or}
-use Rattle.std.specs.Prelude.{IfSome, ◌==◌, is_some, not}
+use Rattle.std.specs.Prelude.{IfSome, ◌==◌, is_some, not, option_map}
 use Rattle.std.specs.Bool.{then_some}
 use Rattle.std.specs.Option.{option_or}
 use Rattle.std.specs.List.{list_all}
@@ -9,10 +9,10 @@ use Rattle.std.proofs.lemmas.List.{get_or-replicate, get_or_default}
 use Rattle.std.proofs.Math.ListN.{get_or-eq_default}
 use Rattle.h41_words.specs.declared.rows.Bank.{Bank}
 use Rattle.h41_words.specs.declared.rows.Bank.TheVariants.{First, Second, Third, Fourth}
-use Rattle.h41_pages.specs.Addresses.{page_size, is_pluggable}
-use Rattle.h41_pages.specs.PageMap.{PageMap, PageImage, IsHeldImage, IsPageMap, no_banks, no_pages, banks_at, image_at, bank_place, bank_numbered, is_held, is_image, plug_refusal}
+use Rattle.h41_pages.specs.Addresses.{page_size, page_of, offset_of, is_pluggable}
+use Rattle.h41_pages.specs.PageMap.{PageMap, PageImage, IsHeldImage, IsPageMap, no_banks, no_pages, banks_at, image_at, bank_place, bank_numbered, chosen_at, chosen_image, is_held, is_image, is_writable, plug_refusal, plugged, rewritten, write_refusal, written}
 use Rattle.h41_pages.specs.declared.refusal.PlugRefusal.TheVariants as plugs
-use Rattle.h41_pages.proofs.OtherPages.{other_banks, own_banks, other_chosen, own_image}
+use Rattle.h41_pages.proofs.OtherPages.{other_banks, own_banks, other_chosen, own_image, bank_below}
 
 -- each image among the banks of a page is one that is held there
 abbrev pub HoldsImages : ℕ → List (Option PageImage) → Type 0
@@ -130,10 +130,10 @@ none_is_page_map = record {
 }
 
 -- a bank that is plugged is the first
-held_place : (page place : ℕ) → is_held page (place + 1) ≡ true → place ≡ 0
+pub held_place : (page place : ℕ) → is_held page (place + 1) ≡ true → place ≡ 0
 held_place page place held = let one = eqb-true (place + 1) 1 (and_parts (is_pluggable page) (place + 1 == 1) held).1 in omega (arith, one)
 
-first_bank : (bank : Bank) → bank_place bank ≡ 0 → bank ≡ First
+pub first_bank : (bank : Bank) → bank_place bank ≡ 0 → bank ≡ First
 first_bank First e = refl
 first_bank Second e = absurd (omega (arith, e))
 first_bank Third e = absurd (omega (arith, e))
@@ -189,23 +189,58 @@ pub image_held_with : (page place : ℕ) (image : PageImage) (offset word : ℕ)
     → IsHeldImage page place (record image { words = slice_set image.words offset word })
 image_held_with page place image offset word held small = record { held = held.held; words = image_rewritten image.words offset word held.words small }
 
-row_is : (images : List (List (Option PageImage))) (chosen : List Bank) (page : ℕ) (row d : List (Option PageImage))
+pub row_is : (images : List (List (Option PageImage))) (chosen : List Bank) (page : ℕ) (row d : List (Option PageImage))
     → IsPageMap (record { images = images; chosen = chosen }) → page < 16 → row ≡ slice_index_or images page d → row ≡ slice_index_or images page []
 row_is images chosen page row d is below read = read ∙ get_or_default images page d [] (omega (arith, is.images, below))
 
-pub row_held : (images : List (List (Option PageImage))) (chosen : List Bank) (page place : ℕ) (row d : List (Option PageImage)) (image e : Option PageImage)
-    → IsPageMap (record { images = images; chosen = chosen }) → page < 16 → place < 4 → row ≡ slice_index_or images page d
-    → slice_index_or row place e ≡ image → IfSome image (IsHeldImage page place)
-row_held images chosen page place row d image e is below inside read found =
-    let row_read = row_is images chosen page row d is below read in
-    let size : length row ≡ 4 = ap length row_read ∙ is.banks page below in
-    let same : slice_index_or (slice_index_or images page []) place None ≡ image =
-    ap (λ r. slice_index_or r place None) (sym row_read) ∙ get_or_default row place None e (omega (arith, size, inside)) ∙ found in
-    subst (λ i. IfSome i (IsHeldImage page place)) same (is.each page place)
+-- words plugged, as the code reaches their place
+pub plugged_as : (images : List (List (Option PageImage))) (chosen : List Bank) (page number : ℕ) (writable : Bool) (words : List ℕ) (from place : ℕ) (row : List (Option PageImage)) (image : PageImage)
+    → from ≡ page → row ≡ slice_index_or images from [] → place ≡ bank_place (bank_numbered number) → image ≡ record { words = words; writable = writable }
+    → record { images = slice_set images from (slice_set row place (Some image)); chosen = chosen } ≡ plugged (record { images = images; chosen = chosen }) page number writable words
+plugged_as images chosen page number writable words from place row image at read bank made =
+    let here : row ≡ slice_index_or images page [] = read ∙ ap (λ i. slice_index_or images i []) at in
+    ap (λ i. record { images = slice_set images i (slice_set row place (Some image)); chosen = chosen }) at
+    ∙ ap (λ r. record { images = slice_set images page (slice_set r place (Some image)); chosen = chosen }) here
+    ∙ ap (λ k. record { images = slice_set images page (slice_set (slice_index_or images page []) k (Some image)); chosen = chosen }) bank
+    ∙ ap (λ i. record { images = slice_set images page (slice_set (slice_index_or images page []) (bank_place (bank_numbered number)) (Some i)); chosen = chosen }) made
 
-pub row_changed : (images : List (List (Option PageImage))) (chosen : List Bank) (page place : ℕ) (row d : List (Option PageImage)) (image : Option PageImage)
-    → IsPageMap (record { images = images; chosen = chosen }) → page < 16 → place < 4 → row ≡ slice_index_or images page d
-    → IfSome image (IsHeldImage page place) → IsPageMap (record { images = slice_set images page (slice_set row place image); chosen = chosen })
-row_changed images chosen page place row d image is below inside read held =
-    subst (λ r. IsPageMap (record { images = slice_set images page (slice_set r place image); chosen = chosen })) (sym (row_is images chosen page row d is below read))
-    (image_changed (record { images = images; chosen = chosen }) page place image is below inside held)
+-- a word written in the image of the chosen bank, as the code reaches it
+pub chosen_as : (images : List (List (Option PageImage))) (chosen : List Bank) (address from place : ℕ) (row : List (Option PageImage)) (image : PageImage) → from ≡ page_of address
+    → row ≡ slice_index_or images from [] → place ≡ bank_place (slice_index_or chosen from First) → slice_index_or row place None ≡ Some image
+    → chosen_image (record { images = images; chosen = chosen }) (page_of address) ≡ Some image
+chosen_as images chosen address from place row image at read bank found =
+    ap (chosen_image (record { images = images; chosen = chosen })) (sym at)
+    ∙ ap (λ r. slice_index_or r (bank_place (slice_index_or chosen from First)) None) (sym read) ∙ ap (λ k. slice_index_or row k None) (sym bank) ∙ found
+
+pub written_as : (images : List (List (Option PageImage))) (chosen : List Bank) (address word from place : ℕ) (row : List (Option PageImage)) (image made : PageImage)
+    → from ≡ page_of address → row ≡ slice_index_or images from [] → place ≡ bank_place (slice_index_or chosen from First) → slice_index_or row place None ≡ Some image
+    → made ≡ rewritten (offset_of address) word image
+    → record { images = slice_set images from (slice_set row place (Some made)); chosen = chosen } ≡ written (record { images = images; chosen = chosen }) address word
+unfolding written
+written_as images chosen address word from place row image made at read bank found new =
+    let page = page_of address in
+    let here : row ≡ slice_index_or images page [] = read ∙ ap (λ i. slice_index_or images i []) at in
+    let its_bank : place ≡ bank_place (slice_index_or chosen page First) = bank ∙ ap (λ i. bank_place (slice_index_or chosen i First)) at in
+    let its_image = ap Some new ∙ ap (option_map (rewritten (offset_of address) word)) (sym (chosen_as images chosen address from place row image at read bank found)) in
+    ap (λ i. record { images = slice_set images i (slice_set row place (Some made)); chosen = chosen }) at
+    ∙ ap (λ r. record { images = slice_set images page (slice_set r place (Some made)); chosen = chosen }) here
+    ∙ ap (λ k. record { images = slice_set images page (slice_set (slice_index_or images page []) k (Some made)); chosen = chosen }) its_bank
+    ∙ ap (λ i. record { images = slice_set images page (slice_set (slice_index_or images page []) (bank_place (slice_index_or chosen page First)) i); chosen = chosen }) its_image
+
+pub accepted_as : (pages : PageMap) (address : ℕ) (image : PageImage) → chosen_image pages (page_of address) ≡ Some image → image.writable ≡ true → write_refusal pages address ≡ None
+accepted_as pages address image here writable =
+    ap (λ i. then_some (not (is_writable i)) (record { address = address })) here ∙ ap (λ w. then_some (not w) (record { address = address })) writable
+
+-- the image at a bank with another word
+rewritten_held : (page place offset word : ℕ) (image : Option PageImage) → word < 0x400 → IfSome image (IsHeldImage page place)
+    → IfSome (option_map (rewritten offset word) image) (IsHeldImage page place)
+rewritten_held page place offset word None small held = tt
+rewritten_held page place offset word (Some image) small held = image_held_with page place image offset word held small
+
+pub word_changed : (pages : PageMap) (address word : ℕ) → IsPageMap pages → page_of address < 16 → word < 0x400 → IsPageMap (written pages address word)
+unfolding written
+word_changed pages address word is below small =
+    let page = page_of address in
+    let place = bank_place (chosen_at pages page) in
+    image_changed pages page place (option_map (rewritten (offset_of address) word) (chosen_image pages page)) is below (bank_below (chosen_at pages page))
+    (rewritten_held page place (offset_of address) word (chosen_image pages page) small (is.each page place))

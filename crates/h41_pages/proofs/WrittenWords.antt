@@ -29,7 +29,7 @@ pluggable page place held =
     high : (page : ℕ) → nat_le page 15 ≡ true → page ≤ 15
     high page most = grind (arith, nat_tests)
 
-image_size : (words : List ℕ) → is_image words ≡ true → length words ≡ page_size
+pub image_size : (words : List ℕ) → is_image words ≡ true → length words ≡ page_size
 image_size words image = eqb-true (length words) page_size (and_parts (length words == page_size) (list_all _ words) image).0
 
 -- the image that is chosen behind a write

@@ -2,6 +2,7 @@
 //! them, and the functions that modules list.
 #![tactic(auto)]
 
+mod address_space;
 mod addresses;
 mod functions;
 mod image;

@@ -8,6 +8,7 @@ ghost use Rattle.h41_pages.specs.Addresses.{page_size};
 ghost use Rattle.h41_pages.specs.PageMap as spec;
 ghost use Rattle.h41_pages.specs.PageMap.{plugged};
 
+use crate::address_space::AddressSpace;
 use crate::addresses::{FIRST_ADDRESS, PAGES, is_pluggable, offset_of, page_of};
 use crate::image::{Image, is_image};
 use crate::refusal::{FetchRefusal, PlugRefusal, ReadOnly, UnplugRefusal};
@@ -23,16 +24,19 @@ const BANKS: usize = 4;
 pub struct Pages {
     images: Vec<[Option<Image>; BANKS]>,
     chosen: [Bank; PAGES],
+    /// What is fetched at each address.
+    space: AddressSpace,
 }
 
 impl Model for Pages {
-    ghost use Rattle.h41_pages.specs.PageMap.{PageMap, IsPageMap};
+    ghost use Rattle.h41_pages.specs.PageMap.{PageMap};
+    ghost use Rattle.h41_pages.specs.AddressSpace.{IsPages};
 
     ghost Value = { PageMap };
 
     ghost view = { λ all. record { images = all.images.items; chosen = all.chosen } };
 
-    ghost invariant = { λ all. IsPageMap (record { images = all.images.items; chosen = all.chosen }) };
+    ghost invariant = { λ all. IsPages (record { images = all.images.items; chosen = all.chosen }) all.space };
 }
 
 impl Pages {
@@ -47,6 +51,7 @@ impl Pages {
         Ok(Pages {
             images,
             chosen: [Bank::First; PAGES],
+            space: AddressSpace::new(alloc)?,
         })
     }
 
@@ -71,6 +76,7 @@ impl Pages {
         }
         let image = Image::new(alloc, writable, words)?;
         self.images[usize::from(page)][bank_place(bank_numbered(bank))] = Some(image);
+        self.space.put(usize::from(page), words);
         Ok(())
     }
 
@@ -108,6 +114,7 @@ impl Pages {
         }
         self.images[page] = [None, None, None, None];
         self.chosen[page] = Bank::First;
+        self.space.clear(page);
         Ok(())
     }
 
@@ -137,8 +144,8 @@ impl Pages {
         ensures { result ≡ spec.fetched self.now address }
     {
         self.known();
-        match self.chosen_image(page_of(address)) {
-            Some(image) => Ok(image.word(offset_of(address))),
+        match self.space.word(address) {
+            Some(word) => Ok(word),
             None if address < FIRST_ADDRESS => Err(FetchRefusal::SystemRom(address)),
             None => Err(FetchRefusal::EmptyPage(address)),
         }
@@ -168,6 +175,7 @@ impl Pages {
         match &mut self.images[page][bank] {
             Some(image) if image.is_writable() => {
                 image.write(offset_of(address), word);
+                self.space.set(address, word);
                 Ok(())
             }
             _ => Err(ReadOnly { address }),

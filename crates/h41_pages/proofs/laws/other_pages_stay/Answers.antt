@@ -1,18 +1,16 @@
 use Rattle.std.proofs.Common.{◌≡◌, ◌≢◌, ℕ, refl, true, false, is_some, if◌then◌else◌, slice_set}
 use Rattle.h41_words.specs.declared.rows.Bank.{Bank}
 use Rattle.h41_pages.specs.Addresses.{page_of}
-use Rattle.h41_pages.specs.PageMap.{PageMap, image_at, plugged, unplugged, fetched}
-use Rattle.h41_pages.proofs.OtherPages.{same_fetch, other_banks, other_chosen}
+use Rattle.h41_pages.specs.PageMap.{PageMap, image_at, fetched}
+use Rattle.h41_pages.proofs.OtherPages.{same_fetch, other_chosen}
+use Rattle.h41_pages.proofs.PluggedWords.{others_plugged, others_unplugged}
 use Rattle.h41_pages.proofs.laws.other_pages_stay.Goals as goal
 
 pub returns-clause-plug : goal.returns-clause-plug
-returns-clause-plug c = λ pages page number writable words address different.
-    same_fetch (plugged pages page number writable words) pages address (other_banks pages.images _ page (page_of address) different) refl
+returns-clause-plug c = others_plugged
 
 pub returns-clause-unplug : goal.returns-clause-unplug
-returns-clause-unplug c = λ pages page address different.
-    same_fetch (unplugged pages page) pages address
-    (other_banks pages.images _ page (page_of address) different) (other_chosen pages.chosen _ page (page_of address) different)
+returns-clause-unplug c = others_unplugged
 
 chosen_elsewhere : (b : _) (pages : PageMap) (page : ℕ) (bank : Bank) (address : ℕ) → page_of address ≢ page
     → fetched (if b then record pages { chosen = slice_set pages.chosen page bank } else pages) address ≡ fetched pages address

@@ -1,30 +1,29 @@
--- The one image that is looked at is one that is held, whether a word of it is written or not.
-use Rattle.std.proofs.Common.{Some, refl, sym, subst, slice_index_or}
-use Rattle.h41_pages.specs.PageMap.{IsHeldImage}
-use Rattle.h41_pages.proofs.PageMaps.{image_held_with, row_held, row_changed}
+-- The image that is looked at is one that is held, and the word is written in it and at its address.
+use Rattle.std.proofs.Common.{rules, ◌≡◌, true, None, length, arith, ap, subst, sym, ◌∙◌}
+use Rattle.std.proofs.lemmas.List.{get_or_default}
+use Rattle.h41_pages.specs.AddressSpace.{IsPages}
+use Rattle.h41_pages.specs.PageMap.{PageMap, rewritten}
+use Rattle.h41_pages.proofs.AddressSpaces.{pages_written}
+use Rattle.h41_pages.proofs.PageMaps.{row_is, chosen_as, written_as, accepted_as}
 use Rattle.h41_pages.proofs.pages.Pages.write.Goals as goal
-use Rattle.h41_pages.proofs.pages.Pages.write.Goals.{in-Some, in_default, in-None-1}
 
 pub invariant_of-self : goal.invariant_of-self
 invariant_of-self c =
     let images = c.self.inside.images.items in
     let chosen = c.self.inside.chosen in
+    let before : PageMap = record { images = images; chosen = chosen } in
     let page = c.page_of-page.result in
     let place = c.bank_place-bank.result in
     let row = c.index_mut.result.now in
-    let below = c.page_of-page.ensures.bound in
-    let inside = c.bank_place-bank.ensures.bound in
-    elim c.match-index_mut-bank.branch [
-      | in-Some w ↦
-          let held : IsHeldImage page place w.in-Some.image =
-          row_held images chosen page place row _ (Some w.in-Some.image) _ c.self.invariant below inside c.index_mut.ensures.value w.in-Some.is in
-          rw w.self-inside-is (row_changed images chosen page place row _ (Some w.write.new.self) c.self.invariant below inside c.index_mut.ensures.value
-          (subst (IsHeldImage page place) (sym w.write.ensures.one)
-          (image_held_with page place w.in-Some.image w.offset_of.result c.args.word held w.write.ensures.word)))
-      | in_default w ↦
-          rw w.self-inside-is (row_changed images chosen page place row _ (Some w.in-Some.image) c.self.invariant below inside c.index_mut.ensures.value
-          (row_held images chosen page place row _ (Some w.in-Some.image) _ c.self.invariant below inside c.index_mut.ensures.value w.in-Some.is))
-      | in-None-1 w ↦
-          rw w.self-inside-is (row_changed images chosen page place row _ _ c.self.invariant below inside c.index_mut.ensures.value
-          (row_held images chosen page place row _ _ _ c.self.invariant below inside c.index_mut.ensures.value (refl {a = slice_index_or row place c.index-index_mut-bank.result})))
-    ]
+    let image = c.in-Some.image in
+    let at = c.page_of-page.ensures.page in
+    let read = row_is images chosen page row _ c.self.invariant.map c.page_of-page.ensures.bound c.index_mut.ensures.value in
+    let bank = c.bank_place-bank.ensures.place in
+    let size : length row ≡ 4 = ap length read ∙ c.self.invariant.map.banks page c.page_of-page.ensures.bound in
+    let found = get_or_default row place None _ (omega (arith, size, c.bank_place-bank.ensures.bound)) ∙ c.in-Some.is in
+    let new = c.write.ensures.one ∙ ap (λ offset. rewritten offset c.args.word image) c.offset_of.ensures.offset in
+    let writable : image.writable ≡ true = search rules in
+    let same = written_as images chosen c.args.address c.args.word page place row image c.write.new.self at read bank found new in
+    let accepted = accepted_as before c.args.address image (chosen_as images chosen c.args.address page place row image at read bank found) writable in
+    subst (λ pages. IsPages pages c.set.new.self) (sym same)
+    (subst (IsPages _) (sym c.set.ensures) (pages_written before c.self.inside.space c.args.address c.args.word c.self.invariant (search rules) c.write.ensures.word accepted))

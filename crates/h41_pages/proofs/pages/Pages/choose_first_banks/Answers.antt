@@ -1,0 +1,5 @@
+use Rattle.h41_pages.proofs.AddressSpaces.{pages_with_first_banks}
+use Rattle.h41_pages.proofs.pages.Pages.choose_first_banks.Goals as goal
+
+pub invariant_of-self : goal.invariant_of-self
+invariant_of-self c = pages_with_first_banks _ _ c.self.invariant

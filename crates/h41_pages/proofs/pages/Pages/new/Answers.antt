@@ -1,0 +1,12 @@
+use Rattle.std.proofs.Common.{rules, ◌≡◌, replicate, subst, sym}
+use Rattle.h41_words.specs.declared.rows.Bank.TheVariants.{First}
+use Rattle.h41_pages.specs.AddressSpace.{IsPages, empty_space}
+use Rattle.h41_pages.specs.PageMap.{no_banks}
+use Rattle.h41_pages.proofs.AddressSpaces.{pages_at_start}
+use Rattle.h41_pages.proofs.pages.Pages.new.Goals as goal
+
+pub invariant_of-result : goal.invariant_of-result
+invariant_of-result c =
+    let same : c.loop-page.images.items ≡ replicate 16 no_banks = search rules in
+    subst (IsPages _) (sym c.in_ok-new.ensures)
+    (subst (λ images. IsPages (record { images = images; chosen = replicate 16 First }) empty_space) (sym same) pages_at_start)

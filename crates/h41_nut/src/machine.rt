@@ -1,5 +1,7 @@
 //! One step: the word at the processor's address, and what it changes.
 
+ghost use Rattle.std.specs.Prelude.{◌≤◌};
+ghost use Rattle.h41_pages.specs.Addresses.{first_address};
 ghost use Rattle.h41_nut.specs.RowStep.{Ran};
 ghost use Rattle.h41_nut.specs.WordStep.{Stepped};
 
@@ -35,7 +37,7 @@ pub fn step<const REGS: usize>(
     execute_row(row(word), cpu, ram, pages, keys)
 }
 
-/// Carries out a row of the table of words.
+/// Carries out a row of the table of words, that of a word in a page that may be plugged.
 #[inline(always)]
 fn execute_row<const REGS: usize>(
     row: Row,
@@ -44,6 +46,7 @@ fn execute_row<const REGS: usize>(
     pages: &mut Pages,
     keys: &mut Keys,
 ) -> Result<(), WordRefusal>
+    requires { first_address ≤ cpu.old.pc }
     ensures { Ran row result cpu.old ram.old pages.old keys.old cpu.new ram.new pages.new keys.new }
 {
     match row {

@@ -1,10 +1,10 @@
 //! The pages of the address space.
 
-ghost use Rattle.std.specs.Prelude.{◌≡◌, ◌<◌, None, IfOk, IfErr, IfNone, OnOk, OnErr, All, length, is_some, option_copied};
+ghost use Rattle.std.specs.Prelude.{◌≡◌, ◌<◌, ◌≤◌, None, IfOk, IfErr, IfNone, OnOk, OnErr, All, length, is_some, option_copied};
 ghost use Rattle.std.specs.List.{list_any};
 ghost use Rattle.std.specs.Result.{result_err};
 ghost use Rattle.h41_words.specs.Counts.{word_count};
-ghost use Rattle.h41_pages.specs.Addresses.{page_size};
+ghost use Rattle.h41_pages.specs.Addresses.{first_address, page_size};
 ghost use Rattle.h41_pages.specs.PageMap as spec;
 ghost use Rattle.h41_pages.specs.PageMap.{plugged};
 
@@ -137,11 +137,12 @@ impl Pages {
     }
 
     /// The word at an address, in the chosen bank of its page. Refused as 8 in pages 0 to 3, as 9 where that bank is not
-    /// plugged.
+    /// plugged; so there is one from address 4000 on alone.
     #[tactic(auto, unfolding(crate::specs::PageMap::fetched))]
     #[inline(always)]
     pub fn fetch(&self, address: u16) -> Result<Word, FetchRefusal>
-        ensures { result ≡ spec.fetched self.now address }
+        ensures word { result ≡ spec.fetched self.now address }
+        ensures held { OnOk result (first_address ≤ address) }
     {
         self.known();
         match self.space.word(address) {

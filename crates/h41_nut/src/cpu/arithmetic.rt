@@ -1,14 +1,14 @@
 //! The words that work on a field of A, B and C.
 
-ghost use Rattle.std.specs.Prelude.{◌≡◌, false, OnOk, OnErr};
+ghost use Rattle.std.specs.Prelude.{◌≡◌, ◌≤◌, false, OnOk, OnErr};
 ghost use Rattle.std.specs.Result.{result_err};
+ghost use Rattle.h41_pages.specs.Addresses.{first_address};
 ghost use Rattle.h41_arith.specs.DigitRule.{base_of};
 ghost use Rattle.h41_nut.specs.Arithmetic.{Operates, OperatesOn, base_number};
 ghost use Rattle.h41_nut.specs.Arrivals.{arrival_refusal, next_address, gone_on};
 
 use crate::base::Base;
 use crate::cpu::Cpu;
-use crate::cpu::jumps::arrival;
 use crate::refusal::WordRefusal;
 use h41_arith::{
     add, copy, dec, differs, exchange, inc, less, neg, neg1, nonzero, shift_left, shift_right, sub,
@@ -25,11 +25,12 @@ impl Cpu {
         operation: Operation,
         field: Field,
     ) -> Result<(), WordRefusal>
+        requires { first_address ≤ self.old.pc }
         ensures refusal { result_err result ≡ arrival_refusal (next_address self.old) }
         ensures operates { OnOk result (OperatesOn operation field (gone_on self.old) self.new) }
         ensures stays { OnErr result (self.new ≡ self.old) }
     {
-        let next = arrival(self.next_address())?;
+        let next = self.following()?;
         let places = span(field, self.p, self.q, self.active);
         match self.base {
             Base::Hexadecimal => self.operate::<false>(operation, places),

@@ -1,6 +1,6 @@
 //! How the processor goes on: to the next word, by jumps, and by returns.
 
-ghost use Rattle.std.specs.Prelude.{◌≡◌, ◌<◌, IfOk};
+ghost use Rattle.std.specs.Prelude.{◌≡◌, ◌<◌, ◌≤◌, IfOk};
 ghost use Rattle.std.specs.Result.{result_err};
 ghost use Rattle.h41_nut.specs.Addresses.{displaced};
 ghost use Rattle.h41_pages.specs.Addresses.{first_address};
@@ -22,6 +22,19 @@ impl Cpu {
         ensures { result ≡ arrivals.next_address self.now }
     {
         self.pc.wrapping_add(1)
+    }
+
+    /// The address after the word, unless no step may arrive there. The word stands in a page that may be plugged, so that is 0000 alone.
+    #[inline(always)]
+    pub(crate) fn following(&self) -> Result<u16, WordRefusal>
+        requires { first_address ≤ self.now.pc }
+        ensures refusal { result_err result ≡ arrivals.arrival_refusal (arrivals.next_address self.now) }
+        ensures address { IfOk result (λ next. next ≡ arrivals.next_address self.now) }
+    {
+        match self.pc.checked_add(1) {
+            Some(next) => Ok(next),
+            None => Err(WordRefusal::SystemRom(0)),
+        }
     }
 
     /// Stands at an address, with a carry.
@@ -46,17 +59,19 @@ impl Cpu {
     /// Goes on after the word, with no carry.
     #[inline(always)]
     pub(crate) fn go_on(&mut self) -> Result<(), WordRefusal>
+        requires { first_address ≤ self.old.pc }
         ensures { GoesOn (λ s. s) self.old self.new result }
     {
-        self.go_to(self.next_address())
+        self.answer(false)
     }
 
     /// Goes on after the word, with the answer of a test as the carry.
     #[inline(always)]
     pub(crate) fn answer(&mut self, test: bool) -> Result<(), WordRefusal>
+        requires { first_address ≤ self.old.pc }
         ensures { GoesOnTelling test self.old self.new result }
     {
-        let next = arrival(self.next_address())?;
+        let next = self.following()?;
         self.arrive(next, test);
         Ok(())
     }

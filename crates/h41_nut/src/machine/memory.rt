@@ -1,6 +1,7 @@
 //! The words that write and read the memory.
 
-ghost use Rattle.std.specs.Prelude.{◌≡◌, OnOk, OnErr};
+ghost use Rattle.std.specs.Prelude.{◌≡◌, ◌≤◌, OnOk, OnErr};
+ghost use Rattle.h41_pages.specs.Addresses.{first_address};
 ghost use Rattle.h41_nut.specs.ProcessorSteps.{GoesOn};
 ghost use Rattle.h41_nut.specs.MemoryWords as spec;
 
@@ -39,6 +40,7 @@ pub fn read_register<const REGS: usize>(
 
 /// `WRIT DATA`: C goes to the selected register.
 pub fn write_data<const REGS: usize>(cpu: &mut Cpu, ram: &mut Ram<REGS>) -> Result<(), WordRefusal>
+    requires { first_address ≤ cpu.old.pc }
     ensures processor { GoesOn (λ s. s) cpu.old cpu.new result }
     ensures written { OnOk result (ram.new ≡ spec.with_c_at ram.old cpu.old.selected cpu.old) }
     ensures kept { OnErr result (ram.new ≡ ram.old) }

@@ -1,6 +1,7 @@
 //! The words of the key flag and of peripherals, and those that stand for nothing.
 
-ghost use Rattle.std.specs.Prelude.{◌≡◌, false, OnOk, OnErr};
+ghost use Rattle.std.specs.Prelude.{◌≡◌, ◌≤◌, false, OnOk, OnErr};
+ghost use Rattle.h41_pages.specs.Addresses.{first_address};
 ghost use Rattle.h41_nut.specs.ProcessorSteps.{GoesOn, GoesOnUnless};
 ghost use Rattle.h41_nut.specs.Unheld as spec;
 
@@ -11,6 +12,7 @@ use h41_words::UnassignedWord;
 
 /// `CLRKEY`: clears the key flag.
 pub fn clear_key_flag(cpu: &mut Cpu, keys: &mut Keys) -> Result<(), WordRefusal>
+    requires { first_address ≤ cpu.old.pc }
     ensures processor { GoesOn (λ s. s) cpu.old cpu.new result }
     ensures flag { OnOk result (keys.new ≡ record keys.old { flag = false }) }
     ensures kept { OnErr result (keys.new ≡ keys.old) }
@@ -22,6 +24,7 @@ pub fn clear_key_flag(cpu: &mut Cpu, keys: &mut Keys) -> Result<(), WordRefusal>
 
 /// `PRPH SLCT`: does nothing where C's digits 1 and 0 are zero, and is refused as 10 else.
 pub fn select_peripheral(cpu: &mut Cpu) -> Result<(), WordRefusal>
+    requires { first_address ≤ cpu.old.pc }
     ensures { GoesOnUnless (spec.peripheral_refusal cpu.old) (λ s. s) cpu.old cpu.new result }
 {
     if cpu.c().byte(0) != 0 {

@@ -1,7 +1,8 @@
 //! The words that write and read the pages.
 
-ghost use Rattle.std.specs.Prelude.{◌≡◌, IfOk, OnOk, OnErr};
+ghost use Rattle.std.specs.Prelude.{◌≡◌, ◌≤◌, IfOk, OnOk, OnErr};
 ghost use Rattle.std.specs.Result.{result_err};
+ghost use Rattle.h41_pages.specs.Addresses.{first_address};
 ghost use Rattle.h41_nut.specs.PageWords.{fetched, system_refusal, word_or_zero};
 ghost use Rattle.h41_nut.specs.MemoryWords as spec;
 ghost use Rattle.h41_nut.specs.ProcessorSteps.{FetchesWord, WritesWord};
@@ -14,7 +15,8 @@ use h41_words::Word;
 /// The word at an address. Refused as 8 in pages 0 to 3, as 9 where the chosen bank of its page is not plugged.
 #[inline(always)]
 pub fn fetch(pages: &Pages, address: u16) -> Result<Word, WordRefusal>
-    ensures { result ≡ fetched pages.now address }
+    ensures word { result ≡ fetched pages.now address }
+    ensures held { OnOk result (first_address ≤ address) }
 {
     Ok(pages.fetch(address)?)
 }
@@ -34,6 +36,7 @@ fn fetch_or_zero(pages: &Pages, address: u16) -> Result<Word, WordRefusal>
 
 /// `WROM`: the word in C is written at the address in C. Refused as 12 before all else where its page is not writable.
 pub fn write_rom(cpu: &mut Cpu, pages: &mut Pages) -> Result<(), WordRefusal>
+    requires { first_address ≤ cpu.old.pc }
     ensures processor { WritesWord pages.old cpu.old cpu.new result }
     ensures written { OnOk result (pages.new ≡ spec.with_word_written pages.old cpu.old) }
     ensures kept { OnErr result (pages.new ≡ pages.old) }

@@ -38,7 +38,7 @@ impl AddressSpace {
     pub fn new(alloc: Global) -> Result<Self, AllocError>
         ensures { IfOk result (λ space. space ≡ spec.empty_space) }
     {
-        let mut numbers = Vec::with_capacity(alloc, ADDRESSES)?;
+        let mut numbers = Vec::new(alloc);
         numbers.resize(ADDRESSES, NOTHING)?;
         Ok(AddressSpace { numbers })
     }

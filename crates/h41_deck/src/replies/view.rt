@@ -47,11 +47,16 @@ pub fn shown(
     Ok(Ok(text))
 }
 
+/// Room in bytes for what is printed of a value, the processor with its five lines among them. A longer text takes more.
+const ROOM: usize = 256;
+
 /// What is printed of a value. 21 where memory is refused.
 fn text_of<D: fmt::Display + Drop>(alloc: Global, shown: D) -> Result<Vec<u8>, AllocError>
     ensures { IfOk result (λ text. IfSome (D.output shown) (λ bytes. text.items ≡ bytes)) }
 {
-    Ok(shown.to_string(alloc)?.into_bytes())
+    let mut text = String::with_capacity(alloc, ROOM)?;
+    text.write(shown)?;
+    Ok(text.into_bytes())
 }
 
 /// A text with its line end. 21 where memory is refused.

@@ -4,4 +4,4 @@ use Rattle.h41_pages.proofs.AddressSpaces.{filled}
 use Rattle.h41_pages.proofs.address_space.AddressSpace.new.Goals as goal
 
 pub returns : goal.returns
-returns c = c.in_ok-resize.ensures.items ∙ filled _ _ address_count nothing c.in_ok-numbers.ensures.items c.in_ok-numbers.ensures.len
+returns c = c.in_ok-resize.ensures.items ∙ filled _ _ address_count nothing c.new-numbers.ensures.items c.new-numbers.ensures.len

@@ -17,6 +17,10 @@ address_after_both s = address_after s.pc 2
 abbrev pub arrival_refusal : ℕ → Option WordRefusal
 arrival_refusal address = then_some (is_closed address) (SystemRom address)
 
+-- so none goes on after a word where the address there is one of these
+abbrev pub refusal_to_go_on : Processor → Option WordRefusal
+refusal_to_go_on s = arrival_refusal (next_address s)
+
 -- a processor at an address, with a carry
 abbrev pub at_address : ℕ → Bool → Processor → Processor
 at_address address carry s = record s { pc = address; carry = carry }

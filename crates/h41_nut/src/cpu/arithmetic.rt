@@ -5,7 +5,7 @@ ghost use Rattle.std.specs.Result.{result_err};
 ghost use Rattle.h41_pages.specs.Addresses.{first_address};
 ghost use Rattle.h41_arith.specs.DigitRule.{base_of};
 ghost use Rattle.h41_nut.specs.Arithmetic.{Operates, OperatesOn, base_number};
-ghost use Rattle.h41_nut.specs.Arrivals.{arrival_refusal, next_address, gone_on};
+ghost use Rattle.h41_nut.specs.Arrivals.{refusal_to_go_on, gone_on};
 
 use crate::base::Base;
 use crate::cpu::Cpu;
@@ -26,7 +26,7 @@ impl Cpu {
         field: Field,
     ) -> Result<(), WordRefusal>
         requires { first_address ≤ self.old.pc }
-        ensures refusal { result_err result ≡ arrival_refusal (next_address self.old) }
+        ensures refusal { result_err result ≡ refusal_to_go_on self.old }
         ensures operates { OnOk result (OperatesOn operation field (gone_on self.old) self.new) }
         ensures stays { OnErr result (self.new ≡ self.old) }
     {

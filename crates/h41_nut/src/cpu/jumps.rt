@@ -28,7 +28,7 @@ impl Cpu {
     #[inline(always)]
     pub(crate) fn following(&self) -> Result<u16, WordRefusal>
         requires { first_address ≤ self.now.pc }
-        ensures refusal { result_err result ≡ arrivals.arrival_refusal (arrivals.next_address self.now) }
+        ensures refusal { result_err result ≡ arrivals.refusal_to_go_on self.now }
         ensures address { IfOk result (λ next. next ≡ arrivals.next_address self.now) }
     {
         match self.pc.checked_add(1) {

@@ -4,6 +4,7 @@ pub mod Courses
 pub mod LineCalls
 pub mod LineLaws
 pub mod LineStep
+pub mod MachineCalls
 pub mod Outcomes
 pub mod StackMoves
 pub mod Works

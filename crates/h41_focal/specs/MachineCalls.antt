@@ -1,0 +1,51 @@
+-- How the clauses of a machine's calls see what they leave: the machine, and an answer whose texts are their bytes.
+use Rattle.std.specs.Prelude.{◌≡◌, IfOk, IsTrue, Option, Result, Ok, Err}
+use Rattle.h41_codes.specs.declared.functions.Function.{Function}
+use Rattle.h41_codes.specs.declared.line.Line.{Line}
+use Rattle.h41_focal.specs.LineStep.{FailsLine, Left, Machine, PassesLine, StepsLine, TypesLine}
+use Rattle.h41_focal.specs.LineStep as steps
+use Rattle.h41_focal.specs.Outcomes.{answer_of, is_elsewhere}
+use Rattle.h41_focal.specs.declared.outcome.LineOutcome.{LineOutcome}
+use Rattle.h41_focal.specs.declared.refusal.FocalRefusal.{FocalRefusal}
+use Rattle.h41_rows.specs.declared.fault.LineFault.{LineFault}
+
+-- what a call leaves, and its answer
+abbrev pub left_of : Machine → LineOutcome → Left
+left_of machine outcome = record { machine = machine; answer = answer_of outcome }
+
+abbrev pub carried_as : Machine → Result LineOutcome FocalRefusal → Result Left FocalRefusal
+carried_as machine (Ok outcome) = Ok (left_of machine outcome)
+carried_as machine (Err refusal) = Err refusal
+
+-- what a call takes, then what it leaves, and its answer
+abbrev pub Call : Type 1
+Call = (old new : Machine) → Result LineOutcome FocalRefusal → Type 0
+
+-- the line at the position is carried out, or a function in its place
+abbrev pub Steps : Option Function → Call
+Steps function old new result = StepsLine function old (carried_as new result)
+
+-- the line at the position fails
+abbrev pub Fails : LineFault → Call
+Fails fault old new result = FailsLine fault old (carried_as new result)
+
+-- a typed line fails
+abbrev pub FailsTyped : LineFault → Call
+FailsTyped fault old new result = steps.FailsTyped fault old (carried_as new result)
+
+-- the line at the position is passed, since what it calls is carried out elsewhere
+abbrev pub passed_as : Machine → Result (Unit {0}) FocalRefusal → Result Machine FocalRefusal
+passed_as machine (Ok done) = Ok machine
+passed_as machine (Err refusal) = Err refusal
+
+abbrev pub Passes : (old new : Machine) → Result (Unit {0}) FocalRefusal → Type 0
+Passes old new result = PassesLine old (passed_as new result)
+
+-- a line is typed
+abbrev pub Types : Line → Call
+Types line old new result = TypesLine line old (carried_as new result)
+
+-- what has to be looked up changes nothing
+abbrev pub KeepsElsewhere : Call
+KeepsElsewhere old new result =
+    IfOk result (λ outcome. IsTrue (is_elsewhere (answer_of outcome)) → new ≡ old)

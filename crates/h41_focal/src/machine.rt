@@ -1,0 +1,101 @@
+//! Memory and what lines work on beside it, as one value: what lines, edits and keys change.
+
+ghost use Rattle.std.specs.Prelude.{◌≡◌, ◌≤◌, ℕ, None, Some, OnErr};
+ghost use Rattle.h41_focal.specs.MachineCalls.{Fails, FailsTyped, KeepsElsewhere, Passes, Steps, Types};
+ghost use Rattle.h41_focal.specs.LineStep.{start};
+ghost use Rattle.h41_ram.specs.RegisterMap as registers;
+
+use crate::focal::Focal;
+use crate::lines::{fail_line, fail_typed, key_line, pass_line, step_as, step_line};
+use crate::outcome::LineOutcome;
+use crate::refusal::FocalRefusal;
+use h41_codes::{Function, Line};
+use h41_ram::Ram;
+use h41_rows::LineFault;
+use std::marker::Model;
+
+/// Memory and what lines work on beside it.
+#[derive(Drop)]
+pub struct Machine<const REGS: usize> {
+    /// Memory: the stack, ALPHA, flags, data registers and programs.
+    pub ram: Ram<REGS>,
+    /// What lines work on beside memory: the position, the positions to return to, and lift.
+    pub focal: Focal,
+}
+
+impl<const REGS: usize> Model for Machine<REGS> {
+    ghost use Rattle.h41_focal.specs.LineStep as states;
+
+    ghost Value = { states.Machine };
+
+    ghost view = { λ machine. record { memory = machine.ram; focal = machine.focal } };
+}
+
+impl<const REGS: usize> Machine<REGS> {
+    /// The start: memory as it is then, line 00 of its empty program, nowhere to return to, lift on.
+    pub fn new() -> Self
+        requires at_least { 64 ≤ REGS }
+        requires at_most { REGS ≤ 320 }
+        ensures { result ≡ record { memory = registers.start REGS; focal = start } }
+    {
+        Machine {
+            ram: Ram::new(),
+            focal: Focal::new(),
+        }
+    }
+
+    /// The line at the position is carried out: 15 where memory is not sound, 14 where no line stands there, 13 where it is left
+    /// out, in this order, and last 14 where a line that a test or a loop would pass over is none. Nothing is changed then.
+    #[inline(always)]
+    pub fn step(&mut self) -> Result<LineOutcome, FocalRefusal>
+        ensures line { Steps None self.old self.new result }
+        ensures unchanged { OnErr result (self.new ≡ self.old) }
+        ensures elsewhere { KeepsElsewhere self.old self.new result }
+    {
+        step_line(&mut self.ram, &mut self.focal)
+    }
+
+    /// A function is carried out in place of the line at the position, whatever that is, as for an XEQ that names it: refused as
+    /// in `step`.
+    pub fn step_as(&mut self, function: Function) -> Result<LineOutcome, FocalRefusal>
+        ensures line { Steps (Some function) self.old self.new result }
+        ensures unchanged { OnErr result (self.new ≡ self.old) }
+    {
+        step_as(&mut self.ram, &mut self.focal, function)
+    }
+
+    /// The line at the position fails, as where what it calls is nowhere: its fault is answered, or flag 25 has the program go
+    /// on. 15 and 14 as in `step`, nothing else.
+    pub fn fail(&mut self, fault: LineFault) -> Result<LineOutcome, FocalRefusal>
+        ensures line { Fails fault self.old self.new result }
+        ensures unchanged { OnErr result (self.new ≡ self.old) }
+    {
+        fail_line(&mut self.ram, &mut self.focal, fault)
+    }
+
+    /// A typed line fails, as where what it calls is nowhere: its fault is answered, or flag 25 is cleared. 15 as in `step`.
+    pub fn fail_typed(&mut self, fault: LineFault) -> Result<LineOutcome, FocalRefusal>
+        ensures line { FailsTyped fault self.old self.new result }
+        ensures unchanged { OnErr result (self.new ≡ self.old) }
+    {
+        fail_typed(&mut self.ram, &mut self.focal, fault)
+    }
+
+    /// The line at the position is passed, since what it calls is carried out elsewhere: on to the next line, with lift behind an
+    /// XROM line. 15 and 14 as in `step`; nothing is changed then.
+    pub fn pass(&mut self) -> Result<(), FocalRefusal>
+        ensures line { Passes self.old self.new result }
+        ensures unchanged { OnErr result (self.new ≡ self.old) }
+    {
+        pass_line(&self.ram, &mut self.focal)
+    }
+
+    /// A typed line is carried out: 15 where memory is not sound, 13 where the line is left out.
+    pub fn key(&mut self, line: &Line) -> Result<LineOutcome, FocalRefusal>
+        ensures line { Types line.now self.old self.new result }
+        ensures unchanged { OnErr result (self.new ≡ self.old) }
+        ensures elsewhere { KeepsElsewhere self.old self.new result }
+    {
+        key_line(&mut self.ram, &mut self.focal, line)
+    }
+}

@@ -2,7 +2,8 @@
 use Rattle.std.proofs.Common.{◌≡◌, ℕ, List, [], ◌∷◌, Some, None, Ok, refl, reverse}
 use Rattle.h41_codes.specs.declared.functions.Branch.{Branch}
 use Rattle.h41_codes.specs.declared.functions.Branch.TheVariants.{GoTo, Execute}
-use Rattle.h41_focal.specs.Arrivals.{GoesBackFrom, answer_at, focal_at, from_of, halted_at}
+use Rattle.h41_focal.specs.Arrivals.{GoesBackFrom, answer_at, focal_at, from_of}
+use Rattle.h41_focal.specs.LineStep.{halted_at}
 use Rattle.h41_focal.specs.Carrying.{KnowsNext, Leaves, how_of}
 use Rattle.h41_focal.specs.LineCalls.{left_of, machine_of}
 use Rattle.h41_focal.specs.Outcomes.{answer_of}

@@ -4,7 +4,7 @@ use Rattle.h41_codes.specs.declared.functions.Branch.{Branch}
 use Rattle.h41_codes.specs.declared.functions.Branch.TheVariants.{GoTo, Execute}
 use Rattle.h41_focal.specs.Outcomes.{answer_of}
 use Rattle.h41_focal.specs.Courses.{pushed}
-use Rattle.h41_focal.specs.LineStep.{FocalState}
+use Rattle.h41_focal.specs.LineStep.{FocalState, at_position, halted_at}
 use Rattle.h41_focal.specs.Outcomes.{Answer}
 use Rattle.h41_focal.specs.Outcomes as answers
 use Rattle.h41_focal.specs.declared.origin.Origin.{Origin}
@@ -21,26 +21,22 @@ from_of Typed position = position
 
 -- at a label, by how the line came and whether it returns
 abbrev pub focal_at : Origin → Branch → ℕ → FocalState → FocalState
-focal_at origin GoTo position focal = record focal { position = position; at_line_00 = false }
+focal_at origin GoTo position focal = at_position position focal
 focal_at (Program next) Execute position focal =
-    record focal { position = position; at_line_00 = false; returns = pushed focal.returns next }
-focal_at Typed Execute position focal = record focal { position = position; at_line_00 = false; returns = [] }
+    record (at_position position focal) { returns = pushed focal.returns next }
+focal_at Typed Execute position focal = record (at_position position focal) { returns = [] }
 
 abbrev pub answer_at : Origin → Branch → Answer
 answer_at origin GoTo = answers.Done
 answer_at (Program next) Execute = answers.Done
 answer_at Typed Execute = answers.Runs
 
--- at line 00 of a program
-abbrev pub halted_at : ℕ → FocalState → FocalState
-halted_at start focal = record focal { position = start; at_line_00 = true; returns = [] }
-
 -- back to the latest position to return to, or to line 00
 abbrev pub GoesBackFrom : RegisterMap → List ℕ → FocalState → FocalState → LineOutcome → Type 0
 GoesBackFrom memory [] focal after outcome =
     (start : ℕ) × AnswersOf (start_in focal.position) memory 0 start × (after ≡ halted_at start focal) × (answer_of outcome ≡ answers.Stopped)
 GoesBackFrom memory (latest ∷ others) focal after outcome =
-    (after ≡ record focal { position = latest; at_line_00 = false; returns = reverse others }) × (answer_of outcome ≡ answers.Done)
+    (after ≡ record (at_position latest focal) { returns = reverse others }) × (answer_of outcome ≡ answers.Done)
 
 abbrev pub ReturnsFrom : RegisterMap → FocalState → FocalState → LineOutcome → Type 0
 ReturnsFrom memory focal after outcome = GoesBackFrom memory (reverse focal.returns) focal after outcome

@@ -75,17 +75,27 @@ answered memory named rows.NoText ending = answers.Cleared
 answered memory named rows.NamedText ending = shown_text (register_text (format_of memory) (register_at memory named)) ending
 answered memory named rows.AlphaText ending = shown_text (alpha_text memory) ending
 
+-- where lines go on: at a line, at line 00 of the program that begins at a position, and there with nowhere to return to
+abbrev pub at_position : ℕ → FocalState → FocalState
+at_position position focal = record focal { position = position; at_line_00 = false }
+
+abbrev pub at_line_00 : ℕ → FocalState → FocalState
+at_line_00 start focal = record focal { position = start; at_line_00 = true }
+
+abbrev pub halted_at : ℕ → FocalState → FocalState
+halted_at start focal = record (at_line_00 start focal) { returns = [] }
+
 -- a machine at a position that is not line 00
 abbrev pub placed : ℕ → Machine → Machine
-placed position machine = record machine { focal = record machine.focal { position = position; at_line_00 = false } }
+placed position machine = record machine { focal = at_position position machine.focal }
 
 -- with positions to return to
 abbrev pub returning : List ℕ → Machine → Machine
 returning returns machine = record machine { focal = record machine.focal { returns = returns } }
 
--- at line 00 of a program, with nowhere to return to
-abbrev pub at_start : ℕ → Machine → Machine
-at_start start machine = record machine { focal = record machine.focal { position = start; at_line_00 = true; returns = [] } }
+-- halted at line 00 of a program
+abbrev pub halted : ℕ → Machine → Machine
+halted start machine = record machine { focal = halted_at start machine.focal }
 
 -- a fault is shown and the program stops there, at a line that is not line 00. With flag 25 that flag is cleared, and the
 -- program goes on with the next line. Where the line was typed, the position stays.
@@ -117,8 +127,8 @@ FailsIn how machine fault carried = (left : Left) × Fails how machine fault lef
 abbrev pub Ends : How → Machine → Machine → Answer → Course → Result Left FocalRefusal → Type 0
 Ends how old new answer (Arrives position returns) carried =
     carried ≡ Ok (record { machine = placed position (returning returns new); answer = answer })
-Ends Stepped old new answer (Halts start) carried = carried ≡ Ok (record { machine = at_start start new; answer = answers.Stopped })
-Ends Typed old new answer (Halts start) carried = carried ≡ Ok (done (at_start start new))
+Ends Stepped old new answer (Halts start) carried = carried ≡ Ok (record { machine = halted start new; answer = answers.Stopped })
+Ends Typed old new answer (Halts start) carried = carried ≡ Ok (done (halted start new))
 Ends how old new answer Stays carried = carried ≡ Ok (record { machine = new; answer = answer })
 Ends how old new answer (Tells holds) carried = carried ≡ Ok (record { machine = new; answer = answers.Answered holds })
 Ends how old new answer (Runs position) carried =

@@ -18,8 +18,7 @@ pub fn go_on(focal: &mut Focal, origin: Origin)
     ensures { focal.new ≡ advanced origin AsItWas focal.old }
 {
     if let Origin::Program(next) = origin {
-        focal.position = next;
-        focal.is_at_line_00 = false;
+        focal.go_to(next);
     }
 }
 

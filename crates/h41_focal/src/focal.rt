@@ -1,6 +1,6 @@
 //! What lines work on, beside memory.
 ghost use Rattle.std.specs.Prelude.{◌≡◌};
-ghost use Rattle.h41_focal.specs.LineStep.{start};
+ghost use Rattle.h41_focal.specs.LineStep.{at_line_00, at_position, halted_at, start};
 
 use arrayvec::ArrayVec;
 use std::marker::Model;
@@ -45,5 +45,28 @@ impl Focal {
             returns: ArrayVec::new(),
             lift: true,
         }
+    }
+    /// On to the line at a position.
+    pub fn go_to(&mut self, position: u16)
+        ensures { self.new ≡ at_position position self.old }
+    {
+        self.position = position;
+        self.is_at_line_00 = false;
+    }
+
+    /// To line 00 of the program that begins at a position.
+    pub fn go_to_line_00(&mut self, start: u16)
+        ensures { self.new ≡ at_line_00 start self.old }
+    {
+        self.position = start;
+        self.is_at_line_00 = true;
+    }
+
+    /// To line 00 of the program that begins at a position, with nowhere to return to.
+    pub fn halt_at(&mut self, start: u16)
+        ensures { self.new ≡ halted_at start self.old }
+    {
+        self.go_to_line_00(start);
+        self.returns.clear();
     }
 }

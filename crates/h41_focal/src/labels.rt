@@ -1,7 +1,7 @@
 //! Labels, subroutines and returns.
 
 ghost use Rattle.std.specs.Prelude.{◌≡◌, ℕ, IsTrue};
-ghost use Rattle.h41_focal.specs.Arrivals.{ReturnsFrom, answer_at, focal_at, from_of, halted_at};
+ghost use Rattle.h41_focal.specs.Arrivals.{ReturnsFrom, answer_at, focal_at, from_of};
 ghost use Rattle.h41_focal.specs.Carrying.{DoesWork, KnowsNext, GoesToLabel, GoesToName};
 ghost use Rattle.h41_focal.specs.Outcomes.{answer_of};
 ghost use Rattle.h41_focal.specs.Courses.{pushed};
@@ -70,8 +70,7 @@ fn arrive(focal: &mut Focal, origin: Origin, branch: Branch, position: u16) -> L
     ensures focal { focal.new ≡ focal_at origin branch position focal.old }
     ensures answer { answer_of result ≡ answer_at origin branch }
 {
-    focal.position = position;
-    focal.is_at_line_00 = false;
+    focal.go_to(position);
     match (branch, origin) {
         (Branch::GoTo, _) => LineOutcome::Done,
         (Branch::Execute, Origin::Program(next)) => {
@@ -109,7 +108,7 @@ pub fn go_back<const REGS: usize>(
         Origin::Program(_) => return_from(ram, focal),
         Origin::Typed => {
             let start = start_of(ram, focal.position);
-            halt_at(focal, start);
+            focal.halt_at(start);
             LineOutcome::Done
         }
     }
@@ -122,23 +121,13 @@ fn return_from<const REGS: usize>(ram: &Ram<REGS>, focal: &mut Focal) -> LineOut
 {
     match focal.returns.pop() {
         Some(position) => {
-            focal.position = position;
-            focal.is_at_line_00 = false;
+            focal.go_to(position);
             LineOutcome::Done
         }
         None => {
             let start = start_of(ram, focal.position);
-            halt_at(focal, start);
+            focal.halt_at(start);
             LineOutcome::Stopped
         }
     }
-}
-
-/// Line 00 of the program that begins at a position, with nowhere to return to.
-fn halt_at(focal: &mut Focal, start: u16)
-    ensures { focal.new ≡ halted_at start focal.old }
-{
-    focal.position = start;
-    focal.is_at_line_00 = true;
-    focal.returns.clear();
 }

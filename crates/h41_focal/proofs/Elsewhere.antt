@@ -5,8 +5,8 @@ use Rattle.h41_codes.specs.declared.line.Line.{Line}
 use Rattle.h41_codes.specs.declared.line.Line.TheVariants as lines
 use Rattle.h41_focal.specs.Courses.{Arrives, Course, Halts, HasNoLabel, HasNoLine, How, Runs, Seeks, Stays, Stepped, Tells, Typed}
 use Rattle.h41_focal.specs.Carrying.{TakesAs, how_of}
-use Rattle.h41_focal.specs.LineCalls.{KeepsElsewhere, machine_of}
-use Rattle.h41_focal.specs.LineStep.{AppliesTo, AppliesWith, CarriesOut, Ends, Fails, FailsIn, FocalState, Left, Machine, TakesLine, answered, caught, done, failed, named_by, placed}
+use Rattle.h41_focal.specs.MachineCalls.{KeepsElsewhere}
+use Rattle.h41_focal.specs.LineStep.{AppliesTo, AppliesWith, CarriesOut, Ends, Fails, FailsIn, Left, Machine, TakesLine, answered, caught, done, failed, named_by, placed}
 use Rattle.h41_focal.specs.Outcomes.{Answer, answer_of, is_elsewhere}
 use Rattle.h41_focal.specs.declared.origin.Origin.{Origin}
 use Rattle.h41_focal.specs.declared.outcome.LineOutcome.{LineOutcome}
@@ -121,15 +121,9 @@ elsewhere_keeps : (how : How) (line : Line) (machine : Machine) (left : Left) �
     → left.machine ≡ machine
 elsewhere_keeps how line machine left takes elsewhere = takes_by (is_left_out line) how line machine left takes elsewhere
 
--- what a call takes, and leaves where its answer has to be looked up
-kept_by : (line : Line) (origin : Origin) (memory new : RegisterMap) (focal after : FocalState) (outcome : LineOutcome)
-    → TakesAs origin line memory focal new after (Ok outcome) → is_elsewhere (answer_of outcome) ≡ true → (new ≡ memory) × (after ≡ focal)
-kept_by line origin memory new focal after outcome takes elsewhere =
-    let same : machine_of new after ≡ machine_of memory focal = elsewhere_keeps (how_of origin) line (machine_of memory focal) _ takes elsewhere in
-    (ap (λ (of : Machine). of.memory) same, ap (λ (of : Machine). of.focal) same)
-
-pub kept_elsewhere : (origin : Origin) (line : Line) (memory new : RegisterMap) (focal after : FocalState) (result : Result LineOutcome FocalRefusal)
-    → TakesAs origin line memory focal new after result → KeepsElsewhere memory focal new after result
-kept_elsewhere origin line memory new focal after (Ok outcome) takes =
-    λ elsewhere. kept_by line origin memory new focal after outcome takes elsewhere
-kept_elsewhere origin line memory new focal after (Err refusal) takes = tt
+-- what a call leaves where its answer has to be looked up
+pub kept_elsewhere : (origin : Origin) (line : Line) (old new : Machine) (result : Result LineOutcome FocalRefusal)
+    → TakesAs origin line old new result → KeepsElsewhere old new result
+kept_elsewhere origin line old new (Ok outcome) takes =
+    λ elsewhere. elsewhere_keeps (how_of origin) line old _ takes elsewhere
+kept_elsewhere origin line old new (Err refusal) takes = tt

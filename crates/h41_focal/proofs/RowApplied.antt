@@ -1,10 +1,10 @@
 -- A row whose line goes on to the next one is applied: by what it computes, what it makes of memory, and where the line then is.
-use Rattle.std.proofs.Common.{◌≡◌, ℕ, List, Ok, Err, refl}
+use Rattle.std.proofs.Common.{◌≡◌, ℕ, List, Ok, Err, Result, refl, subst}
 use Rattle.h41_focal.specs.Carrying.{KnowsNext, Leaves, advanced, how_of}
-use Rattle.h41_focal.specs.LineCalls.{left_of, machine_of}
+use Rattle.h41_focal.specs.MachineCalls.{left_of}
 use Rattle.h41_focal.specs.Outcomes.{answer_of}
 use Rattle.h41_focal.specs.Courses as courses
-use Rattle.h41_focal.specs.LineStep.{Fails, FocalState, Works, answered}
+use Rattle.h41_focal.specs.LineStep.{Applies, Fails, FocalState, Left, Machine, Works, answered, joined}
 use Rattle.h41_rows.specs.RowEffects.{memory_after}
 use Rattle.h41_rows.specs.Rows.{Row}
 use Rattle.h41_rows.specs.Rows as rows
@@ -12,25 +12,49 @@ use Rattle.h41_rows.specs.declared.fault.LineFault.{LineFault}
 use Rattle.h41_focal.specs.declared.origin.Origin.{Origin}
 use Rattle.h41_focal.specs.declared.origin.Origin.TheVariants.{Program, Typed}
 use Rattle.h41_focal.specs.declared.outcome.LineOutcome.{LineOutcome}
+use Rattle.h41_focal.specs.declared.refusal.FocalRefusal.{FocalRefusal}
 use Rattle.h41_ram.specs.RegisterMap.{RegisterMap}
+
+-- a machine with a row's changes, where its line goes on to the next one
+abbrev pub applied_to : Origin → Row → ℕ → List ℕ → Machine → Machine
+applied_to origin row named register machine = record {
+  memory = memory_after row named register machine.focal.lift machine.memory;
+  focal = advanced origin row.lift machine.focal;
+}
 
 -- it is done
 pub row_applied :
-    (origin : Origin) (row : Row) (named : ℕ) (memory : RegisterMap) (focal : FocalState) (register : List ℕ) (outcome : LineOutcome)
-    → KnowsNext origin memory focal.position
+    (origin : Origin) (row : Row) (named : ℕ) (machine : Machine) (register : List ℕ) (outcome : LineOutcome)
+    → KnowsNext origin machine
     → row.goes ≡ rows.Next
-    → Works memory named row (Ok register)
-    → answer_of outcome ≡ answered memory named row.shows row.ends
-    → Leaves origin row named memory focal (memory_after row named register focal.lift memory) (advanced origin row.lift focal) outcome
-row_applied (Program next) row named memory focal register outcome knows goes works answers =
-    (Ok register, works, (courses.Arrives next focal.returns, (next, knows, rw goes refl), rw answers refl))
-row_applied Typed row named memory focal register outcome knows goes works answers =
+    → Works machine.memory named row (Ok register)
+    → answer_of outcome ≡ answered machine.memory named row.shows row.ends
+    → Leaves origin row named machine (applied_to origin row named register machine) outcome
+row_applied (Program next) row named machine register outcome knows goes works answers =
+    (Ok register, works, (courses.Arrives next machine.focal.returns, (next, knows, rw goes refl), rw answers refl))
+row_applied Typed row named machine register outcome knows goes works answers =
     (Ok register, works, (courses.Stays, rw goes refl, rw answers refl))
 
--- it has a fault
+-- it is applied to a machine whose memory and what else lines work on are looked at apart
+pub opened_row :
+    (origin : Origin) (row : Row) (named : ℕ) (machine : Machine) (memory : RegisterMap) (focal : FocalState)
+    (carried : Result Left FocalRefusal)
+    → joined memory focal ≡ machine
+    → KnowsNext origin machine
+    → (KnowsNext origin (joined memory focal) → Applies (how_of origin) row named (joined memory focal) carried)
+    → Applies (how_of origin) row named machine carried
+opened_row origin row named machine memory focal carried opened knows applies =
+    let P : Machine → Type 0 = λ old. KnowsNext origin old → Applies (how_of origin) row named old carried in
+    subst P opened applies knows
+
+-- it has a fault: by memory and what else lines work on
 pub row_failed :
-    (origin : Origin) (row : Row) (named : ℕ) (memory new : RegisterMap) (focal after : FocalState) (fault : LineFault) (outcome : LineOutcome)
+    (origin : Origin) (row : Row) (named : ℕ) (machine new : Machine) (memory : RegisterMap) (focal : FocalState) (fault : LineFault)
+    (outcome : LineOutcome)
+    → joined memory focal ≡ machine
     → Works memory named row (Err fault)
-    → Fails (how_of origin) (machine_of memory focal) fault (left_of new after outcome)
-    → Leaves origin row named memory focal new after outcome
-row_failed origin row named memory new focal after fault outcome works fails = (Err fault, works, (left_of new after outcome, fails, refl))
+    → Fails (how_of origin) machine fault (left_of new outcome)
+    → Leaves origin row named machine new outcome
+row_failed origin row named machine new memory focal fault outcome opened works fails =
+    let P : Machine → Type 0 = λ old. Works old.memory named row (Err fault) in
+    (Err fault, subst P opened works, (left_of new outcome, fails, refl))

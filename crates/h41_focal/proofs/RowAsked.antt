@@ -1,14 +1,16 @@
 -- A row whose line asks is applied: by what it computes, what it makes of memory, whether its condition holds, and where the line then is.
 use Rattle.std.proofs.Common.{◌≡◌, ℕ, Bool, true, false, ◌&&◌, is_some, MatchBool, List, Ok, Err, Result, refl, ap, sym, subst, ◌∙◌, inl, inr}
 use Rattle.h41_decimal.specs.Holding.{number_in}
-use Rattle.h41_focal.specs.Carrying.{CarriesRow, KnowsNext, Leads, advanced, told}
+use Rattle.h41_focal.proofs.RowApplied.{applied_to}
+use Rattle.h41_focal.specs.Carrying.{CarriesRow, KnowsNext, Leads, how_of, told}
 use Rattle.h41_focal.specs.Outcomes.{answer_of}
 use Rattle.h41_rows.specs.Computing.{WorksOn}
 use Rattle.h41_rows.specs.Computing as computing
 use Rattle.h41_rows.specs.Counters.{Way}
+use Rattle.h41_focal.specs.Courses as courses
 use Rattle.h41_focal.specs.Courses.{Course, Arrives, Asks, HasNoLine, Stays, StepsFrom, Tells}
 use Rattle.h41_rows.specs.LineRows.{loop}
-use Rattle.h41_focal.specs.LineStep.{FocalState, Works}
+use Rattle.h41_focal.specs.LineStep.{Applies, Machine, Works}
 use Rattle.h41_focal.specs.Outcomes as answers
 use Rattle.h41_rows.specs.Places.{Named, are_numbers, register_in}
 use Rattle.h41_rows.specs.RowEffects.{holds_in, memory_after}
@@ -42,100 +44,100 @@ has_no_line holds memory next returns fails broken = rw fails (inr (broken, refl
 
 -- the program goes on from a line that asks, where its row goes by a condition
 program_leads :
-    (next : ℕ) (lead : Origin) (row : Row) (condition : Condition) (holds : Bool) (named : ℕ) (memory : RegisterMap) (focal : FocalState) (register : List ℕ) (outcome : LineOutcome)
-    → KnowsNext (Program next) memory focal.position
-    → ((course : Course) → Asks (holds_in memory named condition) memory next focal.returns course → StepsFrom row.goes memory named focal.position next focal.returns course)
+    (next : ℕ) (lead : Origin) (row : Row) (condition : Condition) (holds : Bool) (named : ℕ) (machine : Machine) (register : List ℕ) (outcome : LineOutcome)
+    → KnowsNext (Program next) machine
+    → ((course : Course) → Asks (holds_in machine.memory named condition) machine.memory next machine.focal.returns course → StepsFrom row.goes machine.memory named machine.focal.position next machine.focal.returns course)
     → row.shows ≡ rows.AsBefore
     → row.ends ≡ rows.GoesOn
-    → Works memory named row (Ok register)
-    → holds ≡ holds_in memory named condition
-    → Leads (Program next) memory holds (Ok lead)
+    → Works machine.memory named row (Ok register)
+    → holds ≡ holds_in machine.memory named condition
+    → Leads (Program next) machine.memory holds (Ok lead)
     → answer_of outcome ≡ answers.Done
-    → CarriesRow (Program next) row named memory focal (memory_after row named register focal.lift memory) (advanced lead row.lift focal) (Ok outcome)
-program_leads next (Program position) row condition holds named memory focal register outcome knows goes shows ends works is leads answers =
-    let asks : Asks (holds_in memory named condition) memory next focal.returns (Arrives leads.0 focal.returns) =
-    subst (λ (b : Bool). Asks b memory next focal.returns (Arrives leads.0 focal.returns)) is (arrives holds memory next leads.0 focal.returns leads.2) in
+    → CarriesRow (Program next) row named machine (applied_to lead row named register machine) (Ok outcome)
+program_leads next (Program position) row condition holds named machine register outcome knows goes shows ends works is leads answers =
+    let asks : Asks (holds_in machine.memory named condition) machine.memory next machine.focal.returns (Arrives leads.0 machine.focal.returns) =
+    subst (λ (b : Bool). Asks b machine.memory next machine.focal.returns (Arrives leads.0 machine.focal.returns)) is (arrives holds machine.memory next leads.0 machine.focal.returns leads.2) in
     let same : position ≡ leads.0 = cc leads.1 in
-    (Ok register, works, (Arrives leads.0 focal.returns, (next, knows, goes _ asks), rw (answers, shows, ends, same) refl))
-program_leads next Typed row condition holds named memory focal register outcome knows goes shows ends works is leads answers =
+    (Ok register, works, (Arrives leads.0 machine.focal.returns, (next, knows, goes _ asks), rw (answers, shows, ends, same) refl))
+program_leads next Typed row condition holds named machine register outcome knows goes shows ends works is leads answers =
     absurd (cc leads.1)
 
 -- a test is done
 pub test_leads :
-    (origin lead : Origin) (row : Row) (condition : Condition) (holds : Bool) (named : ℕ) (memory : RegisterMap) (focal : FocalState) (register : List ℕ) (outcome : LineOutcome)
-    → KnowsNext origin memory focal.position
+    (origin lead : Origin) (row : Row) (condition : Condition) (holds : Bool) (named : ℕ) (machine : Machine) (register : List ℕ) (outcome : LineOutcome)
+    → KnowsNext origin machine
     → row.goes ≡ rows.Tests condition
     → row.shows ≡ rows.AsBefore
     → row.ends ≡ rows.GoesOn
-    → Works memory named row (Ok register)
-    → holds ≡ holds_in memory named condition
-    → Leads origin memory holds (Ok lead)
+    → Works machine.memory named row (Ok register)
+    → holds ≡ holds_in machine.memory named condition
+    → Leads origin machine.memory holds (Ok lead)
     → answer_of outcome ≡ told origin holds
-    → CarriesRow origin row named memory focal (memory_after row named register focal.lift memory) (advanced lead row.lift focal) (Ok outcome)
-test_leads (Program next) lead row condition holds named memory focal register outcome knows goes shows ends works is leads answers =
-    program_leads next lead row condition holds named memory focal register outcome knows (λ course asks. rw goes asks) shows ends works is leads answers
-test_leads Typed (Program position) row condition holds named memory focal register outcome knows goes shows ends works is leads answers =
+    → CarriesRow origin row named machine (applied_to lead row named register machine) (Ok outcome)
+test_leads (Program next) lead row condition holds named machine register outcome knows goes shows ends works is leads answers =
+    program_leads next lead row condition holds named machine register outcome knows (λ course asks. rw goes asks) shows ends works is leads answers
+test_leads Typed (Program position) row condition holds named machine register outcome knows goes shows ends works is leads answers =
     absurd (cc leads)
-test_leads Typed Typed row condition holds named memory focal register outcome knows goes shows ends works is leads answers =
+test_leads Typed Typed row condition holds named machine register outcome knows goes shows ends works is leads answers =
     (Ok register, works, (Tells holds, rw goes (ap (λ (b : Bool). Tells b) is), rw answers refl))
 
 -- a loop counted
 pub loop_leads :
-    (origin lead : Origin) (row : Row) (condition : Condition) (holds : Bool) (named : ℕ) (memory : RegisterMap) (focal : FocalState) (register : List ℕ) (outcome : LineOutcome)
-    → KnowsNext origin memory focal.position
+    (origin lead : Origin) (row : Row) (condition : Condition) (holds : Bool) (named : ℕ) (machine : Machine) (register : List ℕ) (outcome : LineOutcome)
+    → KnowsNext origin machine
     → row.goes ≡ rows.Counts condition
     → row.shows ≡ rows.AsBefore
     → row.ends ≡ rows.GoesOn
-    → Works memory named row (Ok register)
-    → holds ≡ holds_in memory named condition
-    → Leads origin memory holds (Ok lead)
+    → Works machine.memory named row (Ok register)
+    → holds ≡ holds_in machine.memory named condition
+    → Leads origin machine.memory holds (Ok lead)
     → answer_of outcome ≡ answers.Done
-    → CarriesRow origin row named memory focal (memory_after row named register focal.lift memory) (advanced lead row.lift focal) (Ok outcome)
-loop_leads (Program next) lead row condition holds named memory focal register outcome knows goes shows ends works is leads answers =
-    program_leads next lead row condition holds named memory focal register outcome knows (λ course asks. rw goes asks) shows ends works is leads answers
-loop_leads Typed (Program position) row condition holds named memory focal register outcome knows goes shows ends works is leads answers =
+    → CarriesRow origin row named machine (applied_to lead row named register machine) (Ok outcome)
+loop_leads (Program next) lead row condition holds named machine register outcome knows goes shows ends works is leads answers =
+    program_leads next lead row condition holds named machine register outcome knows (λ course asks. rw goes asks) shows ends works is leads answers
+loop_leads Typed (Program position) row condition holds named machine register outcome knows goes shows ends works is leads answers =
     absurd (cc leads)
-loop_leads Typed Typed row condition holds named memory focal register outcome knows goes shows ends works is leads answers =
+loop_leads Typed Typed row condition holds named machine register outcome knows goes shows ends works is leads answers =
     (Ok register, works, (Stays, rw goes refl, rw (answers, shows, ends) refl))
 
 -- the line that would be passed over is none
 program_refused :
-    (next : ℕ) (row : Row) (condition : Condition) (holds : Bool) (named : ℕ) (memory new : RegisterMap) (focal after : FocalState) (register : List ℕ) (refusal : FocalRefusal)
-    → KnowsNext (Program next) memory focal.position
-    → ((course : Course) → Asks (holds_in memory named condition) memory next focal.returns course → StepsFrom row.goes memory named focal.position next focal.returns course)
-    → Works memory named row (Ok register)
-    → holds ≡ holds_in memory named condition
-    → Leads (Program next) memory holds (Err refusal)
-    → CarriesRow (Program next) row named memory focal new after (Err refusal)
-program_refused next row condition holds named memory new focal after register refusal knows goes works is leads =
-    let asks = has_no_line (holds_in memory named condition) memory next focal.returns (sym is ∙ leads.1) leads.2 in
+    (next : ℕ) (row : Row) (condition : Condition) (holds : Bool) (named : ℕ) (old : Machine) (register : List ℕ) (refusal : FocalRefusal)
+    → KnowsNext (Program next) old
+    → ((course : Course) → Asks (holds_in old.memory named condition) old.memory next old.focal.returns course → StepsFrom row.goes old.memory named old.focal.position next old.focal.returns course)
+    → Works old.memory named row (Ok register)
+    → holds ≡ holds_in old.memory named condition
+    → Leads (Program next) old.memory holds (Err refusal)
+    → Applies courses.Stepped row named old (Err refusal)
+program_refused next row condition holds named old register refusal knows goes works is leads =
+    let asks = has_no_line (holds_in old.memory named condition) old.memory next old.focal.returns (sym is ∙ leads.1) leads.2 in
     (Ok register, works, (HasNoLine, (next, knows, goes _ asks), rw leads.0 refl))
 
 -- a test is refused
 pub test_refused :
-    (origin : Origin) (row : Row) (condition : Condition) (holds : Bool) (named : ℕ) (memory new : RegisterMap) (focal after : FocalState) (register : List ℕ) (refusal : FocalRefusal)
-    → KnowsNext origin memory focal.position
+    (origin : Origin) (row : Row) (condition : Condition) (holds : Bool) (named : ℕ) (old : Machine) (register : List ℕ) (refusal : FocalRefusal)
+    → KnowsNext origin old
     → row.goes ≡ rows.Tests condition
-    → Works memory named row (Ok register)
-    → holds ≡ holds_in memory named condition
-    → Leads origin memory holds (Err refusal)
-    → CarriesRow origin row named memory focal new after (Err refusal)
-test_refused (Program next) row condition holds named memory new focal after register refusal knows goes works is leads =
-    program_refused next row condition holds named memory new focal after register refusal knows (λ course asks. rw goes asks) works is leads
-test_refused Typed row condition holds named memory new focal after register refusal knows goes works is leads = absurd (cc leads)
+    → Works old.memory named row (Ok register)
+    → holds ≡ holds_in old.memory named condition
+    → Leads origin old.memory holds (Err refusal)
+    → Applies (how_of origin) row named old (Err refusal)
+test_refused (Program next) row condition holds named old register refusal knows goes works is leads =
+    program_refused next row condition holds named old register refusal knows (λ course asks. rw goes asks) works is leads
+test_refused Typed row condition holds named old register refusal knows goes works is leads = absurd (cc leads)
 
 -- a loop is refused
 pub loop_refused :
-    (origin : Origin) (row : Row) (condition : Condition) (holds : Bool) (named : ℕ) (memory new : RegisterMap) (focal after : FocalState) (register : List ℕ) (refusal : FocalRefusal)
-    → KnowsNext origin memory focal.position
+    (origin : Origin) (row : Row) (condition : Condition) (holds : Bool) (named : ℕ) (old : Machine) (register : List ℕ) (refusal : FocalRefusal)
+    → KnowsNext origin old
     → row.goes ≡ rows.Counts condition
-    → Works memory named row (Ok register)
-    → holds ≡ holds_in memory named condition
-    → Leads origin memory holds (Err refusal)
-    → CarriesRow origin row named memory focal new after (Err refusal)
-loop_refused (Program next) row condition holds named memory new focal after register refusal knows goes works is leads =
-    program_refused next row condition holds named memory new focal after register refusal knows (λ course asks. rw goes asks) works is leads
-loop_refused Typed row condition holds named memory new focal after register refusal knows goes works is leads = absurd (cc leads)
+    → Works old.memory named row (Ok register)
+    → holds ≡ holds_in old.memory named condition
+    → Leads origin old.memory holds (Err refusal)
+    → Applies (how_of origin) row named old (Err refusal)
+loop_refused (Program next) row condition holds named old register refusal knows goes works is leads =
+    program_refused next row condition holds named old register refusal knows (λ course asks. rw goes asks) works is leads
+loop_refused Typed row condition holds named old register refusal knows goes works is leads = absurd (cc leads)
 
 -- a test computes nothing, and its condition is told where its places hold numbers
 asked :

@@ -1,12 +1,13 @@
 -- A row whose line goes on to the next one is done, by equations for memory and for where the line then is.
 use Rattle.std.proofs.Common.{arith, ◌≡◌, ◌≢◌, ℕ, ◌≤◌, false, nat_eq, List, [], ◌∷◌, length, drop, slice_index, Some, Result, Ok, refl}
 use Rattle.std.proofs.lemmas.Bool.Decides.{nat_tests}
-use Rattle.h41_focal.proofs.RowApplied.{row_applied}
+use Rattle.h41_focal.proofs.RowApplied.{opened_row, row_applied}
 use Rattle.h41_focal.specs.Carrying.{KnowsNext, Leaves, advanced}
+use Rattle.h41_focal.specs.MachineCalls.{left_of}
 use Rattle.h41_focal.specs.Outcomes.{answer_of}
 use Rattle.h41_rows.specs.Computing.{WorksOn, value_of_two}
 use Rattle.h41_rows.specs.LineRows.{text_row}
-use Rattle.h41_focal.specs.LineStep.{FocalState, Works, answered}
+use Rattle.h41_focal.specs.LineStep.{FocalState, Machine, Works, answered, joined}
 use Rattle.h41_rows.specs.Places.{Named, X}
 use Rattle.h41_rows.specs.RowEffects.{memory_after, with_alpha_change}
 use Rattle.h41_rows.specs.Rows.{Row, Appends, Becomes}
@@ -21,18 +22,21 @@ use Rattle.h41_rows.specs.declared.values.OfTwo.{OfTwo}
 use Rattle.h41_rows.specs.declared.values.OfTwo.TheVariants as twos
 use Rattle.h41_ram.specs.RegisterMap.{RegisterMap, zeros}
 
--- with what it computes
+-- with what it computes: by memory and what else lines work on, before and afterwards
 pub row_done :
-    (origin : Origin) (row : Row) (named : ℕ) (memory new : RegisterMap) (focal after : FocalState) (register : List ℕ) (outcome : LineOutcome)
-    → KnowsNext origin memory focal.position
+    (origin : Origin) (row : Row) (named : ℕ) (machine : Machine) (memory : RegisterMap) (focal : FocalState) (register : List ℕ)
+    (outcome : LineOutcome) (new : RegisterMap) (after : FocalState)
+    → joined memory focal ≡ machine
+    → KnowsNext origin machine
     → row.goes ≡ rows.Next
     → Works memory named row (Ok register)
     → answer_of outcome ≡ answered memory named row.shows row.ends
     → new ≡ memory_after row named register focal.lift memory
     → after ≡ advanced origin row.lift focal
-    → Leaves origin row named memory focal new after outcome
-row_done origin row named memory new focal after register outcome knows goes works answers makes ends =
-    rw (makes, ends) (row_applied origin row named memory focal register outcome knows goes works answers)
+    → Leaves origin row named machine (joined new after) outcome
+row_done origin row named machine memory focal register outcome new after opened knows goes works answers makes ends =
+    opened_row origin row named machine memory focal (Ok (left_of (joined new after) outcome)) opened knows
+    (λ next. rw (makes, ends) (row_applied origin row named (joined memory focal) register outcome next goes works answers))
 
 -- arithmetic in a register works on the numbers of its value alone
 pub works_in_register :
@@ -48,15 +52,18 @@ works_in_register twos.Percentage memory named result works = works
 
 -- a text came into ALPHA; a text of no character does nothing
 pub text_done :
-    (characters : List ℕ) (origin : Origin) (named : ℕ) (memory new : RegisterMap) (focal after : FocalState)
-    → KnowsNext origin memory focal.position
+    (characters : List ℕ) (origin : Origin) (named : ℕ) (machine : Machine) (memory : RegisterMap) (focal : FocalState)
+    (new : RegisterMap) (after : FocalState)
+    → joined memory focal ≡ machine
+    → KnowsNext origin machine
     → new ≡ with_alpha_change memory named (text_row characters).alpha memory
     → after ≡ advanced origin rows.On focal
-    → Leaves origin (text_row characters) named memory focal new after outcomes.Done
-text_done [] origin named memory new focal after knows makes ends =
-    row_done origin (text_row []) named memory new focal after zeros outcomes.Done knows refl refl refl makes ends
-text_done (character ∷ text) origin named memory new focal after knows makes ends =
-    row_done origin (text_row (character ∷ text)) named memory new focal after zeros outcomes.Done knows refl refl refl makes ends
+    → Leaves origin (text_row characters) named machine (joined new after) outcomes.Done
+text_done [] origin named machine memory focal new after opened knows makes ends =
+    row_done origin (text_row []) named machine memory focal zeros outcomes.Done new after opened knows refl refl refl makes ends
+text_done (character ∷ text) origin named machine memory focal new after opened knows makes ends =
+    row_done origin (text_row (character ∷ text)) named machine memory focal zeros outcomes.Done new after opened knows refl refl refl
+    makes ends
 
 -- what a text does to ALPHA, by its first character
 pub text_appends :

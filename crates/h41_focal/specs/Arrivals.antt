@@ -4,7 +4,7 @@ use Rattle.h41_codes.specs.declared.functions.Branch.{Branch}
 use Rattle.h41_codes.specs.declared.functions.Branch.TheVariants.{GoTo, Execute}
 use Rattle.h41_focal.specs.Outcomes.{answer_of}
 use Rattle.h41_focal.specs.Courses.{pushed}
-use Rattle.h41_focal.specs.LineStep.{FocalState, at_position, halted_at}
+use Rattle.h41_focal.specs.LineStep.{FocalState, Machine, at_position, halted, placed, returning}
 use Rattle.h41_focal.specs.Outcomes.{Answer}
 use Rattle.h41_focal.specs.Outcomes as answers
 use Rattle.h41_focal.specs.declared.origin.Origin.{Origin}
@@ -12,7 +12,6 @@ use Rattle.h41_focal.specs.declared.origin.Origin.TheVariants.{Program, Typed}
 use Rattle.h41_focal.specs.declared.outcome.LineOutcome.{LineOutcome}
 use Rattle.h41_program.specs.ProgramLines.{AnswersOf}
 use Rattle.h41_program.specs.Searches.{start_in}
-use Rattle.h41_ram.specs.RegisterMap.{RegisterMap}
 
 -- where the search for a local label begins
 abbrev pub from_of : Origin → ℕ → ℕ
@@ -32,11 +31,12 @@ answer_at (Program next) Execute = answers.Done
 answer_at Typed Execute = answers.Runs
 
 -- back to the latest position to return to, or to line 00
-abbrev pub GoesBackFrom : RegisterMap → List ℕ → FocalState → FocalState → LineOutcome → Type 0
-GoesBackFrom memory [] focal after outcome =
-    (start : ℕ) × AnswersOf (start_in focal.position) memory 0 start × (after ≡ halted_at start focal) × (answer_of outcome ≡ answers.Stopped)
-GoesBackFrom memory (latest ∷ others) focal after outcome =
-    (after ≡ record (at_position latest focal) { returns = reverse others }) × (answer_of outcome ≡ answers.Done)
+abbrev pub GoesBackFrom : List ℕ → (old new : Machine) → LineOutcome → Type 0
+GoesBackFrom [] old new outcome =
+    (start : ℕ) × AnswersOf (start_in old.focal.position) old.memory 0 start
+    × (new ≡ halted start old) × (answer_of outcome ≡ answers.Stopped)
+GoesBackFrom (latest ∷ others) old new outcome =
+    (new ≡ placed latest (returning (reverse others) old)) × (answer_of outcome ≡ answers.Done)
 
-abbrev pub ReturnsFrom : RegisterMap → FocalState → FocalState → LineOutcome → Type 0
-ReturnsFrom memory focal after outcome = GoesBackFrom memory (reverse focal.returns) focal after outcome
+abbrev pub ReturnsFrom : (old new : Machine) → LineOutcome → Type 0
+ReturnsFrom old new outcome = GoesBackFrom (reverse old.focal.returns) old new outcome

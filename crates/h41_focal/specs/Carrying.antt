@@ -10,8 +10,8 @@ use Rattle.h41_codes.specs.declared.line.Operand.{Operand}
 use Rattle.h41_rows.specs.Results.{result_map}
 use Rattle.h41_focal.specs.Courses.{How}
 use Rattle.h41_focal.specs.Courses as courses
-use Rattle.h41_focal.specs.LineCalls.{Call, carried_as, left_of, machine_of}
-use Rattle.h41_focal.specs.LineStep.{Applies, Fails, FailsIn, FocalState, TakesLine}
+use Rattle.h41_focal.specs.MachineCalls.{Call, carried_as, left_of}
+use Rattle.h41_focal.specs.LineStep.{Applies, Fails, FailsIn, FocalState, Machine, TakesLine, at_position}
 use Rattle.h41_rows.specs.Operands.{Address, Count, DigitKind, FlagKind, NoOperand, RegisterKind, meant_as}
 use Rattle.h41_focal.specs.Outcomes.{Answer, answer_of}
 use Rattle.h41_focal.specs.Outcomes as answers
@@ -42,24 +42,29 @@ abbrev pub how_of : Origin → How
 how_of (Program next) = courses.Stepped
 how_of Typed = courses.Typed
 
-abbrev pub KnowsNext : Origin → RegisterMap → ℕ → Type 0
-KnowsNext (Program next) memory at = AnswersNext memory at (Ok next)
-KnowsNext Typed memory at = ⊤
+abbrev pub KnowsNext : Origin → Machine → Type 0
+KnowsNext (Program next) machine = AnswersNext machine.memory machine.focal.position (Ok next)
+KnowsNext Typed machine = ⊤
+
+-- what each line needs of the machine: memory is sound, and it is known where the next line stands
+pub record IsReady (origin : Origin) (machine : Machine) : Type 0 where
+  pub sound : IsTrue (is_sound machine.memory)
+  pub next : KnowsNext origin machine
 
 -- on to the next line; a typed line stays
 abbrev pub advanced : Origin → Lift → FocalState → FocalState
-advanced (Program next) lift focal = record focal { position = next; at_line_00 = false; lift = lift_after lift focal.lift }
+advanced (Program next) lift focal = record (at_position next focal) { lift = lift_after lift focal.lift }
 advanced Typed lift focal = record focal { lift = lift_after lift focal.lift }
 
 -- a row was applied to a machine
-abbrev pub Leaves : Origin → Row → ℕ → (memory : RegisterMap) → (focal : FocalState) → (new : RegisterMap) → (after : FocalState) → LineOutcome → Type 0
-Leaves origin row named memory focal new after outcome =
-    Applies (how_of origin) row named (machine_of memory focal) (Ok (left_of new after outcome))
+abbrev pub Leaves : Origin → Row → ℕ → (old new : Machine) → LineOutcome → Type 0
+Leaves origin row named old new outcome =
+    Applies (how_of origin) row named old (Ok (left_of new outcome))
 
 -- a row was applied to a machine, or the line refused
-abbrev pub CarriesRow : Origin → Row → ℕ → (memory : RegisterMap) → (focal : FocalState) → (new : RegisterMap) → (after : FocalState) → Result LineOutcome FocalRefusal → Type 0
-CarriesRow origin row named memory focal new after result =
-    Applies (how_of origin) row named (machine_of memory focal) (carried_as new after result)
+abbrev pub CarriesRow : Origin → Row → ℕ → (old new : Machine) → Result LineOutcome FocalRefusal → Type 0
+CarriesRow origin row named old new result =
+    Applies (how_of origin) row named old (carried_as new result)
 
 -- where a line that asks goes on: the next line where the answer is yes, else the one behind it; a typed line stays
 abbrev pub Leads : Origin → RegisterMap → Bool → Result Origin FocalRefusal → Type 0
@@ -75,105 +80,110 @@ told (Program next) holds = answers.Done
 told Typed holds = answers.Answered holds
 
 -- a line was taken, or refused
-abbrev pub TakesAs : Origin → Line → (memory : RegisterMap) → (focal : FocalState) → (new : RegisterMap) → (after : FocalState) → Result LineOutcome FocalRefusal → Type 0
-TakesAs origin line memory focal new after result =
-    TakesLine (how_of origin) line (machine_of memory focal) (carried_as new after result)
+abbrev pub TakesAs : Origin → Line → (old new : Machine) → Result LineOutcome FocalRefusal → Type 0
+TakesAs origin line old new result =
+    TakesLine (how_of origin) line old (carried_as new result)
 
 -- a row was applied to what an operand means, of which this was found, or its fault
-abbrev pub CarriesFound : {A : Type 0} → Origin → (A → Row) → (A → ℕ) → Result A LineFault → (memory : RegisterMap) → (focal : FocalState) → (new : RegisterMap) → (after : FocalState) → Result LineOutcome FocalRefusal → Type 0
-CarriesFound origin row named (Ok found) memory focal new after result = CarriesRow origin (row found) (named found) memory focal new after result
-CarriesFound origin row named (Err fault) memory focal new after result = FailsIn (how_of origin) (machine_of memory focal) fault (carried_as new after result)
+abbrev pub CarriesFound : {A : Type 0} → Origin → (A → Row) → (A → ℕ) → Result A LineFault → (old new : Machine) → Result LineOutcome FocalRefusal → Type 0
+CarriesFound origin row named (Ok found) old new result = CarriesRow origin (row found) (named found) old new result
+CarriesFound origin row named (Err fault) old new result = FailsIn (how_of origin) old fault (carried_as new result)
 
 -- with a register, a number of digits, a flag
-abbrev pub UsesAddress : Origin → RegisterUse → Operand → (memory : RegisterMap) → (focal : FocalState) → (new : RegisterMap) → (after : FocalState) → Result LineOutcome FocalRefusal → Type 0
-UsesAddress origin taken operand memory focal new after result =
-    (found : Result ℕ LineFault) × (result_map Address found ≡ meant_as RegisterKind memory operand)
-    × CarriesFound origin (λ address. register_use_row taken) (λ address. address) found memory focal new after result
+abbrev pub UsesAddress : Origin → RegisterUse → Operand → (old new : Machine) → Result LineOutcome FocalRefusal → Type 0
+UsesAddress origin taken operand old new result =
+    (found : Result ℕ LineFault) × (result_map Address found ≡ meant_as RegisterKind old.memory operand)
+    × CarriesFound origin (λ address. register_use_row taken) (λ address. address) found old new result
 
-abbrev pub UsesDigits : Origin → DigitsUse → Operand → (memory : RegisterMap) → (focal : FocalState) → (new : RegisterMap) → (after : FocalState) → Result LineOutcome FocalRefusal → Type 0
-UsesDigits origin taken operand memory focal new after result =
-    (found : Result ℕ LineFault) × (result_map Count found ≡ meant_as DigitKind memory operand)
-    × CarriesFound origin (digits_use_row taken) (λ digits. 0) found memory focal new after result
+abbrev pub UsesDigits : Origin → DigitsUse → Operand → (old new : Machine) → Result LineOutcome FocalRefusal → Type 0
+UsesDigits origin taken operand old new result =
+    (found : Result ℕ LineFault) × (result_map Count found ≡ meant_as DigitKind old.memory operand)
+    × CarriesFound origin (digits_use_row taken) (λ digits. 0) found old new result
 
-abbrev pub UsesFlag : Origin → FlagUse → Operand → (memory : RegisterMap) → (focal : FocalState) → (new : RegisterMap) → (after : FocalState) → Result LineOutcome FocalRefusal → Type 0
-UsesFlag origin taken operand memory focal new after result =
-    (found : Result ℕ LineFault) × (result_map Count found ≡ meant_as (FlagKind (highest_of taken)) memory operand)
-    × CarriesFound origin (flag_use_row taken) (λ flag. 0) found memory focal new after result
+abbrev pub UsesFlag : Origin → FlagUse → Operand → (old new : Machine) → Result LineOutcome FocalRefusal → Type 0
+UsesFlag origin taken operand old new result =
+    (found : Result ℕ LineFault) × (result_map Count found ≡ meant_as (FlagKind (highest_of taken)) old.memory operand)
+    × CarriesFound origin (flag_use_row taken) (λ flag. 0) found old new result
 
 -- the line that stands at a position, and where the next one stands; or why there is none
-abbrev pub Stands : RegisterMap → ℕ → Result (Line × ℕ) FocalRefusal → Type 0
-Stands memory at (Ok standing) =
+abbrev pub StandsAt : RegisterMap → ℕ → Result (Line × ℕ) FocalRefusal → Type 0
+StandsAt memory at (Ok standing) =
     IsTrue (is_sound memory)
     × ((first : ListedLine) × AnswersFirst memory at (Ok first) × (first.line ≡ standing.0))
     × AnswersNext memory at (Ok standing.1)
-Stands memory at (Err refusal) =
-    MatchBool (is_sound memory) ((refusal ≡ BrokenProgram) × AnswersFirst memory at (Err program.BrokenProgram)) (refusal ≡ MemoryLost)
+StandsAt memory at (Err refusal) =
+    MatchBool (is_sound memory)
+    ((refusal ≡ BrokenProgram) × AnswersFirst memory at (Err program.BrokenProgram))
+    (refusal ≡ MemoryLost)
+
+abbrev pub Stands : Machine → Result (Line × ℕ) FocalRefusal → Type 0
+Stands machine result = StandsAt machine.memory machine.focal.position result
 
 -- the same of a row that names no register, of a line without an operand, of the work of a function, of the use of a register or a flag
-abbrev pub LeavesRow : Origin → Row → (memory : RegisterMap) → (focal : FocalState) → (new : RegisterMap) → (after : FocalState) → LineOutcome → Type 0
-LeavesRow origin row memory focal new after outcome = (named : ℕ) → Leaves origin row named memory focal new after outcome
+abbrev pub LeavesRow : Origin → Row → (old new : Machine) → LineOutcome → Type 0
+LeavesRow origin row old new outcome = (named : ℕ) → Leaves origin row named old new outcome
 
-abbrev pub DoesLine : Origin → Line → (memory : RegisterMap) → (focal : FocalState) → (new : RegisterMap) → (after : FocalState) → LineOutcome → Type 0
-DoesLine origin line memory focal new after outcome = LeavesRow origin (row_of line NoOperand) memory focal new after outcome
+abbrev pub DoesLine : Origin → Line → (old new : Machine) → LineOutcome → Type 0
+DoesLine origin line old new outcome = LeavesRow origin (row_of line NoOperand) old new outcome
 
-abbrev pub DoesWork : Origin → Work → (memory : RegisterMap) → (focal : FocalState) → (new : RegisterMap) → (after : FocalState) → LineOutcome → Type 0
-DoesWork origin work memory focal new after outcome = LeavesRow origin (row_of_work work) memory focal new after outcome
+abbrev pub DoesWork : Origin → Work → (old new : Machine) → LineOutcome → Type 0
+DoesWork origin work old new outcome = LeavesRow origin (row_of_work work) old new outcome
 
-abbrev pub CarriesWork : Origin → Work → (memory : RegisterMap) → (focal : FocalState) → (new : RegisterMap) → (after : FocalState) → Result LineOutcome FocalRefusal → Type 0
-CarriesWork origin work memory focal new after result =
-    (named : ℕ) → CarriesRow origin (row_of_work work) named memory focal new after result
+abbrev pub CarriesWork : Origin → Work → (old new : Machine) → Result LineOutcome FocalRefusal → Type 0
+CarriesWork origin work old new result =
+    (named : ℕ) → CarriesRow origin (row_of_work work) named old new result
 
-abbrev pub UsesAt : Origin → RegisterUse → ℕ → (memory : RegisterMap) → (focal : FocalState) → (new : RegisterMap) → (after : FocalState) → LineOutcome → Type 0
-UsesAt origin taken address memory focal new after outcome =
-    Leaves origin (register_use_row taken) address memory focal new after outcome
+abbrev pub UsesAt : Origin → RegisterUse → ℕ → (old new : Machine) → LineOutcome → Type 0
+UsesAt origin taken address old new outcome =
+    Leaves origin (register_use_row taken) address old new outcome
 
-abbrev pub DoesUse : Origin → RegisterUse → ℕ → (memory : RegisterMap) → (focal : FocalState) → (new : RegisterMap) → (after : FocalState) → Result LineOutcome FocalRefusal → Type 0
-DoesUse origin taken address memory focal new after result =
-    CarriesRow origin (register_use_row taken) address memory focal new after result
+abbrev pub DoesUse : Origin → RegisterUse → ℕ → (old new : Machine) → Result LineOutcome FocalRefusal → Type 0
+DoesUse origin taken address old new result =
+    CarriesRow origin (register_use_row taken) address old new result
 
-abbrev pub CarriesFlag : Origin → FlagUse → ℕ → (memory : RegisterMap) → (focal : FocalState) → (new : RegisterMap) → (after : FocalState) → Result LineOutcome FocalRefusal → Type 0
-CarriesFlag origin taken flag memory focal new after result =
-    (named : ℕ) → CarriesRow origin (flag_use_row taken flag) named memory focal new after result
+abbrev pub CarriesFlag : Origin → FlagUse → ℕ → (old new : Machine) → Result LineOutcome FocalRefusal → Type 0
+CarriesFlag origin taken flag old new result =
+    (named : ℕ) → CarriesRow origin (flag_use_row taken flag) named old new result
 
-abbrev pub LeavesFlag : Origin → FlagUse → ℕ → (memory : RegisterMap) → (focal : FocalState) → (new : RegisterMap) → (after : FocalState) → LineOutcome → Type 0
-LeavesFlag origin taken flag memory focal new after outcome = LeavesRow origin (flag_use_row taken flag) memory focal new after outcome
+abbrev pub LeavesFlag : Origin → FlagUse → ℕ → (old new : Machine) → LineOutcome → Type 0
+LeavesFlag origin taken flag old new outcome = LeavesRow origin (flag_use_row taken flag) old new outcome
 
-abbrev pub LeavesDigits : Origin → DigitsUse → ℕ → (memory : RegisterMap) → (focal : FocalState) → (new : RegisterMap) → (after : FocalState) → LineOutcome → Type 0
-LeavesDigits origin taken digits memory focal new after outcome =
-    LeavesRow origin (digits_use_row taken digits) memory focal new after outcome
+abbrev pub LeavesDigits : Origin → DigitsUse → ℕ → (old new : Machine) → LineOutcome → Type 0
+LeavesDigits origin taken digits old new outcome =
+    LeavesRow origin (digits_use_row taken digits) old new outcome
 
 -- of a branch to a label, or to a name
-abbrev pub GoesToLabel : Origin → Branch → ℕ → (memory : RegisterMap) → (focal : FocalState) → (new : RegisterMap) → (after : FocalState) → LineOutcome → Type 0
-GoesToLabel origin branch label memory focal new after outcome = LeavesRow origin (to_label branch label) memory focal new after outcome
+abbrev pub GoesToLabel : Origin → Branch → ℕ → (old new : Machine) → LineOutcome → Type 0
+GoesToLabel origin branch label old new outcome = LeavesRow origin (to_label branch label) old new outcome
 
-abbrev pub GoesToName : Origin → Branch → List ℕ → (memory : RegisterMap) → (focal : FocalState) → (new : RegisterMap) → (after : FocalState) → LineOutcome → Type 0
-GoesToName origin branch name memory focal new after outcome = LeavesRow origin (to_name branch name) memory focal new after outcome
+abbrev pub GoesToName : Origin → Branch → List ℕ → (old new : Machine) → LineOutcome → Type 0
+GoesToName origin branch name old new outcome = LeavesRow origin (to_name branch name) old new outcome
 
 -- of a fault
-abbrev pub FailsAs : Origin → LineFault → (memory : RegisterMap) → (focal : FocalState) → (new : RegisterMap) → (after : FocalState) → LineOutcome → Type 0
-FailsAs origin fault memory focal new after outcome = Fails (how_of origin) (machine_of memory focal) fault (left_of new after outcome)
+abbrev pub FailsAs : Origin → LineFault → (old new : Machine) → LineOutcome → Type 0
+FailsAs origin fault old new outcome = Fails (how_of origin) old fault (left_of new outcome)
 
 -- lines of each kind are taken
 abbrev pub TakesNamed : Origin → NameFunction → List ℕ → Call
-TakesNamed origin function name memory focal new after result = TakesAs origin (lines.Named function name) memory focal new after result
+TakesNamed origin function name old new result = TakesAs origin (lines.Named function name) old new result
 
 abbrev pub TakesShort : Origin → RegisterFunction → ℕ → Call
-TakesShort origin function register memory focal new after result = TakesAs origin (lines.Register function register) memory focal new after result
+TakesShort origin function register old new result = TakesAs origin (lines.Register function register) old new result
 
 abbrev pub TakenBy : Origin → ParameterFunction → Operand → Call
-TakenBy origin function operand memory focal new after result = TakesAs origin (lines.WithOperand function operand) memory focal new after result
+TakenBy origin function operand old new result = TakesAs origin (lines.WithOperand function operand) old new result
 
 abbrev pub TakesBranch : Origin → Branch → ℕ → Call
-TakesBranch origin branch register memory focal new after result = TakesAs origin (lines.BranchIndirect branch register) memory focal new after result
+TakesBranch origin branch register old new result = TakesAs origin (lines.BranchIndirect branch register) old new result
 
 -- a flag is asked, and cleared
 abbrev pub ClearsFlag : Origin → Bool → ℕ → Call
-ClearsFlag origin on flag memory focal new after result = CarriesFlag origin (AskAndClear on) flag memory focal new after result
+ClearsFlag origin on flag old new result = CarriesFlag origin (AskAndClear on) flag old new result
 
 -- of a branch to what a register holds
-abbrev pub GoesToTarget : Origin → Branch → BranchTarget → (memory : RegisterMap) → (focal : FocalState) → (new : RegisterMap) → (after : FocalState) → LineOutcome → Type 0
-GoesToTarget origin branch target memory focal new after outcome =
-    LeavesRow origin (to_meant branch (meant_by target)) memory focal new after outcome
+abbrev pub GoesToTarget : Origin → Branch → BranchTarget → (old new : Machine) → LineOutcome → Type 0
+GoesToTarget origin branch target old new outcome =
+    LeavesRow origin (to_meant branch (meant_by target)) old new outcome
 
 -- a text comes into ALPHA
 abbrev pub PutsText : List ℕ → RegisterMap → RegisterMap → Type 0

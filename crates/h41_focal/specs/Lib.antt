@@ -1,7 +1,6 @@
 pub mod Arrivals
 pub mod Carrying
 pub mod Courses
-pub mod LineCalls
 pub mod LineLaws
 pub mod LineStep
 pub mod MachineCalls

@@ -44,6 +44,9 @@ pub record Machine : Type 0 where
   pub memory : RegisterMap
   pub focal : FocalState
 
+abbrev pub joined : RegisterMap → FocalState → Machine
+joined memory focal = record { memory = memory; focal = focal }
+
 -- what a line leaves, and its answer
 pub record Left : Type 0 where
   pub machine : Machine

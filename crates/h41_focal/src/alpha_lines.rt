@@ -2,11 +2,11 @@
 
 ghost use Rattle.std.specs.Prelude.{◌≡◌, ◌≤◌, ℕ, IfNone, IfSome, length};
 ghost use Rattle.h41_codes.specs.declared.line.Line.TheVariants as lines;
-ghost use Rattle.h41_focal.specs.Carrying.{DoesLine, DoesWork, IsBehind, IsWhole, KnowsNext, PutsText};
+ghost use Rattle.h41_focal.specs.Carrying.{DoesLine, DoesWork, IsBehind, IsWhole, IsReady, PutsText};
 ghost use Rattle.h41_focal.specs.declared.works.Work.TheVariants.{Alpha};
 
 use crate::course::go_on_lifting;
-use crate::focal::Focal;
+use crate::machine::Machine;
 use crate::origin::Origin;
 use crate::outcome::LineOutcome;
 use crate::works::AlphaWork;
@@ -22,28 +22,27 @@ const APPEND: u8 = 0x7F;
 
 /// ALPHA is cleared or shifted, or its mode is set.
 pub fn change_alpha<const REGS: usize>(
-    ram: &mut Ram<REGS>,
-    focal: &mut Focal,
+    machine: &mut Machine<REGS>,
     origin: Origin,
     work: AlphaWork,
 ) -> LineOutcome
-    requires { KnowsNext origin ram.old focal.old.position }
-    ensures { DoesWork origin (Alpha work) ram.old focal.old ram.new focal.new result }
+    requires { IsReady origin machine.old }
+    ensures { DoesWork origin (Alpha work) machine.old machine.new result }
 {
     match work {
         AlphaWork::Clear => {
-            replace_text(ram, &[]);
-            go_on_lifting(focal, origin);
+            replace_text(&mut machine.ram, &[]);
+            go_on_lifting(&mut machine.focal, origin);
             LineOutcome::Done
         }
         AlphaWork::Shift => {
-            shift_six(ram);
-            go_on_lifting(focal, origin);
+            shift_six(&mut machine.ram);
+            go_on_lifting(&mut machine.focal, origin);
             LineOutcome::Done
         }
         AlphaWork::Mode(on) => {
-            ram.set_flag(ALPHA_MODE, on);
-            go_on_lifting(focal, origin);
+            machine.ram.set_flag(ALPHA_MODE, on);
+            go_on_lifting(&mut machine.focal, origin);
             LineOutcome::Done
         }
     }
@@ -52,16 +51,15 @@ pub fn change_alpha<const REGS: usize>(
 /// ALPHA becomes a text, or, where its first character is the append sign, the rest comes behind what ALPHA holds. A text of
 /// no character leaves ALPHA as it was.
 pub fn text_line<const REGS: usize>(
-    ram: &mut Ram<REGS>,
-    focal: &mut Focal,
+    machine: &mut Machine<REGS>,
     origin: Origin,
     text: &Text<15>,
 ) -> LineOutcome
-    requires { KnowsNext origin ram.old focal.old.position }
-    ensures { DoesLine origin (lines.Text text.now) ram.old focal.old ram.new focal.new result }
+    requires { IsReady origin machine.old }
+    ensures { DoesLine origin (lines.Text text.now) machine.old machine.new result }
 {
-    put_text(ram, text.characters());
-    go_on_lifting(focal, origin);
+    put_text(&mut machine.ram, text.characters());
+    go_on_lifting(&mut machine.focal, origin);
     LineOutcome::Done
 }
 

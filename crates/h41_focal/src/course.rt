@@ -1,13 +1,13 @@
 //! Where a line goes once its work is done, or where it cannot be done.
 
 ghost use Rattle.std.specs.Prelude.{◌≡◌};
-ghost use Rattle.h41_focal.specs.Carrying.{FailsAs, KnowsNext, advanced};
+ghost use Rattle.h41_focal.specs.Carrying.{FailsAs, IsReady, advanced};
 ghost use Rattle.h41_rows.specs.Rows.{AsItWas, Off, On};
 
 use crate::focal::Focal;
+use crate::machine::Machine;
 use crate::origin::Origin;
 use crate::outcome::LineOutcome;
-use h41_ram::Ram;
 use h41_rows::LineFault;
 
 /// The flag that has the program go on where a line cannot be done.
@@ -41,21 +41,20 @@ pub fn go_on_replacing(focal: &mut Focal, origin: Origin)
 /// A line cannot be done: the display shows why, and the program stops there. Flag 25 is cleared where it is set, and the
 /// program goes on with the next line.
 pub fn fail<const REGS: usize>(
-    ram: &mut Ram<REGS>,
-    focal: &mut Focal,
+    machine: &mut Machine<REGS>,
     origin: Origin,
     fault: LineFault,
 ) -> LineOutcome
-    requires { KnowsNext origin ram.old focal.old.position }
-    ensures { FailsAs origin fault ram.old focal.old ram.new focal.new result }
+    requires { IsReady origin machine.old }
+    ensures { FailsAs origin fault machine.old machine.new result }
 {
-    if ram.flag(ERROR_FLAG) {
-        ram.set_flag(ERROR_FLAG, false);
-        go_on(focal, origin);
+    if machine.ram.flag(ERROR_FLAG) {
+        machine.ram.set_flag(ERROR_FLAG, false);
+        go_on(&mut machine.focal, origin);
         return LineOutcome::Done;
     }
     if let Origin::Program(_) = origin {
-        focal.is_at_line_00 = false;
+        machine.focal.is_at_line_00 = false;
     }
     LineOutcome::Failed(fault)
 }

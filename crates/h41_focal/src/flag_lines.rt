@@ -1,14 +1,13 @@
 //! Lines of a flag: it is set or cleared, or asked.
 
-ghost use Rattle.std.specs.Prelude.{◌≡◌, ℕ, ◌<◌, IsTrue};
-ghost use Rattle.h41_focal.specs.Carrying.{CarriesFlag, ClearsFlag, KnowsNext, LeavesFlag};
-ghost use Rattle.h41_focal.specs.LineCalls.{KeepsAll};
+ghost use Rattle.std.specs.Prelude.{◌≡◌, ℕ, ◌<◌, OnErr};
+ghost use Rattle.h41_focal.specs.Carrying.{CarriesFlag, ClearsFlag, IsReady, LeavesFlag};
 ghost use Rattle.h41_rows.specs.RowEffects.{agrees};
 ghost use Rattle.h41_focal.specs.declared.uses.FlagUse.TheVariants.{Ask, Change};
-ghost use Rattle.h41_ram.specs.RegisterMap.{flag_of, is_sound};
+ghost use Rattle.h41_ram.specs.RegisterMap.{flag_of};
 
 use crate::course::go_on_lifting;
-use crate::focal::Focal;
+use crate::machine::Machine;
 use crate::origin::Origin;
 use crate::outcome::LineOutcome;
 use crate::questions::{answer, lead};
@@ -27,18 +26,17 @@ fn agrees_with<const REGS: usize>(ram: &Ram<REGS>, flag: u8, on: bool) -> bool
 
 /// `SF` and `CF`: a flag, 0 to 55, is set or cleared.
 fn change_flag<const REGS: usize>(
-    ram: &mut Ram<REGS>,
-    focal: &mut Focal,
+    machine: &mut Machine<REGS>,
     origin: Origin,
     flag: u8,
     on: bool,
 ) -> LineOutcome
     requires flag { flag < 56 }
-    requires next { KnowsNext origin ram.old focal.old.position }
-    ensures { LeavesFlag origin (Change on) flag ram.old focal.old ram.new focal.new result }
+    requires ready { IsReady origin machine.old }
+    ensures { LeavesFlag origin (Change on) flag machine.old machine.new result }
 {
-    ram.set_flag(usize::from(flag), on);
-    go_on_lifting(focal, origin);
+    machine.ram.set_flag(usize::from(flag), on);
+    go_on_lifting(&mut machine.focal, origin);
     LineOutcome::Done
 }
 
@@ -46,63 +44,57 @@ fn change_flag<const REGS: usize>(
 /// one behind it. A typed line is answered. `BrokenProgram`, with nothing changed, where the line that would be passed
 /// over is none.
 fn ask_flag<const REGS: usize>(
-    ram: &mut Ram<REGS>,
-    focal: &mut Focal,
+    machine: &mut Machine<REGS>,
     origin: Origin,
     flag: u8,
     on: bool,
 ) -> Result<LineOutcome, FocalRefusal>
     requires flag { flag < 56 }
-    requires sound { IsTrue (is_sound ram.old) }
-    requires next { KnowsNext origin ram.old focal.old.position }
-    ensures carried { CarriesFlag origin (Ask on) flag ram.old focal.old ram.new focal.new result }
-    ensures kept { KeepsAll ram.old focal.old ram.new focal.new result }
+    requires ready { IsReady origin machine.old }
+    ensures carried { CarriesFlag origin (Ask on) flag machine.old machine.new result }
+    ensures unchanged { OnErr result (machine.new ≡ machine.old) }
 {
-    let holds = agrees_with(ram, flag, on);
-    let lead = lead(ram, origin, holds)?;
-    go_on_lifting(focal, lead);
+    let holds = agrees_with(&machine.ram, flag, on);
+    let lead = lead(&machine.ram, origin, holds)?;
+    go_on_lifting(&mut machine.focal, lead);
     Ok(answer(origin, holds))
 }
 
 /// `FS?C` and `FC?C`: as `ask_flag`, and the flag is cleared then.
 fn ask_and_clear_flag<const REGS: usize>(
-    ram: &mut Ram<REGS>,
-    focal: &mut Focal,
+    machine: &mut Machine<REGS>,
     origin: Origin,
     flag: u8,
     on: bool,
 ) -> Result<LineOutcome, FocalRefusal>
     requires flag { flag < 56 }
-    requires sound { IsTrue (is_sound ram.old) }
-    requires next { KnowsNext origin ram.old focal.old.position }
-    ensures carried { ClearsFlag origin on flag ram.old focal.old ram.new focal.new result }
-    ensures kept { KeepsAll ram.old focal.old ram.new focal.new result }
+    requires ready { IsReady origin machine.old }
+    ensures carried { ClearsFlag origin on flag machine.old machine.new result }
+    ensures unchanged { OnErr result (machine.new ≡ machine.old) }
 {
-    let holds = agrees_with(ram, flag, on);
-    let lead = lead(ram, origin, holds)?;
-    ram.set_flag(usize::from(flag), false);
-    go_on_lifting(focal, lead);
+    let holds = agrees_with(&machine.ram, flag, on);
+    let lead = lead(&machine.ram, origin, holds)?;
+    machine.ram.set_flag(usize::from(flag), false);
+    go_on_lifting(&mut machine.focal, lead);
     Ok(answer(origin, holds))
 }
 
 /// A line of a flag, 0 to 55: it is set, cleared or asked. `BrokenProgram`, with nothing changed, where the line that
 /// would be passed over is none.
 pub fn use_flag<const REGS: usize>(
-    ram: &mut Ram<REGS>,
-    focal: &mut Focal,
+    machine: &mut Machine<REGS>,
     origin: Origin,
     taken: FlagUse,
     flag: u8,
 ) -> Result<LineOutcome, FocalRefusal>
     requires flag { flag < 56 }
-    requires sound { IsTrue (is_sound ram.old) }
-    requires next { KnowsNext origin ram.old focal.old.position }
-    ensures carried { CarriesFlag origin taken flag ram.old focal.old ram.new focal.new result }
-    ensures kept { KeepsAll ram.old focal.old ram.new focal.new result }
+    requires ready { IsReady origin machine.old }
+    ensures carried { CarriesFlag origin taken flag machine.old machine.new result }
+    ensures unchanged { OnErr result (machine.new ≡ machine.old) }
 {
     match taken {
-        FlagUse::Change(on) => Ok(change_flag(ram, focal, origin, flag, on)),
-        FlagUse::Ask(on) => ask_flag(ram, focal, origin, flag, on),
-        FlagUse::AskAndClear(on) => ask_and_clear_flag(ram, focal, origin, flag, on),
+        FlagUse::Change(on) => Ok(change_flag(machine, origin, flag, on)),
+        FlagUse::Ask(on) => ask_flag(machine, origin, flag, on),
+        FlagUse::AskAndClear(on) => ask_and_clear_flag(machine, origin, flag, on),
     }
 }

@@ -2,7 +2,7 @@
 
 ghost use Rattle.std.specs.Prelude.{◌≡◌, ℕ, IsTrue};
 ghost use Rattle.h41_focal.specs.Arrivals.{ReturnsFrom, answer_at, focal_at, from_of};
-ghost use Rattle.h41_focal.specs.Carrying.{DoesWork, KnowsNext, GoesToLabel, GoesToName};
+ghost use Rattle.h41_focal.specs.Carrying.{DoesWork, IsReady, GoesToLabel, GoesToName};
 ghost use Rattle.h41_focal.specs.Outcomes.{answer_of};
 ghost use Rattle.h41_focal.specs.Courses.{pushed};
 ghost use Rattle.h41_focal.specs.declared.works.Work.TheVariants.{Return};
@@ -10,29 +10,27 @@ ghost use Rattle.h41_ram.specs.RegisterMap.{is_sound};
 
 use crate::course::fail;
 use crate::focal::{Focal, RETURNS};
+use crate::machine::Machine;
 use crate::origin::Origin;
 use crate::outcome::LineOutcome;
 use arrayvec::ArrayVec;
 use h41_codes::{Branch, Parameter, Text};
 use h41_program::{global, local, start_of};
-use h41_ram::Ram;
 use h41_rows::LineFault;
 
 /// A line goes to a local label; `NONEXISTENT` where it stands nowhere in the program.
 pub fn to_label<const REGS: usize>(
-    ram: &mut Ram<REGS>,
-    focal: &mut Focal,
+    machine: &mut Machine<REGS>,
     origin: Origin,
     branch: Branch,
     label: Parameter,
 ) -> LineOutcome
-    requires sound { IsTrue (is_sound ram.old) }
-    requires next { KnowsNext origin ram.old focal.old.position }
-    ensures { GoesToLabel origin branch label ram.old focal.old ram.new focal.new result }
+    requires { IsReady origin machine.old }
+    ensures { GoesToLabel origin branch label machine.old machine.new result }
 {
-    match local(ram, searched_from(focal, origin), label) {
-        Some(position) => arrive(focal, origin, branch, position),
-        None => fail(ram, focal, origin, LineFault::Nonexistent),
+    match local(&machine.ram, searched_from(&machine.focal, origin), label) {
+        Some(position) => arrive(&mut machine.focal, origin, branch, position),
+        None => fail(machine, origin, LineFault::Nonexistent),
     }
 }
 
@@ -48,19 +46,17 @@ fn searched_from(focal: &Focal, origin: Origin) -> u16
 
 /// A line goes to the last label of a name in memory. Where there is none, GTO fails, and XEQ leaves the search to the caller.
 pub fn to_name<const REGS: usize>(
-    ram: &mut Ram<REGS>,
-    focal: &mut Focal,
+    machine: &mut Machine<REGS>,
     origin: Origin,
     branch: Branch,
     name: Text<15>,
 ) -> LineOutcome
-    requires sound { IsTrue (is_sound ram.old) }
-    requires next { KnowsNext origin ram.old focal.old.position }
-    ensures { GoesToName origin branch name ram.old focal.old ram.new focal.new result }
+    requires { IsReady origin machine.old }
+    ensures { GoesToName origin branch name machine.old machine.new result }
 {
-    match (global(ram, name.characters()), branch) {
-        (Some(position), _) => arrive(focal, origin, branch, position),
-        (None, Branch::GoTo) => fail(ram, focal, origin, LineFault::Nonexistent),
+    match (global(&machine.ram, name.characters()), branch) {
+        (Some(position), _) => arrive(&mut machine.focal, origin, branch, position),
+        (None, Branch::GoTo) => fail(machine, origin, LineFault::Nonexistent),
         (None, Branch::Execute) => LineOutcome::Seeks(name),
     }
 }
@@ -95,38 +91,33 @@ fn push_return(returns: &mut ArrayVec<u16, RETURNS>, position: u16)
 }
 
 /// Back to the latest position to return to. Where there is none, and where the line is typed, to line 00 of the program.
-pub fn go_back<const REGS: usize>(
-    ram: &mut Ram<REGS>,
-    focal: &mut Focal,
-    origin: Origin,
-) -> LineOutcome
-    requires sound { IsTrue (is_sound ram.old) }
-    requires next { KnowsNext origin ram.old focal.old.position }
-    ensures { DoesWork origin Return ram.old focal.old ram.new focal.new result }
+pub fn go_back<const REGS: usize>(machine: &mut Machine<REGS>, origin: Origin) -> LineOutcome
+    requires { IsReady origin machine.old }
+    ensures { DoesWork origin Return machine.old machine.new result }
 {
     match origin {
-        Origin::Program(_) => return_from(ram, focal),
+        Origin::Program(_) => return_from(machine),
         Origin::Typed => {
-            let start = start_of(ram, focal.position);
-            focal.halt_at(start);
+            let start = start_of(&machine.ram, machine.focal.position);
+            machine.focal.halt_at(start);
             LineOutcome::Done
         }
     }
 }
 
 /// Back to the latest position to return to, or to line 00 of the program, where it stops.
-fn return_from<const REGS: usize>(ram: &Ram<REGS>, focal: &mut Focal) -> LineOutcome
-    requires { IsTrue (is_sound ram.now) }
-    ensures { ReturnsFrom ram.now focal.old focal.new result }
+fn return_from<const REGS: usize>(machine: &mut Machine<REGS>) -> LineOutcome
+    requires { IsTrue (is_sound machine.old.memory) }
+    ensures { ReturnsFrom machine.old machine.new result }
 {
-    match focal.returns.pop() {
+    match machine.focal.returns.pop() {
         Some(position) => {
-            focal.go_to(position);
+            machine.focal.go_to(position);
             LineOutcome::Done
         }
         None => {
-            let start = start_of(ram, focal.position);
-            focal.halt_at(start);
+            let start = start_of(&machine.ram, machine.focal.position);
+            machine.focal.halt_at(start);
             LineOutcome::Stopped
         }
     }

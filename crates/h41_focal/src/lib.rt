@@ -27,7 +27,6 @@ mod works;
 
 pub use focal::{Focal, RETURNS};
 pub use h41_rows::LineFault;
-pub use lines::{fail_line, fail_typed, key_line, pass_line, step_as, step_line};
 pub use machine::Machine;
 pub use outcome::{DisplayText, LineOutcome};
 pub use refusal::FocalRefusal;

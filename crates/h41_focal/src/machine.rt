@@ -5,8 +5,10 @@ ghost use Rattle.h41_focal.specs.MachineCalls.{Fails, FailsTyped, KeepsElsewhere
 ghost use Rattle.h41_focal.specs.LineStep.{start};
 ghost use Rattle.h41_ram.specs.RegisterMap as registers;
 
+use crate::course::{fail, go_on, go_on_lifting};
 use crate::focal::Focal;
-use crate::lines::{fail_line, fail_typed, key_line, pass_line, step_as, step_line};
+use crate::lines::{carry_out, standing};
+use crate::origin::Origin;
 use crate::outcome::LineOutcome;
 use crate::refusal::FocalRefusal;
 use h41_codes::{Function, Line};
@@ -52,7 +54,8 @@ impl<const REGS: usize> Machine<REGS> {
         ensures unchanged { OnErr result (self.new ≡ self.old) }
         ensures elsewhere { KeepsElsewhere self.old self.new result }
     {
-        step_line(&mut self.ram, &mut self.focal)
+        let (line, next) = standing(self)?;
+        carry_out(self, Origin::Program(next), &line)
     }
 
     /// A function is carried out in place of the line at the position, whatever that is, as for an XEQ that names it: refused as
@@ -61,7 +64,8 @@ impl<const REGS: usize> Machine<REGS> {
         ensures line { Steps (Some function) self.old self.new result }
         ensures unchanged { OnErr result (self.new ≡ self.old) }
     {
-        step_as(&mut self.ram, &mut self.focal, function)
+        let (_, next) = standing(self)?;
+        carry_out(self, Origin::Program(next), &Line::Plain(function))
     }
 
     /// The line at the position fails, as where what it calls is nowhere: its fault is answered, or flag 25 has the program go
@@ -70,7 +74,8 @@ impl<const REGS: usize> Machine<REGS> {
         ensures line { Fails fault self.old self.new result }
         ensures unchanged { OnErr result (self.new ≡ self.old) }
     {
-        fail_line(&mut self.ram, &mut self.focal, fault)
+        let (_, next) = standing(self)?;
+        Ok(fail(self, Origin::Program(next), fault))
     }
 
     /// A typed line fails, as where what it calls is nowhere: its fault is answered, or flag 25 is cleared. 15 as in `step`.
@@ -78,7 +83,10 @@ impl<const REGS: usize> Machine<REGS> {
         ensures line { FailsTyped fault self.old self.new result }
         ensures unchanged { OnErr result (self.new ≡ self.old) }
     {
-        fail_typed(&mut self.ram, &mut self.focal, fault)
+        if !self.ram.is_sound() {
+            return Err(FocalRefusal::MemoryLost);
+        }
+        Ok(fail(self, Origin::Typed, fault))
     }
 
     /// The line at the position is passed, since what it calls is carried out elsewhere: on to the next line, with lift behind an
@@ -87,7 +95,12 @@ impl<const REGS: usize> Machine<REGS> {
         ensures line { Passes self.old self.new result }
         ensures unchanged { OnErr result (self.new ≡ self.old) }
     {
-        pass_line(&self.ram, &mut self.focal)
+        let (line, next) = standing(self)?;
+        match line {
+            Line::Module(_, _) => go_on_lifting(&mut self.focal, Origin::Program(next)),
+            _ => go_on(&mut self.focal, Origin::Program(next)),
+        }
+        Ok(())
     }
 
     /// A typed line is carried out: 15 where memory is not sound, 13 where the line is left out.
@@ -96,6 +109,9 @@ impl<const REGS: usize> Machine<REGS> {
         ensures unchanged { OnErr result (self.new ≡ self.old) }
         ensures elsewhere { KeepsElsewhere self.old self.new result }
     {
-        key_line(&mut self.ram, &mut self.focal, line)
+        if !self.ram.is_sound() {
+            return Err(FocalRefusal::MemoryLost);
+        }
+        carry_out(self, Origin::Typed, line)
     }
 }

@@ -1,53 +1,50 @@
 //! Lines that set the unit of angles and the display format.
 
 ghost use Rattle.std.specs.Prelude.{◌<◌, ℕ};
-ghost use Rattle.h41_focal.specs.Carrying.{DoesWork, KnowsNext, LeavesDigits};
+ghost use Rattle.h41_focal.specs.Carrying.{DoesWork, IsReady, LeavesDigits};
 ghost use Rattle.h41_focal.specs.declared.works.Work.TheVariants.{Angles};
 
 use crate::course::go_on_lifting;
-use crate::focal::Focal;
+use crate::machine::Machine;
 use crate::origin::Origin;
 use crate::outcome::LineOutcome;
 use crate::uses::DigitsUse;
-use h41_ram::Ram;
 use h41_rows::{set_angles, set_format};
 
 /// `DEG`, `RAD` and `GRAD`: the unit of angles, by whether flags 42 and 43 are set.
 pub fn set_angle_unit<const REGS: usize>(
-    ram: &mut Ram<REGS>,
-    focal: &mut Focal,
+    machine: &mut Machine<REGS>,
     origin: Origin,
     grads: bool,
     radians: bool,
 ) -> LineOutcome
-    requires { KnowsNext origin ram.old focal.old.position }
-    ensures { DoesWork origin (Angles grads radians) ram.old focal.old ram.new focal.new result }
+    requires { IsReady origin machine.old }
+    ensures { DoesWork origin (Angles grads radians) machine.old machine.new result }
 {
-    set_angles(ram, grads, radians);
-    go_on_lifting(focal, origin);
+    set_angles(&mut machine.ram, grads, radians);
+    go_on_lifting(&mut machine.focal, origin);
     LineOutcome::Done
 }
 
 /// What is done with a number of digits, 0 to 9: a tone sounds nowhere, and changes nothing here.
 pub fn use_digits<const REGS: usize>(
-    ram: &mut Ram<REGS>,
-    focal: &mut Focal,
+    machine: &mut Machine<REGS>,
     origin: Origin,
     taken: DigitsUse,
     digits: u8,
 ) -> LineOutcome
-    requires next { KnowsNext origin ram.old focal.old.position }
+    requires ready { IsReady origin machine.old }
     requires few { digits < 10 }
-    ensures { LeavesDigits origin taken digits ram.old focal.old ram.new focal.new result }
+    ensures { LeavesDigits origin taken digits machine.old machine.new result }
 {
     match taken {
         DigitsUse::Format(fixed, engineering) => {
-            set_format(ram, digits, fixed, engineering);
-            go_on_lifting(focal, origin);
+            set_format(&mut machine.ram, digits, fixed, engineering);
+            go_on_lifting(&mut machine.focal, origin);
             LineOutcome::Done
         }
         DigitsUse::Tone => {
-            go_on_lifting(focal, origin);
+            go_on_lifting(&mut machine.focal, origin);
             LineOutcome::Done
         }
     }

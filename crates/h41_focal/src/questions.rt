@@ -1,14 +1,13 @@
 //! Lines that ask, and go on past the next line where the answer is no.
 
-ghost use Rattle.std.specs.Prelude.{◌≡◌, ℕ, IsTrue};
-ghost use Rattle.h41_focal.specs.Carrying.{CarriesWork, KnowsNext, Leads, told};
-ghost use Rattle.h41_focal.specs.LineCalls.{KeepsAll};
+ghost use Rattle.std.specs.Prelude.{◌≡◌, ℕ, IsTrue, OnErr};
+ghost use Rattle.h41_focal.specs.Carrying.{CarriesWork, IsReady, Leads, told};
 ghost use Rattle.h41_focal.specs.Outcomes.{answer_of};
 ghost use Rattle.h41_focal.specs.declared.works.Work.TheVariants.{Ask};
 ghost use Rattle.h41_ram.specs.RegisterMap.{is_sound};
 
 use crate::course::{fail, go_on_lifting};
-use crate::focal::Focal;
+use crate::machine::Machine;
 use crate::origin::Origin;
 use crate::outcome::LineOutcome;
 use crate::refusal::FocalRefusal;
@@ -49,22 +48,20 @@ pub fn answer(origin: Origin, holds: bool) -> LineOutcome
 /// A test of X: the program goes on with the next line where it holds, else with the one behind it. A typed test is
 /// answered. `BrokenProgram`, with nothing changed, where the line that would be passed over is none.
 pub fn ask<const REGS: usize>(
-    ram: &mut Ram<REGS>,
-    focal: &mut Focal,
+    machine: &mut Machine<REGS>,
     origin: Origin,
     test: Test,
 ) -> Result<LineOutcome, FocalRefusal>
-    requires sound { IsTrue (is_sound ram.old) }
-    requires next { KnowsNext origin ram.old focal.old.position }
-    ensures carried { CarriesWork origin (Ask test) ram.old focal.old ram.new focal.new result }
-    ensures kept { KeepsAll ram.old focal.old ram.new focal.new result }
+    requires { IsReady origin machine.old }
+    ensures carried { CarriesWork origin (Ask test) machine.old machine.new result }
+    ensures unchanged { OnErr result (machine.new ≡ machine.old) }
 {
-    match asks(ram, test) {
+    match asks(&machine.ram, test) {
         Ok(holds) => {
-            let lead = lead(ram, origin, holds)?;
-            go_on_lifting(focal, lead);
+            let lead = lead(&machine.ram, origin, holds)?;
+            go_on_lifting(&mut machine.focal, lead);
             Ok(answer(origin, holds))
         }
-        Err(fault) => Ok(fail(ram, focal, origin, fault)),
+        Err(fault) => Ok(fail(machine, origin, fault)),
     }
 }

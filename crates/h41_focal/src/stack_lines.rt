@@ -2,7 +2,7 @@
 
 ghost use Rattle.std.specs.Prelude.{◌≡◌, ℕ};
 ghost use Rattle.h41_codes.specs.declared.line.Line.TheVariants as lines;
-ghost use Rattle.h41_focal.specs.Carrying.{DoesLine, DoesWork, KnowsNext, LeavesRow, advanced};
+ghost use Rattle.h41_focal.specs.Carrying.{DoesLine, DoesWork, IsReady, LeavesRow, advanced};
 ghost use Rattle.h41_rows.specs.Rows.{nothing, silent};
 ghost use Rattle.h41_focal.specs.StackMoves.{Moves};
 ghost use Rattle.h41_focal.specs.Works.{move_row};
@@ -10,6 +10,7 @@ ghost use Rattle.h41_focal.specs.declared.works.Work.TheVariants.{ClearRegisters
 
 use crate::course::{go_on, go_on_lifting, go_on_replacing};
 use crate::focal::Focal;
+use crate::machine::Machine;
 use crate::origin::Origin;
 use crate::outcome::LineOutcome;
 use crate::works::Movement;
@@ -28,16 +29,15 @@ const LAST_X: u16 = 4;
 
 /// The stack moves. What comes in lifts it where lift is on. Lift is off behind `ENTER^` and `CLX`, and on behind the others.
 pub fn move_stack<const REGS: usize>(
-    ram: &mut Ram<REGS>,
-    focal: &mut Focal,
+    machine: &mut Machine<REGS>,
     origin: Origin,
     movement: Movement,
 ) -> LineOutcome
-    requires { KnowsNext origin ram.old focal.old.position }
-    ensures { DoesWork origin (Move movement) ram.old focal.old ram.new focal.new result }
+    requires { IsReady origin machine.old }
+    ensures { DoesWork origin (Move movement) machine.old machine.new result }
 {
-    move_registers(ram, movement, focal.lift);
-    go_on_behind(focal, origin, movement);
+    move_registers(&mut machine.ram, movement, machine.focal.lift);
+    go_on_behind(&mut machine.focal, origin, movement);
     LineOutcome::Done
 }
 
@@ -74,55 +74,45 @@ fn go_on_behind(focal: &mut Focal, origin: Origin, movement: Movement)
 
 /// The number of a number line comes into X; the stack is lifted first where lift is on.
 pub fn number_line<const REGS: usize>(
-    ram: &mut Ram<REGS>,
-    focal: &mut Focal,
+    machine: &mut Machine<REGS>,
     origin: Origin,
     number: &Number,
 ) -> LineOutcome
-    requires { KnowsNext origin ram.old focal.old.position }
-    ensures { DoesLine origin (lines.Number number.now) ram.old focal.old ram.new focal.new result }
+    requires { IsReady origin machine.old }
+    ensures { DoesLine origin (lines.Number number.now) machine.old machine.new result }
 {
-    bring_in(ram, written(number), focal.lift);
-    go_on_lifting(focal, origin);
+    bring_in(&mut machine.ram, written(number), machine.focal.lift);
+    go_on_lifting(&mut machine.focal, origin);
     LineOutcome::Done
 }
 
 /// All data registers become zero.
 pub fn clear_registers<const REGS: usize>(
-    ram: &mut Ram<REGS>,
-    focal: &mut Focal,
+    machine: &mut Machine<REGS>,
     origin: Origin,
 ) -> LineOutcome
-    requires { KnowsNext origin ram.old focal.old.position }
-    ensures { DoesWork origin ClearRegisters ram.old focal.old ram.new focal.new result }
+    requires { IsReady origin machine.old }
+    ensures { DoesWork origin ClearRegisters machine.old machine.new result }
 {
-    clear_data(ram);
-    go_on_lifting(focal, origin);
+    clear_data(&mut machine.ram);
+    go_on_lifting(&mut machine.focal, origin);
     LineOutcome::Done
 }
 
 /// A line that does nothing but turn lift on.
-pub fn do_nothing<const REGS: usize>(
-    ram: &Ram<REGS>,
-    focal: &mut Focal,
-    origin: Origin,
-) -> LineOutcome
-    requires { KnowsNext origin ram.now focal.old.position }
-    ensures { LeavesRow origin nothing ram.now focal.old ram.now focal.new result }
+pub fn do_nothing<const REGS: usize>(machine: &mut Machine<REGS>, origin: Origin) -> LineOutcome
+    requires { IsReady origin machine.old }
+    ensures { LeavesRow origin nothing machine.old machine.new result }
 {
-    go_on_lifting(focal, origin);
+    go_on_lifting(&mut machine.focal, origin);
     LineOutcome::Done
 }
 
 /// A line that does nothing, and leaves lift.
-pub fn be_silent<const REGS: usize>(
-    ram: &Ram<REGS>,
-    focal: &mut Focal,
-    origin: Origin,
-) -> LineOutcome
-    requires { KnowsNext origin ram.now focal.old.position }
-    ensures { LeavesRow origin silent ram.now focal.old ram.now focal.new result }
+pub fn be_silent<const REGS: usize>(machine: &mut Machine<REGS>, origin: Origin) -> LineOutcome
+    requires { IsReady origin machine.old }
+    ensures { LeavesRow origin silent machine.old machine.new result }
 {
-    go_on(focal, origin);
+    go_on(&mut machine.focal, origin);
     LineOutcome::Done
 }

@@ -1,5 +1,6 @@
 use Rattle.std.proofs.Common.{refl}
-use Rattle.h41_focal.proofs.RowApplied.{row_applied, row_failed}
+use Rattle.h41_focal.proofs.RowApplied.{row_failed}
+use Rattle.h41_focal.proofs.RowDone.{row_done}
 use Rattle.h41_focal.proofs.ValueComputed.{value_computed}
 use Rattle.h41_rows.specs.Computing.{value_of_two}
 use Rattle.h41_rows.specs.Places.{X, Y}
@@ -10,11 +11,11 @@ use Rattle.h41_focal.proofs.arithmetic.of_y_and_x.Goals as goal
 
 pub returns-in-Ok : goal.returns-in-Ok
 returns-in-Ok g c = λ named.
-    rw (c.go_on_lifting.ensures, c.drop_into.ensures named)
-    (row_applied _ (row_of_work (works.OfYAndX c.args.value)) named _ _ c.in-Ok.register outcomes.Done c.requires refl
-    (value_computed _ named (row_of_work (works.OfYAndX c.args.value)) (value_of_two c.args.value Y X) _ refl refl (c.in-Ok.ensures named Y X refl refl)) refl)
+    row_done _ (row_of_work (works.OfYAndX c.args.value)) named _ _ _ c.in-Ok.register outcomes.Done _ _ c.machine.view_is c.requires.next refl
+    (value_computed _ named (row_of_work (works.OfYAndX c.args.value)) (value_of_two c.args.value Y X) _ refl refl (c.in-Ok.ensures named Y X refl refl)) refl
+    (c.drop_into.ensures named) c.go_on_lifting.ensures
 
 pub returns-in-Err : goal.returns-in-Err
 returns-in-Err g c = λ named.
-    row_failed _ (row_of_work (works.OfYAndX c.args.value)) named _ _ _ _ c.in-Err.fault _
+    row_failed _ (row_of_work (works.OfYAndX c.args.value)) named _ _ _ _ c.in-Err.fault _ c.machine.view_is
     (value_computed _ named (row_of_work (works.OfYAndX c.args.value)) (value_of_two c.args.value Y X) _ refl refl (c.in-Err.ensures named Y X refl refl)) c.fail.ensures

@@ -1,5 +1,6 @@
 use Rattle.std.proofs.Common.{refl}
-use Rattle.h41_focal.proofs.RowApplied.{row_applied, row_failed}
+use Rattle.h41_focal.proofs.RowApplied.{row_failed}
+use Rattle.h41_focal.proofs.RowDone.{row_done}
 use Rattle.h41_rows.specs.Places.{X}
 use Rattle.h41_focal.specs.Works.{row_of_work}
 use Rattle.h41_focal.specs.declared.works.Work.TheVariants as works
@@ -8,11 +9,11 @@ use Rattle.h41_focal.proofs.arithmetic.square.Goals as goal
 
 pub returns-in-Ok : goal.returns-in-Ok
 returns-in-Ok g c = λ named.
-    rw (c.go_on_lifting.ensures, c.keep_last.ensures named)
-    (row_applied _ (row_of_work works.Square) named _ _ c.in-Ok.register outcomes.Done c.requires refl
-    (c.in-Ok.ensures named X X refl refl) refl)
+    row_done _ (row_of_work works.Square) named _ _ _ c.in-Ok.register outcomes.Done _ _ c.machine.view_is c.requires.next refl
+    (c.in-Ok.ensures named X X refl refl) refl
+    (c.keep_last.ensures named) c.go_on_lifting.ensures
 
 pub returns-in-Err : goal.returns-in-Err
 returns-in-Err g c = λ named.
-    row_failed _ (row_of_work works.Square) named _ _ _ _ c.in-Err.fault _
+    row_failed _ (row_of_work works.Square) named _ _ _ _ c.in-Err.fault _ c.machine.view_is
     (c.in-Err.ensures named X X refl refl) c.fail.ensures

@@ -1,5 +1,5 @@
 use Rattle.std.proofs.Common.{refl}
-use Rattle.h41_focal.proofs.RowApplied.{row_applied}
+use Rattle.h41_focal.proofs.RowDone.{row_done}
 use Rattle.h41_focal.specs.Works.{flag_use_row}
 use Rattle.h41_focal.specs.declared.uses.FlagUse.TheVariants as flags
 use Rattle.h41_focal.specs.declared.outcome.LineOutcome.TheVariants as outcomes
@@ -8,5 +8,5 @@ use Rattle.h41_focal.proofs.flag_lines.change_flag.Goals as goal
 
 pub returns : goal.returns
 returns g c = λ named.
-    rw (c.go_on_lifting.ensures, c.set_flag.ensures, c.from.ensures)
-    (row_applied _ (flag_use_row (flags.Change c.args.on) c.args.flag) named _ _ zeros outcomes.Done c.requires.next refl refl refl)
+    row_done _ (flag_use_row (flags.Change c.args.on) c.args.flag) named _ _ _ zeros outcomes.Done _ _ c.machine.view_is c.requires.ready.next refl refl
+    refl (rw (c.set_flag.ensures, c.from.ensures) refl) c.go_on_lifting.ensures

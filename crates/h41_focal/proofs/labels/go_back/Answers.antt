@@ -1,16 +1,20 @@
 use Rattle.std.proofs.Common.{ap}
 use Rattle.h41_focal.proofs.LabelsMet.{goes_back, goes_to_line_00}
-use Rattle.h41_focal.specs.LineStep.{FocalState}
+use Rattle.h41_focal.specs.LineStep.{joined}
+use Rattle.h41_focal.specs.declared.machine.Machine.TheInside.{Inside}
 use Rattle.h41_focal.proofs.labels.go_back.Goals as goal
 
 pub returns-in-Program : goal.returns-in-Program
 returns-in-Program g c = λ named.
     rw c.in-Program.is
-    (goes_back c.args.ram.now c.args.focal.now _ _ c.in-Program.field-0 named
-    (let knows = c.requires.next in rw c.in-Program.is at knows) c.return_from.ensures)
+    (goes_back c.args.machine.now c.return_from.new.machine c.return_from.result c.in-Program.field-0 named (let knows = c.requires.next in rw c.in-Program.is at knows) c.return_from.ensures)
 
 pub returns-in-Typed : goal.returns-in-Typed
 returns-in-Typed g c = λ named.
-    rw (c.in-Typed.is, c.halt_at.ensures)
-    (goes_to_line_00 c.args.ram.now c.args.focal.now c.start_of-start.result named
-    (let found = c.start_of-start.ensures in rw (ap (λ (focal : FocalState). focal.position) c.focal.view_is) at found))
+    rw (c.in-Typed.is, c.halt_at.ensures, ← c.machine.view_is)
+    (goes_to_line_00 (joined c.machine.inside.ram c.machine.inside.focal) c.start_of-start.result named
+    (let found = c.start_of-start.ensures in
+    rw (
+      ap (λ (inside : Inside g.row.REGS). inside.ram) c.machine-inside.view_is,
+      ap (λ (inside : Inside g.row.REGS). inside.focal.position) c.machine-inside.view_is,
+    ) at found))

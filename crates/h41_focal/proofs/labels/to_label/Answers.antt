@@ -1,13 +1,24 @@
+use Rattle.std.proofs.Common.{None, subst}
+use Rattle.h41_focal.proofs.RowApplied.{opened_row}
+use Rattle.h41_focal.specs.Arrivals.{from_of}
+use Rattle.h41_focal.specs.LineStep.{Machine, joined}
+use Rattle.h41_program.specs.Searches.{AnswersLocal}
+use Rattle.h41_rows.specs.LineRows.{to_label}
 use Rattle.h41_focal.proofs.LabelsMet.{label_found, label_lost}
 use Rattle.h41_focal.proofs.labels.to_label.Goals as goal
 
 pub returns-in-Some : goal.returns-in-Some
 returns-in-Some g c = λ named.
     rw c.arrive.ensures.focal
-    (label_found c.args.origin c.args.branch c.args.label named _ _ _ _ c.requires.next
-    (let found = c.local.ensures in rw (c.in-Some.is, c.searched_from.ensures) at found) c.arrive.ensures.answer)
+    (opened_row _ (to_label c.args.branch c.args.label) named _ _ _ _ c.machine.view_is c.requires.next
+    (λ knows. label_found c.args.origin c.args.branch c.args.label named (joined c.machine.inside.ram c.machine.inside.focal) c.in-Some.position c.arrive.result knows
+    (let found = c.local.ensures in rw (c.in-Some.is, c.searched_from.ensures) at found) c.arrive.ensures.answer))
 
 pub returns-in-None : goal.returns-in-None
 returns-in-None g c = λ named.
-    label_lost c.args.origin c.args.branch c.args.label named _ _ _ _ _ c.requires.next
-    (let found = c.local.ensures in rw (c.in-None.is, c.searched_from.ensures) at found) c.fail.ensures
+    let found = c.local.ensures in
+    let lost = rw (c.in-None.is, c.searched_from.ensures) at found in
+    label_lost c.args.origin c.args.branch c.args.label named _ _ _ c.requires.next
+    (subst (λ (machine : Machine). AnswersLocal machine.memory (from_of c.args.origin machine.focal.position) c.args.label None)
+    c.machine.view_is lost)
+    c.fail.ensures

@@ -1,5 +1,5 @@
 use Rattle.std.proofs.Common.{refl}
-use Rattle.h41_focal.proofs.RowApplied.{row_applied}
+use Rattle.h41_focal.proofs.RowDone.{row_done}
 use Rattle.h41_focal.specs.declared.outcome.LineOutcome.TheVariants as outcomes
 use Rattle.h41_focal.proofs.stack_lines.be_silent.Goals as goal
 use Rattle.h41_rows.specs.Rows.{silent}
@@ -7,4 +7,4 @@ use Rattle.h41_ram.specs.RegisterMap.{zeros}
 
 pub returns : goal.returns
 returns g c = λ named.
-    rw c.go_on.ensures (row_applied _ silent named _ _ zeros outcomes.Done c.requires refl refl refl)
+    row_done _ silent named _ _ _ zeros outcomes.Done _ _ c.machine.view_is c.requires.next refl refl refl refl c.go_on.ensures

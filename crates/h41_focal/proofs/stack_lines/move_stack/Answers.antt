@@ -1,7 +1,8 @@
-use Rattle.std.proofs.Common.{◌≡◌, ℕ, ap, refl}
-use Rattle.h41_focal.proofs.RowApplied.{row_applied}
+use Rattle.std.proofs.Common.{◌≡◌, ℕ, ap, refl, ◌∙◌}
+use Rattle.h41_focal.specs.declared.machine.Machine.TheInside.{Inside}
+use Rattle.h41_focal.proofs.RowDone.{row_done}
 use Rattle.h41_focal.proofs.stack_lines.move_stack.Goals as goal
-use Rattle.h41_focal.specs.LineStep.{FocalState, answered}
+use Rattle.h41_focal.specs.LineStep.{answered, joined}
 use Rattle.h41_focal.specs.Outcomes as answers
 use Rattle.h41_rows.specs.Rows as rows
 use Rattle.h41_focal.specs.Works.{move_row}
@@ -35,6 +36,6 @@ answers_done memory moves.ClearX named = refl
 pub returns : goal.returns
 returns g c = λ named.
     let moved = c.move_registers.ensures named in
-    rw (c.go_on_behind.ensures, moved.2, ap (λ (focal : FocalState). focal.lift) c.focal.view_is)
-    (row_applied _ (move_row c.args.movement) named _ c.args.focal.now moved.0 outcomes.Done c.requires (goes_on c.args.movement) moved.1
-    (answers_done c.args.ram.now c.args.movement named))
+    let opened = ap (λ (inside : Inside g.row.REGS). joined inside.ram inside.focal) c.machine-inside.view_is ∙ c.machine.view_is in
+    row_done _ (move_row c.args.movement) named _ _ _ moved.0 outcomes.Done _ _ opened c.requires.next
+    (goes_on c.args.movement) moved.1 (answers_done _ c.args.movement named) moved.2 c.go_on_behind.ensures

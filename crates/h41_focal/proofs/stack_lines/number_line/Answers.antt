@@ -1,14 +1,16 @@
-use Rattle.std.proofs.Common.{ap, refl}
+use Rattle.std.proofs.Common.{ap, refl, ◌∙◌}
 use Rattle.h41_codes.specs.declared.line.Line.TheVariants as lines
-use Rattle.h41_focal.proofs.RowApplied.{row_applied}
+use Rattle.h41_focal.specs.declared.machine.Machine.TheInside.{Inside}
+use Rattle.h41_focal.specs.LineStep.{joined}
+use Rattle.h41_focal.proofs.RowDone.{row_done}
 use Rattle.h41_focal.proofs.stack_lines.number_line.Goals as goal
 use Rattle.h41_rows.specs.LineRows.{row_of}
-use Rattle.h41_focal.specs.LineStep.{FocalState}
 use Rattle.h41_rows.specs.Operands.{NoOperand}
 use Rattle.h41_focal.specs.declared.outcome.LineOutcome.TheVariants as outcomes
 
 pub returns : goal.returns
 returns g c = λ named.
-    rw (c.go_on_lifting.ensures, c.bring_in.ensures named, ap (λ (focal : FocalState). focal.lift) c.focal.view_is)
-    (row_applied _ (row_of (lines.Number c.args.number.now) NoOperand) named _ c.args.focal.now c.written.result outcomes.Done c.requires refl
-    (c.written.ensures _ named) refl)
+    let opened = ap (λ (inside : Inside g.row.REGS). joined inside.ram inside.focal) c.machine-inside.view_is ∙ c.machine.view_is in
+    row_done _ (row_of (lines.Number c.args.number.now) NoOperand) named _ _ _ c.written.result outcomes.Done _ _ opened
+    c.requires.next refl (c.written.ensures _ named) refl (c.bring_in.ensures named)
+    c.go_on_lifting.ensures

@@ -1,0 +1,11 @@
+use Rattle.std.proofs.lemmas.Result.{err_from_is_err_and}
+use Rattle.h41_focal.proofs.LinesTaken.{fail_refused, line_fails}
+use Rattle.h41_focal.proofs.machine.Machine.fail.Goals as goal
+
+pub returns-in_err-next-clause-line : goal.returns-in_err-next-clause-line
+returns-in_err-next-clause-line g c =
+    let refused = err_from_is_err_and c.from_residual.result c.from_residual.ensures.1 in
+    rw (refused.1, refused.2) (fail_refused c.args.fault c.args.self.now c.in_err-next.field-0.0 c.in_err-next.ensures)
+
+pub returns-clause-line : goal.returns-clause-line
+returns-clause-line g c = line_fails c.args.fault c.args.self.now c.fail.new.machine c.in_ok-next.field-0-0 c.in_ok-next.next c.fail.result c.in_ok-next.ensures c.fail.ensures

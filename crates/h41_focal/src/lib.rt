@@ -3,6 +3,7 @@
 
 mod alpha_lines;
 mod arithmetic;
+mod calls;
 mod course;
 mod display_lines;
 mod flag_lines;
@@ -25,6 +26,7 @@ mod stack_lines;
 mod uses;
 mod works;
 
+pub use calls::{key_line, step_as, step_line};
 pub use focal::{Focal, RETURNS};
 pub use h41_rows::LineFault;
 pub use machine::Machine;

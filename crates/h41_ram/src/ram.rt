@@ -72,6 +72,20 @@ impl<const REGS: usize> Ram<REGS> {
         Ram { status, main }
     }
 
+    /// The memory; the one at the start is left in its place.
+    pub fn take(&mut self) -> Self
+        ensures taken { result ≡ self.old }
+        ensures left { self.new ≡ spec.start REGS }
+        ensures at_most { REGS ≤ 320 }
+    {
+        let taken = Ram {
+            status: self.status,
+            main: self.main,
+        };
+        *self = Ram::new();
+        taken
+    }
+
     /// The register at an address. An address that does not exist reads zero (this project's choice).
     #[inline(always)]
     pub fn read(&self, address: u16) -> Reg

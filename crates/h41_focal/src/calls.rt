@@ -1,0 +1,69 @@
+//! The three calls of lines for who holds memory apart from what else lines work on.
+
+ghost use Rattle.std.specs.Prelude.{◌≡◌, None, Some, OnErr};
+ghost use Rattle.h41_focal.specs.LineStep.{joined};
+ghost use Rattle.h41_focal.specs.MachineCalls.{KeepsElsewhere, Steps, Types};
+
+use crate::focal::Focal;
+use crate::machine::Machine;
+use crate::outcome::LineOutcome;
+use crate::refusal::FocalRefusal;
+use h41_codes::{Function, Line};
+use h41_ram::Ram;
+use std::mem::replace;
+
+/// The line at the position is carried out, as by `Machine::step`. Memory is moved into a machine and back, as in the other two
+/// calls here: who carries out many lines keeps a machine.
+pub fn step_line<const REGS: usize>(
+    ram: &mut Ram<REGS>,
+    focal: &mut Focal,
+) -> Result<LineOutcome, FocalRefusal>
+    ensures line { Steps None (joined ram.old focal.old) (joined ram.new focal.new) result }
+    ensures unchanged { OnErr result (joined ram.new focal.new ≡ joined ram.old focal.old) }
+    ensures elsewhere { KeepsElsewhere (joined ram.old focal.old) (joined ram.new focal.new) result }
+{
+    let mut machine = Machine {
+        ram: ram.take(),
+        focal: replace(focal, Focal::new()),
+    };
+    let result = machine.step();
+    machine.part(ram, focal);
+    result
+}
+
+/// A function is carried out in place of the line at the position, as by `Machine::step_as`.
+pub fn step_as<const REGS: usize>(
+    ram: &mut Ram<REGS>,
+    focal: &mut Focal,
+    function: Function,
+) -> Result<LineOutcome, FocalRefusal>
+    ensures line { Steps (Some function) (joined ram.old focal.old) (joined ram.new focal.new) result }
+    ensures unchanged { OnErr result (joined ram.new focal.new ≡ joined ram.old focal.old) }
+{
+    let mut machine = Machine {
+        ram: ram.take(),
+        focal: replace(focal, Focal::new()),
+    };
+    let result = machine.step_as(function);
+    machine.part(ram, focal);
+    result
+}
+
+/// A typed line is carried out, as by `Machine::key`.
+pub fn key_line<const REGS: usize>(
+    ram: &mut Ram<REGS>,
+    focal: &mut Focal,
+    line: &Line,
+) -> Result<LineOutcome, FocalRefusal>
+    ensures line { Types line.now (joined ram.old focal.old) (joined ram.new focal.new) result }
+    ensures unchanged { OnErr result (joined ram.new focal.new ≡ joined ram.old focal.old) }
+    ensures elsewhere { KeepsElsewhere (joined ram.old focal.old) (joined ram.new focal.new) result }
+{
+    let mut machine = Machine {
+        ram: ram.take(),
+        focal: replace(focal, Focal::new()),
+    };
+    let result = machine.key(line);
+    machine.part(ram, focal);
+    result
+}

@@ -1,5 +1,5 @@
 pub mod AlphaTexts
 pub mod Bits
-pub mod Flags
+pub mod FlagBits
 pub mod Named
 pub mod ThreeDigits

@@ -1,3 +1,4 @@
 pub mod RegisterMap
 pub mod NamedRegisters
+pub mod NamedFlags
 pub mod RegisterMapLaws

@@ -1,6 +1,14 @@
 //! Laws of memory: each is the contract of a function with nothing to do.
 
+ghost use Rattle.std.specs.Prelude.{◌≡◌};
+ghost use Rattle.h41_ram.specs.NamedFlags as named;
 ghost use Rattle.h41_ram.specs.RegisterMapLaws.{ReadsWhatWasWritten, KeepsOtherAddresses, FlagIsRead, OtherFlagsStay, AlphaIsRead, AlphaKeepsOthers, AlphaKeepsLeftOfP, StatusIsRead, OtherStatusStays, DataIsRead, OtherDataStay, DataKeepSound, StartIsSound};
+
+use crate::flags::{
+    ALPHA_ENTRY, ALPHA_MODE, AUDIO_ENABLE, DECIMAL_POINT, DIGIT_GROUPING, DIGITS_1, DIGITS_2,
+    DIGITS_4, DIGITS_8, ENGINEERING, ERROR_IGNORE, FIXED, GRADS, NUMBER_ENTRY, RADIANS,
+    RANGE_IGNORE,
+};
 
 /// A register is read as it was written, where its address exists.
 pub fn read_after_write()
@@ -20,6 +28,26 @@ pub fn flag_is_read()
 /// No other flag changes with it.
 pub fn other_flags_stay()
     ensures { OtherFlagsStay }
+{}
+
+/// A flag's name stands for one number, in the code and in definitions.
+pub fn names_of_flags_agree()
+    ensures number_entry { NUMBER_ENTRY ≡ named.number_entry }
+    ensures alpha_entry { ALPHA_ENTRY ≡ named.alpha_entry }
+    ensures range_ignore { RANGE_IGNORE ≡ named.range_ignore }
+    ensures error_ignore { ERROR_IGNORE ≡ named.error_ignore }
+    ensures audio_enable { AUDIO_ENABLE ≡ named.audio_enable }
+    ensures decimal_point { DECIMAL_POINT ≡ named.decimal_point }
+    ensures digit_grouping { DIGIT_GROUPING ≡ named.digit_grouping }
+    ensures digits_8 { DIGITS_8 ≡ named.digits_8 }
+    ensures digits_4 { DIGITS_4 ≡ named.digits_4 }
+    ensures digits_2 { DIGITS_2 ≡ named.digits_2 }
+    ensures digits_1 { DIGITS_1 ≡ named.digits_1 }
+    ensures fixed { FIXED ≡ named.fixed }
+    ensures engineering { ENGINEERING ≡ named.engineering }
+    ensures grads { GRADS ≡ named.grads }
+    ensures radians { RADIANS ≡ named.radians }
+    ensures alpha_mode { ALPHA_MODE ≡ named.alpha_mode }
 {}
 
 /// ALPHA is read as it was written.

@@ -2,6 +2,7 @@
 #![tactic(auto)]
 
 mod alpha;
+pub mod flags;
 pub mod laws;
 mod ram;
 mod start;

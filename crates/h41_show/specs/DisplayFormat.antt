@@ -1,6 +1,7 @@
 -- The display format that the flags tell. That flags 40 and 41 both set mean FIX, and that a display digit above 9 means 9, are
 -- this project's choices; the rest is the Owner's Handbook's.
 use Rattle.std.specs.Prelude.{ℕ, ◌+◌, min, Bool, true, false}
+use Rattle.h41_ram.specs.NamedFlags as flags
 use Rattle.h41_ram.specs.RegisterMap.{RegisterMap, flag_of}
 use Rattle.h41_show.specs.declared.format.Format.{Format}
 use Rattle.h41_show.specs.declared.format.Notation.{Notation}
@@ -22,7 +23,10 @@ weight false amount = 0
 -- the number that flags 36 to 39 write, 36 the highest of its bits
 abbrev pub display_digit : RegisterMap → ℕ
 display_digit memory =
-    weight (flag_of memory 36) 8 + weight (flag_of memory 37) 4 + weight (flag_of memory 38) 2 + weight (flag_of memory 39) 1
+    weight (flag_of memory flags.digits_8) 8
+    + weight (flag_of memory flags.digits_4) 4
+    + weight (flag_of memory flags.digits_2) 2
+    + weight (flag_of memory flags.digits_1) 1
 
 -- flag 28 makes the point the radix mark, else it is the comma
 abbrev pub radix_of : Bool → RadixMark
@@ -32,8 +36,8 @@ radix_of false = Comma
 -- the format: the notation, the display digit, the radix mark, and by flag 29 whether digits are grouped
 unfoldable pub format_of : RegisterMap → Format
 format_of memory = record {
-  notation = notation_of (flag_of memory 40) (flag_of memory 41);
+  notation = notation_of (flag_of memory flags.fixed) (flag_of memory flags.engineering);
   digits = min (display_digit memory) 9;
-  radix = radix_of (flag_of memory 28);
-  grouping = flag_of memory 29;
+  radix = radix_of (flag_of memory flags.decimal_point);
+  grouping = flag_of memory flags.digit_grouping;
 }

@@ -1,19 +1,20 @@
 //! What the flags say of the display format.
 
 ghost use Rattle.std.specs.Prelude.{◌≡◌, ◌≤◌};
+ghost use Rattle.h41_ram.specs.NamedFlags.{decimal_point, engineering, fixed};
 ghost use Rattle.h41_ram.specs.RegisterMap.{flag_of};
 ghost use Rattle.h41_show.specs.DisplayFormat as spec;
 
 use crate::format::{Notation, RadixMark};
-use h41_ram::Ram;
+use h41_ram::{Ram, flags};
 
 /// The notation: FIX where flag 40 is set, else ENG where flag 41 is set, else SCI.
 pub(crate) fn notation<const REGS: usize>(ram: &Ram<REGS>) -> Notation
-    ensures { result ≡ spec.notation_of (flag_of ram.now 40) (flag_of ram.now 41) }
+    ensures { result ≡ spec.notation_of (flag_of ram.now fixed) (flag_of ram.now engineering) }
 {
-    if ram.flag(40) {
+    if ram.flag(flags::FIXED) {
         Notation::Fixed
-    } else if ram.flag(41) {
+    } else if ram.flag(flags::ENGINEERING) {
         Notation::Engineering
     } else {
         Notation::Scientific
@@ -24,10 +25,10 @@ pub(crate) fn notation<const REGS: usize>(ram: &Ram<REGS>) -> Notation
 pub(crate) fn display_digit<const REGS: usize>(ram: &Ram<REGS>) -> u8
     ensures { result ≡ spec.display_digit ram.now }
 {
-    weight(ram.flag(36), 8)
-        + weight(ram.flag(37), 4)
-        + weight(ram.flag(38), 2)
-        + weight(ram.flag(39), 1)
+    weight(ram.flag(flags::DIGITS_8), 8)
+        + weight(ram.flag(flags::DIGITS_4), 4)
+        + weight(ram.flag(flags::DIGITS_2), 2)
+        + weight(ram.flag(flags::DIGITS_1), 1)
 }
 
 /// What a flag counts: its weight where it is set, else nothing.
@@ -41,9 +42,9 @@ fn weight(flag: bool, amount: u8) -> u8
 
 /// The radix mark: the point where flag 28 is set, else the comma.
 pub(crate) fn radix<const REGS: usize>(ram: &Ram<REGS>) -> RadixMark
-    ensures { result ≡ spec.radix_of (flag_of ram.now 28) }
+    ensures { result ≡ spec.radix_of (flag_of ram.now decimal_point) }
 {
-    if ram.flag(28) {
+    if ram.flag(flags::DECIMAL_POINT) {
         RadixMark::Point
     } else {
         RadixMark::Comma

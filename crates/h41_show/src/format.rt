@@ -2,8 +2,8 @@
 
 ghost use Rattle.std.specs.Prelude.{◌≡◌};
 
-use crate::flags;
-use h41_ram::Ram;
+use crate::flags::{display_digit, notation, radix};
+use h41_ram::{Ram, flags};
 
 /// How numbers are shown.
 #[derive(Clone, Copy, Debug, PartialEq, Eq)]
@@ -49,10 +49,10 @@ impl Format {
         ensures { result ≡ format_of ram.now }
     {
         Format {
-            notation: flags::notation(ram),
-            digits: flags::display_digit(ram).min(9),
-            radix: flags::radix(ram),
-            grouping: ram.flag(29),
+            notation: notation(ram),
+            digits: display_digit(ram).min(9),
+            radix: radix(ram),
+            grouping: ram.flag(flags::DIGIT_GROUPING),
         }
     }
 }

@@ -15,8 +15,8 @@ use arrayvec::ArrayString;
 use h41_codes::{Character, EntryNumber, Line, ModuleNumber, Operand};
 use h41_lines::characters::{character_text, escaped, two_digits};
 
-/// How many characters a text has room for: `GTO ""`, and within the quotes 15 characters of three each.
-pub const TEXT_CAPACITY: usize = 51;
+/// How many characters a text has room for. The longest needs 51: `GTO ""`, and within the quotes 15 characters of three each.
+pub const TEXT_CAPACITY: usize = 64;
 
 /// The text of a line.
 type LineText = ArrayString<TEXT_CAPACITY>;
@@ -61,7 +61,8 @@ pub fn write_line(line: Line) -> ArrayString<TEXT_CAPACITY>
 /// A name alone.
 fn alone(name: &str) -> LineText
     requires { length name.now ≤ 6 }
-    ensures { result.bytes ≡ name.now }
+    ensures text { result.bytes ≡ name.now }
+    ensures most { length result.bytes ≤ 6 }
 {
     let mut text = LineText::new();
     text.push_str(name);
@@ -71,7 +72,8 @@ fn alone(name: &str) -> LineText
 /// A name and a blank.
 fn begun(name: &str) -> LineText
     requires { length name.now ≤ 6 }
-    ensures { result.bytes ≡ name.now ++ 0x20 ∷ [] }
+    ensures text { result.bytes ≡ name.now ++ 0x20 ∷ [] }
+    ensures most { length result.bytes ≤ 7 }
 {
     let mut text = alone(name);
     text.push_str(" ");
@@ -82,7 +84,8 @@ fn begun(name: &str) -> LineText
 fn numbered(name: &str, number: u8) -> LineText
     requires name { length name.now ≤ 6 }
     requires number { number < 100 }
-    ensures { result.bytes ≡ name.now & digits_of number }
+    ensures text { result.bytes ≡ name.now & digits_of number }
+    ensures most { length result.bytes ≤ 9 }
 {
     let mut text = begun(name);
     push_two_digits(&mut text, number);
@@ -92,7 +95,8 @@ fn numbered(name: &str, number: u8) -> LineText
 /// A name and an operand.
 fn with_operand(name: &str, operand: Operand) -> LineText
     requires { length name.now ≤ 6 }
-    ensures { result.bytes ≡ name.now & spec.operand_text operand }
+    ensures text { result.bytes ≡ name.now & spec.operand_text operand }
+    ensures most { length result.bytes ≤ 17 }
 {
     let mut text = begun(name);
     match operand {
@@ -109,7 +113,8 @@ fn with_operand(name: &str, operand: Operand) -> LineText
 fn named(name: &str, characters: &[u8]) -> LineText
     requires name { length name.now ≤ 3 }
     requires characters { length characters.now ≤ 15 }
-    ensures { result.bytes ≡ name.now & quoted characters.now }
+    ensures text { result.bytes ≡ name.now & quoted characters.now }
+    ensures most { length result.bytes ≤ 51 }
 {
     let mut text = begun(name);
     push_quoted(&mut text, characters);
@@ -118,7 +123,8 @@ fn named(name: &str, characters: &[u8]) -> LineText
 
 /// An XROM and its two numbers.
 fn module(number: ModuleNumber, entry: EntryNumber) -> LineText
-    ensures { result.bytes ≡ line_text (line.Module number entry) }
+    ensures text { result.bytes ≡ line_text (line.Module number entry) }
+    ensures most { length result.bytes ≤ 12 }
 {
     let mut text = numbered("XROM", number.number());
     text.push_str(",");
@@ -129,7 +135,8 @@ fn module(number: ModuleNumber, entry: EntryNumber) -> LineText
 /// A number of at most 16 characters.
 fn number_line(characters: &[Character]) -> LineText
     requires { length characters.now ≤ 16 }
-    ensures { result.bytes ≡ spec.number_line characters.now }
+    ensures text { result.bytes ≡ spec.number_line characters.now }
+    ensures most { length result.bytes ≤ 16 }
 {
     if let [Character::Minus] = characters {
         return alone("NEG");
@@ -144,7 +151,8 @@ fn number_line(characters: &[Character]) -> LineText
 /// A text for ALPHA, of at most 15 characters.
 fn alpha(characters: &[u8]) -> LineText
     requires { length characters.now ≤ 15 }
-    ensures { result.bytes ≡ text_line characters.now }
+    ensures text { result.bytes ≡ text_line characters.now }
+    ensures most { length result.bytes ≤ 48 }
 {
     let mut text = LineText::new();
     match characters {
@@ -179,7 +187,8 @@ fn push_two_digits(text: &mut LineText, number: u8)
 fn push_parameter(text: &mut LineText, number: u8)
     requires room { array_string_len text.old + 6 ≤ TEXT_CAPACITY }
     requires number { number < parameter_count }
-    ensures { text.new.bytes ≡ text.old.bytes ++ spec.parameter_text number }
+    ensures text { text.new.bytes ≡ text.old.bytes ++ spec.parameter_text number }
+    ensures most { length text.new.bytes ≤ length text.old.bytes + 6 }
 {
     if number < 100 {
         push_two_digits(text, number);
@@ -192,7 +201,8 @@ fn push_parameter(text: &mut LineText, number: u8)
 fn push_quoted(text: &mut LineText, characters: &[u8])
     requires room { array_string_len text.old ≤ 4 }
     requires characters { length characters.now ≤ 15 }
-    ensures { text.new.bytes ≡ text.old.bytes ++ quoted characters.now }
+    ensures text { text.new.bytes ≡ text.old.bytes ++ quoted characters.now }
+    ensures most { length text.new.bytes ≤ length text.old.bytes + 47 }
 {
     text.push_str("\"");
     for character in characters {

@@ -1,4 +1,4 @@
-use Rattle.h41_ram.proofs.Flags.{flag_of-with_flag}
+use Rattle.h41_ram.proofs.FlagBits.{flag_of-with_flag}
 use Rattle.h41_ram.proofs.laws.flag_is_read.Goals as goal
 
 pub returns : goal.returns

@@ -1,4 +1,4 @@
-use Rattle.h41_ram.proofs.Flags.{flag_of-with_flag_other}
+use Rattle.h41_ram.proofs.FlagBits.{flag_of-with_flag_other}
 use Rattle.h41_ram.proofs.laws.other_flags_stay.Goals as goal
 
 pub returns : goal.returns

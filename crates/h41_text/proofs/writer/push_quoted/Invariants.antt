@@ -6,5 +6,5 @@ use Rattle.h41_text.proofs.writer.push_quoted.Given as goal
 abbrev pub invariant-loop-character : goal.invariant-loop-character
 invariant-loop-character l = record {
   text : l.text.bytes ≡ l.initial.text.bytes ++ flat_map character_quoted (take l.character-index l.characters);
-  most : length l.text.bytes ≤ 5 + 3 * l.character-index;
+  most : length l.text.bytes ≤ length l.initial.text.bytes + 3 * l.character-index;
 }

@@ -25,6 +25,17 @@ LocalIsDetermined =
     (memory : RegisterMap) (at n : ℕ) (found other : Option ℕ) → AnswersLocal memory at n found → AnswersLocal memory at n other
     → found ≡ other
 
+-- the line that a position stands for is determined, and so is the position of the next
+abbrev pub LineIsDetermined : Type 0
+LineIsDetermined =
+    (memory : RegisterMap) (at : ℕ) (result other : Result ListedLine ProgramRefusal)
+    → AnswersFirst memory at result → AnswersFirst memory at other → result ≡ other
+
+abbrev pub NextIsDetermined : Type 0
+NextIsDetermined =
+    (memory : RegisterMap) (at : ℕ) (result other : Result ℕ ProgramRefusal)
+    → AnswersNext memory at result → AnswersNext memory at other → result ≡ other
+
 -- the line at a position is the first of the list from there on, and the next position that of its second
 abbrev pub LineIsOfList : Type 0
 LineIsOfList =

@@ -8,11 +8,10 @@ use Rattle.h41_ram.specs.RegisterMap.{RegisterMap}
 use Rattle.h41_program.specs.declared.listed_line.ListedLine.{ListedLine}
 use Rattle.h41_program.specs.declared.refusal.ProgramRefusal.{ProgramRefusal}
 use Rattle.h41_program.specs.Lines.{is_final_end}
-use Rattle.h41_program.specs.Numbering.{up_to_end}
 use Rattle.h41_program.specs.ProgramBytes.{program_bytes, final_position}
-use Rattle.h41_program.specs.ProgramLines.{AnswersFirst, AnswersNext, FirstFrom, LinesFrom, PositionBehind, PositionFrom, Reads, behind, line_of, next_of}
+use Rattle.h41_program.specs.ProgramLines.{FirstFrom, LinesFrom, PositionBehind, PositionFrom, Reads, behind, line_of, next_of}
 use Rattle.h41_program.specs.SearchLaws.{AnswersAreDetermined, LineIsDetermined, LineIsOfList, LocalIsDetermined, NextIsDetermined, NextIsOfList, ProgramIsDetermined}
-use Rattle.h41_program.specs.Searches.{label_in, position_of, start_in}
+use Rattle.h41_program.specs.Searches.{label_in, position_of, start_in, up_to_end}
 use Rattle.h41_program.proofs.Determined.{first_determined, lists_determined}
 use Rattle.h41_program.proofs.Walks.{last_rest, more_rest, no_rest}
 

@@ -3,9 +3,8 @@ use Rattle.std.specs.Prelude.{◌≡◌, ℕ, IsTrue, List, Option, Result}
 use Rattle.h41_ram.specs.RegisterMap.{RegisterMap, is_sound}
 use Rattle.h41_program.specs.declared.listed_line.ListedLine.{ListedLine}
 use Rattle.h41_program.specs.declared.refusal.ProgramRefusal.{ProgramRefusal}
-use Rattle.h41_program.specs.Numbering.{AnswersProgram}
 use Rattle.h41_program.specs.ProgramLines.{AnswersFirst, AnswersNext, AnswersOf, LinesFrom, line_of, next_of}
-use Rattle.h41_program.specs.Searches.{AnswersLocal}
+use Rattle.h41_program.specs.Searches.{AnswersLocal, AnswersProgram}
 
 -- an answer by the list, of any type, is determined: where programs begin and names stand, whether the last program is open
 abbrev pub AnswersAreDetermined : Type 0 → Type 0

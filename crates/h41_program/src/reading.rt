@@ -5,7 +5,7 @@ ghost use Rattle.h41_ram.specs.RegisterMap.{is_sound};
 ghost use Rattle.h41_program.specs.ProgramBytes.{byte_count, final_position, program_byte};
 ghost use Rattle.h41_program.specs.ProgramBytes as spec;
 ghost use Rattle.h41_program.specs.ProgramLines.{AnswersFirst, AnswersNext, HasFirst, HasNoLine, HasPlace};
-ghost use Rattle.h41_program.specs.Reading.{bytes_seen, program_register, BeginsNoNumber, EndsNothing, FoundBehind, HasThere, IsPlaceOf};
+ghost use Rattle.h41_program.specs.private.Reading.{bytes_seen, program_register, BeginsNoNumber, EndsNothing, FoundBehind, HasThere, IsPlaceOf};
 ghost use Rattle.h41_codes.specs.ByteGrammar.{AnswersLine};
 
 use crate::kinds::{is_end, is_final_end};

@@ -4,7 +4,7 @@ use Rattle.std.proofs.lemmas.List.FromFn.{map-range_with_len_more}
 use Rattle.h41_digits.specs.Register.{byte_at}
 use Rattle.h41_ram.specs.RegisterMap.{curtain_of, register_at}
 use Rattle.h41_program.specs.ProgramBytes.{program_byte}
-use Rattle.h41_program.specs.Reading.{program_register}
+use Rattle.h41_program.specs.private.Reading.{program_register}
 use Rattle.h41_program.proofs.reading.window.Goals as goal
 use Rattle.h41_program.proofs.reading.window.Goals.{then-left-eq0, else-left-eq0}
 

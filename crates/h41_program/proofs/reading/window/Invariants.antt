@@ -1,7 +1,7 @@
 use Rattle.std.proofs.Common.{◌≡◌, ◌+◌, ◌-◌, ◌%◌, ◌≤◌, map, length}
 use Rattle.std.specs.List.{range_with_len}
 use Rattle.h41_program.specs.ProgramBytes.{program_byte}
-use Rattle.h41_program.specs.Reading.{program_register}
+use Rattle.h41_program.specs.private.Reading.{program_register}
 use Rattle.h41_program.proofs.reading.window.Given as goal
 
 -- the bytes so far

@@ -1,4 +1,4 @@
--- What the functions that read program memory promise one another. No public contract needs this file.
+-- What the functions that read program memory promise one another.
 use Rattle.std.specs.Prelude.{◌≡◌, ◌≤◌, ℕ, ◌+◌, ◌-◌, ◌/◌, false, MatchBool, List, length, map, min}
 use Rattle.std.specs.List.{range_with_len}
 use Rattle.h41_ram.specs.RegisterMap.{RegisterMap, curtain_of, register_at}

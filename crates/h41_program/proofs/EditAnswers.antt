@@ -17,7 +17,7 @@ use Rattle.h41_program.specs.declared.listed_line.ListedLine.{ListedLine}
 use Rattle.h41_program.specs.declared.reading.Found.{Found}
 use Rattle.h41_program.specs.declared.refusal.ProgramRefusal.{ProgramRefusal}
 use Rattle.h41_program.specs.declared.refusal.ProgramRefusal.TheVariants.{BrokenProgram}
-use Rattle.h41_program.specs.Edits.{Edits, LeavesChanged, Stands, StandsBefore, StandsNew, before_end, changed_outcome, count_before, edit_outcome, has_line_at, lines_of, position_in_front, position_behind}
+use Rattle.h41_program.specs.Edits.{AnswersChanged, Edits, LeavesChanged, Stands, StandsBefore, StandsNew, before_end, changed_outcome, count_before, edit_outcome, has_line_at, lines_of, position_in_front, position_behind}
 use Rattle.h41_program.specs.private.EditSteps.{Counts, changed, listed_of}
 use Rattle.h41_program.specs.ProgramLaws.{IsInner}
 use Rattle.h41_program.specs.ProgramBytes.{program_bytes, final_position}
@@ -142,24 +142,19 @@ some_found (Some found) listed is = refl
 
 -- the answers
 module _ (old new : RegisterMap) (at count : ℕ) (counts : Counts old at count) (listed : List ListedLine) (read : LinesFrom new 0 listed) where
-  pub stands_new : (found : ListedLine) → Some found ≡ slice_get listed count → StandsNew old at new found.position
-  stands_new found is = record {
+  answers_changed : {A : Type 0} (answer : ℕ → List ListedLine → A) (result : A) → result ≡ answer count listed → AnswersChanged answer old at new result
+  answers_changed answer result is = record {
     first = counts.first;
     lines = counts.lines;
     listed = listed;
     stands = counts.stands;
     from = counts.from;
     read = read;
-    is = ap position_of is ∙ ap (λ (n : ℕ). position_behind n listed) counts.is;
+    is = is ∙ ap (λ (n : ℕ). answer n listed) counts.is;
   }
 
+  pub stands_new : (found : ListedLine) → Some found ≡ slice_get listed count → StandsNew old at new found.position
+  stands_new found is = answers_changed position_behind (Some found.position) (ap position_of is)
+
   pub stands_before : (result : Front) → result ≡ position_in_front count listed → StandsBefore old at new result
-  stands_before result is = record {
-    first = counts.first;
-    lines = counts.lines;
-    listed = listed;
-    stands = counts.stands;
-    from = counts.from;
-    read = read;
-    is = is ∙ ap (λ (n : ℕ). position_in_front n listed) counts.is;
-  }
+  stands_before result is = answers_changed position_in_front result is

@@ -10,7 +10,7 @@ use Rattle.h41_codes.specs.declared.line.Line.TheVariants.{End, FinalEnd}
 use Rattle.h41_program.specs.Lines.{is_end, is_final_end}
 use Rattle.h41_program.specs.ProgramBytes.{byte_count, final_position, program_byte}
 use Rattle.h41_program.specs.ProgramLines.{HasFirst, HasPlace}
-use Rattle.h41_program.specs.Reading.{bytes_seen, BeginsNoNumber, EndsNothing, HasThere}
+use Rattle.h41_program.specs.private.Reading.{bytes_seen, BeginsNoNumber, EndsNothing, HasThere}
 use Rattle.h41_program.proofs.Memory.{Looked, looked_first}
 use Rattle.h41_program.proofs.ShortLines.{begins_by, no_number, seen_alone, seen_narrow, whole_narrow}
 use Rattle.h41_ram.specs.RegisterMap.{RegisterMap, is_sound}

@@ -11,16 +11,11 @@ use Rattle.h41_program.specs.declared.refusal.ProgramRefusal.TheVariants.{Broken
 use Rattle.h41_program.specs.Edits.{lines_of, answered, before_end, close_behind, close_outcome, closed, is_open, Closes}
 use Rattle.h41_program.specs.LastProgram.{open_before}
 use Rattle.h41_program.specs.Lines.{is_end}
-use Rattle.h41_program.specs.LoadSteps.{WritesClosed}
-use Rattle.h41_program.specs.Packers.{Packs}
+use Rattle.h41_program.specs.private.LoadSteps.{WritesClosed}
+use Rattle.h41_program.specs.private.Packers.{Packs}
 use Rattle.h41_program.specs.Rewriting.{written, HasOutcome}
 use Rattle.h41_program.proofs.Outcomes.{written_outcome}
-
-not_both : {A E : Type 0} (r : Result A E) (a : A) (e : E) → r ≡ Ok a → r ≡ Err e → ⊥
-not_both r a e ok err = cc
-
-same_error : {A E : Type 0} (r : Result A E) (e f : E) → r ≡ Err e → r ≡ Err f → e ≡ f
-same_error r e f one other = cc
+use Rattle.h41_program.proofs.Cases.{not_both, same_error}
 
 -- whether lines want an END
 pub open_test : (packer : Packer) (lines : List Line) (answer : Bool) → Packs packer lines → answer ≡ option_map_or (λ line. not (is_end line)) packer.last false → answer ≡ is_open lines

@@ -4,18 +4,21 @@ use Rattle.std.specs.Prelude.{◌&&◌, is_some, slice_get}
 use Rattle.std.specs.List.{flat_map}
 use Rattle.std.specs.Option.{option_map}
 use Rattle.std.proofs.lemmas.Bool.{true≢false}
-use Rattle.std.proofs.lemmas.Option.{slice_get-map}
+use Rattle.std.proofs.lemmas.Option.{none-some, same_Some, slice_get-map}
 use Rattle.h41_codes.specs.ByteLaws.{ByteRoundTrip, OneLine}
 use Rattle.h41_codes.specs.declared.line.Line.{Line}
 use Rattle.h41_codes.specs.declared.line.Line.TheVariants.{FinalEnd}
 use Rattle.h41_ram.specs.RegisterMap.{RegisterMap, is_sound}
+use Rattle.h41_program.specs.declared.editing.Change.TheVariants.{Put}
 use Rattle.h41_program.specs.declared.editing.Front.{Front}
+use Rattle.h41_program.specs.declared.editing.Placement.{Placement}
+use Rattle.h41_program.specs.declared.editing.Placement.TheVariants.{Before, Instead}
 use Rattle.h41_program.specs.declared.listed_line.ListedLine.{ListedLine}
 use Rattle.h41_program.specs.declared.reading.Found.{Found}
 use Rattle.h41_program.specs.declared.refusal.ProgramRefusal.{ProgramRefusal}
 use Rattle.h41_program.specs.declared.refusal.ProgramRefusal.TheVariants.{BrokenProgram}
-use Rattle.h41_program.specs.Edits.{Edits, LeavesChanged, Stands, StandsBefore, StandsNew, before_end, changed_outcome, count_before, edit_outcome, has_line_at, lines_of, position_in_front, position_behind, with_inserted, with_replaced}
-use Rattle.h41_program.specs.EditSteps.{Counts, listed_of}
+use Rattle.h41_program.specs.Edits.{AnswersChanged, Edits, LeavesChanged, Stands, StandsBefore, StandsNew, before_end, changed_outcome, count_before, edit_outcome, has_line_at, lines_of, position_in_front, position_behind}
+use Rattle.h41_program.specs.private.EditSteps.{Counts, changed, listed_of}
 use Rattle.h41_program.specs.ProgramLaws.{IsInner}
 use Rattle.h41_program.specs.ProgramBytes.{program_bytes, final_position}
 use Rattle.h41_program.specs.ProgramLines.{FirstFrom, LinesFrom}
@@ -25,6 +28,7 @@ use Rattle.h41_program.proofs.Determined.{first_determined, lists_determined}
 use Rattle.h41_program.proofs.Inner.{KeepsInner, inserted_inner, replaced_inner}
 use Rattle.h41_program.proofs.NewLines.{Begins, Keeps, get_first, inserted_begins, inserted_keeps, new_there, replaced_begins, replaced_keeps}
 use Rattle.h41_program.proofs.Outcomes.{edit_read}
+use Rattle.h41_program.proofs.Sound.{and_second}
 
 -- a change that was made had a line to be changed
 was_made : (b : Bool) (old new : RegisterMap) (lines : List Line) → HasOutcome old new (Ok tt) (changed_outcome b old lines) → b ≡ true
@@ -33,10 +37,6 @@ was_made false old new lines has = absurd (refused has.0)
   where
     refused : ◌≡◌ {A = Result (Unit {0}) ProgramRefusal} (Ok tt) (Err BrokenProgram) → ⊥
     refused same = cc
-
-and_right : (a b : Bool) → (a && b) ≡ true → b ≡ true
-and_right true b is = is
-and_right false b is = absurd (true≢false (sym is))
 
 pub record HadLine (old : RegisterMap) (at : ℕ) : Type 0 where
   pub first : ListedLine
@@ -56,7 +56,7 @@ edit_had old new change at edits = elim edits.1 [
         lines = edit.2.0;
         stands = edit.1;
         from = edit.2.1;
-        has = and_right (is_some (before_end edit.2.0)) (has_line_at edit.0.position edit.2.0) reached;
+        has = and_second (is_some (before_end edit.2.0)) (has_line_at edit.0.position edit.2.0) reached;
       }
   | inr none ↦
       let outcome : HasOutcome old new (Ok tt) (Err BrokenProgram) =
@@ -76,14 +76,8 @@ pub record HasNew (listed : List ListedLine) (count : ℕ) (line : Line) : Type 
   pub same : there.line ≡ line
 
 of_line : (listed : List ListedLine) (count : ℕ) (line : Line) (o : Option ListedLine) → slice_get listed count ≡ o → option_map (λ each. each.line) o ≡ Some line → HasNew listed count line
-of_line listed count line None is same = absurd (none_is_not_some same)
-  where
-    none_is_not_some : ◌≡◌ {A = Option Line} None (Some line) → ⊥
-    none_is_not_some same = cc
-of_line listed count line (Some there) is same = record { there = there; got = is; same = same_line same }
-  where
-    same_line : ◌≡◌ {A = Option Line} (Some there.line) (Some line) → there.line ≡ line
-    same_line same = cc
+of_line listed count line None is same = absurd (none-some line same)
+of_line listed count line (Some there) is same = record { there = there; got = is; same = same_Some there.line line same }
 
 -- a change that puts a line at a place and keeps the others
 pub record PutsAt (line : Line) (change : ℕ → ListedLine → List Line) : Type 0 where
@@ -91,15 +85,13 @@ pub record PutsAt (line : Line) (change : ℕ → ListedLine → List Line) : Ty
   pub keeps : (place : ℕ) → Keeps place (change place)
   pub inner : (place : ℕ) → KeepsInner (change place)
 
-pub inserted_puts : (line : Line) → IsInner line → PutsAt line (with_inserted line)
-inserted_puts line inner = record {
+pub put_there : (line : Line) (placement : Placement) → IsInner line → PutsAt line (changed (Put line placement))
+put_there line Before inner = record {
   begins = inserted_begins line;
   keeps = inserted_keeps line;
   inner = λ place. inserted_inner line place inner;
 }
-
-pub replaced_puts : (line : Line) → IsInner line → PutsAt line (with_replaced line)
-replaced_puts line inner = record {
+put_there line Instead inner = record {
   begins = replaced_begins line;
   keeps = replaced_keeps line;
   inner = λ place. replaced_inner line place inner;
@@ -109,9 +101,6 @@ replaced_puts line inner = record {
 pub record LeavesNew (old : RegisterMap) (change : ℕ → ListedLine → List Line) (at : ℕ) (new : RegisterMap) (count : ℕ) (line : Line) : Type 0 where
   pub leaves : LeavesChanged old change at new
   pub has : HasNew leaves.listed count line
-
-same_found : (found there : ListedLine) → ◌≡◌ {A = Option ListedLine} (Some found) (Some there) → found ≡ there
-same_found found there same = cc
 
 module _ (again : ByteRoundTrip) (one : OneLine) (old new : RegisterMap) (change : ℕ → ListedLine → List Line) (at count : ℕ) (line : Line) where
   pub leaves_new : is_sound old ≡ true → PutsAt line change → Edits old new change at (Ok tt) → Counts old at count → LeavesNew old change at new count line
@@ -143,37 +132,29 @@ module _ (again : ByteRoundTrip) (one : OneLine) (old new : RegisterMap) (change
   stands_there sound left found is =
       let there = left.has.there in
       let first = get_first (program_bytes new) (final_position new) 0 left.leaves.listed count there (left.leaves.read.sound sound) left.has.got in
-      subst (λ (l : ListedLine). Stands new line l.position) (sym (same_found found there (is ∙ left.has.got)))
+      subst (λ (l : ListedLine). Stands new line l.position) (sym (same_Some found there (is ∙ left.has.got)))
       (subst (λ (l : Line). Stands new l there.position) left.has.same first)
 
 -- a line that was found
 pub some_found : (o : Option Found) (listed : ListedLine) → listed_of o ≡ Some listed → is_some o ≡ true
-some_found None listed is = absurd (none_is_not_some is)
-  where
-    none_is_not_some : ◌≡◌ {A = Option ListedLine} None (Some listed) → ⊥
-    none_is_not_some same = cc
+some_found None listed is = absurd (none-some listed is)
 some_found (Some found) listed is = refl
 
 -- the answers
 module _ (old new : RegisterMap) (at count : ℕ) (counts : Counts old at count) (listed : List ListedLine) (read : LinesFrom new 0 listed) where
-  pub stands_new : (found : ListedLine) → Some found ≡ slice_get listed count → StandsNew old at new found.position
-  stands_new found is = record {
+  answers_changed : {A : Type 0} (answer : ℕ → List ListedLine → A) (result : A) → result ≡ answer count listed → AnswersChanged answer old at new result
+  answers_changed answer result is = record {
     first = counts.first;
     lines = counts.lines;
     listed = listed;
     stands = counts.stands;
     from = counts.from;
     read = read;
-    is = ap position_of is ∙ ap (λ (n : ℕ). position_behind n listed) counts.is;
+    is = is ∙ ap (λ (n : ℕ). answer n listed) counts.is;
   }
 
+  pub stands_new : (found : ListedLine) → Some found ≡ slice_get listed count → StandsNew old at new found.position
+  stands_new found is = answers_changed position_behind (Some found.position) (ap position_of is)
+
   pub stands_before : (result : Front) → result ≡ position_in_front count listed → StandsBefore old at new result
-  stands_before result is = record {
-    first = counts.first;
-    lines = counts.lines;
-    listed = listed;
-    stands = counts.stands;
-    from = counts.from;
-    read = read;
-    is = is ∙ ap (λ (n : ℕ). position_in_front n listed) counts.is;
-  }
+  stands_before result is = answers_changed position_in_front result is

@@ -7,19 +7,21 @@ use Rattle.std.proofs.lemmas.List.Folds.{list_any-append}
 use Rattle.h41_codes.specs.declared.line.Line.{Line}
 use Rattle.h41_ram.specs.RegisterMap.{RegisterMap}
 use Rattle.h41_program.specs.declared.editing.Change.{Change}
-use Rattle.h41_program.specs.declared.editing.Change.TheVariants.{Delete, Insert, Replace}
+use Rattle.h41_program.specs.declared.editing.Change.TheVariants.{Delete, Put}
+use Rattle.h41_program.specs.declared.editing.Placement.TheVariants.{Before, Instead}
 use Rattle.h41_program.specs.declared.listed_line.ListedLine.{ListedLine}
 use Rattle.h41_program.specs.declared.packer.Packer.{Packer}
 use Rattle.h41_program.specs.declared.refusal.ProgramRefusal.{ProgramRefusal}
 use Rattle.h41_program.specs.declared.refusal.ProgramRefusal.TheVariants.{BrokenProgram}
 use Rattle.h41_program.specs.Edits.{before_end, has_line_at, own_line, answered, changed_outcome, done, edit_outcome, Edits}
-use Rattle.h41_program.specs.EditSteps.{PacksChanged, Writes, changed, is_kept, new_part}
+use Rattle.h41_program.specs.private.EditSteps.{PacksChanged, Writes, changed, is_kept, new_part}
 use Rattle.h41_program.specs.Lines.{is_final_end}
-use Rattle.h41_program.specs.Packers.{Packs, line_if}
+use Rattle.h41_program.specs.private.Packers.{Packs, line_if}
 use Rattle.h41_program.specs.ProgramBytes.{final_position, program_bytes}
 use Rattle.h41_program.specs.ProgramLines.{AnswersFirst, FirstFrom, IsFirst, Reads, NoneFrom}
 use Rattle.h41_program.specs.Rewriting.{HasOutcome, written}
 use Rattle.h41_program.proofs.Walks.{UpTo, ends_none, ends_final, before_end-none, before_end-final}
+use Rattle.h41_program.proofs.Cases.{not_both}
 
 or_false : (b : Bool) → (b || false) ≡ b
 or_false true = refl
@@ -43,29 +45,29 @@ own_line-final listed final = rw final refl
 
 -- what a change makes of a line, where it is the one to be changed or not
 abbrev made : Change → Bool → ListedLine → List Line
-made (Insert line) here listed = (if here then line ∷ [] else []) ++ own_line listed
-made (Replace line) here listed = if here then line ∷ [] else own_line listed
+made (Put line Before) here listed = (if here then line ∷ [] else []) ++ own_line listed
+made (Put line Instead) here listed = if here then line ∷ [] else own_line listed
 made Delete here listed = if here then [] else own_line listed
 
 is_made : (change : Change) (place : ℕ) (listed : ListedLine) → changed change place listed ≡ made change (listed.position == place) listed
-is_made (Insert line) place listed = refl
-is_made (Replace line) place listed = refl
+is_made (Put line Before) place listed = refl
+is_made (Put line Instead) place listed = refl
 is_made Delete place listed = refl
 
 made_other : (change : Change) (here : Bool) (listed : ListedLine) → is_final_end listed.line ≡ false
     → new_part here change ++ line_if (is_kept here change) listed.line ≡ made change here listed
-made_other (Insert line) true listed other = ap (λ (l : List Line). line ∷ l) (sym (own_line-other listed other))
-made_other (Insert line) false listed other = sym (own_line-other listed other)
-made_other (Replace line) true listed other = refl
-made_other (Replace line) false listed other = sym (own_line-other listed other)
+made_other (Put line Before) true listed other = ap (λ (l : List Line). line ∷ l) (sym (own_line-other listed other))
+made_other (Put line Before) false listed other = sym (own_line-other listed other)
+made_other (Put line Instead) true listed other = refl
+made_other (Put line Instead) false listed other = sym (own_line-other listed other)
 made_other Delete true listed other = refl
 made_other Delete false listed other = sym (own_line-other listed other)
 
 made_final : (change : Change) (here : Bool) (listed : ListedLine) → is_final_end listed.line ≡ true → new_part here change ≡ made change here listed
-made_final (Insert line) true listed final = ap (λ (l : List Line). line ∷ l) (sym (own_line-final listed final))
-made_final (Insert line) false listed final = sym (own_line-final listed final)
-made_final (Replace line) true listed final = refl
-made_final (Replace line) false listed final = sym (own_line-final listed final)
+made_final (Put line Before) true listed final = ap (λ (l : List Line). line ∷ l) (sym (own_line-final listed final))
+made_final (Put line Before) false listed final = sym (own_line-final listed final)
+made_final (Put line Instead) true listed final = refl
+made_final (Put line Instead) false listed final = sym (own_line-final listed final)
 made_final Delete true listed final = refl
 made_final Delete false listed final = sym (own_line-final listed final)
 
@@ -125,16 +127,13 @@ changed_none bytes final at change place before lines upto none reads =
     rw end refl
 
 -- the changed lines are written
-wrong : {A E : Type 0} (r : Result A E) (a : A) (e : E) → r ≡ Ok a → r ≡ Err e → ⊥
-wrong r a e ok err = cc
-
 pub changed_written : (old new : RegisterMap) (change : ListedLine → List Line) (place : ℕ) (lines : List ListedLine) (result : Result Packer ProgramRefusal) (packer : Packer) (wrote : Result (Unit {0}) ProgramRefusal)
     (b : Bool) → MatchBool b (IsOkAnd result (λ held. Packs held (flat_map change lines))) (result ≡ Err BrokenProgram) → result ≡ Ok packer
     → ((all : List Line) → Packs packer all → HasOutcome old new wrote (answered tt (written old all)))
     → HasOutcome old new wrote (changed_outcome b old (flat_map change lines))
 changed_written old new change place lines result packer wrote true matches ok writes =
     writes (flat_map change lines) (subst (λ (r : Result Packer ProgramRefusal). IsOkAnd r (λ held. Packs held (flat_map change lines))) ok matches)
-changed_written old new change place lines result packer wrote false matches ok writes = absurd (wrong result packer BrokenProgram ok matches)
+changed_written old new change place lines result packer wrote false matches ok writes = absurd (not_both result packer BrokenProgram ok matches)
 
 pub changed_refused : (old : RegisterMap) (change : ListedLine → List Line) (lines : List ListedLine) (result : Result Packer ProgramRefusal) (refusal : ProgramRefusal)
     (b : Bool) → MatchBool b (IsOkAnd result (λ held. Packs held (flat_map change lines))) (result ≡ Err BrokenProgram) → result ≡ Err refusal

@@ -1,5 +1,5 @@
 -- What is found is determined, and is that of the list.
-use Rattle.std.proofs.Common.{◌≡◌, ℕ, true, false, List, [], ◌∷◌, sym, ◌∙◌, ap, subst, inl, inr, Ok, Err}
+use Rattle.std.proofs.Common.{◌≡◌, ℕ, Bool, true, false, List, [], ◌∷◌, sym, ◌∙◌, ap, subst, inl, inr, Ok, Err}
 use Rattle.std.specs.Prelude.{MatchBool}
 use Rattle.std.specs.Option.{option_or}
 use Rattle.std.proofs.lemmas.Bool.{cases_Bool}
@@ -8,11 +8,10 @@ use Rattle.h41_ram.specs.RegisterMap.{RegisterMap}
 use Rattle.h41_program.specs.declared.listed_line.ListedLine.{ListedLine}
 use Rattle.h41_program.specs.declared.refusal.ProgramRefusal.{ProgramRefusal}
 use Rattle.h41_program.specs.Lines.{is_final_end}
-use Rattle.h41_program.specs.Numbering.{up_to_end}
 use Rattle.h41_program.specs.ProgramBytes.{program_bytes, final_position}
 use Rattle.h41_program.specs.ProgramLines.{FirstFrom, LinesFrom, PositionBehind, PositionFrom, Reads, behind, line_of, next_of}
-use Rattle.h41_program.specs.SearchLaws.{AnswersAreDetermined, LocalIsDetermined, LineIsOfList, NextIsOfList, ProgramIsDetermined}
-use Rattle.h41_program.specs.Searches.{label_in, position_of, start_in}
+use Rattle.h41_program.specs.SearchLaws.{AnswersAreDetermined, LineIsDetermined, LineIsOfList, LocalIsDetermined, NextIsDetermined, NextIsOfList, ProgramIsDetermined}
+use Rattle.h41_program.specs.Searches.{label_in, position_of, start_in, up_to_end}
 use Rattle.h41_program.proofs.Determined.{first_determined, lists_determined}
 use Rattle.h41_program.proofs.Walks.{last_rest, more_rest, no_rest}
 
@@ -34,6 +33,44 @@ local one memory at n found other is again =
     let own = lists_determined one memory (start_in at again.lines) is.own again.own begin again.program in
     is.is ∙ ap (λ (l : List ListedLine). position_of (option_or (label_in n l) (label_in n is.own))) onward
     ∙ ap (λ (l : List ListedLine). position_of (option_or (label_in n again.onward) (label_in n l))) own ∙ sym again.is
+
+-- the line at a position is one
+pub one_line : OneLine → LineIsDetermined
+one_line one memory at (Ok first) (Ok other) is again =
+    ap (λ (line : ListedLine). Ok line) (first_determined one (program_bytes memory) (final_position memory) at first other is again)
+one_line one memory at (Ok first) (Err refusal) is none = absurd (none.1 first is)
+one_line one memory at (Err refusal) (Ok other) none is = absurd (none.1 other is)
+one_line one memory at (Err refusal) (Err other) none again = ap (λ (why : ProgramRefusal). Err why) (none.0 ∙ sym again.0)
+
+-- and so is the position of the next
+same_from : OneLine → (memory : RegisterMap) (at position other : ℕ) → PositionFrom memory at position → PositionFrom memory at other → position ≡ other
+same_from one memory at position other from again = elim from [
+  | inl first ↦ elim again [
+    | inl second ↦
+        let same = first_determined one (program_bytes memory) (final_position memory) at first.0 second.0 first.1 second.1 in
+        first.2 ∙ ap (λ (line : ListedLine). line.position) same ∙ sym second.2
+    | inr none ↦ absurd (none.0 first.0 first.1)
+  ]
+  | inr none ↦ elim again [
+    | inl second ↦ absurd (none.0 second.0 second.1)
+    | inr nothing ↦ none.1 ∙ sym nothing.1
+  ]
+]
+
+same_behind : OneLine → (last : Bool) (memory : RegisterMap) (first : ListedLine) (position other : ℕ)
+    → MatchBool last (position ≡ first.position) (PositionFrom memory (behind first) position)
+    → MatchBool last (other ≡ first.position) (PositionFrom memory (behind first) other) → position ≡ other
+same_behind one true memory first position other is again = is ∙ sym again
+same_behind one false memory first position other from again = same_from one memory (behind first) position other from again
+
+pub one_next : OneLine → NextIsDetermined
+one_next one memory at (Ok position) (Ok other) is again =
+    let same = first_determined one (program_bytes memory) (final_position memory) at is.0 again.0 is.1 again.1 in
+    let follows = subst (λ (line : ListedLine). PositionBehind memory line position) same is.2 in
+    ap (λ (n : ℕ). Ok n) (same_behind one (is_final_end again.0.line) memory again.0 position other follows again.2)
+one_next one memory at (Ok position) (Err refusal) is none = absurd (none.1 is.0 is.1)
+one_next one memory at (Err refusal) (Ok other) none is = absurd (none.1 is.0 is.1)
+one_next one memory at (Err refusal) (Err other) none again = ap (λ (why : ProgramRefusal). Err why) (none.0 ∙ sym again.0)
 
 -- the line at a position
 module _ (one : OneLine) (memory : RegisterMap) (at : ℕ) where

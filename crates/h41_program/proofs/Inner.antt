@@ -15,6 +15,8 @@ use Rattle.h41_program.specs.Lines.{is_end, is_final_end, is_inner}
 use Rattle.h41_program.specs.ProgramLaws.{IsInner}
 use Rattle.h41_program.specs.ProgramLines.{FirstFrom, Reads, behind}
 use Rattle.h41_program.proofs.Walks.{more_rest, last_rest}
+use Rattle.h41_program.proofs.Cases.{not_empty}
+use Rattle.std.proofs.lemmas.Option.{none-some, same_Some}
 
 -- a line by its kind
 inner_kind : (line : Line) → line ≢ Null → is_final_end line ≡ false → is_inner line ≡ true
@@ -33,20 +35,14 @@ not_final line is = refl
 pub read_inner : (bytes : List ℕ) (final at : ℕ) (first : ListedLine) → FirstFrom bytes final at first → is_final_end first.line ≡ false → IsInner first.line
 read_inner bytes final at first is other = record { valid = is.begins.spells.valid; inner = inner_kind first.line is.not_null other }
 
-none_is_not_some : (before : List ListedLine) → ◌≡◌ {A = Option (List ListedLine)} None (Some before) → ⊥
-none_is_not_some before same = cc
-
-same_some : (one other : List ListedLine) → ◌≡◌ {A = Option (List ListedLine)} (Some one) (Some other) → one ≡ other
-same_some one other same = cc
-
 -- the lines before .END.
 module _ (bytes : List ℕ) (final : ℕ) where
   pub before_inner : (at : ℕ) (lines before : List ListedLine) → Reads bytes final at lines → before_end lines ≡ Some before → All IsInner (lines_of before)
-  before_inner at [] before reads own = absurd (none_is_not_some before own)
+  before_inner at [] before reads own = absurd (none-some before own)
   before_inner at (first ∷ rest) before reads own = elim (cases_Bool (is_final_end first.line)) [
     | inl last ↦
         let none : before_end (first ∷ rest) ≡ Some [] = rw last refl in
-        subst (λ (l : List ListedLine). All IsInner (lines_of l)) (same_some [] before (sym none ∙ own)) (All-nil IsInner)
+        subst (λ (l : List ListedLine). All IsInner (lines_of l)) (same_Some [] before (sym none ∙ own)) (All-nil IsInner)
     | inr other ↦
         let more : before_end (first ∷ rest) ≡ option_map (λ lines. first ∷ lines) (before_end rest) = rw other refl in
         by_rest (before_end rest) first before (read_inner bytes final at first reads.0 other)
@@ -55,9 +51,9 @@ module _ (bytes : List ℕ) (final : ℕ) where
     where
       by_rest : (o : Option (List ListedLine)) (first : ListedLine) (before : List ListedLine) → IsInner first.line
           → ((found : List ListedLine) → o ≡ Some found → All IsInner (lines_of found)) → option_map (λ lines. first ∷ lines) o ≡ Some before → All IsInner (lines_of before)
-      by_rest None first before inner each own = absurd (none_is_not_some before own)
+      by_rest None first before inner each own = absurd (none-some before own)
       by_rest (Some found) first before inner each own =
-          subst (λ (l : List ListedLine). All IsInner (lines_of l)) (same_some (first ∷ found) before own)
+          subst (λ (l : List ListedLine). All IsInner (lines_of l)) (same_Some (first ∷ found) before own)
           (All-cons IsInner first.line (lines_of found) inner (each found refl))
 
   -- lines that are loaded
@@ -77,9 +73,6 @@ module _ (bytes : List ℕ) (final : ℕ) where
         All-cons IsInner first.line (without_end (lines_of (second ∷ rest))) (read_inner bytes final at first reads.0 other)
         (loaded_inner (behind first) (second ∷ rest) (more_rest bytes final (behind first) (is_final_end first.line) (second ∷ rest) other reads.1))
   ]
-    where
-      not_empty : (first : ListedLine) (rest : List ListedLine) → ◌≡◌ {A = List ListedLine} (first ∷ rest) [] → ⊥
-      not_empty first rest same = cc
 
 -- an END is inner
 end_inner : IsInner (End 0 0)

@@ -1,5 +1,6 @@
 pub mod Addresses
 pub mod ByteLines
+pub mod Cases
 pub mod ClosedRead
 pub mod Closings
 pub mod Depends

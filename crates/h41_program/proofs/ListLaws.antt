@@ -7,6 +7,7 @@ use Rattle.h41_program.specs.Lines.{is_final_end}
 use Rattle.h41_program.specs.ProgramBytes.{program_bytes, final_position}
 use Rattle.h41_program.specs.ProgramLaws.{GoesOnFromNext, StandsForItsLine}
 use Rattle.h41_program.specs.ProgramLines.{FirstFrom, Reads, behind}
+use Rattle.h41_program.proofs.Cases.{not_empty}
 
 -- a first line is the first from its own position on
 own_first : (bytes : List ℕ) (final at : ℕ) (first : ListedLine) → FirstFrom bytes final at first → FirstFrom bytes final first.position first
@@ -19,9 +20,6 @@ own_first bytes final at first is = record {
 
 pub own_reads : (bytes : List ℕ) (final at : ℕ) (first : ListedLine) (rest : List ListedLine) → Reads bytes final at (first ∷ rest) → Reads bytes final first.position (first ∷ rest)
 own_reads bytes final at first rest reads = (own_first bytes final at first reads.0, reads.1)
-
-not_empty : (first : ListedLine) (rest : List ListedLine) → ◌≡◌ {A = List ListedLine} (first ∷ rest) [] → ⊥
-not_empty first rest same = cc
 
 rest_reads : (bytes : List ℕ) (final at : ℕ) (first second : ListedLine) (rest : List ListedLine) → Reads bytes final at (first ∷ second ∷ rest) → Reads bytes final (behind first) (second ∷ rest)
 rest_reads bytes final at first second rest reads = elim (cases_Bool (is_final_end first.line)) [

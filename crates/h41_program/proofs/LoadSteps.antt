@@ -9,21 +9,13 @@ use Rattle.h41_program.specs.declared.packer.Packer.{Packer}
 use Rattle.h41_program.specs.declared.refusal.ProgramRefusal.{ProgramRefusal}
 use Rattle.h41_program.specs.declared.refusal.ProgramRefusal.TheVariants.{BrokenProgram, NoRoom}
 use Rattle.h41_program.specs.Edits.{lines_of, closed, answered, load_outcome, loaded_of, LoadsBehind}
-use Rattle.h41_program.specs.Packers.{Packs}
+use Rattle.h41_program.specs.private.Packers.{Packs}
 use Rattle.h41_program.specs.Packing.{packed, packing}
 use Rattle.h41_program.specs.ProgramLines.{Reads}
 use Rattle.h41_program.specs.Rewriting.{written, HasOutcome}
 use Rattle.h41_program.proofs.Packings.{packed-less, length-packing, no_room}
 use Rattle.h41_program.proofs.Rooms.{written-none}
-
-not_both : {A E : Type 0} (r : Result A E) (a : A) (e : E) → r ≡ Ok a → r ≡ Err e → ⊥
-not_both r a e ok err = cc
-
-same_error : {A E : Type 0} (r : Result A E) (e f : E) → r ≡ Err e → r ≡ Err f → e ≡ f
-same_error r e f one other = cc
-
-same_value : {A E : Type 0} (r : Result A E) (a b : A) → r ≡ Ok a → r ≡ Ok b → a ≡ b
-same_value r a b one other = cc
+use Rattle.h41_program.proofs.Cases.{not_both, same_error}
 
 -- an answer in the place of another
 gives_ok : {A : Type 0} (old new : RegisterMap) (result : Result (Unit {0}) ProgramRefusal) (answer : A) (outcome : Result RegisterMap ProgramRefusal) → result ≡ Ok tt

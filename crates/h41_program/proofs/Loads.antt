@@ -5,15 +5,15 @@ use Rattle.std.specs.List.{list_all}
 use Rattle.h41_program.specs.declared.given.Taken.{Taken}
 use Rattle.h41_program.specs.declared.refusal.ProgramRefusal.{ProgramRefusal}
 use Rattle.h41_program.specs.declared.refusal.ProgramRefusal.TheVariants.{BrokenProgram}
-use Rattle.h41_program.specs.Reading.{BytesHaveFirst}
+use Rattle.h41_program.specs.private.Reading.{BytesHaveFirst}
 use Rattle.h41_codes.specs.ByteGrammar.{IsLine}
 use Rattle.h41_codes.specs.declared.line.Line.{Line}
 use Rattle.h41_program.specs.declared.listed_line.ListedLine.{ListedLine}
 use Rattle.h41_program.specs.declared.packer.Packer.{Packer}
 use Rattle.h41_program.specs.Edits.{lines_of, before_end, end_of_lines, without_end, loaded_of}
 use Rattle.h41_program.specs.Lines.{is_end, is_final_end}
-use Rattle.h41_program.specs.LoadSteps.{listed_option, kept_option}
-use Rattle.h41_program.specs.Packers.{Packs}
+use Rattle.h41_program.specs.private.LoadSteps.{listed_option, kept_option}
+use Rattle.h41_program.specs.private.Packers.{Packs}
 use Rattle.h41_program.specs.Packing.{last_line}
 use Rattle.h41_program.specs.ProgramLines.{behind}
 use Rattle.h41_program.proofs.Packings.{last_line-more}

@@ -1,5 +1,5 @@
 -- The new line of a changed list: as many lines stand before it as stood before its place.
-use Rattle.std.proofs.Common.{◌≡◌, ℕ, zero, suc, ◌<◌, ◌≤◌, Bool, true, false, List, [], ◌∷◌, ◌++◌, refl, sym, ◌∙◌, ap, subst, arith, inl, inr, Option, Some, None}
+use Rattle.std.proofs.Common.{◌≡◌, ℕ, zero, suc, ◌<◌, ◌≤◌, Bool, true, false, List, [], ◌∷◌, ◌++◌, refl, sym, ◌∙◌, ap, subst, arith, inl, inr, Some}
 use Rattle.std.specs.Prelude.{◌==◌, ◌||◌, slice_get}
 use Rattle.std.specs.List.{flat_map}
 use Rattle.std.proofs.lemmas.Bool.{cases_Bool, true≢false}
@@ -12,6 +12,7 @@ use Rattle.h41_program.specs.ProgramLines.{FirstFrom, Reads, behind}
 use Rattle.h41_program.proofs.EditPlaces.{count_cons, none_before}
 use Rattle.h41_program.proofs.ListLaws.{own_reads}
 use Rattle.h41_program.proofs.Walks.{last_rest, more_rest}
+use Rattle.std.proofs.lemmas.Option.{none-some, same_Some}
 
 same_of : (a b : ℕ) → (a == b) ≡ true → a ≡ b
 same_of a b is = grind (arith, nat_tests)
@@ -37,12 +38,6 @@ replaced_begins line place listed here = ([], rw here refl)
 
 pub replaced_keeps : (line : Line) (place : ℕ) → Keeps place (with_replaced line place)
 replaced_keeps line place listed other running = rw (other, running) refl
-
-nothing : (found : ListedLine) → ◌≡◌ {A = Option ListedLine} None (Some found) → ⊥
-nothing found same = cc
-
-same_line : (first found : ListedLine) → ◌≡◌ {A = Option ListedLine} (Some first) (Some found) → first ≡ found
-same_line first found same = cc
 
 module _ (bytes : List ℕ) (final place : ℕ) where
   in_rest : (first : ListedLine) (rest : List ListedLine) → has_line_at place (first ∷ rest) ≡ true → (first.position == place) ≡ false → has_line_at place rest ≡ true
@@ -92,12 +87,12 @@ module _ (bytes : List ℕ) (final place : ℕ) where
 module _ (bytes : List ℕ) (final : ℕ) where
   pub get_first : (at : ℕ) (lines : List ListedLine) (count : ℕ) (found : ListedLine) → Reads bytes final at lines → slice_get lines count ≡ Some found
       → FirstFrom bytes final found.position found
-  get_first at [] count found reads is = absurd (nothing found is)
+  get_first at [] count found reads is = absurd (none-some found is)
   get_first at (first ∷ rest) zero found reads is =
-      subst (λ (l : ListedLine). FirstFrom bytes final l.position l) (same_line first found is) (own_reads bytes final at first rest reads).0
+      subst (λ (l : ListedLine). FirstFrom bytes final l.position l) (same_Some first found is) (own_reads bytes final at first rest reads).0
   get_first at (first ∷ rest) (suc count) found reads is = elim (cases_Bool (is_final_end first.line)) [
     | inl last ↦
         let none = last_rest bytes final (behind first) (is_final_end first.line) rest last reads.1 in
-        absurd (nothing found (sym (ap (λ (l : List ListedLine). slice_get l count) none) ∙ is))
+        absurd (none-some found (sym (ap (λ (l : List ListedLine). slice_get l count) none) ∙ is))
     | inr running ↦ get_first (behind first) rest count found (more_rest bytes final (behind first) (is_final_end first.line) rest running reads.1) is
   ]

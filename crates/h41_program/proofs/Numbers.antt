@@ -8,11 +8,11 @@ use Rattle.h41_codes.specs.ByteLaws.{OneLine}
 use Rattle.h41_ram.specs.RegisterMap.{RegisterMap}
 use Rattle.h41_program.specs.declared.listed_line.ListedLine.{ListedLine}
 use Rattle.h41_program.specs.Lines.{is_end, is_final_end}
-use Rattle.h41_program.specs.Numbering.{AnswersProgram, end_in, number_in, numbered_in, up_to_end}
+use Rattle.h41_program.specs.Numbering.{number_in, numbered_in}
 use Rattle.h41_program.specs.ProgramLaws.{OneList}
 use Rattle.h41_program.specs.ProgramLines.{AnswersOf, LinesFrom}
-use Rattle.h41_program.specs.Reading.{AnswersFrom}
-use Rattle.h41_program.specs.Searches.{start_in}
+use Rattle.h41_program.specs.private.Reading.{AnswersFrom}
+use Rattle.h41_program.specs.Searches.{AnswersProgram, end_in, start_in, up_to_end}
 
 pub same_test : (a b : ℕ) → a ≡ b → (a == b) ≡ true
 same_test a b same = grind (arith, nat_tests)

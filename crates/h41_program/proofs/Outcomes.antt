@@ -18,6 +18,7 @@ use Rattle.h41_program.specs.ProgramLines.{FirstFrom, LinesFrom, Reads}
 use Rattle.h41_program.specs.Rewriting.{written, HasOutcome}
 use Rattle.h41_program.proofs.Inner.{KeepsInner, before_inner, changed_inner, closed_inner, loaded_inner}
 use Rattle.h41_program.proofs.Written.{written_behind, written_read, written_sound}
+use Rattle.std.proofs.lemmas.Option.{none-some, same_Some}
 
 -- an outcome is sound where the memory that was written is
 refused_sound : {A : Type 0} (old new : RegisterMap) (result : Result A ProgramRefusal) (refusal : ProgramRefusal) → is_sound old ≡ true
@@ -83,15 +84,9 @@ was_written new start answer (Ok memory) same = let both = pair_of new memory st
 was_written new start answer (Err refusal) same = absurd (refused_is_not_done new start refusal same)
 
 -- lines that bytes have to be loaded are inner
-none_is_not_some : (loaded : List Line) → ◌≡◌ {A = Option (List Line)} None (Some loaded) → ⊥
-none_is_not_some loaded same = cc
-
-same_some : (one other : List Line) → ◌≡◌ {A = Option (List Line)} (Some one) (Some other) → one ≡ other
-same_some one other same = cc
-
 tested : (b : Bool) (lines loaded : List Line) → (if b then Some lines else None) ≡ Some loaded → lines ≡ loaded
-tested true lines loaded same = same_some lines loaded same
-tested false lines loaded same = absurd (none_is_not_some loaded same)
+tested true lines loaded same = same_Some lines loaded same
+tested false lines loaded same = absurd (none-some loaded same)
 
 inner_of : (bytes : List ℕ) (given : List ListedLine) (loaded : List Line) → Reads bytes (length bytes) 0 given → loaded_of bytes given ≡ Some loaded → All IsInner loaded
 inner_of bytes given loaded reads taken =

@@ -7,7 +7,7 @@ use Rattle.h41_codes.specs.declared.line.Line.{Line}
 use Rattle.h41_program.specs.declared.packer.Packer.{Packer}
 use Rattle.h41_program.specs.Lines.{is_number}
 use Rattle.h41_program.specs.Packing.{last_line, gap, packed, filler, written_end, packing}
-use Rattle.h41_program.specs.Packers.{Packs, Pushes, parting}
+use Rattle.h41_program.specs.private.Packers.{Packs, Pushes, parting}
 
 pub last_line-more : (lines : List Line) (line : Line) → last_line (lines ++ line ∷ []) ≡ Some line
 last_line-more [] line = refl

@@ -18,12 +18,7 @@ use Rattle.h41_program.proofs.Addresses.{c_long, c_there, length-three_places, s
 use Rattle.h41_program.proofs.Rewritten.{main_at}
 use Rattle.h41_program.proofs.Sound.{bounds, constant, ends}
 use Rattle.h41_program.proofs.Walks.{from_reads}
-
-below_test : (a b : ℕ) → a < b → nat_lt a b ≡ true
-below_test a b below = grind (arith, nat_tests)
-
-above_test : (a b : ℕ) → b ≤ a → nat_lt a b ≡ false
-above_test a b above = grind (arith, nat_tests)
+use Rattle.h41_program.proofs.Cases.{above_test, below_test}
 
 holds : (a b : ℕ) → nat_lt a b ≡ true → a < b
 holds a b test = grind (arith, nat_tests)
@@ -129,6 +124,12 @@ same_memory : (one other : RegisterMap) → ◌≡◌ {A = Result (RegisterMap �
 same_memory one other same =
     let pair : ◌≡◌ {A = RegisterMap × Unit {0}} (other, tt) (one, tt) = cc in
     ap (λ (p : RegisterMap × Unit {0}). p.0) pair
+
+pub fits_outcome : (memory after : RegisterMap) (size : ℕ) → Fits memory size after → HasOutcome {A = Unit {0}} memory after (Ok tt) (size_outcome memory size)
+fits_outcome memory after size fits =
+    let done : size_outcome memory size ≡ Ok (resized memory size, tt) =
+    rw (below_test size (length memory.main) fits.small, above_test (moved_curtain memory size + end_of memory) (main_start + curtain_of memory) fits.room) refl in
+    subst (λ (o : Result (RegisterMap × Unit {0}) ProgramRefusal). HasOutcome {A = Unit {0}} memory after (Ok tt) o) (sym done) (refl, fits.same)
 
 pub size_fits : (memory after : RegisterMap) (size : ℕ) → size_outcome memory size ≡ Ok (after, tt) → Fits memory size after
 size_fits memory after size done = elim (cases_Bool (nat_lt size (length memory.main))) [

@@ -1,7 +1,6 @@
 -- Memory whose program was written anew: its addresses, its bytes, and that it is sound.
 use Rattle.std.proofs.Common.{◌≡◌, ℕ, zero, suc, ◌+◌, ◌-◌, ◌*◌, ◌/◌, ◌%◌, ◌<◌, ◌≤◌, true, false, List, length, get_or, get_or-set_same, refl, sym, ◌∙◌, ap, arith}
 use Rattle.std.specs.Prelude.{nat_lt}
-use Rattle.std.proofs.lemmas.Bool.Decides.{nat_tests}
 use Rattle.std.proofs.lemmas.List.{ext_get_or}
 use Rattle.std.proofs.lemmas.List.FromFn.{get_or-map-range_with_len, length-map-range_with_len}
 use Rattle.h41_digits.specs.Register.{byte_at}
@@ -10,12 +9,7 @@ use Rattle.h41_program.specs.ProgramBytes.{byte_count, program_byte, program_byt
 use Rattle.h41_program.specs.Rewriting.{end_after, program_register, rewritten, rewritten_register}
 use Rattle.h41_program.proofs.Addresses.{c_long, c_there, sound_by, three_above, three_again}
 use Rattle.h41_program.proofs.Sound.{bounds, constant}
-
-below_test : (a b : ℕ) → a < b → nat_lt a b ≡ true
-below_test a b below = grind (arith, nat_tests)
-
-above_test : (a b : ℕ) → b ≤ a → nat_lt a b ≡ false
-above_test a b above = grind (arith, nat_tests)
+use Rattle.h41_program.proofs.Cases.{above_test, below_test}
 
 -- a byte is its two digits
 halves : (byte : ℕ) → byte / 16 * 16 + byte % 16 ≡ byte

@@ -8,7 +8,7 @@ use Rattle.h41_ram.specs.RegisterMap.{RegisterMap, main_start, curtain_of}
 use Rattle.h41_program.specs.declared.packer.Packer.{Packer}
 use Rattle.h41_program.specs.declared.refusal.ProgramRefusal.TheVariants.{NoRoom}
 use Rattle.h41_program.specs.Packing.{packed, filler, packing, written_end}
-use Rattle.h41_program.specs.Packers.{Packs}
+use Rattle.h41_program.specs.private.Packers.{Packs}
 use Rattle.h41_program.specs.Rewriting.{written, rewritten}
 use Rattle.h41_program.proofs.Packings.{length-packing}
 

@@ -16,7 +16,7 @@ use Rattle.h41_program.specs.declared.listed_line.ListedLine.{ListedLine}
 use Rattle.h41_program.specs.Edits.{lines_of}
 use Rattle.h41_program.specs.Lines.{is_number}
 use Rattle.h41_program.specs.Packing.{gap, last_line, packed, filler, packing, written_end}
-use Rattle.h41_program.specs.Packers.{parting}
+use Rattle.h41_program.specs.private.Packers.{parting}
 use Rattle.h41_program.specs.ProgramLaws.{IsInner, PackingRoundTrip}
 use Rattle.h41_program.specs.ProgramLines.{line_bytes, FirstFrom, Reads, behind}
 use Rattle.h41_program.proofs.FirstLines.{line_bytes-below, line_bytes-at}

@@ -11,6 +11,7 @@ use Rattle.h41_program.specs.declared.listed_line.ListedLine.{ListedLine}
 use Rattle.h41_program.specs.Lines.{is_end, is_final_end, is_label, is_named}
 use Rattle.h41_program.specs.ProgramLines.{behind}
 use Rattle.h41_program.specs.Searches.{start_in, label_in, named_in, position_of}
+use Rattle.std.proofs.lemmas.Option.{none-some}
 
 -- .END. is no END and no label
 final_no_end : (line : Line) → is_final_end line ≡ true → is_end line ≡ false
@@ -80,15 +81,12 @@ module _ (n : ℕ) (listed : ListedLine) (rest : List ListedLine) where
 pub label_in-final : (n : ℕ) (listed : ListedLine) → is_final_end listed.line ≡ true → label_in n (listed ∷ []) ≡ None
 label_in-final n listed final = label_in-other n listed [] (final_no_end listed.line final) (final_no_label n listed.line final)
 
-some_is_not_none : (n : ℕ) → ◌≡◌ {A = Option ℕ} (Some n) None → ⊥
-some_is_not_none n same = cc
-
 -- a search that found a line needs no other
 pub some_or : (first second : Option ListedLine) (position : ℕ) → position_of first ≡ Some position → Some position ≡ position_of (option_or first second)
-some_or None second position found = absurd (some_is_not_none position (sym found))
+some_or None second position found = absurd (none-some position found)
 some_or (Some listed) second position found = sym found
 
 -- a search that found nothing gives way to another
 pub none_or : (first second : Option ListedLine) (result : Option ℕ) → position_of first ≡ None → result ≡ position_of second → result ≡ position_of (option_or first second)
 none_or None second result none same = same
-none_or (Some listed) second result none same = absurd (some_is_not_none listed.position none)
+none_or (Some listed) second result none same = absurd (none-some listed.position (sym none))

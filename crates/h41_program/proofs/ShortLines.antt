@@ -11,7 +11,7 @@ use Rattle.h41_codes.specs.declared.line.Line.{Line}
 use Rattle.h41_codes.specs.declared.line.Line.TheVariants.{Number}
 use Rattle.h41_program.proofs.Windows.{begins_least}
 use Rattle.h41_program.specs.ProgramBytes.{program_byte}
-use Rattle.h41_program.specs.Reading.{BeginsNoNumber, bytes_seen}
+use Rattle.h41_program.specs.private.Reading.{BeginsNoNumber, bytes_seen}
 use Rattle.h41_ram.specs.RegisterMap.{RegisterMap}
 
 whole_alone : (numbers : NumberBegins) (line : Line) (byte : ℕ) (rest : List ℕ) → IsLine line → byte ∷ [] ≡ spelling line → BeginsNoNumber byte

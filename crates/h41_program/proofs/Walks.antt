@@ -92,6 +92,14 @@ up_to_more bytes final from at next before listed upto is other = record {
       ∙ one_more before listed (before_end rest);
 }
 
+-- the whole list, by the line that comes next
+pub goes_on : (bytes : List ℕ) (final from at next : ℕ) (before lines : List ListedLine) (listed : ListedLine) → UpTo bytes final from before at
+    → IsFirst bytes final at listed next → Reads bytes final from lines → (rest : List ListedLine) × (lines ≡ before ++ listed ∷ rest)
+goes_on bytes final from at next before lines listed upto is reads =
+    let parts = upto.split lines reads in
+    let rest = first_rest bytes final at next listed parts.0 is parts.2 in
+    (rest.0, parts.1 ∙ ap (λ (l : List ListedLine). before ++ l) rest.1)
+
 -- the whole list, at its end
 pub ends_none : (bytes : List ℕ) (final from at : ℕ) (before lines : List ListedLine) → UpTo bytes final from before at → NoneFrom bytes final at
     → Reads bytes final from lines → lines ≡ before

@@ -4,9 +4,8 @@ use Rattle.h41_ram.specs.RegisterMap.{RegisterMap, register_at, c_of, curtain_of
 use Rattle.h41_program.specs.declared.listed_line.ListedLine.{ListedLine}
 use Rattle.h41_program.specs.declared.reading.Found.{Found}
 use Rattle.h41_program.specs.declared.refusal.ProgramRefusal.{ProgramRefusal}
-use Rattle.h41_program.specs.Numbering.{AnswersProgram}
 use Rattle.h41_program.specs.ProgramLines.{AnswersFirst, AnswersNext, AnswersOf, HasFirst, HasNoLine, LinesFrom}
-use Rattle.h41_program.specs.Searches.{AnswersLocal}
+use Rattle.h41_program.specs.Searches.{AnswersLocal, AnswersProgram}
 
 -- two memories of one size agree in register c, and from the register of .END. to below the curtain
 pub record AgreeOnProgram (memory other : RegisterMap) : Type 0 where

@@ -3,9 +3,8 @@ use Rattle.std.specs.Prelude.{◌≡◌, ℕ, IsTrue, List, Option, Result}
 use Rattle.h41_ram.specs.RegisterMap.{RegisterMap, is_sound}
 use Rattle.h41_program.specs.declared.listed_line.ListedLine.{ListedLine}
 use Rattle.h41_program.specs.declared.refusal.ProgramRefusal.{ProgramRefusal}
-use Rattle.h41_program.specs.Numbering.{AnswersProgram}
 use Rattle.h41_program.specs.ProgramLines.{AnswersFirst, AnswersNext, AnswersOf, LinesFrom, line_of, next_of}
-use Rattle.h41_program.specs.Searches.{AnswersLocal}
+use Rattle.h41_program.specs.Searches.{AnswersLocal, AnswersProgram}
 
 -- an answer by the list, of any type, is determined: where programs begin and names stand, whether the last program is open
 abbrev pub AnswersAreDetermined : Type 0 → Type 0
@@ -24,6 +23,17 @@ abbrev pub LocalIsDetermined : Type 0
 LocalIsDetermined =
     (memory : RegisterMap) (at n : ℕ) (found other : Option ℕ) → AnswersLocal memory at n found → AnswersLocal memory at n other
     → found ≡ other
+
+-- the line that a position stands for is determined, and so is the position of the next
+abbrev pub LineIsDetermined : Type 0
+LineIsDetermined =
+    (memory : RegisterMap) (at : ℕ) (result other : Result ListedLine ProgramRefusal)
+    → AnswersFirst memory at result → AnswersFirst memory at other → result ≡ other
+
+abbrev pub NextIsDetermined : Type 0
+NextIsDetermined =
+    (memory : RegisterMap) (at : ℕ) (result other : Result ℕ ProgramRefusal)
+    → AnswersNext memory at result → AnswersNext memory at other → result ≡ other
 
 -- the line at a position is the first of the list from there on, and the next position that of its second
 abbrev pub LineIsOfList : Type 0

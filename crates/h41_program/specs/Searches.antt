@@ -1,10 +1,10 @@
--- Where programs begin and labels stand, as filters of the list of lines.
-use Rattle.std.specs.Prelude.{◌≡◌, ℕ, not, ◌&&◌, List, find, reverse, nat_lt, Option}
+-- Where programs begin and end, and labels stand, as filters of the list of lines.
+use Rattle.std.specs.Prelude.{◌≡◌, ℕ, not, ◌&&◌, ◌||◌, List, [], ◌∷◌, find, reverse, nat_lt, if◌then◌else◌, Option}
 use Rattle.std.specs.List.{take_while}
 use Rattle.std.specs.Option.{option_map, option_map_or, option_or}
 use Rattle.h41_ram.specs.RegisterMap.{RegisterMap}
 use Rattle.h41_program.specs.declared.listed_line.ListedLine.{ListedLine}
-use Rattle.h41_program.specs.Lines.{is_end, is_label, is_named}
+use Rattle.h41_program.specs.Lines.{is_end, is_final_end, is_label, is_named}
 use Rattle.h41_program.specs.ProgramLines.{LinesFrom, behind}
 
 -- the last END before a position
@@ -14,6 +14,11 @@ end_before at lines = find (λ listed. is_end listed.line && nat_lt listed.posit
 -- where the program of a position begins: behind that END, or at 0
 abbrev pub start_in : ℕ → List ListedLine → ℕ
 start_in at lines = option_map_or behind (end_before at lines) 0
+
+-- the lines of a list up to the first END and with it
+abbrev pub up_to_end : List ListedLine → List ListedLine
+up_to_end [] = []
+up_to_end (first ∷ rest) = if is_end first.line then first ∷ [] else first ∷ up_to_end rest
 
 -- the first LBL n of lines, up to their END
 abbrev pub label_in : ℕ → List ListedLine → Option ListedLine
@@ -25,6 +30,18 @@ named_in name lines = find (λ listed. is_named name listed.line) (reverse lines
 
 abbrev pub position_of : Option ListedLine → Option ℕ
 position_of found = option_map (λ listed. listed.position) found
+
+-- where the first of lines stands that is an END or .END.
+abbrev pub end_in : List ListedLine → Option ℕ
+end_in lines = position_of (find (λ listed. is_end listed.line || is_final_end listed.line) lines)
+
+-- an answer on the program of a position: it is that of the lines from the program's start to its END
+pub record AnswersProgram {A : Type 0} (answer : List ListedLine → A) (memory : RegisterMap) (at : ℕ) (result : A) : Type 0 where
+  pub lines : List ListedLine
+  pub own : List ListedLine
+  pub all : LinesFrom memory 0 lines
+  pub program : LinesFrom memory (start_in at lines) own
+  pub is : result ≡ answer (up_to_end own)
 
 -- where LBL n stands that a position finds: the first from there to the END, else the first of its program
 pub record AnswersLocal (memory : RegisterMap) (at n : ℕ) (result : Option ℕ) : Type 0 where

@@ -1,5 +1,7 @@
 -- Memory with another number of data registers: the curtain moves, and with it the program and the statistics registers.
 use Rattle.std.specs.Prelude.{ℕ, ◌+◌, ◌-◌, ◌%◌, List, map, length, slice_set, nat_lt, if◌then◌else◌, Result, Ok, Err}
+use Rattle.std.specs.Option.{unwrap_or}
+use Rattle.h41_ram.specs.NamedRegisters.{data_of}
 use Rattle.h41_ram.specs.RegisterMap.{RegisterMap, main_start, top_of, c_address, zeros, register_at, c_of, curtain_of, end_of, three_digits, with_three_places}
 use Rattle.h41_program.specs.declared.refusal.ProgramRefusal.{ProgramRefusal}
 use Rattle.h41_program.specs.declared.refusal.ProgramRefusal.TheVariants.{NoRoom, SizeTooLarge}
@@ -20,16 +22,12 @@ moved_end memory size = moved_curtain memory size + end_of memory - curtain_of m
 abbrev pub moved_statistics : RegisterMap → ℕ → ℕ
 moved_statistics memory size = (statistics_of memory + moved_curtain memory size + 4096 - curtain_of memory) % 4096
 
--- data register n, which is zero where there was none
-abbrev pub data_register : RegisterMap → ℕ → List ℕ
-data_register memory n = if nat_lt (curtain_of memory + n) (top_of memory) then register_at memory (curtain_of memory + n) else zeros
-
--- the register at an address: below the new end, of the program that moved, of the data
+-- the register at an address: below the new end, of the program that moved, of the data, which are zero where there were none
 abbrev pub resized_register : RegisterMap → ℕ → ℕ → List ℕ
 resized_register memory size address =
     if nat_lt address (moved_end memory size) then free_register memory address
     else if nat_lt address (moved_curtain memory size) then register_at memory (address + end_of memory - moved_end memory size)
-    else data_register memory (address - moved_curtain memory size)
+    else unwrap_or (data_of memory (address - moved_curtain memory size)) zeros
 
 -- register c: the three addresses
 abbrev pub resized_c : RegisterMap → ℕ → List ℕ

@@ -1,15 +1,15 @@
 //! Lines inserted, replaced and deleted.
-ghost use Rattle.std.specs.Prelude.{◌≡◌, ◌||◌, if◌then◌else◌, slice_get, IsTrue, IfOk, IfSome, OnOk, Ok, Err};
+ghost use Rattle.std.specs.Prelude.{◌≡◌, ◌||◌, slice_get, IsTrue, IfOk, IfSome, OnOk};
 ghost use Rattle.h41_codes.specs.ByteGrammar.{IsLine};
 ghost use Rattle.h41_ram.specs.RegisterMap.{is_sound};
 ghost use Rattle.h41_program.specs.Edits.{Edits, LeavesChanged, Stands, StandsBefore, StandsNew, count_before, done, front_behind, position_in_front, with_inserted, with_replaced, without_deleted};
-ghost use Rattle.h41_program.specs.EditSteps.{Counts, IsChange, PacksChanged, changed, listed_of, new_part};
-ghost use Rattle.h41_program.specs.EditSteps as spec;
+ghost use Rattle.h41_program.specs.private.EditSteps.{Counts, IsChange, PacksChanged, changed, listed_of, new_part};
+ghost use Rattle.h41_program.specs.private.EditSteps as spec;
 ghost use Rattle.h41_program.specs.Lines.{is_inner};
-ghost use Rattle.h41_program.specs.Packers.{Puts, line_if};
+ghost use Rattle.h41_program.specs.private.Packers.{Puts, line_if};
 ghost use Rattle.h41_program.specs.ProgramLines.{behind};
-ghost use Rattle.h41_program.specs.Reading.{AnswersFrom};
-ghost use Rattle.h41_program.specs.declared.refusal.ProgramRefusal.TheVariants.{BrokenProgram};
+ghost use Rattle.h41_program.specs.private.Reading.{AnswersFrom};
+ghost use Rattle.h41_program.specs.declared.editing.Change.TheVariants.{Put};
 
 use crate::kinds::{is_end, is_final_end};
 use crate::packer::Packer;
@@ -23,12 +23,19 @@ use h41_ram::Ram;
 /// A change of the list at one line.
 #[derive(Clone, Copy)]
 enum Change {
-    /// A line is put before it.
-    Insert(Line),
-    /// A line is put in its place.
-    Replace(Line),
+    /// A line is put there.
+    Put(Line, Placement),
     /// It is dropped.
     Delete,
+}
+
+/// How a line is put at another one.
+#[derive(Clone, Copy)]
+enum Placement {
+    /// Before it.
+    Before,
+    /// In its place.
+    Instead,
 }
 
 /// What stands in front of the place of a deleted line.
@@ -56,11 +63,7 @@ pub fn insert<const REGS: usize>(
     ensures answer { IfOk result (StandsNew ram.old before ram.new) }
     ensures stands { IfOk result (Stands ram.new line) }
 {
-    byte_round_trip();
-    know_ranges(&line);
-    let count = change_at(ram, before, Change::Insert(line))?;
-    let inserted = line_behind(ram, count).unwrap().listed;
-    Ok(inserted.position)
+    put(ram, before, line, Placement::Before)
 }
 
 /// Deletes the line that a position stands for; `.END.` stays. Answers where the line stands that is then before, or, where the
@@ -94,9 +97,27 @@ pub fn replace<const REGS: usize>(
     ensures answer { IfOk result (StandsNew ram.old at ram.new) }
     ensures stands { IfOk result (Stands ram.new line) }
 {
+    put(ram, at, line, Placement::Instead)
+}
+
+/// Puts a line at the one that a position stands for, and answers where it then stands.
+fn put<const REGS: usize>(
+    ram: &mut Ram<REGS>,
+    at: u16,
+    line: Line,
+    placement: Placement,
+) -> Result<u16, ProgramRefusal>
+    requires sound { IsTrue (is_sound ram.old) }
+    requires inner { IsTrue (is_inner line) }
+    ensures lines { Edits ram.old ram.new (changed (Put line placement)) at (done result) }
+    ensures sound { IsTrue (is_sound ram.new) }
+    ensures read { OnOk result (LeavesChanged ram.old (changed (Put line placement)) at ram.new) }
+    ensures answer { IfOk result (StandsNew ram.old at ram.new) }
+    ensures stands { IfOk result (Stands ram.new line) }
+{
     byte_round_trip();
     know_ranges(&line);
-    let count = change_at(ram, at, Change::Replace(line))?;
+    let count = change_at(ram, at, Change::Put(line, placement))?;
     let new = line_behind(ram, count).unwrap().listed;
     Ok(new.position)
 }
@@ -207,7 +228,11 @@ fn packed_changed<const REGS: usize>(
         met = is_met(met, here);
         put_new(&mut packer, change, here);
         if is_final_end(listed.line) {
-            return where_met(packer, met);
+            return if met {
+                Ok(packer)
+            } else {
+                Err(ProgramRefusal::BrokenProgram)
+            };
         }
         put_if(&mut packer, &listed.line, is_kept(change, here));
         at = behind;
@@ -238,7 +263,7 @@ fn put_new(packer: &mut Packer, change: &Change, here: bool)
     ensures { Puts packer.old packer.new (new_part here change.now) }
 {
     match change {
-        Change::Insert(line) | Change::Replace(line) => put_if(packer, line, here),
+        Change::Put(line, _) => put_if(packer, line, here),
         Change::Delete => {}
     }
 }
@@ -248,18 +273,7 @@ fn is_kept(change: &Change, here: bool) -> bool
     ensures { result ≡ spec.is_kept here change.now }
 {
     match change {
-        Change::Insert(_) => true,
-        Change::Replace(_) | Change::Delete => !here,
-    }
-}
-
-/// The lines, where the one to be changed was among them.
-fn where_met(packer: Packer, met: bool) -> Result<Packer, ProgramRefusal>
-    ensures { result ≡ (if met then Ok packer else Err BrokenProgram) }
-{
-    if met {
-        Ok(packer)
-    } else {
-        Err(ProgramRefusal::BrokenProgram)
+        Change::Put(_, Placement::Before) => true,
+        Change::Put(_, Placement::Instead) | Change::Delete => !here,
     }
 }

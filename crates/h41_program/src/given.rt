@@ -1,7 +1,7 @@
 //! The lines of bytes that are given.
 ghost use Rattle.std.specs.Prelude.{◌≡◌, ◌≢◌, ℕ, ◌<◌, ◌≤◌, length, slice_index, IfSome, IfNone, drop, ◌==◌};
 ghost use Rattle.std.specs.List.{list_all};
-ghost use Rattle.h41_program.specs.Reading.{BytesHaveFirst, BytesHaveNone};
+ghost use Rattle.h41_program.specs.private.Reading.{BytesHaveFirst, BytesHaveNone};
 
 use h41_codes::laws::byte_round_trip;
 use h41_codes::{Line, decode};

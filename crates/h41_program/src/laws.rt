@@ -3,7 +3,7 @@ ghost use Rattle.std.specs.Prelude.{ℕ, Bool, Option, Result};
 ghost use Rattle.h41_program.specs.Dependence.{AnswersDepend, FirstsDepend, LineDepends, ListsDepend, LocalDepends, NextDepends, NonesDepend, ProgramDepends, SoundnessDepends};
 ghost use Rattle.h41_program.specs.Edits.{PlacesAreDetermined};
 ghost use Rattle.h41_program.specs.LastProgram.{CloseIsRead, ClosedIsNotOpen};
-ghost use Rattle.h41_program.specs.SearchLaws.{AnswersAreDetermined, LineIsOfList, LocalIsDetermined, NextIsOfList, ProgramIsDetermined};
+ghost use Rattle.h41_program.specs.SearchLaws.{AnswersAreDetermined, LineIsDetermined, LineIsOfList, LocalIsDetermined, NextIsDetermined, NextIsOfList, ProgramIsDetermined};
 ghost use Rattle.h41_program.specs.ProgramLaws.{EditsAreDetermined, FirstIsDetermined, GoesOnFromNext, ListsAreDetermined, LoadIsRead, LoadsAreDetermined, OneList, PackingFills, PackingHasFewNulls, PackingRoundTrip, ReadIsDetermined, SizeKeepsLines, StandsForItsLine, WrittenIsRead};
 ghost use Rattle.h41_program.specs.declared.editing.Front.{Front};
 ghost use Rattle.h41_program.specs.declared.refusal.ProgramRefusal.{ProgramRefusal};
@@ -70,9 +70,11 @@ pub fn lists_are_determined()
     byte_round_trip();
 }
 
-/// Each search has one answer, over any memory; so have `is_last_open`, `end_of` and the calls that number the lines of a
-/// program.
+/// Each search has one answer, over any memory; so have `line_at` and `next`, `is_last_open`, `end_of` and the calls that number
+/// the lines of a program.
 pub fn searches_are_determined()
+    ensures line { LineIsDetermined }
+    ensures next { NextIsDetermined }
     ensures start { AnswersAreDetermined ℕ }
     ensures local { LocalIsDetermined }
     ensures global { AnswersAreDetermined (Option ℕ) }

@@ -1,12 +1,13 @@
-//! The lines of a program by their numbers, and where it ends.
+//! The lines of a program by their numbers.
 ghost use Rattle.std.specs.Prelude.{IsTrue, IfSome, ◌≤◌};
 ghost use Rattle.h41_ram.specs.RegisterMap.{is_sound};
-ghost use Rattle.h41_program.specs.Numbering.{AnswersProgram, before_in, end_in, number_in, numbered_in, up_to_end};
-ghost use Rattle.h41_program.specs.Reading.{AnswersFrom};
+ghost use Rattle.h41_program.specs.Numbering.{before_in, number_in, numbered_in};
+ghost use Rattle.h41_program.specs.Searches.{AnswersProgram, up_to_end};
+ghost use Rattle.h41_program.specs.private.Reading.{AnswersFrom};
 
 use crate::kinds::{is_end, is_final_end};
 use crate::laws::one_list;
-use crate::reading::{Found, first_from, place_from};
+use crate::reading::{Found, first_from};
 use crate::searches::start_of;
 use h41_codes::laws::byte_round_trip;
 use h41_ram::Ram;
@@ -31,17 +32,6 @@ pub fn line_numbered<const REGS: usize>(ram: &Ram<REGS>, at: u16, number: u16) -
     byte_round_trip();
     one_list();
     numbered_from(ram, start_of(ram, at), number)
-}
-
-/// Where the program of a position ends: where its END stands, or `.END.` where that comes first. `None` where its list has
-/// neither: bytes that are no line come first.
-pub fn end_of<const REGS: usize>(ram: &Ram<REGS>, at: u16) -> Option<u16>
-    requires { IsTrue (is_sound ram.now) }
-    ensures { AnswersProgram end_in ram.now at result }
-{
-    byte_round_trip();
-    one_list();
-    end_from(ram, start_of(ram, at))
 }
 
 /// Where the line before the one at a position stands in its program. `None` where the list has no line at the position, or it
@@ -104,24 +94,6 @@ fn numbered_from<const REGS: usize>(ram: &Ram<REGS>, from: u16, number: u16) -> 
         }
         left = left.saturating_sub(1);
         at = behind;
-    }
-    None
-}
-
-/// Where the first END or `.END.` stands from a position on.
-fn end_from<const REGS: usize>(ram: &Ram<REGS>, from: u16) -> Option<u16>
-    requires { IsTrue (is_sound ram.now) }
-    ensures { AnswersFrom (λ lines. end_in (up_to_end lines)) ram.now from result }
-{
-    let mut at = from;
-    while let Some(place) = place_from(ram, at) {
-        if place.ends_program {
-            return Some(place.position);
-        }
-        if place.ends_memory {
-            return Some(place.position);
-        }
-        at = place.behind;
     }
     None
 }

@@ -5,9 +5,9 @@ ghost use Rattle.h41_program.specs.Lines.{is_number, is_end};
 ghost use Rattle.h41_codes.specs.ByteGrammar.{spelling, IsLine};
 ghost use Rattle.h41_codes.specs.declared.line.Line.{Line as Spoken};
 ghost use Rattle.h41_program.specs.Edits.{closed};
-ghost use Rattle.h41_program.specs.EditSteps.{Writes};
+ghost use Rattle.h41_program.specs.private.EditSteps.{Writes};
 ghost use Rattle.h41_ram.specs.RegisterMap.{curtain_of, is_sound, main_start};
-ghost use Rattle.h41_program.specs.Packers.{Packs, Pushes, Puts, parting};
+ghost use Rattle.h41_program.specs.private.Packers.{Packs, Pushes, Puts, parting};
 ghost use Rattle.h41_program.specs.Packing.{filled_up};
 
 use crate::kinds::{is_end, is_number};
@@ -61,7 +61,7 @@ impl Packer {
         ensures { Pushes self.old self.new (parting number self.old.last) }
     {
         if number && self.ends_with_number() {
-            self.push_null();
+            self.push(&[0x00]);
         }
     }
 
@@ -110,14 +110,6 @@ impl Packer {
             Some(line) => !is_end(line),
             None => false,
         }
-    }
-
-    /// Pushes a null.
-    fn push_null(&mut self)
-        ensures { Pushes self.old self.new (0x00 ∷ []) }
-    {
-        let null = [0x00];
-        self.push(&null);
     }
 
     /// Pushes a line's bytes.

@@ -5,7 +5,7 @@ ghost use Rattle.h41_ram.specs.RegisterMap.{is_sound};
 ghost use Rattle.h41_program.specs.ProgramBytes.{byte_count, final_position, program_byte};
 ghost use Rattle.h41_program.specs.ProgramBytes as spec;
 ghost use Rattle.h41_program.specs.ProgramLines.{AnswersFirst, AnswersNext, HasFirst, HasNoLine, HasPlace};
-ghost use Rattle.h41_program.specs.Reading.{bytes_seen, program_register, BeginsNoNumber, EndsNothing, FoundBehind, HasThere, IsPlaceOf};
+ghost use Rattle.h41_program.specs.private.Reading.{bytes_seen, register_holding, BeginsNoNumber, EndsNothing, FoundBehind, HasThere, IsPlaceOf};
 ghost use Rattle.h41_codes.specs.ByteGrammar.{AnswersLine};
 
 use crate::kinds::{is_end, is_final_end};
@@ -66,10 +66,10 @@ pub fn final_position<const REGS: usize>(ram: &Ram<REGS>) -> u16
 
 /// The register that has the byte at a position of program memory; at its end the one below it.
 #[inline(always)]
-fn register_of<const REGS: usize>(ram: &Ram<REGS>, position: u16) -> Reg
+fn register_holding<const REGS: usize>(ram: &Ram<REGS>, position: u16) -> Reg
     requires count { position ≤ byte_count ram.now }
     requires sound { IsTrue (is_sound ram.now) }
-    ensures { result ≡ program_register ram.now position }
+    ensures { result ≡ register_holding ram.now position }
 {
     ram.read(ram.curtain() - 1 - position / REGISTER_BYTES)
 }
@@ -112,11 +112,11 @@ fn window<const REGS: usize>(ram: &Ram<REGS>, at: u16, limit: u16) -> Window
     ensures { result.items ≡ bytes_seen ram.now at limit }
 {
     let mut window = Window::new();
-    let mut register = register_of(ram, at);
+    let mut register = register_holding(ram, at);
     let mut left = REGISTER_BYTES - at % REGISTER_BYTES;
     for position in at..limit.min(at + LINE_MOST) {
         if left == 0 {
-            register = register_of(ram, position);
+            register = register_holding(ram, position);
             left = REGISTER_BYTES;
         }
         left -= 1;

@@ -1,7 +1,7 @@
 //! Program memory written anew.
 ghost use Rattle.std.specs.Prelude.{◌≡◌, ◌<◌, length};
 ghost use Rattle.h41_ram.specs.RegisterMap.{IsMemory, top_of};
-ghost use Rattle.h41_program.specs.ProgramPlaces.{IsPlace};
+ghost use Rattle.h41_program.specs.private.ProgramPlaces.{IsPlace};
 ghost use Rattle.h41_program.specs.Rewriting.{rewritten, rewritten_register};
 ghost use Rattle.h41_program.specs.Rewriting as spec;
 

@@ -1,9 +1,9 @@
-//! Where programs begin and labels stand.
+//! Where programs begin and end, and labels stand.
 ghost use Rattle.std.specs.Prelude.{◌≡◌, ◌&&◌, nat_lt, IsTrue};
 ghost use Rattle.h41_ram.specs.RegisterMap.{is_sound};
 ghost use Rattle.h41_program.specs.ProgramLines.{AnswersOf};
-ghost use Rattle.h41_program.specs.Reading.{AnswersFrom};
-ghost use Rattle.h41_program.specs.Searches.{AnswersLocal, label_in, named_in, position_of, start_in};
+ghost use Rattle.h41_program.specs.private.Reading.{AnswersFrom};
+ghost use Rattle.h41_program.specs.Searches.{AnswersLocal, AnswersProgram, end_in, label_in, named_in, position_of, start_in, up_to_end};
 
 use crate::kinds::{is_end, is_final_end, is_label, is_named};
 use crate::laws::one_list;
@@ -37,6 +37,35 @@ fn ends_before(place: &Place, at: u16) -> bool
     ensures { result ≡ (place.now.ends_program && nat_lt place.now.position at) }
 {
     place.ends_program && place.position < at
+}
+
+/// Where the program of a position ends: where its END stands, or `.END.` where that comes first. `None` where its list has
+/// neither: bytes that are no line come first.
+pub fn end_of<const REGS: usize>(ram: &Ram<REGS>, at: u16) -> Option<u16>
+    requires { IsTrue (is_sound ram.now) }
+    ensures { AnswersProgram end_in ram.now at result }
+{
+    byte_round_trip();
+    one_list();
+    end_from(ram, start_of(ram, at))
+}
+
+/// Where the first END or `.END.` stands from a position on.
+fn end_from<const REGS: usize>(ram: &Ram<REGS>, from: u16) -> Option<u16>
+    requires { IsTrue (is_sound ram.now) }
+    ensures { AnswersFrom (λ lines. end_in (up_to_end lines)) ram.now from result }
+{
+    let mut at = from;
+    while let Some(place) = place_from(ram, at) {
+        if place.ends_program {
+            return Some(place.position);
+        }
+        if place.ends_memory {
+            return Some(place.position);
+        }
+        at = place.behind;
+    }
+    None
 }
 
 /// Where the `LBL n` stands that a position finds: the first from there to the END, else the first of its program.

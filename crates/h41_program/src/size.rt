@@ -1,9 +1,8 @@
 //! The number of data registers.
-ghost use Rattle.std.specs.Prelude.{◌≡◌, ◌+◌, ◌-◌, ◌<◌, ◌≤◌, IsTrue};
-ghost use Rattle.h41_ram.specs.RegisterMap.{IsMemory, is_sound, curtain_of, top_of};
-ghost use Rattle.h41_program.specs.ProgramPlaces.{IsMove};
+ghost use Rattle.std.specs.Prelude.{◌≡◌, ◌-◌, ◌<◌, IsTrue};
+ghost use Rattle.h41_ram.specs.RegisterMap.{IsMemory, is_sound, top_of};
+ghost use Rattle.h41_program.specs.private.ProgramPlaces.{IsMove};
 ghost use Rattle.h41_program.specs.Rewriting.{HasOutcome};
-ghost use Rattle.h41_program.specs.Size as place;
 ghost use Rattle.h41_program.specs.Size.{resized, resized_c, resized_register, size_outcome};
 
 use crate::refusal::ProgramRefusal;
@@ -74,19 +73,6 @@ fn moved_register<const REGS: usize>(ram: &Ram<REGS>, curtain: u16, end: u16, ad
     } else if address < curtain {
         ram.read(address + ram.end_register() - end)
     } else {
-        data_register(ram, address - curtain)
-    }
-}
-
-/// A data register by its number: zero where there is none.
-fn data_register<const REGS: usize>(ram: &Ram<REGS>, number: u16) -> Reg
-    requires { curtain_of ram.now + number < 2048 }
-    ensures { result ≡ place.data_register ram.now number }
-{
-    let address = ram.curtain() + number;
-    if usize::from(address) < MAIN_START + REGS {
-        ram.read(address)
-    } else {
-        Reg::zero()
+        ram.data(address - curtain).unwrap_or(Reg::zero())
     }
 }

@@ -1,7 +1,7 @@
 use Rattle.std.proofs.Common.{◌≡◌, refl, sym, ◌∙◌, ap, subst, Ok, Err}
 use Rattle.std.proofs.lemmas.Result.{err_from_is_err_and}
 use Rattle.h41_program.specs.Edits.{done}
-use Rattle.h41_program.specs.EditSteps.{changed}
+use Rattle.h41_program.specs.private.EditSteps.{changed}
 use Rattle.h41_program.specs.ProgramLines.{AnswersFirst}
 use Rattle.h41_program.proofs.EditSteps.{edit_none, edit_refused, edit_written}
 use Rattle.h41_program.proofs.Outcomes.{edit_sound}

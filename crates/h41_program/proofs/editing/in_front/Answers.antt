@@ -1,5 +1,5 @@
 use Rattle.std.proofs.Common.{None, Some, sym, ◌∙◌, ap}
-use Rattle.h41_program.specs.EditSteps.{listed_of}
+use Rattle.h41_program.specs.private.EditSteps.{listed_of}
 use Rattle.h41_program.proofs.EditPlaces
 use Rattle.h41_program.proofs.editing.in_front.Goals as goal
 

@@ -4,7 +4,7 @@ use Rattle.std.proofs.lemmas.Option.{slice_get_past}
 use Rattle.h41_program.specs.declared.listed_line.ListedLine.{ListedLine}
 use Rattle.h41_program.specs.ProgramBytes.{program_bytes, final_position}
 use Rattle.h41_program.proofs.EditPlaces.{get_behind}
-use Rattle.h41_program.proofs.Walks.{up_to_none, up_to_more, ends_none, first_rest, ends_final}
+use Rattle.h41_program.proofs.Walks.{up_to_none, up_to_more, ends_none, goes_on, ends_final}
 use Rattle.h41_program.proofs.editing.line_behind.Goals as goal
 
 pub loop-found-init : goal.loop-found-init
@@ -15,11 +15,9 @@ returns-then-left-eq0-clause-line g c lines from =
     let memory = c.args.ram.now in
     let found = c.in-Some.found in
     let before = c.loop-found.invariant in
-    let parts = before.1.split lines (from.sound c.requires) in
-    let rest = first_rest (program_bytes memory) (final_position memory) c.loop-found.at found.behind found.listed parts.0 c.in-Some.ensures.first parts.2 in
-    let whole = parts.1 ∙ ap (λ (l : List ListedLine). before.0 ++ l) rest.1 in
+    let on = goes_on (program_bytes memory) (final_position memory) 0 c.loop-found.at found.behind before.0 lines found.listed before.1 c.in-Some.ensures.first (from.sound c.requires) in
     let number : length before.0 ≡ c.args.count = omega (arith, before.2, c.if-left-eq0.true) in
-    sym (ap (λ (l : List ListedLine). slice_get l c.args.count) whole ∙ ap (slice_get (before.0 ++ found.listed ∷ rest.0)) (sym number) ∙ get_behind before.0 found.listed rest.0)
+    sym (ap (λ (l : List ListedLine). slice_get l c.args.count) on.1 ∙ ap (slice_get (before.0 ++ found.listed ∷ on.0)) (sym number) ∙ get_behind before.0 found.listed on.0)
 
 pub returns-then-is_final_end-clause-line : goal.returns-then-is_final_end-clause-line
 returns-then-is_final_end-clause-line g c lines from =

@@ -1,7 +1,8 @@
-use Rattle.std.proofs.Common.{[], ◌∷◌, ◌++◌, refl, sym, ◌∙◌, ap}
+use Rattle.std.proofs.Common.{Err, Ok, [], ◌∷◌, ◌++◌, refl, sym, ◌∙◌, ap}
 use Rattle.std.specs.Prelude.{◌||◌, ◌==◌}
 use Rattle.std.specs.List.{flat_map}
-use Rattle.h41_program.specs.EditSteps.{changed}
+use Rattle.h41_program.specs.private.EditSteps.{changed}
+use Rattle.h41_program.specs.declared.refusal.ProgramRefusal.TheVariants.{BrokenProgram}
 use Rattle.h41_program.specs.ProgramBytes.{program_bytes, final_position}
 use Rattle.h41_program.proofs.EditSteps.{changed_final, changed_none, has_line_at-more, last_packs, one_packs}
 use Rattle.h41_program.proofs.Walks.{up_to_none, up_to_more, all_none, all_final, from_reads}
@@ -27,8 +28,8 @@ loop-found-preserved g c =
       },
     )
 
-pub returns-then-is_final_end : goal.returns-then-is_final_end
-returns-then-is_final_end g c =
+pub returns-then-met : goal.returns-then-met
+returns-then-met g c =
     let memory = c.args.ram.now in
     let found = c.in-Some.found in
     let before = c.loop-found.invariant in
@@ -43,7 +44,26 @@ returns-then-is_final_end g c =
           before.1.read c.in-Some.ensures.first final
           (last_packs c.put_new.new.packer c.args.change.now c.args.place before.0 found.listed here refl final
           (c.put_new.ensures (flat_map (changed c.args.change.now c.args.place) before.0) before.1.packs))
-          (met ∙ sym (has_line_at-more c.args.place before.0 found.listed)) reads c.where_met.result c.where_met.ensures,
+          (met ∙ sym (has_line_at-more c.args.place before.0 found.listed)) reads (Ok c.put_new.new.packer) (rw c.if-met.true refl),
+    )
+
+pub returns-else-met : goal.returns-else-met
+returns-else-met g c =
+    let memory = c.args.ram.now in
+    let found = c.in-Some.found in
+    let before = c.loop-found.invariant in
+    let lines = before.0 ++ found.listed ∷ [] in
+    let final = sym c.is_final_end.ensures ∙ c.if-is_final_end.true in
+    let here = found.listed.position == c.args.place in
+    let met = c.is_met-met.ensures ∙ ap (λ b. b || here) before.1.found in
+    let reads = all_final (program_bytes memory) (final_position memory) 0 c.loop-found.at found.behind before.0 found.listed before.1.read c.in-Some.ensures.first final in (
+      lines,
+      from_reads memory 0 lines c.requires.sound reads,
+      changed_final (program_bytes memory) (final_position memory) c.loop-found.at found.behind c.put_new.new.packer c.is_met-met.result (changed c.args.change.now c.args.place) c.args.place before.0 lines found.listed
+          before.1.read c.in-Some.ensures.first final
+          (last_packs c.put_new.new.packer c.args.change.now c.args.place before.0 found.listed here refl final
+          (c.put_new.ensures (flat_map (changed c.args.change.now c.args.place) before.0) before.1.packs))
+          (met ∙ sym (has_line_at-more c.args.place before.0 found.listed)) reads (Err BrokenProgram) (rw c.if-met.false refl),
     )
 
 pub returns : goal.returns

@@ -1,6 +1,6 @@
 use Rattle.std.proofs.Common.{List, length, ◌-◌}
 use Rattle.h41_program.specs.declared.listed_line.ListedLine.{ListedLine}
-use Rattle.h41_program.specs.EditSteps.{changed}
+use Rattle.h41_program.specs.private.EditSteps.{changed}
 use Rattle.h41_program.specs.ProgramBytes.{program_bytes, final_position}
 use Rattle.h41_program.proofs.EditSteps.{Changed}
 use Rattle.h41_program.proofs.editing.packed_changed.Given as goal

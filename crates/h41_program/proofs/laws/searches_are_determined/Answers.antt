@@ -1,6 +1,12 @@
 use Rattle.h41_program.proofs.FoundOnce
 use Rattle.h41_program.proofs.laws.searches_are_determined.Goals as goal
 
+pub returns-clause-line : goal.returns-clause-line
+returns-clause-line c = FoundOnce.one_line c.byte_round_trip.ensures.one
+
+pub returns-clause-next : goal.returns-clause-next
+returns-clause-next c = FoundOnce.one_next c.byte_round_trip.ensures.one
+
 pub returns-clause-start : goal.returns-clause-start
 returns-clause-start c = FoundOnce.answers c.byte_round_trip.ensures.one
 

@@ -1,6 +1,6 @@
 use Rattle.std.proofs.Common.{sym, ◌∙◌, subst, refl, ◌++◌, ◌∷◌, []}
 use Rattle.h41_program.specs.Edits.{lines_of}
-use Rattle.h41_program.specs.Packers.{Packs}
+use Rattle.h41_program.specs.private.Packers.{Packs}
 use Rattle.h41_program.specs.ProgramBytes.{program_bytes, final_position}
 use Rattle.h41_program.proofs.Loads.{packed_lines, lines_of-more}
 use Rattle.h41_program.proofs.Walks.{up_to_none, up_to_more, all_none, all_final, from_reads, before_end-none}

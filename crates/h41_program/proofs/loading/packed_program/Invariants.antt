@@ -1,7 +1,7 @@
 use Rattle.std.proofs.Common.{List, length, ◌-◌}
 use Rattle.h41_program.specs.declared.listed_line.ListedLine.{ListedLine}
 use Rattle.h41_program.specs.Edits.{lines_of}
-use Rattle.h41_program.specs.Packers.{Packs}
+use Rattle.h41_program.specs.private.Packers.{Packs}
 use Rattle.h41_program.specs.ProgramBytes.{program_bytes, final_position}
 use Rattle.h41_program.proofs.Walks.{UpTo}
 use Rattle.h41_program.proofs.loading.packed_program.Given as goal

@@ -2,9 +2,9 @@ use Rattle.std.proofs.Common.{◌≡◌, sym, ◌∙◌, subst, refl, drop, ◌+
 use Rattle.std.specs.Prelude.{◌==◌}
 use Rattle.std.specs.List.{list_all}
 use Rattle.h41_codes.specs.declared.line.Line.{Line}
-use Rattle.h41_program.specs.LoadSteps.{kept_option}
+use Rattle.h41_program.specs.private.LoadSteps.{kept_option}
 use Rattle.h41_program.specs.Edits.{lines_of}
-use Rattle.h41_program.specs.Packers.{Packs}
+use Rattle.h41_program.specs.private.Packers.{Packs}
 use Rattle.h41_program.specs.declared.listed_line.ListedLine.{ListedLine}
 use Rattle.h41_program.proofs.Loads.{loaded_nothing, loaded_more, loaded_final, loaded_none, tested, but_last}
 use Rattle.h41_program.proofs.Walks.{all_none, all_final}

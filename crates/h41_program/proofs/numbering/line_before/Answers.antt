@@ -1,5 +1,6 @@
 use Rattle.std.proofs.Common.{None, sym, ◌∙◌, ap}
-use Rattle.h41_program.specs.Numbering.{before_in, before_number, up_to_end}
+use Rattle.h41_program.specs.Numbering.{before_in, before_number}
+use Rattle.h41_program.specs.Searches.{up_to_end}
 use Rattle.h41_program.proofs.Numbers.{of_program}
 use Rattle.h41_program.proofs.numbering.line_before.Goals as goal
 

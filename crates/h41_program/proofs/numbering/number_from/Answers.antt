@@ -1,8 +1,7 @@
-use Rattle.std.proofs.Common.{◌+◌, List, ◌++◌, ◌∷◌, [], refl, sym, ◌∙◌, ap, arith, append-nil, length-append, ℕ, Some}
-use Rattle.h41_program.specs.declared.listed_line.ListedLine.{ListedLine}
+use Rattle.std.proofs.Common.{◌+◌, ◌++◌, ◌∷◌, [], refl, sym, ◌∙◌, ap, arith, append-nil, length-append, ℕ, Some}
 use Rattle.h41_program.specs.ProgramBytes.{program_bytes, final_position}
 use Rattle.h41_program.proofs.Numbers.{counted_none, counted_more, counted_here, counted_end, number_of, other_test, same_test, up_to_end-end, up_to_end-last}
-use Rattle.h41_program.proofs.Walks.{up_to_none, up_to_more, ends_none, first_rest, ends_final}
+use Rattle.h41_program.proofs.Walks.{up_to_none, up_to_more, ends_none, goes_on, ends_final}
 use Rattle.h41_program.proofs.numbering.number_from.Goals as goal
 
 pub loop-found-init : goal.loop-found-init
@@ -20,21 +19,17 @@ returns-then-listed-position-clause-is g c lines from =
     let memory = c.args.ram.now in
     let found = c.in-Some.found in
     let before = c.loop-found.invariant in
-    let parts = before.1.split lines (from.sound c.requires) in
-    let rest = first_rest (program_bytes memory) (final_position memory) c.loop-found.at found.behind found.listed parts.0 c.in-Some.ensures.first parts.2 in
-    let whole = parts.1 ∙ ap (λ (l : List ListedLine). before.0 ++ l) rest.1 in
-    sym (ap (number_of c.args.position) whole ∙ counted_here c.args.position before.0 found.listed rest.0 before.4 (same_test found.listed.position c.args.position c.if-listed-position.true) ∙ ap (λ (n : ℕ). Some (n + 1)) (sym before.2))
+    let on = goes_on (program_bytes memory) (final_position memory) c.args.from c.loop-found.at found.behind before.0 lines found.listed before.1 c.in-Some.ensures.first (from.sound c.requires) in
+    sym (ap (number_of c.args.position) on.1 ∙ counted_here c.args.position before.0 found.listed on.0 before.4 (same_test found.listed.position c.args.position c.if-listed-position.true) ∙ ap (λ (n : ℕ). Some (n + 1)) (sym before.2))
 
 pub returns-then-is_end-clause-is : goal.returns-then-is_end-clause-is
 returns-then-is_end-clause-is g c lines from =
     let memory = c.args.ram.now in
     let found = c.in-Some.found in
     let before = c.loop-found.invariant in
-    let parts = before.1.split lines (from.sound c.requires) in
-    let rest = first_rest (program_bytes memory) (final_position memory) c.loop-found.at found.behind found.listed parts.0 c.in-Some.ensures.first parts.2 in
-    let whole = parts.1 ∙ ap (λ (l : List ListedLine). before.0 ++ l) rest.1 in
-    let end = up_to_end-end found.listed rest.0 (sym c.is_end.ensures ∙ c.if-is_end.true) in
-    sym (ap (number_of c.args.position) whole ∙ counted_end c.args.position before.0 found.listed rest.0 before.4 (other_test found.listed.position c.args.position c.if-listed-position.false) end)
+    let on = goes_on (program_bytes memory) (final_position memory) c.args.from c.loop-found.at found.behind before.0 lines found.listed before.1 c.in-Some.ensures.first (from.sound c.requires) in
+    let end = up_to_end-end found.listed on.0 (sym c.is_end.ensures ∙ c.if-is_end.true) in
+    sym (ap (number_of c.args.position) on.1 ∙ counted_end c.args.position before.0 found.listed on.0 before.4 (other_test found.listed.position c.args.position c.if-listed-position.false) end)
 
 pub returns-then-is_final_end-clause-is : goal.returns-then-is_final_end-clause-is
 returns-then-is_final_end-clause-is g c lines from =

@@ -1,8 +1,7 @@
-use Rattle.std.proofs.Common.{◌≡◌, ◌-◌, subst, List, ◌++◌, ◌∷◌, [], refl, sym, ◌∙◌, ap, arith, append-nil, ℕ}
-use Rattle.h41_program.specs.declared.listed_line.ListedLine.{ListedLine}
+use Rattle.std.proofs.Common.{◌≡◌, ◌-◌, subst, ◌++◌, ◌∷◌, [], refl, sym, ◌∙◌, ap, arith, append-nil, ℕ}
 use Rattle.h41_program.specs.ProgramBytes.{program_bytes, final_position}
 use Rattle.h41_program.proofs.Numbers.{Left, left_more, left_here, left_end, other_test, place_of, same_test, up_to_end-end, up_to_end-last}
-use Rattle.h41_program.proofs.Walks.{up_to_none, up_to_more, ends_none, first_rest, ends_final}
+use Rattle.h41_program.proofs.Walks.{up_to_none, up_to_more, ends_none, goes_on, ends_final}
 use Rattle.h41_program.proofs.numbering.numbered_from.Goals as goal
 
 pub loop-found-init : goal.loop-found-init
@@ -13,21 +12,17 @@ returns-then-left-eq1 g c lines from =
     let memory = c.args.ram.now in
     let found = c.in-Some.found in
     let before = c.loop-found.invariant in
-    let parts = before.1.split lines (from.sound c.requires) in
-    let rest = first_rest (program_bytes memory) (final_position memory) c.loop-found.at found.behind found.listed parts.0 c.in-Some.ensures.first parts.2 in
-    let whole = parts.1 ∙ ap (λ (l : List ListedLine). before.0 ++ l) rest.1 in
-    sym (ap (place_of c.args.number) whole ∙ left_here c.args.number c.loop-found.left before.0 found.listed rest.0 before.2 (same_test c.loop-found.left 1 c.if-left-eq1.true))
+    let on = goes_on (program_bytes memory) (final_position memory) c.args.from c.loop-found.at found.behind before.0 lines found.listed before.1 c.in-Some.ensures.first (from.sound c.requires) in
+    sym (ap (place_of c.args.number) on.1 ∙ left_here c.args.number c.loop-found.left before.0 found.listed on.0 before.2 (same_test c.loop-found.left 1 c.if-left-eq1.true))
 
 pub returns-then-is_end : goal.returns-then-is_end
 returns-then-is_end g c lines from =
     let memory = c.args.ram.now in
     let found = c.in-Some.found in
     let before = c.loop-found.invariant in
-    let parts = before.1.split lines (from.sound c.requires) in
-    let rest = first_rest (program_bytes memory) (final_position memory) c.loop-found.at found.behind found.listed parts.0 c.in-Some.ensures.first parts.2 in
-    let whole = parts.1 ∙ ap (λ (l : List ListedLine). before.0 ++ l) rest.1 in
-    let end = up_to_end-end found.listed rest.0 (sym c.is_end.ensures ∙ c.if-is_end.true) in
-    sym (ap (place_of c.args.number) whole ∙ left_end c.args.number c.loop-found.left before.0 found.listed rest.0 before.2 (other_test c.loop-found.left 1 c.if-left-eq1.false) end)
+    let on = goes_on (program_bytes memory) (final_position memory) c.args.from c.loop-found.at found.behind before.0 lines found.listed before.1 c.in-Some.ensures.first (from.sound c.requires) in
+    let end = up_to_end-end found.listed on.0 (sym c.is_end.ensures ∙ c.if-is_end.true) in
+    sym (ap (place_of c.args.number) on.1 ∙ left_end c.args.number c.loop-found.left before.0 found.listed on.0 before.2 (other_test c.loop-found.left 1 c.if-left-eq1.false) end)
 
 pub returns-then-is_final_end : goal.returns-then-is_final_end
 returns-then-is_final_end g c lines from =

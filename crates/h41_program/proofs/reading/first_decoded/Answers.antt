@@ -1,7 +1,7 @@
 use Rattle.std.proofs.Common.{◌+◌, refl, arith}
 use Rattle.std.proofs.lemmas.List.FromFn.{length-map-range_with_len}
 use Rattle.h41_program.specs.ProgramBytes.{byte_count, program_byte}
-use Rattle.h41_program.specs.Reading.{bytes_seen}
+use Rattle.h41_program.specs.private.Reading.{bytes_seen}
 use Rattle.h41_program.proofs.FirstLines.{first_inside}
 use Rattle.h41_program.proofs.Memory.{Looked, looked_first, looked_none}
 use Rattle.h41_program.proofs.Windows.{begins_most}

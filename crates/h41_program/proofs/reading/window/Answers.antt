@@ -4,7 +4,7 @@ use Rattle.std.proofs.lemmas.List.FromFn.{map-range_with_len_more}
 use Rattle.h41_digits.specs.Register.{byte_at}
 use Rattle.h41_ram.specs.RegisterMap.{curtain_of, register_at}
 use Rattle.h41_program.specs.ProgramBytes.{program_byte}
-use Rattle.h41_program.specs.Reading.{program_register}
+use Rattle.h41_program.specs.private.Reading.{register_holding}
 use Rattle.h41_program.proofs.reading.window.Goals as goal
 use Rattle.h41_program.proofs.reading.window.Goals.{then-left-eq0, else-left-eq0}
 
@@ -22,9 +22,9 @@ loop-position-preserved g c =
     let register = c.if-left-eq0.register in
     let left = c.if-left-eq0.left in
     let before = c.loop-position.invariant in
-    let held : IsHeld register (program_register memory position) left position = elim c.if-left-eq0.branch [
+    let held : IsHeld register (register_holding memory position) left position = elim c.if-left-eq0.branch [
       | then-left-eq0 w ↦ record {
-        own = w.register-is ∙ w.register_of-register-then-left-eq0.ensures;
+        own = w.register-is ∙ w.register_holding-register-then-left-eq0.ensures;
         few = omega (arith, w.left-is);
         some = omega (arith, w.left-is);
         ends = omega (arith, w.left-is, w.if-left-eq0.true, before.ends);

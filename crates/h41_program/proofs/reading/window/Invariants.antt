@@ -1,7 +1,7 @@
 use Rattle.std.proofs.Common.{◌≡◌, ◌+◌, ◌-◌, ◌%◌, ◌≤◌, map, length}
 use Rattle.std.specs.List.{range_with_len}
 use Rattle.h41_program.specs.ProgramBytes.{program_byte}
-use Rattle.h41_program.specs.Reading.{program_register}
+use Rattle.h41_program.specs.private.Reading.{register_holding}
 use Rattle.h41_program.proofs.reading.window.Given as goal
 
 -- the bytes so far
@@ -13,5 +13,5 @@ invariant-loop-position g l = record {
   few : l.left ≤ 7;
   ends : (l.position + l.left) % 7 ≡ 0;
   -- the register of the next byte, where that is not its first
-  held : (l.left ≡ 0 → ⊥) → l.register ≡ program_register l.ram l.position;
+  held : (l.left ≡ 0 → ⊥) → l.register ≡ register_holding l.ram l.position;
 }

@@ -3,7 +3,7 @@ use Rattle.h41_program.specs.declared.listed_line.ListedLine.{ListedLine}
 use Rattle.h41_program.specs.ProgramBytes.{program_bytes, final_position}
 use Rattle.h41_program.specs.Searches.{label_in, position_of}
 use Rattle.h41_program.proofs.SearchSteps.{label_in-end, label_in-here, label_in-other, label_in-final}
-use Rattle.h41_program.proofs.Walks.{up_to_none, up_to_more, ends_none, first_rest, ends_final}
+use Rattle.h41_program.proofs.Walks.{up_to_none, up_to_more, ends_none, goes_on, ends_final}
 use Rattle.h41_program.proofs.searches.label_from.Goals as goal
 
 pub loop-found-init : goal.loop-found-init
@@ -15,10 +15,9 @@ returns-then-is_label g c lines from =
     let found = c.in-Some.found in
     let before = c.loop-found.invariant in
     let label = sym c.is_label.ensures ∙ c.if-is_label.true in
-    let parts = before.1.split lines (from.sound c.requires) in
-    let rest = first_rest (program_bytes memory) (final_position memory) c.loop-found.position found.behind found.listed parts.0 c.in-Some.ensures.first parts.2 in
-    sym (ap (λ (all : List ListedLine). position_of (label_in c.args.label all)) (parts.1 ∙ ap (λ (l : List ListedLine). before.0 ++ l) rest.1)
-    ∙ ap position_of (before.2 (found.listed ∷ rest.0) ∙ label_in-here c.args.label found.listed rest.0 label))
+    let on = goes_on (program_bytes memory) (final_position memory) c.args.at c.loop-found.position found.behind before.0 lines found.listed before.1 c.in-Some.ensures.first (from.sound c.requires) in
+    sym (ap (λ (all : List ListedLine). position_of (label_in c.args.label all)) on.1
+    ∙ ap position_of (before.2 (found.listed ∷ on.0) ∙ label_in-here c.args.label found.listed on.0 label))
 
 pub returns-then-is_end : goal.returns-then-is_end
 returns-then-is_end g c lines from =
@@ -26,10 +25,9 @@ returns-then-is_end g c lines from =
     let found = c.in-Some.found in
     let before = c.loop-found.invariant in
     let end = sym c.is_end.ensures ∙ c.if-is_end.true in
-    let parts = before.1.split lines (from.sound c.requires) in
-    let rest = first_rest (program_bytes memory) (final_position memory) c.loop-found.position found.behind found.listed parts.0 c.in-Some.ensures.first parts.2 in
-    sym (ap (λ (all : List ListedLine). position_of (label_in c.args.label all)) (parts.1 ∙ ap (λ (l : List ListedLine). before.0 ++ l) rest.1)
-    ∙ ap position_of (before.2 (found.listed ∷ rest.0) ∙ label_in-end c.args.label found.listed rest.0 end))
+    let on = goes_on (program_bytes memory) (final_position memory) c.args.at c.loop-found.position found.behind before.0 lines found.listed before.1 c.in-Some.ensures.first (from.sound c.requires) in
+    sym (ap (λ (all : List ListedLine). position_of (label_in c.args.label all)) on.1
+    ∙ ap position_of (before.2 (found.listed ∷ on.0) ∙ label_in-end c.args.label found.listed on.0 end))
 
 pub returns-then-is_final_end : goal.returns-then-is_final_end
 returns-then-is_final_end g c lines from =

@@ -1,5 +1,5 @@
 use Rattle.std.proofs.Common.{subst}
-use Rattle.h41_program.specs.Packers.{Pushes, parting}
+use Rattle.h41_program.specs.private.Packers.{Pushes, parting}
 use Rattle.h41_program.proofs.Packings.{puts}
 use Rattle.h41_program.proofs.packer.Packer.put.Goals as goal
 

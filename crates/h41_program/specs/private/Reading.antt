@@ -1,4 +1,4 @@
--- What the functions that read program memory promise one another. No public contract needs this file.
+-- What the functions that read program memory promise one another.
 use Rattle.std.specs.Prelude.{◌≡◌, ◌≤◌, ℕ, ◌+◌, ◌-◌, ◌/◌, false, MatchBool, List, length, map, min}
 use Rattle.std.specs.List.{range_with_len}
 use Rattle.h41_ram.specs.RegisterMap.{RegisterMap, curtain_of, register_at}
@@ -45,8 +45,8 @@ abbrev pub BytesHaveNone : List ℕ → ℕ → Type 0
 BytesHaveNone bytes at = NoneFrom bytes (length bytes) at
 
 -- the register that has the byte at a position; at the end the one below it
-abbrev pub program_register : RegisterMap → ℕ → List ℕ
-program_register memory position = register_at memory (curtain_of memory - 1 - position / 7)
+abbrev pub register_holding : RegisterMap → ℕ → List ℕ
+register_holding memory position = register_at memory (curtain_of memory - 1 - position / 7)
 
 -- the bytes from a position to another, or the first 18 of them
 abbrev pub bytes_seen : RegisterMap → ℕ → ℕ → List ℕ

@@ -1,21 +1,21 @@
 use Rattle.std.proofs.Common.{sym, ◌∙◌, ap}
-use Rattle.h41_program.specs.Edits.{with_replaced}
-use Rattle.h41_program.specs.EditSteps.{listed_of}
-use Rattle.h41_program.proofs.EditAnswers.{replaced_puts, leaves_new, some_found, stands_new, stands_there}
+use Rattle.h41_program.specs.declared.editing.Change.TheVariants.{Put}
+use Rattle.h41_program.specs.private.EditSteps.{changed, listed_of}
+use Rattle.h41_program.proofs.EditAnswers.{leaves_new, put_there, some_found, stands_new, stands_there}
 use Rattle.h41_program.proofs.Inner.{inner_line}
-use Rattle.h41_program.proofs.editing.replace.Goals as goal
+use Rattle.h41_program.proofs.editing.put.Goals as goal
 
 pub unwrap-new-requires : goal.unwrap-new-requires
 unwrap-new-requires g c =
-    let puts = replaced_puts c.args.line (inner_line c.args.line c.requires.inner c.know_ranges.ensures) in
-    let left = leaves_new c.byte_round_trip.ensures.again c.byte_round_trip.ensures.one c.args.ram.now c.change_at.new.ram (with_replaced c.args.line) c.args.at
+    let puts = put_there c.args.line c.args.placement (inner_line c.args.line c.requires.inner c.know_ranges.ensures) in
+    let left = leaves_new c.byte_round_trip.ensures.again c.byte_round_trip.ensures.one c.args.ram.now c.change_at.new.ram (changed (Put c.args.line c.args.placement)) c.args.at
     c.in_ok-count.count c.args.line c.requires.sound puts c.in_ok-count.ensures.lines c.in_ok-count.ensures.count in
     some_found c.line_behind.result left.has.there (c.line_behind.ensures.line left.leaves.listed left.leaves.read ∙ left.has.got)
 
 pub returns-clause-read : goal.returns-clause-read
 returns-clause-read g c =
-    let puts = replaced_puts c.args.line (inner_line c.args.line c.requires.inner c.know_ranges.ensures) in
-    let left = leaves_new c.byte_round_trip.ensures.again c.byte_round_trip.ensures.one c.args.ram.now c.change_at.new.ram (with_replaced c.args.line) c.args.at
+    let puts = put_there c.args.line c.args.placement (inner_line c.args.line c.requires.inner c.know_ranges.ensures) in
+    let left = leaves_new c.byte_round_trip.ensures.again c.byte_round_trip.ensures.one c.args.ram.now c.change_at.new.ram (changed (Put c.args.line c.args.placement)) c.args.at
     c.in_ok-count.count c.args.line c.requires.sound puts c.in_ok-count.ensures.lines c.in_ok-count.ensures.count in
     left.leaves
 
@@ -27,9 +27,9 @@ returns-clause-answer g c =
 
 pub returns-clause-stands : goal.returns-clause-stands
 returns-clause-stands g c =
-    let puts = replaced_puts c.args.line (inner_line c.args.line c.requires.inner c.know_ranges.ensures) in
-    let left = leaves_new c.byte_round_trip.ensures.again c.byte_round_trip.ensures.one c.args.ram.now c.change_at.new.ram (with_replaced c.args.line) c.args.at
+    let puts = put_there c.args.line c.args.placement (inner_line c.args.line c.requires.inner c.know_ranges.ensures) in
+    let left = leaves_new c.byte_round_trip.ensures.again c.byte_round_trip.ensures.one c.args.ram.now c.change_at.new.ram (changed (Put c.args.line c.args.placement)) c.args.at
     c.in_ok-count.count c.args.line c.requires.sound puts c.in_ok-count.ensures.lines c.in_ok-count.ensures.count in
-    stands_there c.byte_round_trip.ensures.again c.byte_round_trip.ensures.one c.args.ram.now c.change_at.new.ram (with_replaced c.args.line) c.args.at
+    stands_there c.byte_round_trip.ensures.again c.byte_round_trip.ensures.one c.args.ram.now c.change_at.new.ram (changed (Put c.args.line c.args.placement)) c.args.at
     c.in_ok-count.count c.args.line c.in_ok-count.ensures.sound left c.unwrap-new.result.listed
     (sym (ap listed_of c.unwrap-new.ensures) ∙ c.line_behind.ensures.line left.leaves.listed left.leaves.read)

@@ -1,4 +1,4 @@
--- What the functions that load promise one another. No public contract needs this file.
+-- What the functions that load promise one another.
 use Rattle.std.specs.Prelude.{◌≡◌, ℕ, List, [], ◌∷◌, ◌++◌, length, ◌==◌, if◌then◌else◌, Option, Some, None, MatchOption, IsOkAnd, Result, Ok, Err}
 use Rattle.std.specs.List.{list_all}
 use Rattle.h41_program.specs.Lines.{is_end}
@@ -9,7 +9,7 @@ use Rattle.h41_program.specs.declared.packer.Packer.{Packer}
 use Rattle.h41_program.specs.declared.refusal.ProgramRefusal.{ProgramRefusal}
 use Rattle.h41_program.specs.declared.refusal.ProgramRefusal.TheVariants.{BrokenProgram}
 use Rattle.h41_program.specs.Edits.{lines_of, before_end, close_outcome, loaded_of}
-use Rattle.h41_program.specs.Packers.{Packs}
+use Rattle.h41_program.specs.private.Packers.{Packs}
 use Rattle.h41_program.specs.ProgramLines.{LinesFrom, Reads}
 use Rattle.h41_program.specs.Rewriting.{HasOutcome}
 

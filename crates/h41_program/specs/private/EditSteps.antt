@@ -1,4 +1,4 @@
--- What the functions that change the list promise one another. No public contract needs this file.
+-- What the functions that change the list promise one another.
 use Rattle.std.specs.Prelude.{◌≡◌, ℕ, is_some, Bool, true, not, MatchBool, IsOkAnd, ◌&&◌, List, [], Option, Result, Err}
 use Rattle.std.specs.List.{flat_map}
 use Rattle.std.specs.Option.{option_map}
@@ -6,14 +6,15 @@ use Rattle.h41_codes.specs.ByteGrammar.{IsLine}
 use Rattle.h41_codes.specs.declared.line.Line.{Line}
 use Rattle.h41_ram.specs.RegisterMap.{RegisterMap}
 use Rattle.h41_program.specs.declared.editing.Change.{Change}
-use Rattle.h41_program.specs.declared.editing.Change.TheVariants.{Delete, Insert, Replace}
+use Rattle.h41_program.specs.declared.editing.Change.TheVariants.{Delete, Put}
+use Rattle.h41_program.specs.declared.editing.Placement.TheVariants.{Before, Instead}
 use Rattle.h41_program.specs.declared.listed_line.ListedLine.{ListedLine}
 use Rattle.h41_program.specs.declared.packer.Packer.{Packer}
 use Rattle.h41_program.specs.declared.reading.Found.{Found}
 use Rattle.h41_program.specs.declared.refusal.ProgramRefusal.{ProgramRefusal}
 use Rattle.h41_program.specs.declared.refusal.ProgramRefusal.TheVariants.{BrokenProgram}
 use Rattle.h41_program.specs.Edits.{answered, before_end, count_before, has_line_at, with_inserted, with_replaced, without_deleted}
-use Rattle.h41_program.specs.Packers.{Packs, line_if}
+use Rattle.h41_program.specs.private.Packers.{Packs, line_if}
 use Rattle.h41_program.specs.ProgramBytes.{final_position, program_bytes}
 use Rattle.h41_program.specs.ProgramLines.{FirstFrom, LinesFrom}
 use Rattle.h41_program.specs.Rewriting.{written, HasOutcome}
@@ -24,26 +25,24 @@ Writes packer old new result = (lines : List Line) → Packs packer lines → Ha
 
 -- what a change makes of each line of the list
 abbrev pub changed : Change → ℕ → ListedLine → List Line
-changed (Insert line) = with_inserted line
-changed (Replace line) = with_replaced line
+changed (Put line Before) = with_inserted line
+changed (Put line Instead) = with_replaced line
 changed Delete = without_deleted
 
 -- its new line is a line
 abbrev pub IsChange : Change → Type 0
-IsChange (Insert line) = IsLine line
-IsChange (Replace line) = IsLine line
+IsChange (Put line placement) = IsLine line
 IsChange Delete = Unit {0}
 
 -- the new line, where the line that is changed stands
 abbrev pub new_part : Bool → Change → List Line
-new_part here (Insert line) = line_if here line
-new_part here (Replace line) = line_if here line
+new_part here (Put line placement) = line_if here line
 new_part here Delete = []
 
 -- whether a line is kept
 abbrev pub is_kept : Bool → Change → Bool
-is_kept here (Insert line) = true
-is_kept here (Replace line) = not here
+is_kept here (Put line Before) = true
+is_kept here (Put line Instead) = not here
 is_kept here Delete = not here
 
 -- so many lines stand before the one that a position stands for

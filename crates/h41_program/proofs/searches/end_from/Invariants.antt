@@ -3,7 +3,7 @@ use Rattle.h41_program.specs.declared.listed_line.ListedLine.{ListedLine}
 use Rattle.h41_program.specs.ProgramBytes.{program_bytes, final_position}
 use Rattle.h41_program.proofs.Numbers.{Runs}
 use Rattle.h41_program.proofs.Walks.{UpTo}
-use Rattle.h41_program.proofs.numbering.end_from.Given as goal
+use Rattle.h41_program.proofs.searches.end_from.Given as goal
 
 -- the lines so far
 abbrev pub invariant-loop-place : goal.invariant-loop-place

@@ -1,4 +1,4 @@
--- Where a program can stand, as the functions that write memory promise it one another. No public contract needs this file.
+-- Where a program can stand, as the functions that write memory promise it one another.
 use Rattle.std.specs.Prelude.{◌≡◌, ℕ, ◌<◌, ◌≤◌, ◌+◌, ◌-◌, ◌*◌}
 use Rattle.h41_ram.specs.RegisterMap.{RegisterMap, main_start, top_of, curtain_of, end_of}
 

@@ -1,4 +1,4 @@
--- What a packer holds of the lines that were put into it. No public contract needs this file.
+-- What a packer holds of the lines that were put into it.
 use Rattle.std.specs.Prelude.{◌≡◌, ◌⊎◌, ℕ, ◌+◌, ◌<◌, IsTrue, IsFalse, Bool, false, ◌&&◌, List, [], ◌∷◌, ◌++◌, length, Option, if◌then◌else◌}
 use Rattle.std.specs.Option.{option_map_or}
 use Rattle.h41_program.specs.Lines.{is_number}

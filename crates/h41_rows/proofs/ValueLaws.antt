@@ -1,5 +1,5 @@
 -- Why a value leaves nothing open.
-use Rattle.std.proofs.Common.{◌≡◌, ℕ, ◌*◌, ◌^◌, Bool, true, false, List, Result, Ok, Err, sym, ap, subst, ◌∙◌}
+use Rattle.std.proofs.Common.{◌≡◌, ℕ, ◌*◌, ◌^◌, Bool, true, false, List, [], ◌∷◌, Result, Ok, Err, MatchBool, refl, sym, ap, subst, ◌∙◌}
 use Rattle.std.specs.Prelude.{ℤ, pos, neg_ℤ, ◌+ℤ◌, ◌-ℤ◌, ◌*ℤ◌, unsigned_abs, IsOkAnd}
 use Rattle.std.specs.Option.{option_map_or}
 use Rattle.h41_codes.specs.declared.characters.Character.{Character}
@@ -15,14 +15,18 @@ use Rattle.h41_decimal.specs.declared.fault.DecimalFault.TheVariants.{Data, Rang
 use Rattle.h41_decimal.specs.declared.parts.Exponent.{Exponent}
 use Rattle.h41_decimal.specs.declared.sign.Sign.{Sign}
 use Rattle.h41_decimal.specs.declared.ten.Ten.{Ten}
-use Rattle.h41_ram.specs.RegisterMap.{RegisterMap, flag_of}
+use Rattle.h41_ram.specs.RegisterMap.{RegisterMap, d_address, flag_of, register_at, zeros}
 use Rattle.h41_show.specs.DisplayFormat.{format_of}
+use Rattle.h41_rows.specs.Computing.{WorksOn, value_of_one, value_of_two}
 use Rattle.h41_rows.specs.Counters.{recounted}
 use Rattle.h41_rows.specs.NumberLines.{IsNumberOf, decimal_places, mantissa_digits, mantissa_part, number_from, sign_in}
-use Rattle.h41_rows.specs.Places.{amount_in, register_in}
-use Rattle.h41_rows.specs.RowLaws.{ValuesAreDetermined}
-use Rattle.h41_rows.specs.Values.{Counted, Difference, Displayed, Fraction, Given, IntegerPart, Inverse, IsRegisterOf, IsValue, Kept, Negative, Percentage, Product, Quotient, Remainder, Root, Size, Sum, Unit, Value, Written, places_of, range_flag, sign_of_value, unit_of}
+use Rattle.h41_rows.specs.Places.{Named, X, Y, amount_in, are_numbers, register_in}
+use Rattle.h41_rows.specs.RowEffects.{holds_in}
+use Rattle.h41_rows.specs.RowLaws.{AlwaysIsDetermined, OneIsDetermined, TestIsDetermined, TwoIsDetermined, ValuesAreDetermined}
+use Rattle.h41_rows.specs.Rows.{places_in_condition, places_in_value}
+use Rattle.h41_rows.specs.Values.{Computes, Counted, Difference, Displayed, Fraction, Given, IntegerPart, Inverse, IsRegisterOf, IsValue, Kept, Negative, Percentage, Product, Quotient, Remainder, Root, Size, Sum, Unit, Value, Written, places_of, range_flag, sign_of_value, unit_of}
 use Rattle.h41_rows.specs.declared.fault.LineFault.{LineFault}
+use Rattle.h41_rows.specs.declared.fault.LineFault.TheVariants.{AlphaData}
 
 -- what is typed hangs on the number of its exponent
 typed_at : (sign : Sign) (digits places : ℕ) (e f : Exponent) (number : Ten) → e.biased ≡ f.biased → IsTyped sign digits places e number
@@ -99,6 +103,33 @@ module _ (same_register : RegisterIsDetermined) where
   same_kept sign true (Err Range) a b p q = same_held (signed sign greatest) a b p q
   same_kept sign false (Err Range) a b p q = p ∙ sym q
 
+-- memory that holds nothing
+abbrev empty_memory : RegisterMap
+empty_memory = record { status = []; main = [] }
+
+-- memory with two registers in Y and X, and with the flags of another
+abbrev with_two : RegisterMap → List ℕ → List ℕ → RegisterMap
+with_two memory y x =
+    record {
+      status =
+          zeros ∷ zeros ∷ y ∷ x ∷ zeros ∷ zeros ∷ zeros ∷ zeros ∷ zeros ∷ zeros ∷ zeros ∷ zeros ∷ zeros ∷ zeros
+          ∷ register_at memory d_address ∷ zeros ∷ [];
+      main = [];
+    }
+
+same_held_register : (register other : List ℕ) → ◌≡◌ {A = Result (List ℕ) LineFault} (Ok register) (Ok other) → register ≡ other
+same_held_register register other is = cc
+
+-- a test asks for numbers, or it is told
+by_numbers : {A : Type 0} (numbers : Bool) (a b other fault : A) → MatchBool numbers (a ≡ other) (a ≡ fault)
+    → MatchBool numbers (b ≡ other) (b ≡ fault) → a ≡ b
+by_numbers true a b other fault p q = p ∙ sym q
+by_numbers false a b other fault p q = p ∙ sym q
+
+pub test_determined : TestIsDetermined
+test_determined memory condition a b p q =
+    by_numbers (are_numbers memory 0 (places_in_condition condition)) a b (Ok (holds_in memory 0 condition)) (Err AlphaData) (p 0) (q 0)
+
 -- the register of a value, or the fault
 module _
     (same_nearest : NearestIsDetermined) (same_root : NearestRootIsDetermined) (same_part : IntegerPartIsDetermined) (same_fraction : FractionIsDetermined)
@@ -114,3 +145,26 @@ module _
       subst (λ answer. Kept (sign_of_value value memory named) (flag_of memory range_flag) answer a) same p.kept
       in
       same_kept same_register (sign_of_value value memory named) (flag_of memory range_flag) q.answer a b kept q.kept
+
+  -- a value that works on numbers
+  works_determined : (memory : RegisterMap) (named : ℕ) (value : Value) (a b : Result (List ℕ) LineFault)
+      → WorksOn memory named value a → WorksOn memory named value b → a ≡ b
+  works_determined memory named value a b p q = by_numbers (are_numbers memory named (places_in_value value)) p q
+    where
+      by_numbers : (numbers : Bool) → MatchBool numbers (Computes value memory named a) (a ≡ Err AlphaData)
+          → MatchBool numbers (Computes value memory named b) (b ≡ Err AlphaData) → a ≡ b
+      by_numbers true p q = values_determined value memory named a b p q
+      by_numbers false p q = p ∙ sym q
+
+  pub one_determined : OneIsDetermined
+  one_determined value memory address a b p q =
+      works_determined memory address (value_of_one value Named) a b (p address Named refl) (q address Named refl)
+
+  pub two_determined : TwoIsDetermined
+  two_determined value memory first second a b p q =
+      let other : RegisterMap = with_two memory (register_at memory first) (register_at memory second) in
+      works_determined other 0 (value_of_two value Y X) a b (p other 0 Y X refl refl refl) (q other 0 Y X refl refl refl)
+
+  pub always_determined : AlwaysIsDetermined
+  always_determined value register other p q =
+      same_held_register register other (values_determined value empty_memory 0 (Ok register) (Ok other) (p empty_memory 0) (q empty_memory 0))

@@ -9,8 +9,8 @@ use Rattle.h41_decimal.specs.Signs.{sign_of}
 use Rattle.h41_decimal.specs.Units.{one, units}
 use Rattle.h41_decimal.specs.WholeParts.{IsFraction, IsIntegerPart}
 use Rattle.h41_decimal.specs.declared.ten.Ten.{Ten}
-use Rattle.h41_ram.specs.RegisterMap.{RegisterMap, flag_of}
-use Rattle.h41_rows.specs.Answers.{KeptOne, KeptTwo, WithoutNumber, worth_at}
+use Rattle.h41_ram.specs.RegisterMap.{RegisterMap, flag_of, register_at}
+use Rattle.h41_rows.specs.Answers.{KeptOne, KeptTwo, WithoutNumber, sign_of_two, worth_at}
 use Rattle.h41_rows.specs.Computing.{IsAlways, WorksOn, WorksOnOne, WorksOnTwo, value_of_one, value_of_two}
 use Rattle.h41_rows.specs.Counters.{Up, Down, recounted}
 use Rattle.h41_rows.specs.Places.{Place, amount_in, are_numbers, place_address, register_in}
@@ -204,20 +204,48 @@ two_asked twos.Quotient memory named a b = refl
 two_asked twos.Remainder memory named a b = refl
 two_asked twos.Percentage memory named a b = refl
 
+-- a register that stands elsewhere holds the number that it holds here
+held_elsewhere : (memory other : RegisterMap) (named : ℕ) (a : Place) (address : ℕ) (number : Option ℤ) → register_in other named a ≡ register_at memory address
+    → worth_at memory address ≡ number → worth (holding_of (register_in other named a)) ≡ number
+held_elsewhere memory other named a address number e w = ap (λ (r : List ℕ). worth (holding_of r)) e ∙ w
+
+amount_elsewhere : (memory other : RegisterMap) (named : ℕ) (a : Place) (address : ℕ) (number : ℤ) → register_in other named a ≡ register_at memory address
+    → worth_at memory address ≡ Some number → number ≡ amount_in other named a
+amount_elsewhere memory other named a address number e w =
+    amount_of other named a (place_address named a) number refl (held_elsewhere memory other named a address (Some number) e w)
+
+number_elsewhere : (memory other : RegisterMap) (named : ℕ) (a : Place) (address : ℕ) (number : Option ℤ) → register_in other named a ≡ register_at memory address
+    → worth_at memory address ≡ number → number_in (register_in other named a) ≡ number
+number_elsewhere memory other named a address number e w =
+    number_of other named a (place_address named a) number refl (held_elsewhere memory other named a address number e w)
+
+-- of memory flag 24 alone has a part in what is kept of an answer
+kept_elsewhere : (value : OfTwo) (memory other : RegisterMap) (x y : Ten) (result : Result (List ℕ) LineFault)
+    → flag_of other range_flag ≡ flag_of memory range_flag → KeptTwo value memory x y result → KeptTwo value other x y result
+kept_elsewhere value memory other x y result same k =
+    record {
+      answer = k.answer;
+      answers = k.answers;
+      kept = subst (λ (flag : Bool). Kept (sign_of_two value (units x) (units y)) flag k.answer result) (sym same) k.kept;
+    }
+
 pub works_two : (value : OfTwo) (memory : RegisterMap) (first second : ℕ) (x y : Ten) (result : Result (List ℕ) LineFault)
     → worth_at memory first ≡ Some (units x) → worth_at memory second ≡ Some (units y) → KeptTwo value memory x y result
     → WorksOnTwo value memory first second result
-works_two value memory first second x y result v w k named a b e f =
-    let are = both_numbers _ _ (units x) (units y) (number_of memory named a first (Some (units x)) e v) (number_of memory named b second (Some (units y)) f w) in
-    where_true _ _ _ (two_asked value memory named a b ∙ are)
-    (computes_two value memory named a b x y result (amount_of memory named a first (units x) e v) (amount_of memory named b second (units y) f w) k)
+works_two value memory first second x y result v w k other named a b e f flag =
+    let are = both_numbers _ _ (units x) (units y)
+    (number_elsewhere memory other named a first (Some (units x)) e v) (number_elsewhere memory other named b second (Some (units y)) f w) in
+    where_true _ _ _ (two_asked value other named a b ∙ are)
+    (computes_two value other named a b x y result
+    (amount_elsewhere memory other named a first (units x) e v) (amount_elsewhere memory other named b second (units y) f w)
+    (kept_elsewhere value memory other x y result flag k))
 
 pub first_fails : (value : OfTwo) (memory : RegisterMap) (first second : ℕ) (fault : LineFault)
     → worth_at memory first ≡ None → fault ≡ AlphaData → WorksOnTwo value memory first second (Err fault)
-first_fails value memory first second fault w said named a b e f =
-    where_false _ _ _ (two_asked value memory named a b ∙ first_without _ _ (number_of memory named a first None e w)) (ap Err said)
+first_fails value memory first second fault w said other named a b e f flag =
+    where_false _ _ _ (two_asked value other named a b ∙ first_without _ _ (number_elsewhere memory other named a first None e w)) (ap Err said)
 
 pub second_fails : (value : OfTwo) (memory : RegisterMap) (first second : ℕ) (fault : LineFault)
     → worth_at memory second ≡ None → fault ≡ AlphaData → WorksOnTwo value memory first second (Err fault)
-second_fails value memory first second fault w said named a b e f =
-    where_false _ _ _ (two_asked value memory named a b ∙ second_without _ _ (number_of memory named b second None f w)) (ap Err said)
+second_fails value memory first second fault w said other named a b e f flag =
+    where_false _ _ _ (two_asked value other named a b ∙ second_without _ _ (number_elsewhere memory other named b second None f w)) (ap Err said)

@@ -2,15 +2,15 @@
 use Rattle.std.specs.Prelude.{◌≡◌, ℕ, Bool, List, [], ◌∷◌, MatchBool, Some, Result, Ok, Err, ℤ, pos}
 use Rattle.std.specs.Option.{option_map_or}
 use Rattle.h41_decimal.specs.Holding.{holding_of, worth}
-use Rattle.h41_ram.specs.RegisterMap.{RegisterMap, register_at}
+use Rattle.h41_ram.specs.RegisterMap.{RegisterMap, flag_of, register_at}
 use Rattle.h41_rows.specs.Counters.{Up, Down}
 use Rattle.h41_rows.specs.Operands.{Meant, Count, Name}
-use Rattle.h41_rows.specs.Places.{Place, are_numbers, place_address}
+use Rattle.h41_rows.specs.Places.{Place, are_numbers, place_address, register_in}
 use Rattle.h41_rows.specs.RowEffects.{holds_in, takes_of, with_alpha_change, with_taken}
 use Rattle.h41_rows.specs.Rows.{AlphaChange, Condition, Takes, coming_in, compute, copy, places_in_condition, places_in_value}
 use Rattle.h41_rows.specs.Rows as rows
 use Rattle.h41_rows.specs.Places as places
-use Rattle.h41_rows.specs.Values.{Value, Computes}
+use Rattle.h41_rows.specs.Values.{Value, Computes, range_flag}
 use Rattle.h41_rows.specs.Values as values
 use Rattle.h41_rows.specs.declared.conditions.Test.{Test}
 use Rattle.h41_rows.specs.declared.conditions.Test.TheVariants as tests
@@ -50,14 +50,21 @@ value_of_two twos.Quotient a b = values.Quotient a b
 value_of_two twos.Remainder a b = values.Remainder a b
 value_of_two twos.Percentage a b = values.Percentage a b
 
--- it is computed of the registers at these addresses, whatever the places are called
+-- it is computed of the register at this address, whatever its place is called
 abbrev pub WorksOnOne : OfOne → RegisterMap → ℕ → Result (List ℕ) LineFault → Type 0
 WorksOnOne value memory address result =
-    (named : ℕ) (a : Place) → place_address named a ≡ address → WorksOn memory named (value_of_one value a) result
+    (named : ℕ) (a : Place)
+    → place_address named a ≡ address → WorksOn memory named (value_of_one value a) result
 
+-- It is computed of the registers at these two addresses, whatever memory they stand in and whatever their places are called: of all
+-- else flag 24 alone has a part in it. There is such a memory for any two registers.
 abbrev pub WorksOnTwo : OfTwo → RegisterMap → ℕ → ℕ → Result (List ℕ) LineFault → Type 0
 WorksOnTwo value memory first second result =
-    (named : ℕ) (a b : Place) → place_address named a ≡ first → place_address named b ≡ second → WorksOn memory named (value_of_two value a b) result
+    (other : RegisterMap) (named : ℕ) (a b : Place)
+    → register_in other named a ≡ register_at memory first
+    → register_in other named b ≡ register_at memory second
+    → flag_of other range_flag ≡ flag_of memory range_flag
+    → WorksOn other named (value_of_two value a b) result
 
 -- a value that memory has no part in
 abbrev pub IsAlways : Value → List ℕ → Type 0

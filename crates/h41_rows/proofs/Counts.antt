@@ -1,10 +1,9 @@
 -- The ones and the fraction of a number that counts a loop.
-use Rattle.std.proofs.Common.{◌≡◌, ℕ, zero, suc, ◌+◌, ◌-◌, ◌*◌, ◌/◌, ◌%◌, ◌^◌, ◌<◌, ◌≤◌, ◌≢◌, ⊎_elim, sym, ◌∙◌, ap, refl, subst, arith, Bool, false}
-use Rattle.std.specs.Prelude.{ℤ, pos, negsuc, ◌+ℤ◌, ◌-ℤ◌, ◌==◌, if◌then◌else◌, unsigned_abs}
-use Rattle.std.proofs.Math.Nat.{mul-le-mul_right, mul-lt-mul_of_pos_right, pow-le-pow_right, mul-div-mul_right}
+use Rattle.std.proofs.Common.{◌≡◌, ℕ, zero, suc, ◌+◌, ◌-◌, ◌*◌, ◌/◌, ◌%◌, ◌^◌, ◌<◌, ◌≤◌, ⊎_elim, sym, ◌∙◌, ap, refl, subst, arith}
+use Rattle.std.specs.Prelude.{ℤ, pos, negsuc, ◌+ℤ◌, ◌-ℤ◌, unsigned_abs}
+use Rattle.std.proofs.Math.Nat.{mul-lt-mul_of_pos_right, pow-le-pow_right}
 use Rattle.std.proofs.lemmas.Nat.{pow-add}
 use Rattle.std.proofs.lemmas.Bool.{cases_lt}
-use Rattle.std.proofs.lemmas.Bool.Decides.{nat_tests}
 use Rattle.std.proofs.lemmas.Int.{ints}
 use Rattle.h41_decimal.specs.Signs.{signed, sign_of}
 use Rattle.h41_decimal.specs.Units.{one, size, units}
@@ -15,7 +14,6 @@ use Rattle.h41_decimal.specs.declared.sign.Sign.TheVariants.{Plus, Minus}
 use Rattle.h41_decimal.specs.declared.ten.Ten.{Ten}
 use Rattle.h41_decimal.specs.declared.ten.Ten.TheVariants.{Zero, Nonzero}
 use Rattle.h41_decimal.proofs.Nearest.{ten_pow_pos}
-use Rattle.h41_decimal.proofs.Cuts.{power_parts}
 use Rattle.h41_decimal.proofs.Signed.{signed-sub}
 use Rattle.h41_decimal.proofs.Tens.{size_pos, unsigned_abs-signed}
 use Rattle.h41_decimal.proofs.Wholes.{all_ones, ten_of_fewer, filled_worth}
@@ -40,49 +38,6 @@ pub whole_worth : (log n p : ℕ) → p ≡ 10 ^ (9 - log) → log ≤ 9 → n *
 whole_worth log n p is fits =
     let steps : 108 - (9 - log) ≡ 99 + log = omega arith in
     ap (λ (t : ℕ). n * p * 10 ^ t) (sym steps) ∙ filled_worth n (9 - log) 108 p is (omega arith)
-
--- the digits by which a fraction counts
-pub low_count : (m s : ℕ) → m < 10 ^ 10 → s < 94 → count_in (m * 10 ^ s) ≡ 1
-low_count m s small low =
-    let ten : 0 < 10 = omega arith in
-    let le : s ≤ 93 = omega arith in
-    let p : 10 ^ s ≤ 10 ^ 93 = pow-le-pow_right ten le in
-    let a : m * 10 ^ s < 10 ^ 10 * 10 ^ s = mul-lt-mul_of_pos_right small (ten_pow_pos s) in
-    let none : m * 10 ^ s / 10 ^ 103 % 100 ≡ 0 = omega arith in
-    ap (λ (t : ℕ). if t == 0 then 1 else t) none
-
-pub fraction_steps : (m s : ℕ) → 10 ^ 9 ≤ m → m * 10 ^ s < 10 ^ 108 → s ≤ 103
-fraction_steps m s least below =
-    ⊎_elim
-    (λ (more : 103 < s).
-    absurd
-    (let ten : 0 < 10 = omega arith in
-    let le : 104 ≤ s = omega arith in
-    let p : 10 ^ 104 ≤ 10 ^ s = pow-le-pow_right ten le in
-    let a : 10 ^ 9 * 10 ^ s ≤ m * 10 ^ s = mul-le-mul_right (10 ^ s) least in
-    omega arith))
-    (λ (fits : s ≤ 103). fits)
-    (cases_lt 103 s)
-
-pub count_digits : (m s p : ℕ) → p ≡ 10 ^ (103 - s) → s ≤ 103 → m * 10 ^ s / 10 ^ 103 ≡ m / p
-count_digits m s p is fits =
-    let parts : p * 10 ^ s ≡ 10 ^ 103 = ap (λ (t : ℕ). t * 10 ^ s) is ∙ power_parts (103 - s) s 103 (omega arith) in
-    ap (λ (t : ℕ). m * 10 ^ s / t) (sym parts) ∙ mul-div-mul_right m p (ten_pow_pos s)
-
-pub counts_one : (m s p : ℕ) → p ≡ 10 ^ (103 - s) → s ≤ 103 → m / p % 100 ≡ 0 → count_in (m * 10 ^ s) ≡ 1
-counts_one m s p is fits none =
-    let e : m * 10 ^ s / 10 ^ 103 % 100 ≡ 0 = ap (λ (t : ℕ). t % 100) (count_digits m s p is fits) ∙ none in
-    ap (λ (t : ℕ). if t == 0 then 1 else t) e
-
-count_some : (t : ℕ) → t ≢ 0 → (if t == 0 then 1 else t) ≡ t
-count_some t some =
-    let f : (t == 0) ≡ false = grind (arith, nat_tests) in
-    ap (λ (b : Bool). if b then 1 else t) f
-
-pub counts_some : (m s p : ℕ) → p ≡ 10 ^ (103 - s) → s ≤ 103 → m / p % 100 ≢ 0 → count_in (m * 10 ^ s) ≡ m / p % 100
-counts_some m s p is fits some =
-    let e : m * 10 ^ s / 10 ^ 103 % 100 ≡ m / p % 100 = ap (λ (t : ℕ). t % 100) (count_digits m s p is fits) in
-    ap (λ (t : ℕ). if t == 0 then 1 else t) e ∙ count_some (m / p % 100) some
 
 -- the size of a fraction
 signed_self : (z : ℤ) → z ≡ signed (sign_of z) (unsigned_abs z)

@@ -4,7 +4,7 @@ use Rattle.std.specs.Prelude.{ℤ, pos, neg_ℤ, ◌+ℤ◌, ◌-ℤ◌, ◌*ℤ
 use Rattle.std.specs.Option.{option_map_or}
 use Rattle.h41_codes.specs.declared.characters.Character.{Character}
 use Rattle.h41_decimal.specs.Holding.{holding_of, worth}
-use Rattle.h41_decimal.specs.Laws.{FractionIsDetermined, IntegerPartIsDetermined, ModuloIsDetermined, NearestIsDetermined, NearestRootIsDetermined, QuotientIsDetermined, RegisterIsDetermined, StepsAreDetermined, TypedIsDetermined, UnitsAreInjective}
+use Rattle.h41_decimal.specs.Laws.{FractionIsDetermined, IntegerPartIsDetermined, ModuloIsDetermined, NearestIsDetermined, NearestRootIsDetermined, QuotientIsDetermined, RegisterIsDetermined, StepsAreDetermined, UnitsAreInjective}
 use Rattle.h41_decimal.specs.NearestDecimal.{Nearest}
 use Rattle.h41_decimal.specs.NumberEntry.{IsTyped, greatest}
 use Rattle.h41_decimal.specs.Operations.{NearestModulo, RoundsTo, step_of}
@@ -19,7 +19,8 @@ use Rattle.h41_ram.specs.RegisterMap.{RegisterMap, d_address, flag_of, register_
 use Rattle.h41_show.specs.DisplayFormat.{format_of}
 use Rattle.h41_rows.specs.Computing.{WorksOn, value_of_one, value_of_two}
 use Rattle.h41_rows.specs.Counters.{recounted}
-use Rattle.h41_rows.specs.NumberLines.{IsNumberOf, decimal_places, mantissa_digits, mantissa_part, number_from, sign_in}
+use Rattle.h41_numbers.specs.NumberLaws.{NumbersAreDetermined}
+use Rattle.h41_numbers.specs.NumberLines.{IsNumberOf}
 use Rattle.h41_rows.specs.Places.{Named, X, Y, amount_in, are_numbers, register_in}
 use Rattle.h41_rows.specs.RowEffects.{holds_in}
 use Rattle.h41_rows.specs.RowLaws.{AlwaysIsDetermined, OneIsDetermined, TestIsDetermined, TwoIsDetermined, ValuesAreDetermined}
@@ -28,26 +29,8 @@ use Rattle.h41_rows.specs.Values.{Computes, Counted, Difference, Displayed, Frac
 use Rattle.h41_rows.specs.declared.fault.LineFault.{LineFault}
 use Rattle.h41_rows.specs.declared.fault.LineFault.TheVariants.{AlphaData}
 
--- what is typed hangs on the number of its exponent
-typed_at : (sign : Sign) (digits places : ℕ) (e f : Exponent) (number : Ten) → e.biased ≡ f.biased → IsTyped sign digits places e number
-    → IsTyped sign digits places f number
-typed_at sign digits places e f number same typed =
-    record {
-      answer = typed.answer;
-      nearest = subst (λ biased. Nearest (signed sign (digits * one * 10 ^ biased)) (10 ^ places * 10 ^ 99) typed.answer) same typed.nearest;
-      value = typed.value;
-    }
-
 -- the number of a number line
-module _ (same_typed : TypedIsDetermined) where
-  same_number : (text : List Character) (x y : Ten) → IsNumberOf text x → IsNumberOf text y → x ≡ y
-  same_number text x y p q =
-      let sign : Sign = sign_in (mantissa_part text) in
-      let digits : ℕ = number_from 0 (mantissa_digits text) in
-      let places : ℕ = decimal_places text in
-      same_typed sign digits places q.exponent x y
-      (typed_at sign digits places p.exponent q.exponent x (p.biased ∙ sym q.biased) p.typed) q.typed
-
+module _ (same_number : NumbersAreDetermined) where
   same_written : (text : List Character) (x y : Result Ten DecimalFault) → IsOkAnd x (IsNumberOf text) → IsOkAnd y (IsNumberOf text) → x ≡ y
   same_written text (Ok x) (Ok y) p q = ap Ok (same_number text x y p q)
   same_written text (Ok x) (Err fault) p q = absurd q
@@ -56,12 +39,12 @@ module _ (same_typed : TypedIsDetermined) where
 -- the answer for a value
 module _
     (same_nearest : NearestIsDetermined) (same_root : NearestRootIsDetermined) (same_part : IntegerPartIsDetermined) (same_fraction : FractionIsDetermined)
-    (same_typed : TypedIsDetermined) (same_units : UnitsAreInjective) (same_quotient : QuotientIsDetermined) (same_modulo : ModuloIsDetermined)
+    (same_number : NumbersAreDetermined) (same_units : UnitsAreInjective) (same_quotient : QuotientIsDetermined) (same_modulo : ModuloIsDetermined)
     (same_steps : StepsAreDetermined) where
   same_answer : (value : Value) (memory : RegisterMap) (named : ℕ) (x y : Result Ten DecimalFault)
       → IsValue value memory named x → IsValue value memory named y → x ≡ y
   same_answer (Given number) memory named x y p q = same_nearest number 1 x y p q
-  same_answer (Written characters) memory named x y p q = same_written same_typed characters x y p q
+  same_answer (Written characters) memory named x y p q = same_written same_number characters x y p q
   same_answer (Sum a b) memory named x y p q = same_nearest (amount_in memory named a +ℤ amount_in memory named b) 1 x y p q
   same_answer (Difference a b) memory named x y p q = same_nearest (amount_in memory named a -ℤ amount_in memory named b) 1 x y p q
   same_answer (Product a b) memory named x y p q = same_nearest (amount_in memory named a *ℤ amount_in memory named b) one x y p q
@@ -133,12 +116,12 @@ test_determined memory condition a b p q =
 -- the register of a value, or the fault
 module _
     (same_nearest : NearestIsDetermined) (same_root : NearestRootIsDetermined) (same_part : IntegerPartIsDetermined) (same_fraction : FractionIsDetermined)
-    (same_typed : TypedIsDetermined) (same_units : UnitsAreInjective) (same_quotient : QuotientIsDetermined) (same_modulo : ModuloIsDetermined)
+    (same_number : NumbersAreDetermined) (same_units : UnitsAreInjective) (same_quotient : QuotientIsDetermined) (same_modulo : ModuloIsDetermined)
     (same_steps : StepsAreDetermined) (same_register : RegisterIsDetermined) where
   pub values_determined : ValuesAreDetermined
   values_determined value memory named a b p q =
       let same : p.answer ≡ q.answer =
-      same_answer same_nearest same_root same_part same_fraction same_typed same_units same_quotient same_modulo same_steps
+      same_answer same_nearest same_root same_part same_fraction same_number same_units same_quotient same_modulo same_steps
       value memory named p.answer q.answer p.nearest q.nearest
       in
       let kept : Kept (sign_of_value value memory named) (flag_of memory range_flag) q.answer a =

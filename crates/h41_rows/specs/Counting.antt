@@ -3,7 +3,13 @@ use Rattle.std.specs.Prelude.{ℕ, ◌+◌, ◌*◌, ◌/◌, ◌%◌, ◌^◌, 
 use Rattle.h41_decimal.specs.Signs.{signed, sign_of}
 use Rattle.h41_decimal.specs.Units.{one}
 use Rattle.h41_decimal.specs.declared.sign.Sign.{Sign}
-use Rattle.h41_rows.specs.Counters.{count_of, counter_of, fraction_of}
+use Rattle.h41_decimal.specs.declared.sign.Sign.TheVariants.{Plus, Minus}
+use Rattle.h41_rows.specs.Counters.{Way, Up, Down, count_of, counter_of, fraction_of}
+
+-- which way a direction is: plus up, minus down
+abbrev pub way_of : Sign → Way
+way_of Plus = Up
+way_of Minus = Down
 
 -- by how much a fraction says that is counted
 abbrev pub count_in : ℕ → ℕ

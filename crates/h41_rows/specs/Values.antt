@@ -23,7 +23,7 @@ use Rattle.h41_show.specs.declared.format.Format.{Format}
 use Rattle.h41_show.specs.declared.format.Notation.{Notation}
 use Rattle.h41_show.specs.declared.format.Notation.TheVariants.{Fixed, Scientific, Engineering}
 use Rattle.h41_rows.specs.Counters.{Way, recounted}
-use Rattle.h41_rows.specs.NumberLines.{IsNumberOf}
+use Rattle.h41_numbers.specs.NumberLines.{IsNumberOf}
 use Rattle.h41_rows.specs.Places.{Place, amount_in, register_in}
 use Rattle.h41_rows.specs.declared.fault.LineFault.{LineFault}
 use Rattle.h41_rows.specs.declared.fault.LineFault.TheVariants.{DataError, OutOfRange}

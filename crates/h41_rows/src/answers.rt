@@ -9,13 +9,13 @@ ghost use Rattle.h41_show.specs.DisplayFormat.{format_of};
 ghost use Rattle.h41_rows.specs.Answers.{AnswersOne, AnswersTwo, IsNumberAt, KeptRange, sign_of_one, sign_of_two};
 ghost use Rattle.h41_rows.specs.Values.{IsRegisterOf, places_of, unit_of};
 
-use crate::counting::{counted_down, counted_up};
+use crate::counters::{counted_down, counted_up};
 use crate::fault::LineFault;
-use crate::signs::{sign_of_difference, sign_of_product, sign_of_sum};
 use crate::values::{OfOne, OfTwo};
 use h41_decimal::laws::decimal_is_its_nearest;
 use h41_decimal::{DecimalFault, Places, Sign, Ten};
 use h41_digits::Reg;
+use h41_numbers::{sign_of_difference, sign_of_product, sign_of_sum};
 use h41_ram::Ram;
 use h41_show::{Format, Notation};
 

@@ -4,9 +4,9 @@ ghost use Rattle.h41_rows.specs.RowLaws.{AlphaIsDetermined, AlwaysIsDetermined, 
 
 use h41_decimal::laws::{
     nearest_is_determined, nearest_root_is_determined, parts_are_determined,
-    quotients_are_determined, register_is_determined, steps_are_determined, typed_is_determined,
-    units_are_injective,
+    quotients_are_determined, register_is_determined, steps_are_determined, units_are_injective,
 };
+use h41_numbers::laws::numbers_are_determined;
 
 /// What a line computes is determined: the register, or the fault.
 pub fn values_are_determined()
@@ -15,7 +15,7 @@ pub fn values_are_determined()
     nearest_is_determined();
     nearest_root_is_determined();
     parts_are_determined();
-    typed_is_determined();
+    numbers_are_determined();
     units_are_injective();
     quotients_are_determined();
     steps_are_determined();
@@ -32,7 +32,7 @@ pub fn results_are_determined()
     nearest_is_determined();
     nearest_root_is_determined();
     parts_are_determined();
-    typed_is_determined();
+    numbers_are_determined();
     units_are_injective();
     quotients_are_determined();
     steps_are_determined();

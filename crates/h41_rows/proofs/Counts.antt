@@ -18,7 +18,7 @@ use Rattle.h41_decimal.proofs.Signed.{signed-sub}
 use Rattle.h41_decimal.proofs.Tens.{size_pos, unsigned_abs-signed}
 use Rattle.h41_decimal.proofs.Wholes.{all_ones, ten_of_fewer, filled_worth}
 use Rattle.h41_rows.specs.Counters.{counter_of, fraction_of}
-use Rattle.h41_rows.specs.Counting.{count_in, counted_along, with_ones}
+use Rattle.h41_rows.specs.Counting.{count_in, number_along, with_ones}
 
 -- a whole number of up to ten digits, filled with zeros
 pub log_few : (log n : ℕ) → 10 ^ log ≤ n → n < 10 ^ 10 → log ≤ 9
@@ -109,7 +109,7 @@ one_step Minus Minus (suc q) =
     let f : with_ones (negsuc (suc q)) 0 ≡ signed Minus (suc q * one) +ℤ signed Minus one = omega (arith, ints) in
     ap (λ (k : ℤ). with_ones k 0) e ∙ f
 
-pub counts_whole : (z : ℤ) (d : Sign) → fraction_of z ≡ 0 → counted_along d z ≡ z +ℤ signed d one
+pub counts_whole : (z : ℤ) (d : Sign) → fraction_of z ≡ 0 → number_along d z ≡ z +ℤ signed d one
 counts_whole z d none =
     let n = unsigned_abs z in
     let q : ℕ = n / 10 ^ 108 in
@@ -120,7 +120,7 @@ counts_whole z d none =
 
 -- a number with a fraction, by its ones
 pub counts_ones : (z : ℤ) (s d : Sign) (ones count rest : ℕ) → s ≡ sign_of z → HasOnes (unsigned_abs z) ones → count ≡ count_in rest → rest ≡ fraction_of z
-    → with_ones (signed s ones +ℤ signed d count) rest ≡ counted_along d z
+    → with_ones (signed s ones +ℤ signed d count) rest ≡ number_along d z
 counts_ones z s d ones count rest sign has counts fraction =
     let low : ones * 10 ^ 108 ≤ unsigned_abs z = has.not_above in
     let high : unsigned_abs z < (ones + 1) * 10 ^ 108 = has.next_above in

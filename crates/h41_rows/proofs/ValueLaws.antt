@@ -1,31 +1,30 @@
 -- Why a value leaves nothing open.
-use Rattle.std.proofs.Common.{◌≡◌, ℕ, ◌*◌, ◌^◌, Bool, true, false, List, [], ◌∷◌, Result, Ok, Err, MatchBool, refl, sym, ap, subst, ◌∙◌}
+use Rattle.std.proofs.Common.{◌≡◌, ℕ, ◌*◌, Bool, true, false, List, [], ◌∷◌, Result, Ok, Err, MatchBool, refl, sym, ap, subst, ◌∙◌}
 use Rattle.std.specs.Prelude.{ℤ, pos, neg_ℤ, ◌+ℤ◌, ◌-ℤ◌, ◌*ℤ◌, unsigned_abs, IsOkAnd}
 use Rattle.std.specs.Option.{option_map_or}
 use Rattle.h41_codes.specs.declared.characters.Character.{Character}
 use Rattle.h41_decimal.specs.Holding.{holding_of, worth}
 use Rattle.h41_decimal.specs.Laws.{FractionIsDetermined, IntegerPartIsDetermined, ModuloIsDetermined, NearestIsDetermined, NearestRootIsDetermined, QuotientIsDetermined, RegisterIsDetermined, StepsAreDetermined, UnitsAreInjective}
 use Rattle.h41_decimal.specs.NearestDecimal.{Nearest}
-use Rattle.h41_decimal.specs.NumberEntry.{IsTyped, greatest}
+use Rattle.h41_decimal.specs.NumberEntry.{greatest}
 use Rattle.h41_decimal.specs.Operations.{NearestModulo, RoundsTo, step_of}
 use Rattle.h41_decimal.specs.Signs.{signed}
 use Rattle.h41_decimal.specs.Units.{one, units}
 use Rattle.h41_decimal.specs.declared.fault.DecimalFault.{DecimalFault}
 use Rattle.h41_decimal.specs.declared.fault.DecimalFault.TheVariants.{Data, Range}
-use Rattle.h41_decimal.specs.declared.parts.Exponent.{Exponent}
 use Rattle.h41_decimal.specs.declared.sign.Sign.{Sign}
 use Rattle.h41_decimal.specs.declared.ten.Ten.{Ten}
 use Rattle.h41_ram.specs.RegisterMap.{RegisterMap, d_address, flag_of, register_at, zeros}
 use Rattle.h41_show.specs.DisplayFormat.{format_of}
-use Rattle.h41_rows.specs.Computing.{WorksOn, value_of_one, value_of_two}
-use Rattle.h41_rows.specs.Counters.{recounted}
 use Rattle.h41_numbers.specs.NumberLaws.{NumbersAreDetermined}
 use Rattle.h41_numbers.specs.NumberLines.{IsNumberOf}
+use Rattle.h41_rows.specs.Computing.{WorksOn, value_of_one, value_of_two}
+use Rattle.h41_rows.specs.Counters.{number_after}
 use Rattle.h41_rows.specs.Places.{Named, X, Y, amount_in, are_numbers, register_in}
 use Rattle.h41_rows.specs.RowEffects.{holds_in}
 use Rattle.h41_rows.specs.RowLaws.{AlwaysIsDetermined, OneIsDetermined, TestIsDetermined, TwoIsDetermined, ValuesAreDetermined}
 use Rattle.h41_rows.specs.Rows.{places_in_condition, places_in_value}
-use Rattle.h41_rows.specs.Values.{Computes, Counted, Difference, Displayed, Fraction, Given, IntegerPart, Inverse, IsRegisterOf, IsValue, Kept, Negative, Percentage, Product, Quotient, Remainder, Root, Size, Sum, Unit, Value, Written, places_of, range_flag, sign_of_value, unit_of}
+use Rattle.h41_rows.specs.Values.{Computes, Counted, Difference, Displayed, Fraction, Given, IntegerPart, Inverse, IsRegisterOf, IsValue, Kept, Negative, Percentage, Product, Quotient, Remainder, Root, AbsoluteValue, Sum, Unit, Value, Written, places_of, range_flag, sign_of_value, unit_of}
 use Rattle.h41_rows.specs.declared.fault.LineFault.{LineFault}
 use Rattle.h41_rows.specs.declared.fault.LineFault.TheVariants.{AlphaData}
 
@@ -58,7 +57,7 @@ module _
   same_answer (Root a) memory named x y p q = same_root (amount_in memory named a) x y p q
   same_answer (Inverse a) memory named x y p q = same_quotient (pos one) (amount_in memory named a) x y p q
   same_answer (Negative a) memory named x y p q = same_nearest (neg_ℤ (amount_in memory named a)) 1 x y p q
-  same_answer (Size a) memory named x y p q = same_nearest (pos (unsigned_abs (amount_in memory named a))) 1 x y p q
+  same_answer (AbsoluteValue a) memory named x y p q = same_nearest (pos (unsigned_abs (amount_in memory named a))) 1 x y p q
   same_answer (IntegerPart a) memory named x y p q =
       let part : p.0 ≡ q.0 = same_part (amount_in memory named a) p.0 q.0 p.1 q.1 in
       same_nearest q.0 1 x y (subst (λ of. Nearest of 1 x) part p.2) q.2
@@ -70,7 +69,7 @@ module _
       same_steps (step_of (places_of (format_of memory)) q.0) (units q.0) x y
       (subst (λ of. RoundsTo (step_of (places_of (format_of memory)) of) (units of) x) number p.2) q.2
   same_answer (Unit a) memory named x y p q = same_nearest (option_map_or unit_of (worth (holding_of (register_in memory named a))) (pos 0)) 1 x y p q
-  same_answer (Counted way a) memory named x y p q = same_nearest (recounted way (amount_in memory named a)) 1 x y p q
+  same_answer (Counted way a) memory named x y p q = same_nearest (number_after way (amount_in memory named a)) 1 x y p q
 
 -- what is kept of an answer
 module _ (same_register : RegisterIsDetermined) where

@@ -12,7 +12,7 @@ use Rattle.h41_decimal.specs.declared.ten.Ten.{Ten}
 use Rattle.h41_ram.specs.RegisterMap.{RegisterMap, flag_of, register_at}
 use Rattle.h41_rows.specs.Answers.{KeptOne, KeptTwo, WithoutNumber, sign_of_two, worth_at}
 use Rattle.h41_rows.specs.Computing.{IsAlways, WorksOn, WorksOnOne, WorksOnTwo, value_of_one, value_of_two}
-use Rattle.h41_rows.specs.Counters.{Up, Down, recounted}
+use Rattle.h41_rows.specs.Counters.{Up, Down, number_after}
 use Rattle.h41_rows.specs.Places.{Place, amount_in, are_numbers, place_address, register_in}
 use Rattle.h41_rows.specs.Rows.{places_in_value}
 use Rattle.h41_rows.specs.Values as values
@@ -61,7 +61,7 @@ computes_one ones.Inverse memory named a number result e w k =
     record { answer = k.answer; nearest = subst (λ (t : ℤ). NearestQuotient (pos one) t k.answer) e k.answers; kept = k.kept }
 computes_one ones.Negative memory named a number result e w k =
     record { answer = k.answer; nearest = subst (λ (t : ℤ). Nearest (neg_ℤ t) 1 k.answer) e k.answers; kept = k.kept }
-computes_one ones.Size memory named a number result e w k =
+computes_one ones.AbsoluteValue memory named a number result e w k =
     record { answer = k.answer; nearest = subst (λ (t : ℤ). Nearest (pos (unsigned_abs t)) 1 k.answer) e k.answers; kept = k.kept }
 computes_one ones.IntegerPart memory named a number result e w k =
     record { answer = k.answer; nearest = subst (λ (t : ℤ). (part : ℤ) × IsIntegerPart t part × Nearest part 1 k.answer) e k.answers; kept = k.kept }
@@ -80,9 +80,9 @@ computes_one ones.Unit memory named a number result e w k =
       kept = k.kept;
     }
 computes_one ones.CountedUp memory named a number result e w k =
-    record { answer = k.answer; nearest = subst (λ (t : ℤ). Nearest (recounted Up t) 1 k.answer) e k.answers; kept = k.kept }
+    record { answer = k.answer; nearest = subst (λ (t : ℤ). Nearest (number_after Up t) 1 k.answer) e k.answers; kept = k.kept }
 computes_one ones.CountedDown memory named a number result e w k =
-    record { answer = k.answer; nearest = subst (λ (t : ℤ). Nearest (recounted Down t) 1 k.answer) e k.answers; kept = k.kept }
+    record { answer = k.answer; nearest = subst (λ (t : ℤ). Nearest (number_after Down t) 1 k.answer) e k.answers; kept = k.kept }
 
 pub works_one : (value : OfOne) (memory : RegisterMap) (address : ℕ) (number : Ten) (result : Result (List ℕ) LineFault)
     → worth_at memory address ≡ Some (units number) → KeptOne value memory number result → WorksOnOne value memory address result
@@ -98,7 +98,7 @@ works_one value memory address number result w k named a e =
     worked ones.Root t computes = where_true _ _ _ t computes
     worked ones.Inverse t computes = where_true _ _ _ t computes
     worked ones.Negative t computes = where_true _ _ _ t computes
-    worked ones.Size t computes = where_true _ _ _ t computes
+    worked ones.AbsoluteValue t computes = where_true _ _ _ t computes
     worked ones.IntegerPart t computes = where_true _ _ _ t computes
     worked ones.Fraction t computes = where_true _ _ _ t computes
     worked ones.Displayed t computes = where_true _ _ _ t computes
@@ -134,7 +134,7 @@ works_without value memory address fault result w f without named a e =
     refused ones.Root t none said without = where_false _ _ _ t (without ∙ said)
     refused ones.Inverse t none said without = where_false _ _ _ t (without ∙ said)
     refused ones.Negative t none said without = where_false _ _ _ t (without ∙ said)
-    refused ones.Size t none said without = where_false _ _ _ t (without ∙ said)
+    refused ones.AbsoluteValue t none said without = where_false _ _ _ t (without ∙ said)
     refused ones.IntegerPart t none said without = where_false _ _ _ t (without ∙ said)
     refused ones.Fraction t none said without = where_false _ _ _ t (without ∙ said)
     refused ones.Displayed t none said without = where_false _ _ _ t (without ∙ said)

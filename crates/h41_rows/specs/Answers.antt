@@ -14,7 +14,7 @@ use Rattle.h41_decimal.specs.declared.ten.Ten.{Ten}
 use Rattle.h41_ram.specs.RegisterMap.{RegisterMap, flag_of, register_at}
 use Rattle.h41_show.specs.DisplayFormat.{format_of}
 use Rattle.h41_rows.specs.Computing.{IsAlways}
-use Rattle.h41_rows.specs.Counters.{Up, Down, recounted}
+use Rattle.h41_rows.specs.Counters.{Up, Down, number_after}
 use Rattle.h41_rows.specs.Values.{Given, IsRegisterOf, Kept, places_of, range_flag, unit_of}
 use Rattle.h41_rows.specs.declared.fault.LineFault.{LineFault}
 use Rattle.h41_rows.specs.declared.fault.LineFault.TheVariants.{AlphaData, OutOfRange}
@@ -36,13 +36,13 @@ abbrev pub AnswersOne : OfOne → RegisterMap → Ten → Result Ten DecimalFaul
 AnswersOne ones.Root memory number answer = NearestRoot (units number) answer
 AnswersOne ones.Inverse memory number answer = NearestQuotient (pos one) (units number) answer
 AnswersOne ones.Negative memory number answer = Nearest (neg_ℤ (units number)) 1 answer
-AnswersOne ones.Size memory number answer = Nearest (pos (unsigned_abs (units number))) 1 answer
+AnswersOne ones.AbsoluteValue memory number answer = Nearest (pos (unsigned_abs (units number))) 1 answer
 AnswersOne ones.IntegerPart memory number answer = (part : ℤ) × IsIntegerPart (units number) part × Nearest part 1 answer
 AnswersOne ones.Fraction memory number answer = (rest : ℤ) × IsFraction (units number) rest × Nearest rest 1 answer
 AnswersOne ones.Displayed memory number answer = RoundsTo (step_of (places_of (format_of memory)) number) (units number) answer
 AnswersOne ones.Unit memory number answer = Nearest (unit_of (units number)) 1 answer
-AnswersOne ones.CountedUp memory number answer = Nearest (recounted Up (units number)) 1 answer
-AnswersOne ones.CountedDown memory number answer = Nearest (recounted Down (units number)) 1 answer
+AnswersOne ones.CountedUp memory number answer = Nearest (number_after Up (units number)) 1 answer
+AnswersOne ones.CountedDown memory number answer = Nearest (number_after Down (units number)) 1 answer
 
 -- and its sign, where it can be out of range
 abbrev pub sign_of_one : OfOne → ℤ → Sign

@@ -33,7 +33,7 @@ abbrev pub value_of_one : OfOne → Place → Value
 value_of_one ones.Root a = values.Root a
 value_of_one ones.Inverse a = values.Inverse a
 value_of_one ones.Negative a = values.Negative a
-value_of_one ones.Size a = values.Size a
+value_of_one ones.AbsoluteValue a = values.AbsoluteValue a
 value_of_one ones.IntegerPart a = values.IntegerPart a
 value_of_one ones.Fraction a = values.Fraction a
 value_of_one ones.Displayed a = values.Displayed a
@@ -123,8 +123,8 @@ abbrev pub ChangesAlpha : (old new : RegisterMap) → AlphaChange → Type 0
 ChangesAlpha old new change = (named : ℕ) → new ≡ with_alpha_change old named (Some change) old
 
 -- the stack drops onto a register; the whole stack takes one
-abbrev pub dropped : List Takes
-dropped = compute places.X ∷ copy places.Y places.Z ∷ copy places.Z places.T ∷ copy places.LastX places.X ∷ []
+abbrev pub drop_takes : List Takes
+drop_takes = compute places.X ∷ copy places.Y places.Z ∷ copy places.Z places.T ∷ copy places.LastX places.X ∷ []
 
 abbrev pub whole_stack : List Takes
 whole_stack = compute places.T ∷ compute places.Z ∷ compute places.Y ∷ compute places.X ∷ []

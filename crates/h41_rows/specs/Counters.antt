@@ -28,15 +28,15 @@ abbrev pub count_of : ℤ → ℕ
 count_of number = if increment_of number == 0 then 1 else increment_of number
 
 -- i, counted
-abbrev pub counted : Way → ℤ → ℤ
-counted Up number = counter_of number +ℤ pos (count_of number)
-counted Down number = counter_of number -ℤ pos (count_of number)
+abbrev pub counter_after : Way → ℤ → ℤ
+counter_after Up number = counter_of number +ℤ pos (count_of number)
+counter_after Down number = counter_of number -ℤ pos (count_of number)
 
 -- the number with i so counted: its size has the same fraction, and its sign is that of i
-abbrev pub recounted : Way → ℤ → ℤ
-recounted way number = signed (sign_of (counted way number)) (unsigned_abs (counted way number) * one + fraction_of number)
+abbrev pub number_after : Way → ℤ → ℤ
+number_after way number = signed (sign_of (counter_after way number)) (unsigned_abs (counter_after way number) * one + fraction_of number)
 
 -- whether the loop goes on: ISG until i is above fff, DSE while it is
 abbrev pub goes_on : Way → ℤ → Bool
-goes_on Up number = int_le (counted Up number) (pos (final_of number))
-goes_on Down number = int_lt (pos (final_of number)) (counted Down number)
+goes_on Up number = int_le (counter_after Up number) (pos (final_of number))
+goes_on Down number = int_lt (pos (final_of number)) (counter_after Down number)

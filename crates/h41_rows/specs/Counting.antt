@@ -20,5 +20,5 @@ abbrev pub with_ones : ℤ → ℕ → ℤ
 with_ones ones fraction = signed (sign_of ones) (unsigned_abs ones * one + fraction)
 
 -- a number counted up, direction plus, or down
-abbrev pub counted_along : Sign → ℤ → ℤ
-counted_along direction number = with_ones (counter_of number +ℤ signed direction (count_of number)) (fraction_of number)
+abbrev pub number_along : Sign → ℤ → ℤ
+number_along direction number = with_ones (counter_of number +ℤ signed direction (count_of number)) (fraction_of number)

@@ -35,7 +35,7 @@ function_row functions.SquareRoot = Some (of_x (values.Root X))
 -- L stays
 function_row functions.ChangeSign = Some (record nothing { value = Some (values.Negative X); takes = compute X ∷ [] })
 function_row functions.Reciprocal = Some (of_x (values.Inverse X))
-function_row functions.AbsoluteValue = Some (of_x (values.Size X))
+function_row functions.AbsoluteValue = Some (of_x (values.AbsoluteValue X))
 function_row functions.TestXNotZero = Some (test (Differ (In X) Nought))
 function_row functions.TestXPositive = Some (test (Below Nought (In X)))
 function_row functions.TestXNegative = Some (test (Below (In X) Nought))

@@ -59,7 +59,8 @@ abbrev pub then_find : {A : Type 0} {B : Type 0} → Result A LineFault → (A �
 then_find (Ok found) next = next found
 then_find (Err fault) next = Err fault
 
--- the integer part of the size of the number in a register; ALPHA DATA where it holds none, be it text or neither
+-- the integer part of the size of the number in a register; ALPHA DATA where it holds none, be it ALPHA data or neither
+-- (the latter is this project's choice)
 abbrev pub whole_of : Option ℤ → Result ℕ LineFault
 whole_of (Some number) = Ok (unsigned_abs number / one)
 whole_of None = Err AlphaData
@@ -91,7 +92,8 @@ meant_as DigitKind memory operand = then_find (number_of memory operand) digit
 meant_as (FlagKind highest) memory operand = then_find (number_of memory operand) (flag highest)
 meant_as LabelKind memory operand = Ok NoOperand
 
--- where GTO IND and XEQ IND go: the label of a number below 100 (this project's choice), or a name
+-- where GTO IND and XEQ IND go: the label of a number below 100, or a name; ALPHA DATA where the register holds neither. The bound
+-- and the latter are this project's choice.
 abbrev pub label_of : ℕ → Result Meant LineFault
 label_of n = if nat_lt n 100 then Ok (Count n) else Err Nonexistent
 

@@ -10,13 +10,13 @@ use Rattle.h41_ram.specs.RegisterMap.{RegisterMap}
 use Rattle.h41_rows.specs.Computing.{meant_by}
 use Rattle.h41_rows.specs.Counting.{with_ones}
 use Rattle.h41_rows.specs.Operands.{Meant, data_register, parameter_register, then_find, whole_at}
-use Rattle.h41_rows.specs.Wholes.{told}
+use Rattle.h41_rows.specs.Wholes.{told_number}
 use Rattle.h41_rows.specs.declared.fault.LineFault.{LineFault}
 use Rattle.h41_rows.specs.declared.operands.BranchTarget.{BranchTarget}
 
 -- a whole number that was found, as it is told, or its fault
 abbrev pub IsTold : Result ℕ LineFault → Result ℕ LineFault → Type 0
-IsTold found result = result ≡ result_map_both told (λ fault. fault) found
+IsTold found result = result ≡ result_map_both told_number (λ fault. fault) found
 
 -- the whole number in the register of a parameter, and the data register of that number
 abbrev pub number_found : RegisterMap → ℕ → Result ℕ LineFault

@@ -28,12 +28,12 @@ taken_from memory named result rows.Result = result
 taken_from memory named result rows.SixCharacters = text_register (six_characters memory)
 
 -- a lift: T takes Z, Z takes Y, Y takes X
-abbrev pub lifted : List rows.Takes
-lifted = rows.copy T Z ∷ rows.copy Z Y ∷ rows.copy Y X ∷ []
+abbrev pub lift_takes : List rows.Takes
+lift_takes = rows.copy T Z ∷ rows.copy Z Y ∷ rows.copy Y X ∷ []
 
 -- all places that take registers
 abbrev pub takes_of : rows.Row → Bool → List rows.Takes
-takes_of row lift = if row.lifts && lift then lifted ++ row.takes else row.takes
+takes_of row lift = if row.lifts && lift then lift_takes ++ row.takes else row.takes
 
 -- registers are written that were taken from memory as it was
 abbrev pub with_taken : RegisterMap → ℕ → List ℕ → List rows.Takes → RegisterMap → RegisterMap
@@ -57,13 +57,13 @@ last_24 characters = drop (length characters) (replicate 24 0x00 ++ characters)
 
 -- a register as it comes into ALPHA: a number as the display shows it, ALPHA data as its characters, what is neither as its digits
 -- (this project's choice)
-abbrev pub recalled : Format → List ℕ → Holding → List ℕ
-recalled format register (Number value) = number_text format value
-recalled format register (Text characters) = characters
-recalled format register Other = text register
+abbrev pub recall_text : Format → List ℕ → Holding → List ℕ
+recall_text format register (Number value) = number_text format value
+recall_text format register (Text characters) = characters
+recall_text format register Other = text register
 
 abbrev pub recalled_text : RegisterMap → ℕ → List ℕ
-recalled_text memory named = recalled (format_of memory) (register_at memory named) (holding_of (register_at memory named))
+recalled_text memory named = recall_text (format_of memory) (register_at memory named) (holding_of (register_at memory named))
 
 -- what ALPHA holds after a change
 abbrev pub alpha_after : RegisterMap → ℕ → rows.AlphaChange → List ℕ

@@ -4,7 +4,7 @@ use Rattle.std.specs.Option.{option_map_or}
 use Rattle.h41_codes.specs.declared.functions.Branch.{Branch}
 use Rattle.h41_rows.specs.Counters.{Way}
 use Rattle.h41_rows.specs.Places.{Place, T, Z, Y, X, LastX}
-use Rattle.h41_rows.specs.Values.{Value, Given, Written, Sum, Difference, Product, Quotient, Remainder, Percentage, Root, Inverse, Negative, Size, IntegerPart, Fraction, Displayed, Unit, Counted}
+use Rattle.h41_rows.specs.Values.{Value, Given, Written, Sum, Difference, Product, Quotient, Remainder, Percentage, Root, Inverse, Negative, AbsoluteValue, IntegerPart, Fraction, Displayed, Unit, Counted}
 
 -- what a place takes; all are taken from what stood there before the line
 pub data Source : Type 0 where
@@ -164,7 +164,7 @@ places_in_value (Percentage a b) = a ∷ b ∷ []
 places_in_value (Root a) = a ∷ []
 places_in_value (Inverse a) = a ∷ []
 places_in_value (Negative a) = a ∷ []
-places_in_value (Size a) = a ∷ []
+places_in_value (AbsoluteValue a) = a ∷ []
 places_in_value (IntegerPart a) = a ∷ []
 places_in_value (Fraction a) = a ∷ []
 places_in_value (Displayed a) = a ∷ []

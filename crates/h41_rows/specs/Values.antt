@@ -22,8 +22,8 @@ use Rattle.h41_show.specs.DisplayFormat.{format_of}
 use Rattle.h41_show.specs.declared.format.Format.{Format}
 use Rattle.h41_show.specs.declared.format.Notation.{Notation}
 use Rattle.h41_show.specs.declared.format.Notation.TheVariants.{Fixed, Scientific, Engineering}
-use Rattle.h41_rows.specs.Counters.{Way, recounted}
 use Rattle.h41_numbers.specs.NumberLines.{IsNumberOf}
+use Rattle.h41_rows.specs.Counters.{Way, number_after}
 use Rattle.h41_rows.specs.Places.{Place, amount_in, register_in}
 use Rattle.h41_rows.specs.declared.fault.LineFault.{LineFault}
 use Rattle.h41_rows.specs.declared.fault.LineFault.TheVariants.{DataError, OutOfRange}
@@ -47,12 +47,12 @@ pub data Value : Type 0 where
   Root : Place → Value
   Inverse : Place → Value
   Negative : Place → Value
-  Size : Place → Value
+  AbsoluteValue : Place → Value
   IntegerPart : Place → Value
   Fraction : Place → Value
   -- the number rounded as the display format says
   Displayed : Place → Value
-  -- 1 with the number's sign, and 0 where there is no number
+  -- 1 with the number's sign, and 0 where there is no number (this project's choice where there is no ALPHA data either)
   Unit : Place → Value
   -- a loop's counter, counted
   Counted : Way → Place → Value
@@ -85,13 +85,13 @@ IsValue (Percentage a b) memory named answer = Nearest (amount_in memory named a
 IsValue (Root a) memory named answer = NearestRoot (amount_in memory named a) answer
 IsValue (Inverse a) memory named answer = NearestQuotient (pos one) (amount_in memory named a) answer
 IsValue (Negative a) memory named answer = Nearest (neg_ℤ (amount_in memory named a)) 1 answer
-IsValue (Size a) memory named answer = Nearest (pos (unsigned_abs (amount_in memory named a))) 1 answer
+IsValue (AbsoluteValue a) memory named answer = Nearest (pos (unsigned_abs (amount_in memory named a))) 1 answer
 IsValue (IntegerPart a) memory named answer = (part : ℤ) × IsIntegerPart (amount_in memory named a) part × Nearest part 1 answer
 IsValue (Fraction a) memory named answer = (rest : ℤ) × IsFraction (amount_in memory named a) rest × Nearest rest 1 answer
 IsValue (Displayed a) memory named answer =
     (number : Ten) × (units number ≡ amount_in memory named a) × RoundsTo (step_of (places_of (format_of memory)) number) (units number) answer
 IsValue (Unit a) memory named answer = Nearest (option_map_or unit_of (worth (holding_of (register_in memory named a))) (pos 0)) 1 answer
-IsValue (Counted way a) memory named answer = Nearest (recounted way (amount_in memory named a)) 1 answer
+IsValue (Counted way a) memory named answer = Nearest (number_after way (amount_in memory named a)) 1 answer
 
 -- the sign of a value that can be out of range
 abbrev pub sign_of_value : Value → RegisterMap → ℕ → Sign

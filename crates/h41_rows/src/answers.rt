@@ -62,7 +62,7 @@ pub fn answer_of_one<const REGS: usize>(
         OfOne::Root => number.sqrt(),
         OfOne::Inverse => inverse(number),
         OfOne::Negative => negative(number),
-        OfOne::Size => size(number),
+        OfOne::AbsoluteValue => absolute_value(number),
         OfOne::IntegerPart => integer_part(number),
         OfOne::Fraction => fraction(number),
         OfOne::Displayed => number.round_to(display_places(ram)),
@@ -134,7 +134,7 @@ fn negative(number: Ten) -> Result<Ten, DecimalFault>
 }
 
 /// A number without its sign.
-fn size(number: Ten) -> Result<Ten, DecimalFault>
+fn absolute_value(number: Ten) -> Result<Ten, DecimalFault>
     ensures { Nearest (pos (unsigned_abs (units number))) 1 result }
 {
     exact(number.abs())

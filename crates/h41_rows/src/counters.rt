@@ -5,10 +5,10 @@ ghost use Rattle.h41_decimal.specs.NearestDecimal.{Nearest};
 ghost use Rattle.h41_decimal.specs.Signs.{signed};
 ghost use Rattle.h41_decimal.specs.Units.{one, size, units};
 ghost use Rattle.h41_rows.specs.Computing.{amount_at};
-ghost use Rattle.h41_rows.specs.Counters.{Down, Up, fraction_of, goes_on, recounted};
-ghost use Rattle.h41_rows.specs.Counting.{counted_along, way_of};
+ghost use Rattle.h41_rows.specs.Counters.{Down, Up, fraction_of, goes_on, number_after};
+ghost use Rattle.h41_rows.specs.Counting.{number_along, way_of};
 ghost use Rattle.h41_rows.specs.Readings.{IsCounted};
-ghost use Rattle.h41_rows.specs.Wholes.{few};
+ghost use Rattle.h41_rows.specs.Wholes.{told_ones};
 
 use h41_decimal::{DecimalFault, Exponent, Mantissa, Sign, Size, Ten};
 use h41_ram::Ram;
@@ -29,14 +29,14 @@ pub fn goes_on_down<const REGS: usize>(ram: &Ram<REGS>, address: u16) -> bool
 
 /// A loop's counter, counted up.
 pub fn counted_up(number: Ten) -> Result<Ten, DecimalFault>
-    ensures { Nearest (recounted Up (units number)) 1 result }
+    ensures { Nearest (number_after Up (units number)) 1 result }
 {
     counted(number, Sign::Plus)
 }
 
 /// A loop's counter, counted down.
 pub fn counted_down(number: Ten) -> Result<Ten, DecimalFault>
-    ensures { Nearest (recounted Down (units number)) 1 result }
+    ensures { Nearest (number_after Down (units number)) 1 result }
 {
     counted(number, Sign::Minus)
 }
@@ -68,7 +68,7 @@ fn counter_at<const REGS: usize>(ram: &Ram<REGS>, address: u16) -> Ten
 
 /// The whole ones of a number's size, where 10^10 stands for more.
 fn ones(number: Ten) -> u64
-    ensures { result ≡ few (unsigned_abs (units number) / one) }
+    ensures { result ≡ told_ones (unsigned_abs (units number) / one) }
 {
     match number.ones() {
         Some(ones) => ones,
@@ -144,7 +144,7 @@ fn is_above(sign: Sign, ones: u64, count: u64, last: u64) -> bool
 
 /// A loop's counter, counted up for plus and down for minus. A number with no fraction counts 1.
 fn counted(number: Ten, direction: Sign) -> Result<Ten, DecimalFault>
-    ensures { Nearest (counted_along direction (units number)) 1 result }
+    ensures { Nearest (number_along direction (units number)) 1 result }
 {
     match number.fraction() {
         Ten::Zero => number.add(single(direction)),

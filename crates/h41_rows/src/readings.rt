@@ -7,7 +7,7 @@ ghost use Rattle.h41_ram.specs.NamedRegisters.{size_of};
 ghost use Rattle.h41_rows.specs.Operands as spec;
 ghost use Rattle.h41_rows.specs.Profile.{is_operand_left_out, is_parameter_left_out};
 ghost use Rattle.h41_rows.specs.Readings.{IsTold, number_found, register_found};
-ghost use Rattle.h41_rows.specs.Wholes.{told};
+ghost use Rattle.h41_rows.specs.Wholes.{told_number};
 
 use crate::fault::LineFault;
 use h41_codes::{Operand, Parameter};
@@ -116,17 +116,17 @@ fn whole_in(register: Reg) -> Result<u16, LineFault>
 
 /// The integer part of the size of a number.
 pub(crate) fn told_whole(number: Ten) -> u16
-    ensures { result ≡ told (unsigned_abs (units number) / one) }
+    ensures { result ≡ told_number (unsigned_abs (units number) / one) }
 {
     match number.ones() {
-        Some(ones) => told(ones),
+        Some(ones) => told_number(ones),
         None => MOST_TOLD,
     }
 }
 
 /// A whole number as operands read it.
-fn told(ones: u64) -> u16
-    ensures { result ≡ told ones }
+fn told_number(ones: u64) -> u16
+    ensures { result ≡ told_number ones }
 {
     if ones < 1000 { ones as u16 } else { MOST_TOLD }
 }

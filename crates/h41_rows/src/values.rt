@@ -28,7 +28,7 @@ pub enum OfOne {
     /// It with the other sign.
     Negative,
     /// It without its sign.
-    Size,
+    AbsoluteValue,
     /// Its digits in front of the point.
     IntegerPart,
     /// Its digits behind the point.

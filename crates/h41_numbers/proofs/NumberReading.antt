@@ -18,18 +18,21 @@ taken most count digit character rest is room =
     ap (λ (ds : List ℕ). take (most - count) ds) (digits_behind (Some digit) character rest is)
     ∙ ap (λ (n : ℕ). take n (digit ∷ digits_in rest)) left
 
-pub number_more : (most number count digit next more : ℕ) (character : Character) (rest : List Character) → Some digit ≡ digit_of character → count < most
-    → next ≡ 10 * number + digit → more ≡ count + 1 → read_number most next more rest ≡ read_number most number count (character ∷ rest)
+pub number_more : (most number count digit next more : ℕ) (character : Character) (rest : List Character) → Some digit ≡ digit_of character
+    → count < most → next ≡ 10 * number + digit → more ≡ count + 1
+    → read_number most next more rest ≡ read_number most number count (character ∷ rest)
 number_more most number count digit next more character rest is room same one =
     ap (λ (n : ℕ). number_from n (take (most - more) (digits_in rest))) same
     ∙ ap (λ (n : ℕ). number_from (10 * number + digit) (take (most - n) (digits_in rest))) one
     ∙ sym (ap (number_from number) (taken most count digit character rest is room))
 
-pub count_more : (most count digit more : ℕ) (character : Character) (rest : List Character) → Some digit ≡ digit_of character → count < most
-    → more ≡ count + 1 → read_count most more rest ≡ read_count most count (character ∷ rest)
+pub count_more : (most count digit more : ℕ) (character : Character) (rest : List Character) → Some digit ≡ digit_of character
+    → count < most → more ≡ count + 1 → read_count most more rest ≡ read_count most count (character ∷ rest)
 count_more most count digit more character rest is room one =
-    let all : length (take (most - count) (digits_in (character ∷ rest))) ≡ suc (length (take (most - (count + 1)) (digits_in rest))) = ap length (taken most count digit character rest is room) in
-    let here : length (take (most - more) (digits_in rest)) ≡ length (take (most - (count + 1)) (digits_in rest)) = ap (λ (n : ℕ). length (take (most - n) (digits_in rest))) one in
+    let all : length (take (most - count) (digits_in (character ∷ rest))) ≡ suc (length (take (most - (count + 1)) (digits_in rest))) =
+    ap length (taken most count digit character rest is room) in
+    let here : length (take (most - more) (digits_in rest)) ≡ length (take (most - (count + 1)) (digits_in rest)) =
+    ap (λ (n : ℕ). length (take (most - n) (digits_in rest))) one in
     omega arith
 
 -- no more count

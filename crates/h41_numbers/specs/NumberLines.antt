@@ -1,6 +1,9 @@
--- What the characters of a number line are worth. The Owner's Handbook has the rules of number entry; what is said of characters
--- that it does not have there is this project's choice. Up to the first E they are the mantissa's, behind it the exponent's.
-use Rattle.std.specs.Prelude.{◌≡◌, ℕ, ◌+◌, ◌-◌, ◌*◌, ◌%◌, Bool, true, false, not, ◌&&◌, List, [], ◌∷◌, length, take, drop, filter, ◌==◌, if◌then◌else◌, Option, Some, None}
+-- What the characters of a number line are worth. The Owner's Handbook has the rules of number
+-- entry; what is said of characters that it does not have there is this project's choice. Up to the
+-- first E they are the mantissa's, behind it the exponent's.
+use Rattle.std.specs.Prelude.{◌≡◌, ℕ, ◌+◌, ◌-◌, ◌*◌, ◌%◌, Bool, true, false, not, ◌&&◌, List, []}
+use Rattle.std.specs.Prelude.{◌∷◌, length, take, drop, filter, ◌==◌, if◌then◌else◌, Option, Some}
+use Rattle.std.specs.Prelude.{None}
 use Rattle.std.specs.List.{list_any, take_while}
 use Rattle.std.specs.Option.{option_map_or}
 use Rattle.h41_codes.specs.declared.characters.Character.{Character}
@@ -47,7 +50,8 @@ exponent_part text = drop (length (mantissa_part text) + 1) text
 -- the digits of a text, in their order
 abbrev pub digits_in : List Character → List ℕ
 digits_in [] = []
-digits_in (character ∷ text) = option_map_or (λ digit. digit ∷ digits_in text) (digit_of character) (digits_in text)
+digits_in (character ∷ text) =
+    option_map_or (λ digit. digit ∷ digits_in text) (digit_of character) (digits_in text)
 
 -- how many digits stand in front of the point
 abbrev pub whole_digits : List Character → ℕ
@@ -61,12 +65,15 @@ number_from front (digit ∷ digits) = number_from (10 * front + digit) digits
 -- the digits that count: the first ten; an E with no digit in front of it puts a 1
 abbrev pub mantissa_digits : List Character → List ℕ
 mantissa_digits text =
-    if length (digits_in (mantissa_part text)) == 0 && list_any is_exponent text then 1 ∷ [] else take 10 (digits_in (mantissa_part text))
+    if length (digits_in (mantissa_part text)) == 0 && list_any is_exponent text then 1 ∷ []
+    else take 10 (digits_in (mantissa_part text))
 
 -- how many of them stand behind the point
 abbrev pub decimal_places : List Character → ℕ
 decimal_places text =
-    if list_any is_point (mantissa_part text) then length (drop (whole_digits (mantissa_part text)) (mantissa_digits text)) else 0
+    if list_any is_point (mantissa_part text)
+    then length (drop (whole_digits (mantissa_part text)) (mantissa_digits text))
+    else 0
 
 -- an even count of signs is plus
 abbrev pub sign_in : List Character → Sign
@@ -84,4 +91,5 @@ biased_by Minus size = 99 - size
 pub record IsNumberOf (text : List Character) (number : Ten) : Type 0 where
   pub exponent : Exponent
   pub biased : exponent.biased ≡ biased_by (sign_in (exponent_part text)) (exponent_size text)
-  pub typed : IsTyped (sign_in (mantissa_part text)) (number_from 0 (mantissa_digits text)) (decimal_places text) exponent number
+  pub typed : IsTyped (sign_in (mantissa_part text))
+      (number_from 0 (mantissa_digits text)) (decimal_places text) exponent number

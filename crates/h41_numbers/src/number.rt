@@ -1,6 +1,7 @@
 //! The number of a number line.
 
-ghost use Rattle.std.specs.Prelude.{◌≡◌, ◌+◌, ◌-◌, ◌*◌, ◌^◌, ◌<◌, ◌≤◌, List, ◌∷◌, length, take, IfSome};
+ghost use Rattle.std.specs.Prelude.{◌≡◌, ◌+◌, ◌-◌, ◌*◌, ◌^◌, ◌<◌, ◌≤◌, List, ◌∷◌, length, take};
+ghost use Rattle.std.specs.Prelude.{IfSome};
 ghost use Rattle.std.specs.List.{position_or_len};
 ghost use Rattle.h41_numbers.specs.NumberLines as lines;
 ghost use Rattle.h41_numbers.specs.NumberReading.{ReadsCount, ReadsOn, biased_in, places_in};

@@ -25,7 +25,9 @@ pub log_few : (log n : ℕ) → 10 ^ log ≤ n → n < 10 ^ 10 → log ≤ 9
 log_few log n least few =
     ⊎_elim
     (λ (more : 9 < log).
-    absurd (let ten : 0 < 10 = omega arith in let le : 10 ≤ log = omega arith in let p : 10 ^ 10 ≤ 10 ^ log = pow-le-pow_right ten le in omega arith))
+    absurd (let ten : 0 < 10 =
+    omega arith in
+    let le : 10 ≤ log = omega arith in let p : 10 ^ 10 ≤ 10 ^ log = pow-le-pow_right ten le in omega arith))
     (λ (fits : log ≤ 9). fits)
     (cases_lt 9 log)
 
@@ -119,12 +121,13 @@ counts_whole z d none =
     ∙ (ap (λ (t : ℕ). signed (sign_of z) t +ℤ signed d one) whole ∙ ap (λ (t : ℤ). t +ℤ signed d one) (sym (signed_self z))))
 
 -- a number with a fraction, by its ones
-pub counts_ones : (z : ℤ) (s d : Sign) (ones count rest : ℕ) → s ≡ sign_of z → HasOnes (unsigned_abs z) ones → count ≡ count_in rest → rest ≡ fraction_of z
-    → with_ones (signed s ones +ℤ signed d count) rest ≡ number_along d z
+pub counts_ones : (z : ℤ) (s d : Sign) (ones count rest : ℕ) → s ≡ sign_of z → HasOnes (unsigned_abs z) ones → count ≡ count_in rest
+    → rest ≡ fraction_of z → with_ones (signed s ones +ℤ signed d count) rest ≡ number_along d z
 counts_ones z s d ones count rest sign has counts fraction =
     let low : ones * 10 ^ 108 ≤ unsigned_abs z = has.not_above in
     let high : unsigned_abs z < (ones + 1) * 10 ^ 108 = has.next_above in
     let q : ones ≡ unsigned_abs z / 10 ^ 108 = omega arith in
     ap (λ (t : Sign). with_ones (signed t ones +ℤ signed d count) rest) sign
     ∙ (ap (λ (t : ℕ). with_ones (signed (sign_of z) t +ℤ signed d count) rest) q
-    ∙ (ap (λ (t : ℕ). with_ones (counter_of z +ℤ signed d t) rest) counts ∙ ap (λ (f : ℕ). with_ones (counter_of z +ℤ signed d (count_in f)) f) fraction))
+    ∙ (ap (λ (t : ℕ). with_ones (counter_of z +ℤ signed d t) rest) counts
+    ∙ ap (λ (f : ℕ). with_ones (counter_of z +ℤ signed d (count_in f)) f) fraction))

@@ -4,7 +4,9 @@ use Rattle.std.specs.Prelude.{ℤ, pos, neg_ℤ, ◌+ℤ◌, ◌-ℤ◌, ◌*ℤ
 use Rattle.std.specs.Option.{option_map_or}
 use Rattle.h41_codes.specs.declared.characters.Character.{Character}
 use Rattle.h41_decimal.specs.Holding.{holding_of, worth}
-use Rattle.h41_decimal.specs.Laws.{FractionIsDetermined, IntegerPartIsDetermined, ModuloIsDetermined, NearestIsDetermined, NearestRootIsDetermined, QuotientIsDetermined, RegisterIsDetermined, StepsAreDetermined, UnitsAreInjective}
+use Rattle.h41_decimal.specs.Laws.{FractionIsDetermined, IntegerPartIsDetermined, ModuloIsDetermined, NearestIsDetermined}
+use Rattle.h41_decimal.specs.Laws.{NearestRootIsDetermined, QuotientIsDetermined, RegisterIsDetermined, StepsAreDetermined}
+use Rattle.h41_decimal.specs.Laws.{UnitsAreInjective}
 use Rattle.h41_decimal.specs.NearestDecimal.{Nearest}
 use Rattle.h41_decimal.specs.NumberEntry.{greatest}
 use Rattle.h41_decimal.specs.Operations.{NearestModulo, RoundsTo, step_of}
@@ -24,7 +26,9 @@ use Rattle.h41_rows.specs.Places.{Named, X, Y, amount_in, are_numbers, register_
 use Rattle.h41_rows.specs.RowEffects.{holds_in}
 use Rattle.h41_rows.specs.RowLaws.{AlwaysIsDetermined, OneIsDetermined, TestIsDetermined, TwoIsDetermined, ValuesAreDetermined}
 use Rattle.h41_rows.specs.Rows.{places_in_condition, places_in_value}
-use Rattle.h41_rows.specs.Values.{Computes, Counted, Difference, Displayed, Fraction, Given, IntegerPart, Inverse, IsRegisterOf, IsValue, Kept, Negative, Percentage, Product, Quotient, Remainder, Root, AbsoluteValue, Sum, Unit, Value, Written, places_of, range_flag, sign_of_value, unit_of}
+use Rattle.h41_rows.specs.Values.{Computes, Counted, Difference, Displayed, Fraction, Given, IntegerPart, Inverse, IsRegisterOf, IsValue}
+use Rattle.h41_rows.specs.Values.{Kept, Negative, Percentage, Product, Quotient, Remainder, Root, AbsoluteValue, Sum, Unit, Value, Written}
+use Rattle.h41_rows.specs.Values.{places_of, range_flag, sign_of_value, unit_of}
 use Rattle.h41_rows.specs.declared.fault.LineFault.{LineFault}
 use Rattle.h41_rows.specs.declared.fault.LineFault.TheVariants.{AlphaData}
 
@@ -37,8 +41,10 @@ module _ (same_number : NumbersAreDetermined) where
 
 -- the answer for a value
 module _
-    (same_nearest : NearestIsDetermined) (same_root : NearestRootIsDetermined) (same_part : IntegerPartIsDetermined) (same_fraction : FractionIsDetermined)
-    (same_number : NumbersAreDetermined) (same_units : UnitsAreInjective) (same_quotient : QuotientIsDetermined) (same_modulo : ModuloIsDetermined)
+    (same_nearest : NearestIsDetermined) (same_root : NearestRootIsDetermined)
+    (same_part : IntegerPartIsDetermined) (same_fraction : FractionIsDetermined)
+    (same_number : NumbersAreDetermined) (same_units : UnitsAreInjective)
+    (same_quotient : QuotientIsDetermined) (same_modulo : ModuloIsDetermined)
     (same_steps : StepsAreDetermined) where
   same_answer : (value : Value) (memory : RegisterMap) (named : ℕ) (x y : Result Ten DecimalFault)
       → IsValue value memory named x → IsValue value memory named y → x ≡ y
@@ -53,7 +59,8 @@ module _
       let below : p.1 ≡ q.1 = same_units p.1 q.1 (p.3 ∙ sym q.3) in
       let other : NearestModulo q.0 q.1 x = subst (λ of. NearestModulo q.0 of x) below (subst (λ of. NearestModulo of p.1 x) above p.4) in
       same_modulo q.0 q.1 x y other q.4
-  same_answer (Percentage a b) memory named x y p q = same_nearest (amount_in memory named a *ℤ amount_in memory named b) (100 * one) x y p q
+  same_answer (Percentage a b) memory named x y p q =
+      same_nearest (amount_in memory named a *ℤ amount_in memory named b) (100 * one) x y p q
   same_answer (Root a) memory named x y p q = same_root (amount_in memory named a) x y p q
   same_answer (Inverse a) memory named x y p q = same_quotient (pos one) (amount_in memory named a) x y p q
   same_answer (Negative a) memory named x y p q = same_nearest (neg_ℤ (amount_in memory named a)) 1 x y p q
@@ -68,7 +75,8 @@ module _
       let number : p.0 ≡ q.0 = same_units p.0 q.0 (p.1 ∙ sym q.1) in
       same_steps (step_of (places_of (format_of memory)) q.0) (units q.0) x y
       (subst (λ of. RoundsTo (step_of (places_of (format_of memory)) of) (units of) x) number p.2) q.2
-  same_answer (Unit a) memory named x y p q = same_nearest (option_map_or unit_of (worth (holding_of (register_in memory named a))) (pos 0)) 1 x y p q
+  same_answer (Unit a) memory named x y p q =
+      same_nearest (option_map_or unit_of (worth (holding_of (register_in memory named a))) (pos 0)) 1 x y p q
   same_answer (Counted way a) memory named x y p q = same_nearest (number_after way (amount_in memory named a)) 1 x y p q
 
 -- what is kept of an answer
@@ -114,8 +122,10 @@ test_determined memory condition a b p q =
 
 -- the register of a value, or the fault
 module _
-    (same_nearest : NearestIsDetermined) (same_root : NearestRootIsDetermined) (same_part : IntegerPartIsDetermined) (same_fraction : FractionIsDetermined)
-    (same_number : NumbersAreDetermined) (same_units : UnitsAreInjective) (same_quotient : QuotientIsDetermined) (same_modulo : ModuloIsDetermined)
+    (same_nearest : NearestIsDetermined) (same_root : NearestRootIsDetermined)
+    (same_part : IntegerPartIsDetermined) (same_fraction : FractionIsDetermined)
+    (same_number : NumbersAreDetermined) (same_units : UnitsAreInjective)
+    (same_quotient : QuotientIsDetermined) (same_modulo : ModuloIsDetermined)
     (same_steps : StepsAreDetermined) (same_register : RegisterIsDetermined) where
   pub values_determined : ValuesAreDetermined
   values_determined value memory named a b p q =
@@ -149,4 +159,5 @@ module _
 
   pub always_determined : AlwaysIsDetermined
   always_determined value register other p q =
-      same_held_register register other (values_determined value empty_memory 0 (Ok register) (Ok other) (p empty_memory 0) (q empty_memory 0))
+      same_held_register register other
+      (values_determined value empty_memory 0 (Ok register) (Ok other) (p empty_memory 0) (q empty_memory 0))

@@ -1,5 +1,6 @@
 -- What is computed of the numbers at addresses is computed of the places that have these addresses.
-use Rattle.std.proofs.Common.{◌≡◌, ℕ, sym, ◌∙◌, ap, refl, subst, Bool, true, false, MatchBool, IsOkAnd, List, [], ◌∷◌, Option, Some, None, Result, Ok, Err}
+use Rattle.std.proofs.Common.{◌≡◌, ℕ, sym, ◌∙◌, ap, refl, subst, Bool, true, false, MatchBool, IsOkAnd, List, [], ◌∷◌, Option, Some, None}
+use Rattle.std.proofs.Common.{Result, Ok, Err}
 use Rattle.std.specs.Prelude.{ℤ, pos, neg_ℤ, ◌+ℤ◌, ◌-ℤ◌, ◌*ℤ◌, ◌*◌, unsigned_abs, is_some, ◌&&◌, ◌==◌, if◌then◌else◌, slice_index}
 use Rattle.std.specs.Option.{option_map_or}
 use Rattle.h41_decimal.specs.Holding.{Holding, Text, Other, holding, holding_of, number_in, text_in, worth}
@@ -64,9 +65,17 @@ computes_one ones.Negative memory named a number result e w k =
 computes_one ones.AbsoluteValue memory named a number result e w k =
     record { answer = k.answer; nearest = subst (λ (t : ℤ). Nearest (pos (unsigned_abs t)) 1 k.answer) e k.answers; kept = k.kept }
 computes_one ones.IntegerPart memory named a number result e w k =
-    record { answer = k.answer; nearest = subst (λ (t : ℤ). (part : ℤ) × IsIntegerPart t part × Nearest part 1 k.answer) e k.answers; kept = k.kept }
+    record {
+      answer = k.answer;
+      nearest = subst (λ (t : ℤ). (part : ℤ) × IsIntegerPart t part × Nearest part 1 k.answer) e k.answers;
+      kept = k.kept;
+    }
 computes_one ones.Fraction memory named a number result e w k =
-    record { answer = k.answer; nearest = subst (λ (t : ℤ). (rest : ℤ) × IsFraction t rest × Nearest rest 1 k.answer) e k.answers; kept = k.kept }
+    record {
+      answer = k.answer;
+      nearest = subst (λ (t : ℤ). (rest : ℤ) × IsFraction t rest × Nearest rest 1 k.answer) e k.answers;
+      kept = k.kept;
+    }
 computes_one ones.Displayed memory named a number result e w k =
     record {
       answer = k.answer;
@@ -171,10 +180,13 @@ computes_two twos.Quotient memory named a b x y result e f k =
     let together : units x *ℤ units y ≡ amount_in memory named a *ℤ amount_in memory named b = cc in
     record {
       answer = k.answer;
-      nearest = subst (λ (t : ℤ). NearestQuotient t (amount_in memory named b) k.answer) e (subst (λ (t : ℤ). NearestQuotient (units x) t k.answer) f k.answers);
+      nearest =
+          subst (λ (t : ℤ). NearestQuotient t (amount_in memory named b) k.answer)
+          e (subst (λ (t : ℤ). NearestQuotient (units x) t k.answer) f k.answers);
       kept = subst (λ (t : ℤ). Kept (sign_of t) (flag_of memory range_flag) k.answer result) together k.kept;
     }
-computes_two twos.Remainder memory named a b x y result e f k = record { answer = k.answer; nearest = (x, y, e, f, k.answers); kept = k.kept }
+computes_two twos.Remainder memory named a b x y result e f k =
+    record { answer = k.answer; nearest = (x, y, e, f, k.answers); kept = k.kept }
 computes_two twos.Percentage memory named a b x y result e f k =
     let together : units x *ℤ units y ≡ amount_in memory named a *ℤ amount_in memory named b = cc in
     record {
@@ -196,7 +208,8 @@ second_without None p e = refl
 second_without (Some x) p e = ap (λ (t : Option ℤ). is_some t && true) e
 
 -- two places are asked for by each value of two numbers
-two_asked : (value : OfTwo) (memory : RegisterMap) (named : ℕ) (a b : Place) → are_numbers memory named (places_in_value (value_of_two value a b)) ≡ are_numbers memory named (a ∷ b ∷ [])
+two_asked : (value : OfTwo) (memory : RegisterMap) (named : ℕ) (a b : Place)
+    → are_numbers memory named (places_in_value (value_of_two value a b)) ≡ are_numbers memory named (a ∷ b ∷ [])
 two_asked twos.Sum memory named a b = refl
 two_asked twos.Difference memory named a b = refl
 two_asked twos.Product memory named a b = refl
@@ -205,17 +218,19 @@ two_asked twos.Remainder memory named a b = refl
 two_asked twos.Percentage memory named a b = refl
 
 -- a register that stands elsewhere holds the number that it holds here
-held_elsewhere : (memory other : RegisterMap) (named : ℕ) (a : Place) (address : ℕ) (number : Option ℤ) → register_in other named a ≡ register_at memory address
-    → worth_at memory address ≡ number → worth (holding_of (register_in other named a)) ≡ number
+held_elsewhere : (memory other : RegisterMap) (named : ℕ) (a : Place) (address : ℕ) (number : Option ℤ)
+    → register_in other named a ≡ register_at memory address → worth_at memory address ≡ number
+    → worth (holding_of (register_in other named a)) ≡ number
 held_elsewhere memory other named a address number e w = ap (λ (r : List ℕ). worth (holding_of r)) e ∙ w
 
-amount_elsewhere : (memory other : RegisterMap) (named : ℕ) (a : Place) (address : ℕ) (number : ℤ) → register_in other named a ≡ register_at memory address
-    → worth_at memory address ≡ Some number → number ≡ amount_in other named a
+amount_elsewhere : (memory other : RegisterMap) (named : ℕ) (a : Place) (address : ℕ) (number : ℤ)
+    → register_in other named a ≡ register_at memory address → worth_at memory address ≡ Some number → number ≡ amount_in other named a
 amount_elsewhere memory other named a address number e w =
     amount_of other named a (place_address named a) number refl (held_elsewhere memory other named a address (Some number) e w)
 
-number_elsewhere : (memory other : RegisterMap) (named : ℕ) (a : Place) (address : ℕ) (number : Option ℤ) → register_in other named a ≡ register_at memory address
-    → worth_at memory address ≡ number → number_in (register_in other named a) ≡ number
+number_elsewhere : (memory other : RegisterMap) (named : ℕ) (a : Place) (address : ℕ) (number : Option ℤ)
+    → register_in other named a ≡ register_at memory address → worth_at memory address ≡ number
+    → number_in (register_in other named a) ≡ number
 number_elsewhere memory other named a address number e w =
     number_of other named a (place_address named a) number refl (held_elsewhere memory other named a address number e w)
 
@@ -234,7 +249,8 @@ pub works_two : (value : OfTwo) (memory : RegisterMap) (first second : ℕ) (x y
     → WorksOnTwo value memory first second result
 works_two value memory first second x y result v w k other named a b e f flag =
     let are = both_numbers _ _ (units x) (units y)
-    (number_elsewhere memory other named a first (Some (units x)) e v) (number_elsewhere memory other named b second (Some (units y)) f w) in
+    (number_elsewhere memory other named a first (Some (units x)) e v)
+    (number_elsewhere memory other named b second (Some (units y)) f w) in
     where_true _ _ _ (two_asked value other named a b ∙ are)
     (computes_two value other named a b x y result
     (amount_elsewhere memory other named a first (units x) e v) (amount_elsewhere memory other named b second (units y) f w)
@@ -243,9 +259,11 @@ works_two value memory first second x y result v w k other named a b e f flag =
 pub first_fails : (value : OfTwo) (memory : RegisterMap) (first second : ℕ) (fault : LineFault)
     → worth_at memory first ≡ None → fault ≡ AlphaData → WorksOnTwo value memory first second (Err fault)
 first_fails value memory first second fault w said other named a b e f flag =
-    where_false _ _ _ (two_asked value other named a b ∙ first_without _ _ (number_elsewhere memory other named a first None e w)) (ap Err said)
+    where_false _ _ _
+    (two_asked value other named a b ∙ first_without _ _ (number_elsewhere memory other named a first None e w)) (ap Err said)
 
 pub second_fails : (value : OfTwo) (memory : RegisterMap) (first second : ℕ) (fault : LineFault)
     → worth_at memory second ≡ None → fault ≡ AlphaData → WorksOnTwo value memory first second (Err fault)
 second_fails value memory first second fault w said other named a b e f flag =
-    where_false _ _ _ (two_asked value other named a b ∙ second_without _ _ (number_elsewhere memory other named b second None f w)) (ap Err said)
+    where_false _ _ _
+    (two_asked value other named a b ∙ second_without _ _ (number_elsewhere memory other named b second None f w)) (ap Err said)

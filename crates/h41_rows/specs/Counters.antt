@@ -1,6 +1,8 @@
--- The numbers by which ISG and DSE count: iiiii.fffcc, i counted up or down by cc, or by 1 where cc is 00, and compared with fff.
--- The Owner's Handbook's; what i and the fraction are of numbers that no loop uses is this project's choice.
-use Rattle.std.specs.Prelude.{ℕ, ◌+◌, ◌*◌, ◌/◌, ◌%◌, ◌^◌, ◌==◌, if◌then◌else◌, Bool, ℤ, pos, ◌+ℤ◌, ◌-ℤ◌, int_le, int_lt, unsigned_abs}
+-- The numbers by which ISG and DSE count: iiiii.fffcc, i counted up or down by cc, or by 1 where cc
+-- is 00, and compared with fff. The Owner's Handbook's; what i and the fraction are of numbers that
+-- no loop uses is this project's choice.
+use Rattle.std.specs.Prelude.{ℕ, ◌+◌, ◌*◌, ◌/◌, ◌%◌, ◌^◌, ◌==◌, if◌then◌else◌, Bool, ℤ, pos, ◌+ℤ◌}
+use Rattle.std.specs.Prelude.{◌-ℤ◌, int_le, int_lt, unsigned_abs}
 use Rattle.h41_decimal.specs.Signs.{signed, sign_of}
 use Rattle.h41_decimal.specs.Units.{one}
 
@@ -34,7 +36,9 @@ counter_after Down number = counter_of number -ℤ pos (count_of number)
 
 -- the number with i so counted: its size has the same fraction, and its sign is that of i
 abbrev pub number_after : Way → ℤ → ℤ
-number_after way number = signed (sign_of (counter_after way number)) (unsigned_abs (counter_after way number) * one + fraction_of number)
+number_after way number =
+    signed (sign_of (counter_after way number))
+    (unsigned_abs (counter_after way number) * one + fraction_of number)
 
 -- whether the loop goes on: ISG until i is above fff, DSE while it is
 abbrev pub goes_on : Way → ℤ → Bool

@@ -1,5 +1,6 @@
 -- A loop's number by its parts.
-use Rattle.std.specs.Prelude.{ℕ, ◌+◌, ◌*◌, ◌/◌, ◌%◌, ◌^◌, ◌==◌, if◌then◌else◌, ℤ, ◌+ℤ◌, unsigned_abs}
+use Rattle.std.specs.Prelude.{ℕ, ◌+◌, ◌*◌, ◌/◌, ◌%◌, ◌^◌, ◌==◌, if◌then◌else◌, ℤ, ◌+ℤ◌}
+use Rattle.std.specs.Prelude.{unsigned_abs}
 use Rattle.h41_decimal.specs.Signs.{signed, sign_of}
 use Rattle.h41_decimal.specs.Units.{one}
 use Rattle.h41_decimal.specs.declared.sign.Sign.{Sign}
@@ -21,4 +22,5 @@ with_ones ones fraction = signed (sign_of ones) (unsigned_abs ones * one + fract
 
 -- a number counted up, direction plus, or down
 abbrev pub number_along : Sign → ℤ → ℤ
-number_along direction number = with_ones (counter_of number +ℤ signed direction (count_of number)) (fraction_of number)
+number_along direction number =
+    with_ones (counter_of number +ℤ signed direction (count_of number)) (fraction_of number)

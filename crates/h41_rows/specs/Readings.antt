@@ -30,5 +30,7 @@ abbrev pub LeadsTo : Result Meant LineFault → Result BranchTarget LineFault �
 LeadsTo target result = result_map_both meant_by (λ fault. fault) result ≡ target
 
 -- a counter of so many ones and a fraction, counted
-abbrev pub IsCounted : (sign : Sign) (ones : ℕ) (direction : Sign) (count fraction : ℕ) → Result Ten DecimalFault → Type 0
-IsCounted sign ones direction count fraction result = Nearest (with_ones (signed sign ones +ℤ signed direction count) fraction) 1 result
+abbrev pub IsCounted : (sign : Sign) (ones : ℕ) (direction : Sign) (count fraction : ℕ)
+    → Result Ten DecimalFault → Type 0
+IsCounted sign ones direction count fraction result =
+    Nearest (with_ones (signed sign ones +ℤ signed direction count) fraction) 1 result

@@ -1,7 +1,9 @@
--- What holds of the values that lines compute, and of what the calls promise, whatever the code does.
+-- What holds of the values that lines compute, and of what the calls promise, whatever the code
+-- does.
 use Rattle.std.specs.Prelude.{◌≡◌, ℕ, Bool, List, Result}
 use Rattle.h41_ram.specs.RegisterMap.{RegisterMap}
-use Rattle.h41_rows.specs.Computing.{BringsIn, ChangesAlpha, Exchanges, IsAlways, Moved, Stores, Tells, Took, WorksOnOne, WorksOnTwo}
+use Rattle.h41_rows.specs.Computing.{BringsIn, ChangesAlpha, Exchanges, IsAlways, Moved, Stores}
+use Rattle.h41_rows.specs.Computing.{Tells, Took, WorksOnOne, WorksOnTwo}
 use Rattle.h41_rows.specs.Rows.{AlphaChange, Condition, Takes}
 use Rattle.h41_rows.specs.Values.{Computes, Value}
 use Rattle.h41_rows.specs.declared.fault.LineFault.{LineFault}
@@ -14,13 +16,14 @@ ValuesAreDetermined =
     (value : Value) (memory : RegisterMap) (named : ℕ) (result other : Result (List ℕ) LineFault)
     → Computes value memory named result → Computes value memory named other → result ≡ other
 
--- What a call answers by these promises is one, whatever its arguments are: no register, no pair of registers and no test is left
--- out
+-- What a call answers by these promises is one, whatever its arguments are: no register, no pair of
+-- registers and no test is left out
 
 abbrev pub OneIsDetermined : Type 0
 OneIsDetermined =
     (value : OfOne) (memory : RegisterMap) (address : ℕ) (result other : Result (List ℕ) LineFault)
-    → WorksOnOne value memory address result → WorksOnOne value memory address other → result ≡ other
+    → WorksOnOne value memory address result → WorksOnOne value memory address other
+    → result ≡ other
 
 abbrev pub TwoIsDetermined : Type 0
 TwoIsDetermined =

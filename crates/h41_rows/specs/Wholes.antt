@@ -1,4 +1,5 @@
--- Whole numbers as operands read them: none asks for a register, a flag, a label or a number of digits from 1000 on.
+-- Whole numbers as operands read them: none asks for a register, a flag, a label or a number of
+-- digits from 1000 on.
 use Rattle.std.specs.Prelude.{ℕ, ◌^◌, nat_lt, if◌then◌else◌}
 
 -- the first whole number that is told from no greater one

@@ -3,7 +3,8 @@
 ghost use Rattle.h41_rows.specs.Computing.{ChangesAlpha};
 ghost use Rattle.std.specs.Prelude.{◌≡◌, ℕ, ◌-◌, ◌++◌, [], ◌∷◌, length, replicate, take};
 ghost use Rattle.h41_ram.specs.RegisterMap.{digits_from};
-ghost use Rattle.h41_rows.specs.RowEffects.{last_24, six_characters, text_register, with_alpha_change};
+ghost use Rattle.h41_rows.specs.RowEffects.{last_24, six_characters, text_register};
+ghost use Rattle.h41_rows.specs.RowEffects.{with_alpha_change};
 ghost use Rattle.h41_rows.specs.Rows.{Appends, AppendsNamed, Becomes, LosesSix};
 
 use crate::texts::{ALPHA_DATA, KIND_PLACE, REGISTER_CHARACTERS, after_nulls, alpha_data};

@@ -1,6 +1,10 @@
 //! Laws of rows: each is the contract of a function with nothing to do but to call the laws it rests on.
 
-ghost use Rattle.h41_rows.specs.RowLaws.{AlphaIsDetermined, AlwaysIsDetermined, BringingIsDetermined, ExchangeIsDetermined, MovingIsDetermined, OneIsDetermined, StoringIsDetermined, TakingIsDetermined, TestIsDetermined, TwoIsDetermined, ValuesAreDetermined};
+ghost use Rattle.h41_rows.specs.RowLaws.{AlphaIsDetermined, AlwaysIsDetermined};
+ghost use Rattle.h41_rows.specs.RowLaws.{BringingIsDetermined, ExchangeIsDetermined};
+ghost use Rattle.h41_rows.specs.RowLaws.{MovingIsDetermined, OneIsDetermined, StoringIsDetermined};
+ghost use Rattle.h41_rows.specs.RowLaws.{TakingIsDetermined, TestIsDetermined, TwoIsDetermined};
+ghost use Rattle.h41_rows.specs.RowLaws.{ValuesAreDetermined};
 
 use h41_decimal::laws::{
     nearest_is_determined, nearest_root_is_determined, parts_are_determined,

@@ -1,7 +1,8 @@
 //! What stack, LAST X and registers take.
 
 ghost use Rattle.std.specs.Prelude.{ℕ, [], ◌∷◌};
-ghost use Rattle.h41_rows.specs.Computing.{BringsIn, Exchanges, Moved, Stores, Took, drop_takes, whole_stack};
+ghost use Rattle.h41_rows.specs.Computing.{BringsIn, Exchanges, Moved, Stores, Took, drop_takes};
+ghost use Rattle.h41_rows.specs.Computing.{whole_stack};
 ghost use Rattle.h41_rows.specs.Places.{LastX, T, X, Y, Z};
 ghost use Rattle.h41_rows.specs.RowEffects.{takes_of};
 ghost use Rattle.h41_rows.specs.Rows.{coming_in, compute, copy};

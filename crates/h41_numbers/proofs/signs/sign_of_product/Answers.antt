@@ -13,7 +13,8 @@ returns-in-Nonzero-Nonzero c =
     let a = c.in-Nonzero-Nonzero in
     let x : units c.args.first ≡ signed a.first_sign (size a.field-1-0) = ap units a.is-0 in
     let y : units c.args.second ≡ signed a.second_sign (size a.field-1-1) = ap units a.is-1 in
-    let e : units c.args.first *ℤ units c.args.second ≡ signed a.first_sign (size a.field-1-0) *ℤ signed a.second_sign (size a.field-1-1) = cc in
+    let e : units c.args.first *ℤ units c.args.second ≡ signed a.first_sign (size a.field-1-0) *ℤ signed a.second_sign (size a.field-1-1) =
+    cc in
     let some : 0 < size a.field-1-0 * size a.field-1-1 = mul-pos (size_pos a.field-1-0) (size_pos a.field-1-1) in
     c.times.ensures
     ∙ sym

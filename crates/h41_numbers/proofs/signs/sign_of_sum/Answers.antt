@@ -7,5 +7,6 @@ use Rattle.h41_numbers.proofs.signs.sign_of_sum.Goals as goal
 
 pub returns : goal.returns
 returns c =
-    let e : units c.args.first -ℤ units c.negated.result ≡ units c.args.first +ℤ units c.args.second = omega (arith, ints, c.negated.ensures) in
+    let e : units c.args.first -ℤ units c.negated.result ≡ units c.args.first +ℤ units c.args.second =
+    omega (arith, ints, c.negated.ensures) in
     c.sign_of_difference.ensures ∙ ap sign_of e

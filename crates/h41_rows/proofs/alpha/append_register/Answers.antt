@@ -16,7 +16,8 @@ returns-then-get-eq-ALPHA_DATA g c =
     ap (λ (r : List ℕ). slice_index r 13) (sym c.read-register.ensures) ∙ sym c.get.ensures.digit ∙ c.if-get-eq-ALPHA_DATA.true in
     c.append_text.ensures c.args.address
     ∙ ap (λ (text : List ℕ). with_alpha memory (last_24 (alpha_of memory ++ text)))
-    (c.after_nulls.ensures.bytes ∙ ap after_nulls c.alpha_data.ensures ∙ ap text_in c.read-register.ensures ∙ sym (recall_text-bytes (format_of memory) register place))
+    (c.after_nulls.ensures.bytes ∙ ap after_nulls c.alpha_data.ensures ∙ ap text_in c.read-register.ensures
+    ∙ sym (recall_text-bytes (format_of memory) register place))
 
 pub returns-else-get-eq-ALPHA_DATA : goal.returns-else-get-eq-ALPHA_DATA
 returns-else-get-eq-ALPHA_DATA g c =

@@ -19,7 +19,8 @@ stepped-requires-clause-few_ones c =
 pub returns-in-Zero : goal.returns-in-Zero
 returns-in-Zero c =
     let z = units c.args.number in
-    let none : fraction_of z ≡ 0 = sym (fraction_size z (units c.fraction.result) c.fraction.ensures) ∙ ap (λ t. unsigned_abs (units t)) c.in-Zero.is in
+    let none : fraction_of z ≡ 0 =
+    sym (fraction_size z (units c.fraction.result) c.fraction.ensures) ∙ ap (λ t. unsigned_abs (units t)) c.in-Zero.is in
     let e : z +ℤ units c.single.result ≡ z +ℤ signed c.args.direction one = ap (λ (t : ℤ). z +ℤ t) c.single.ensures in
     subst (λ (t : ℤ). Nearest t 1 c.add.result) (e ∙ sym (counts_whole z c.args.direction none)) c.add.ensures
 
@@ -31,7 +32,8 @@ returns-in-Some c =
     let counts : c.increment-count.result ≡ count_in (size a.fraction) =
     c.increment-count.ensures.value ∙ ap (λ t. if t % 100 == 0 then 1 else t % 100) c.five_digits.ensures.value in
     subst (λ (t : ℤ). Nearest t 1 c.stepped.result)
-    (counts_ones z c.sign.result c.args.direction c.in-Some.ones c.increment-count.result (size a.fraction) c.sign.ensures c.in-Some.ensures.ones counts same)
+    (counts_ones z c.sign.result c.args.direction c.in-Some.ones c.increment-count.result
+    (size a.fraction) c.sign.ensures c.in-Some.ensures.ones counts same)
     c.stepped.ensures
 
 pub returns-in-None : goal.returns-in-None

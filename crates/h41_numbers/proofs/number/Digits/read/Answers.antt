@@ -3,7 +3,8 @@ use Rattle.h41_numbers.proofs.number.Digits.read.Goals as goal
 
 pub returns-then-self-most-clause-number : goal.returns-then-self-most-clause-number
 returns-then-self-most-clause-number c = λ rest.
-    number_more c.args.most c.args.self.number c.args.self.count c.in-Some.digit c.push.result.number c.push.result.count c.args.character rest
+    number_more c.args.most c.args.self.number c.args.self.count c.in-Some.digit
+    c.push.result.number c.push.result.count c.args.character rest
     c.in-Some.ensures.value c.if-self-most.true c.push.ensures.number c.push.ensures.count
 
 pub returns-then-self-most-clause-count : goal.returns-then-self-most-clause-count

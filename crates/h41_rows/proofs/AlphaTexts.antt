@@ -1,5 +1,6 @@
 -- ALPHA's 24 bytes.
-use Rattle.std.proofs.Common.{◌≡◌, ℕ, ◌+◌, ◌-◌, ◌≤◌, min, List, ◌++◌, length, take, drop, replicate, length-append, inl, inr, refl, ap, sym, ◌∙◌, arith}
+use Rattle.std.proofs.Common.{◌≡◌, ℕ, ◌+◌, ◌-◌, ◌≤◌, min, List, ◌++◌, length, take, drop, replicate, length-append, inl, inr, refl, ap, sym}
+use Rattle.std.proofs.Common.{◌∙◌, arith}
 use Rattle.std.proofs.lemmas.Bool.{cases_lt}
 use Rattle.std.proofs.lemmas.List.{append-nil, drop-append-le, drop-drop, drop_all, drop_at, length-drop, take_at, take_rest}
 use Rattle.h41_rows.specs.RowEffects.{last_24}

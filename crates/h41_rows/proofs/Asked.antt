@@ -4,44 +4,58 @@ use Rattle.std.specs.Prelude.{ℤ, pos, ◌&&◌, MatchBool, is_some}
 use Rattle.std.specs.Option.{option_map_or}
 use Rattle.h41_decimal.specs.Holding.{holding_of, number_in, worth}
 use Rattle.h41_decimal.proofs.Registers.{worth-holding_of}
-use Rattle.h41_rows.specs.Comparisons.{asked}
+use Rattle.h41_rows.specs.Comparisons.{answer_of_comparison}
 use Rattle.h41_rows.specs.declared.fault.LineFault.{LineFault}
 use Rattle.h41_rows.specs.declared.fault.LineFault.TheVariants.{AlphaData}
 
-asked_both : (g : ℤ → ℤ → Bool) (a b wa wb : Option ℤ) (result : Result Bool LineFault) → wa ≡ a → wb ≡ b → result ≡ asked g a b
-    → MatchBool (is_some a && (is_some b && true)) (result ≡ Ok (g (option_map_or (λ n. n) wa (pos 0)) (option_map_or (λ n. n) wb (pos 0)))) (result ≡ Err AlphaData)
-asked_both g (Some x) (Some y) wa wb result ea eb e = e ∙ (ap (λ o. Ok (g x (option_map_or (λ n. n) o (pos 0)))) (sym eb) ∙ ap (λ o. Ok (g (option_map_or (λ n. n) o (pos 0)) (option_map_or (λ n. n) wb (pos 0)))) (sym ea))
+asked_both : (g : ℤ → ℤ → Bool) (a b wa wb : Option ℤ) (result : Result Bool LineFault) → wa ≡ a → wb ≡ b
+    → result ≡ answer_of_comparison g a b
+    → MatchBool (is_some a && (is_some b && true))
+    (result ≡ Ok (g (option_map_or (λ n. n) wa (pos 0)) (option_map_or (λ n. n) wb (pos 0)))) (result ≡ Err AlphaData)
+asked_both g (Some x) (Some y) wa wb result ea eb e =
+    e
+    ∙ (ap (λ o. Ok (g x (option_map_or (λ n. n) o (pos 0)))) (sym eb)
+    ∙ ap (λ o. Ok (g (option_map_or (λ n. n) o (pos 0)) (option_map_or (λ n. n) wb (pos 0)))) (sym ea))
 asked_both g (Some x) None wa wb result ea eb e = e
 asked_both g None (Some y) wa wb result ea eb e = e
 asked_both g None None wa wb result ea eb e = e
 
-asked_left : (g : ℤ → ℤ → Bool) (a wa : Option ℤ) (z : ℤ) (result : Result Bool LineFault) → wa ≡ a → result ≡ asked g a (Some z)
+asked_left : (g : ℤ → ℤ → Bool) (a wa : Option ℤ) (z : ℤ) (result : Result Bool LineFault) → wa ≡ a
+    → result ≡ answer_of_comparison g a (Some z)
     → MatchBool (is_some a && true) (result ≡ Ok (g (option_map_or (λ n. n) wa (pos 0)) z)) (result ≡ Err AlphaData)
 asked_left g (Some x) wa z result ea e = e ∙ ap (λ o. Ok (g (option_map_or (λ n. n) o (pos 0)) z)) (sym ea)
 asked_left g None wa z result ea e = e
 
-asked_right : (g : ℤ → ℤ → Bool) (a wa : Option ℤ) (z : ℤ) (result : Result Bool LineFault) → wa ≡ a → result ≡ asked g (Some z) a
+asked_right : (g : ℤ → ℤ → Bool) (a wa : Option ℤ) (z : ℤ) (result : Result Bool LineFault) → wa ≡ a
+    → result ≡ answer_of_comparison g (Some z) a
     → MatchBool (is_some a && true) (result ≡ Ok (g z (option_map_or (λ n. n) wa (pos 0)))) (result ≡ Err AlphaData)
 asked_right g (Some x) wa z result ea e = e ∙ ap (λ o. Ok (g z (option_map_or (λ n. n) o (pos 0)))) (sym ea)
 asked_right g None wa z result ea e = e
 
 -- the same of registers
-pub registers_asked : (g : ℤ → ℤ → Bool) (x y : List ℕ) (a b : Option ℤ) (result : Result Bool LineFault)
-    → a ≡ worth (holding_of x) → b ≡ worth (holding_of y) → result ≡ asked g a b
+pub registers_asked : (g : ℤ → ℤ → Bool) (x y : List ℕ) (a b : Option ℤ) (result : Result Bool LineFault) → a ≡ worth (holding_of x)
+    → b ≡ worth (holding_of y) → result ≡ answer_of_comparison g a b
     → MatchBool (is_some (number_in x) && (is_some (number_in y) && true))
-    (result ≡ Ok (g (option_map_or (λ n. n) (worth (holding_of x)) (pos 0)) (option_map_or (λ n. n) (worth (holding_of y)) (pos 0)))) (result ≡ Err AlphaData)
+    (result ≡ Ok (g (option_map_or (λ n. n) (worth (holding_of x)) (pos 0)) (option_map_or (λ n. n) (worth (holding_of y)) (pos 0))))
+    (result ≡ Err AlphaData)
 registers_asked g x y a b result ea eb e =
     asked_both g (number_in x) (number_in y) (worth (holding_of x)) (worth (holding_of y)) result (worth-holding_of x) (worth-holding_of y)
-    (e ∙ (ap (λ o. asked g o b) (ea ∙ worth-holding_of x) ∙ ap (λ o. asked g (number_in x) o) (eb ∙ worth-holding_of y)))
+    (e
+    ∙ (ap (λ o. answer_of_comparison g o b) (ea ∙ worth-holding_of x)
+    ∙ ap (λ o. answer_of_comparison g (number_in x) o) (eb ∙ worth-holding_of y)))
 
-pub register_below : (g : ℤ → ℤ → Bool) (x : List ℕ) (a : Option ℤ) (result : Result Bool LineFault)
-    → a ≡ worth (holding_of x) → result ≡ asked g a (Some (pos 0))
-    → MatchBool (is_some (number_in x) && true) (result ≡ Ok (g (option_map_or (λ n. n) (worth (holding_of x)) (pos 0)) (pos 0))) (result ≡ Err AlphaData)
+pub register_below : (g : ℤ → ℤ → Bool) (x : List ℕ) (a : Option ℤ) (result : Result Bool LineFault) → a ≡ worth (holding_of x)
+    → result ≡ answer_of_comparison g a (Some (pos 0))
+    → MatchBool (is_some (number_in x) && true)
+    (result ≡ Ok (g (option_map_or (λ n. n) (worth (holding_of x)) (pos 0)) (pos 0))) (result ≡ Err AlphaData)
 register_below g x a result ea e =
-    asked_left g (number_in x) (worth (holding_of x)) (pos 0) result (worth-holding_of x) (e ∙ ap (λ o. asked g o (Some (pos 0))) (ea ∙ worth-holding_of x))
+    asked_left g (number_in x) (worth (holding_of x)) (pos 0) result (worth-holding_of x)
+    (e ∙ ap (λ o. answer_of_comparison g o (Some (pos 0))) (ea ∙ worth-holding_of x))
 
-pub register_above : (g : ℤ → ℤ → Bool) (x : List ℕ) (a : Option ℤ) (result : Result Bool LineFault)
-    → a ≡ worth (holding_of x) → result ≡ asked g (Some (pos 0)) a
-    → MatchBool (is_some (number_in x) && true) (result ≡ Ok (g (pos 0) (option_map_or (λ n. n) (worth (holding_of x)) (pos 0)))) (result ≡ Err AlphaData)
+pub register_above : (g : ℤ → ℤ → Bool) (x : List ℕ) (a : Option ℤ) (result : Result Bool LineFault) → a ≡ worth (holding_of x)
+    → result ≡ answer_of_comparison g (Some (pos 0)) a
+    → MatchBool (is_some (number_in x) && true)
+    (result ≡ Ok (g (pos 0) (option_map_or (λ n. n) (worth (holding_of x)) (pos 0)))) (result ≡ Err AlphaData)
 register_above g x a result ea e =
-    asked_right g (number_in x) (worth (holding_of x)) (pos 0) result (worth-holding_of x) (e ∙ ap (λ o. asked g (Some (pos 0)) o) (ea ∙ worth-holding_of x))
+    asked_right g (number_in x) (worth (holding_of x)) (pos 0) result (worth-holding_of x)
+    (e ∙ ap (λ o. answer_of_comparison g (Some (pos 0)) o) (ea ∙ worth-holding_of x))

@@ -1,10 +1,13 @@
 -- Main memory with zeros from the curtain up.
-use Rattle.std.proofs.Common.{◌≡◌, ℕ, suc, zero, ◌+◌, ◌-◌, ◌<◌, ◌≤◌, min, Bool, true, false, List, ◌∷◌, ◌++◌, length, map, take, drop, replicate, set, get_or, length-append, inl, inr, nat_lt, if◌then◌else◌, refl, ap, sym, ◌∙◌, append_assoc, add-one, arith}
+use Rattle.std.proofs.Common.{◌≡◌, ℕ, suc, zero, ◌+◌, ◌-◌, ◌<◌, ◌≤◌, min, Bool, true, false, List, ◌∷◌, ◌++◌, length, map, take, drop}
+use Rattle.std.proofs.Common.{replicate, set, get_or, length-append, inl, inr, nat_lt, if◌then◌else◌, refl, ap, sym, ◌∙◌, append_assoc}
+use Rattle.std.proofs.Common.{add-one, arith}
 use Rattle.std.proofs.Math.Seq.{drop-cons, set-append_seam}
 use Rattle.std.specs.List.{range_with_len}
 use Rattle.std.proofs.lemmas.Bool.{cases_lt}
 use Rattle.std.proofs.lemmas.Bool.Decides.{nat_tests}
-use Rattle.std.proofs.lemmas.List.{append-nil, ext_get_or, get_or_append_left, get_or-append_right, get_or-replicate, get_or-take, length-replicate, length-take-le, take-append-drop, drop_all}
+use Rattle.std.proofs.lemmas.List.{append-nil, ext_get_or, get_or_append_left, get_or-append_right, get_or-replicate, get_or-take}
+use Rattle.std.proofs.lemmas.List.{length-replicate, length-take-le, take-append-drop, drop_all}
 use Rattle.std.proofs.lemmas.List.FromFn.{get_or-map-range_with_len, length-map-range_with_len}
 use Rattle.h41_ram.specs.RegisterMap.{RegisterMap, curtain_of, main_start, register_at, with_register, zeros}
 use Rattle.h41_rows.specs.RowEffects.{cleared_register, with_cleared_data}
@@ -15,7 +18,9 @@ at_main memory k =
     let low : nat_lt (192 + k) 16 ≡ false = grind (arith, nat_tests) in
     let gap : nat_lt (192 + k) 192 ≡ false = grind (arith, nat_tests) in
     let same : 192 + k - 192 ≡ k = omega arith in
-    ap (λ (test : Bool). if test then get_or memory.status (192 + k) zeros else (if nat_lt (192 + k) 192 then zeros else get_or memory.main (192 + k - 192) zeros)) low
+    ap (λ (test : Bool). if test then get_or memory.status (192 + k) zeros
+    else (if nat_lt (192 + k) 192 then zeros else get_or memory.main (192 + k - 192) zeros))
+    low
     ∙ ap (λ (test : Bool). if test then zeros else get_or memory.main (192 + k - 192) zeros) gap
     ∙ ap (λ i. get_or memory.main i zeros) same
 
@@ -26,7 +31,9 @@ with_main memory k register =
     let gap : nat_lt (192 + k) 192 ≡ false = grind (arith, nat_tests) in
     let same : 192 + k - 192 ≡ k = omega arith in
     let written : ℕ → RegisterMap = λ i. record memory { main = set memory.main i register } in
-    ap (λ (test : Bool). if test then record memory { status = set memory.status (192 + k) register } else (if nat_lt (192 + k) 192 then memory else written (192 + k - 192))) low
+    ap (λ (test : Bool). if test then record memory { status = set memory.status (192 + k) register }
+    else (if nat_lt (192 + k) 192 then memory else written (192 + k - 192)))
+    low
     ∙ ap (λ (test : Bool). if test then memory else written (192 + k - 192)) gap
     ∙ ap written same
 
@@ -62,7 +69,12 @@ unfolding zeros_from
 zeros_more main first place from inside =
     let front = take first main ++ replicate (place - first) zeros in
     let size : length front ≡ place =
-    omega (arith, length-append (take first main) (replicate (place - first) zeros), length-take-le first main (omega arith), length-replicate (place - first) zeros) in
+    omega (
+      arith,
+      length-append (take first main) (replicate (place - first) zeros),
+      length-take-le first main (omega arith),
+      length-replicate (place - first) zeros,
+    ) in
     let next : suc (place - first) ≡ place + 1 - first = omega arith in
     ap (λ (rest : List (List ℕ)). set (front ++ rest) place zeros) (drop-cons main place zeros inside)
     ∙ ap (λ i. set (front ++ get_or main place zeros ∷ drop (suc place) main) i zeros) (sym size)
@@ -108,9 +120,12 @@ module _ (memory : RegisterMap) (first : ℕ) (is_first : first ≡ min (curtain
 
   each : (k : ℕ) → k < length memory.main → get_or (front ++ rest) k zeros ≡ cleared_register memory (main_start + k)
   each k inside = elim (cases_lt k first) [
-    | inl low ↦ get_or_append_left front rest zeros k (omega (arith, front_size, low)) ∙ get_or-take first memory.main k zeros low ∙ sym (kept memory k (omega (arith, low, is_first)))
+    | inl low ↦
+        get_or_append_left front rest zeros k (omega (arith, front_size, low)) ∙ get_or-take first memory.main k zeros low
+        ∙ sym (kept memory k (omega (arith, low, is_first)))
     | inr high ↦ get_or-append_right front rest first k zeros front_size high
-        ∙ get_or-replicate (length memory.main - first) (k - first) zeros zeros (omega (arith, high, inside)) ∙ sym (gone memory k (omega (arith, high, inside, is_first)))
+        ∙ get_or-replicate (length memory.main - first) (k - first) zeros zeros (omega (arith, high, inside))
+        ∙ sym (gone memory k (omega (arith, high, inside, is_first)))
   ]
 
   listed : front ++ rest ≡ map (cleared_register memory) (range_with_len main_start (length memory.main))
@@ -118,10 +133,12 @@ module _ (memory : RegisterMap) (first : ℕ) (is_first : first ≡ min (curtain
       let all = length-map-range_with_len (cleared_register memory) main_start (length memory.main) in
       ext_get_or zeros (front ++ rest) (map (cleared_register memory) (range_with_len main_start (length memory.main))) (size ∙ sym all)
       (λ k inside. each k (omega (arith, size, inside))
-      ∙ sym (get_or-map-range_with_len (cleared_register memory) main_start (length memory.main) k (main_start + k) zeros (omega (arith, size, inside)) refl))
+      ∙ sym (get_or-map-range_with_len (cleared_register memory) main_start
+      (length memory.main) k (main_start + k) zeros (omega (arith, size, inside)) refl))
 
   pub cleared_all : partly_cleared memory first (length memory.main) ≡ with_cleared_data memory
   unfolding partly_cleared zeros_from
   cleared_all =
-      ap (λ (behind : List (List ℕ)). record memory { main = (front ++ rest) ++ behind }) (drop_all (length memory.main) memory.main (omega arith))
+      ap (λ (behind : List (List ℕ)). record memory { main = (front ++ rest) ++ behind })
+      (drop_all (length memory.main) memory.main (omega arith))
       ∙ ap (λ (main : List (List ℕ)). record memory { main = main }) (append-nil (front ++ rest) ∙ listed)

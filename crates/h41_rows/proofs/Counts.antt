@@ -1,10 +1,9 @@
 -- The ones and the fraction of a number that counts a loop.
-use Rattle.std.proofs.Common.{◌≡◌, ℕ, zero, suc, ◌+◌, ◌-◌, ◌*◌, ◌/◌, ◌%◌, ◌^◌, ◌<◌, ◌≤◌, ◌≢◌, ⊎_elim, sym, ◌∙◌, ap, refl, subst, arith, Bool, false}
-use Rattle.std.specs.Prelude.{ℤ, pos, negsuc, ◌+ℤ◌, ◌-ℤ◌, ◌==◌, if◌then◌else◌, unsigned_abs}
-use Rattle.std.proofs.Math.Nat.{mul-le-mul_right, mul-lt-mul_of_pos_right, pow-le-pow_right, mul-div-mul_right}
+use Rattle.std.proofs.Common.{◌≡◌, ℕ, zero, suc, ◌+◌, ◌-◌, ◌*◌, ◌/◌, ◌%◌, ◌^◌, ◌<◌, ◌≤◌, ⊎_elim, sym, ◌∙◌, ap, refl, subst, arith}
+use Rattle.std.specs.Prelude.{ℤ, pos, negsuc, ◌+ℤ◌, ◌-ℤ◌, unsigned_abs}
+use Rattle.std.proofs.Math.Nat.{mul-lt-mul_of_pos_right, pow-le-pow_right}
 use Rattle.std.proofs.lemmas.Nat.{pow-add}
 use Rattle.std.proofs.lemmas.Bool.{cases_lt}
-use Rattle.std.proofs.lemmas.Bool.Decides.{nat_tests}
 use Rattle.std.proofs.lemmas.Int.{ints}
 use Rattle.h41_decimal.specs.Signs.{signed, sign_of}
 use Rattle.h41_decimal.specs.Units.{one, size, units}
@@ -15,19 +14,20 @@ use Rattle.h41_decimal.specs.declared.sign.Sign.TheVariants.{Plus, Minus}
 use Rattle.h41_decimal.specs.declared.ten.Ten.{Ten}
 use Rattle.h41_decimal.specs.declared.ten.Ten.TheVariants.{Zero, Nonzero}
 use Rattle.h41_decimal.proofs.Nearest.{ten_pow_pos}
-use Rattle.h41_decimal.proofs.Cuts.{power_parts}
 use Rattle.h41_decimal.proofs.Signed.{signed-sub}
 use Rattle.h41_decimal.proofs.Tens.{size_pos, unsigned_abs-signed}
 use Rattle.h41_decimal.proofs.Wholes.{all_ones, ten_of_fewer, filled_worth}
 use Rattle.h41_rows.specs.Counters.{counter_of, fraction_of}
-use Rattle.h41_rows.specs.Counting.{count_in, counted_along, with_ones}
+use Rattle.h41_rows.specs.Counting.{count_in, number_along, with_ones}
 
 -- a whole number of up to ten digits, filled with zeros
 pub log_few : (log n : ℕ) → 10 ^ log ≤ n → n < 10 ^ 10 → log ≤ 9
 log_few log n least few =
     ⊎_elim
     (λ (more : 9 < log).
-    absurd (let ten : 0 < 10 = omega arith in let le : 10 ≤ log = omega arith in let p : 10 ^ 10 ≤ 10 ^ log = pow-le-pow_right ten le in omega arith))
+    absurd (let ten : 0 < 10 =
+    omega arith in
+    let le : 10 ≤ log = omega arith in let p : 10 ^ 10 ≤ 10 ^ log = pow-le-pow_right ten le in omega arith))
     (λ (fits : log ≤ 9). fits)
     (cases_lt 9 log)
 
@@ -40,49 +40,6 @@ pub whole_worth : (log n p : ℕ) → p ≡ 10 ^ (9 - log) → log ≤ 9 → n *
 whole_worth log n p is fits =
     let steps : 108 - (9 - log) ≡ 99 + log = omega arith in
     ap (λ (t : ℕ). n * p * 10 ^ t) (sym steps) ∙ filled_worth n (9 - log) 108 p is (omega arith)
-
--- the digits by which a fraction counts
-pub low_count : (m s : ℕ) → m < 10 ^ 10 → s < 94 → count_in (m * 10 ^ s) ≡ 1
-low_count m s small low =
-    let ten : 0 < 10 = omega arith in
-    let le : s ≤ 93 = omega arith in
-    let p : 10 ^ s ≤ 10 ^ 93 = pow-le-pow_right ten le in
-    let a : m * 10 ^ s < 10 ^ 10 * 10 ^ s = mul-lt-mul_of_pos_right small (ten_pow_pos s) in
-    let none : m * 10 ^ s / 10 ^ 103 % 100 ≡ 0 = omega arith in
-    ap (λ (t : ℕ). if t == 0 then 1 else t) none
-
-pub fraction_steps : (m s : ℕ) → 10 ^ 9 ≤ m → m * 10 ^ s < 10 ^ 108 → s ≤ 103
-fraction_steps m s least below =
-    ⊎_elim
-    (λ (more : 103 < s).
-    absurd
-    (let ten : 0 < 10 = omega arith in
-    let le : 104 ≤ s = omega arith in
-    let p : 10 ^ 104 ≤ 10 ^ s = pow-le-pow_right ten le in
-    let a : 10 ^ 9 * 10 ^ s ≤ m * 10 ^ s = mul-le-mul_right (10 ^ s) least in
-    omega arith))
-    (λ (fits : s ≤ 103). fits)
-    (cases_lt 103 s)
-
-pub count_digits : (m s p : ℕ) → p ≡ 10 ^ (103 - s) → s ≤ 103 → m * 10 ^ s / 10 ^ 103 ≡ m / p
-count_digits m s p is fits =
-    let parts : p * 10 ^ s ≡ 10 ^ 103 = ap (λ (t : ℕ). t * 10 ^ s) is ∙ power_parts (103 - s) s 103 (omega arith) in
-    ap (λ (t : ℕ). m * 10 ^ s / t) (sym parts) ∙ mul-div-mul_right m p (ten_pow_pos s)
-
-pub counts_one : (m s p : ℕ) → p ≡ 10 ^ (103 - s) → s ≤ 103 → m / p % 100 ≡ 0 → count_in (m * 10 ^ s) ≡ 1
-counts_one m s p is fits none =
-    let e : m * 10 ^ s / 10 ^ 103 % 100 ≡ 0 = ap (λ (t : ℕ). t % 100) (count_digits m s p is fits) ∙ none in
-    ap (λ (t : ℕ). if t == 0 then 1 else t) e
-
-count_some : (t : ℕ) → t ≢ 0 → (if t == 0 then 1 else t) ≡ t
-count_some t some =
-    let f : (t == 0) ≡ false = grind (arith, nat_tests) in
-    ap (λ (b : Bool). if b then 1 else t) f
-
-pub counts_some : (m s p : ℕ) → p ≡ 10 ^ (103 - s) → s ≤ 103 → m / p % 100 ≢ 0 → count_in (m * 10 ^ s) ≡ m / p % 100
-counts_some m s p is fits some =
-    let e : m * 10 ^ s / 10 ^ 103 % 100 ≡ m / p % 100 = ap (λ (t : ℕ). t % 100) (count_digits m s p is fits) in
-    ap (λ (t : ℕ). if t == 0 then 1 else t) e ∙ count_some (m / p % 100) some
 
 -- the size of a fraction
 signed_self : (z : ℤ) → z ≡ signed (sign_of z) (unsigned_abs z)
@@ -154,7 +111,7 @@ one_step Minus Minus (suc q) =
     let f : with_ones (negsuc (suc q)) 0 ≡ signed Minus (suc q * one) +ℤ signed Minus one = omega (arith, ints) in
     ap (λ (k : ℤ). with_ones k 0) e ∙ f
 
-pub counts_whole : (z : ℤ) (d : Sign) → fraction_of z ≡ 0 → counted_along d z ≡ z +ℤ signed d one
+pub counts_whole : (z : ℤ) (d : Sign) → fraction_of z ≡ 0 → number_along d z ≡ z +ℤ signed d one
 counts_whole z d none =
     let n = unsigned_abs z in
     let q : ℕ = n / 10 ^ 108 in
@@ -164,12 +121,13 @@ counts_whole z d none =
     ∙ (ap (λ (t : ℕ). signed (sign_of z) t +ℤ signed d one) whole ∙ ap (λ (t : ℤ). t +ℤ signed d one) (sym (signed_self z))))
 
 -- a number with a fraction, by its ones
-pub counts_ones : (z : ℤ) (s d : Sign) (ones count rest : ℕ) → s ≡ sign_of z → HasOnes (unsigned_abs z) ones → count ≡ count_in rest → rest ≡ fraction_of z
-    → with_ones (signed s ones +ℤ signed d count) rest ≡ counted_along d z
+pub counts_ones : (z : ℤ) (s d : Sign) (ones count rest : ℕ) → s ≡ sign_of z → HasOnes (unsigned_abs z) ones → count ≡ count_in rest
+    → rest ≡ fraction_of z → with_ones (signed s ones +ℤ signed d count) rest ≡ number_along d z
 counts_ones z s d ones count rest sign has counts fraction =
     let low : ones * 10 ^ 108 ≤ unsigned_abs z = has.not_above in
     let high : unsigned_abs z < (ones + 1) * 10 ^ 108 = has.next_above in
     let q : ones ≡ unsigned_abs z / 10 ^ 108 = omega arith in
     ap (λ (t : Sign). with_ones (signed t ones +ℤ signed d count) rest) sign
     ∙ (ap (λ (t : ℕ). with_ones (signed (sign_of z) t +ℤ signed d count) rest) q
-    ∙ (ap (λ (t : ℕ). with_ones (counter_of z +ℤ signed d t) rest) counts ∙ ap (λ (f : ℕ). with_ones (counter_of z +ℤ signed d (count_in f)) f) fraction))
+    ∙ (ap (λ (t : ℕ). with_ones (counter_of z +ℤ signed d t) rest) counts
+    ∙ ap (λ (f : ℕ). with_ones (counter_of z +ℤ signed d (count_in f)) f) fraction))

@@ -5,8 +5,6 @@ pub mod Counts
 pub mod Decimals
 pub mod Lifts
 pub mod Loops
-pub mod NumberParts
-pub mod NumberReading
 pub mod Recalled
 pub mod Told
 pub mod ValueLaws

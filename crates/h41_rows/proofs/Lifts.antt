@@ -4,7 +4,7 @@ use Rattle.h41_ram.specs.NamedRegisters.{with_status}
 use Rattle.h41_ram.specs.RegisterMap.{RegisterMap, register_at}
 use Rattle.h41_ram.specs.declared.status.StatusRegister.TheVariants as names
 use Rattle.h41_rows.specs.Places.{Place, X, place_address}
-use Rattle.h41_rows.specs.RowEffects.{lifted, takes_of, with_taken}
+use Rattle.h41_rows.specs.RowEffects.{lift_takes, takes_of, with_taken}
 use Rattle.h41_rows.specs.Rows.{coming_in, compute, copy}
 
 -- memory with a register that came into X
@@ -13,7 +13,7 @@ with_coming old named register lift = with_taken old named register (takes_of (c
 
 -- the stack is lifted, and X is written
 pub in_lifted : (old memory : RegisterMap) (named : ℕ) (register : List ℕ) (lift : Bool) → lift ≡ true
-    → memory ≡ with_taken old named register lifted old → with_status memory names.X register ≡ with_coming old named register lift
+    → memory ≡ with_taken old named register lift_takes old → with_status memory names.X register ≡ with_coming old named register lift
 in_lifted old memory named register lift on e =
     ap (λ m. with_status m names.X register) e ∙ ap (with_coming old named register) (sym on)
 

@@ -1,9 +1,10 @@
 -- A register as it comes into ALPHA.
-use Rattle.std.specs.Prelude.{◌≡◌, ◌≢◌, ℕ, Bool, true, false, List, Option, Some, None, ℤ, pos, slice_index, ◌==◌, ◌&&◌, if◌then◌else◌, refl}
+use Rattle.std.specs.Prelude.{◌≡◌, ◌≢◌, ℕ, Bool, true, false, List, Option, Some, None, ℤ, pos, slice_index, ◌==◌, ◌&&◌, if◌then◌else◌}
+use Rattle.std.specs.Prelude.{refl}
 use Rattle.std.proofs.Common.{ap, sym, ◌∙◌, arith}
 use Rattle.std.proofs.lemmas.Bool.Decides.{nat_tests}
 use Rattle.h41_decimal.specs.Holding.{Text, Other, decimal_in, holding, holding_of, number_in, parts_worth, text_in}
-use Rattle.h41_rows.specs.RowEffects.{recalled}
+use Rattle.h41_rows.specs.RowEffects.{recall_text}
 use Rattle.h41_show.specs.RegisterText.{holding_text, register_text}
 use Rattle.h41_show.specs.declared.format.Format.{Format}
 
@@ -26,23 +27,23 @@ marked mantissa exponent register place =
     ∙ ap (λ (digit : ℕ). if digit == 1 then Text (text_in register) else Other) place
 
 -- ALPHA data comes as its characters
-pub recalled-bytes : (format : Format) (register : List ℕ) → slice_index register 13 ≡ 1
-    → recalled format register (holding_of register) ≡ text_in register
-recalled-bytes format register place =
-    ap (recalled format register) (marked (decimal_in register 3 10) (decimal_in register 0 3) register place)
+pub recall_text-bytes : (format : Format) (register : List ℕ) → slice_index register 13 ≡ 1
+    → recall_text format register (holding_of register) ≡ text_in register
+recall_text-bytes format register place =
+    ap (recall_text format register) (marked (decimal_in register 3 10) (decimal_in register 0 3) register place)
 
 not_one : (digit : ℕ) → digit ≢ 1 → (digit == 1) ≡ false
 not_one digit other = grind (arith, nat_tests)
 
 unmarked : (format : Format) (number : Option ℤ) (register : List ℕ) → (slice_index register 13 == 1) ≡ false
-    → holding_text format register (holding number register) ≡ recalled format register (holding number register)
+    → holding_text format register (holding number register) ≡ recall_text format register (holding number register)
 unmarked format (Some value) register test = refl
 unmarked format None register test =
     ap (λ (b : Bool). holding_text format register (if b then Text (text_in register) else Other)) test
-    ∙ sym (ap (λ (b : Bool). recalled format register (if b then Text (text_in register) else Other)) test)
+    ∙ sym (ap (λ (b : Bool). recall_text format register (if b then Text (text_in register) else Other)) test)
 
 -- all else comes as the display shows it
-pub recalled-shown : (format : Format) (register : List ℕ) → slice_index register 13 ≢ 1
-    → register_text format register ≡ recalled format register (holding_of register)
+pub recall_text-shown : (format : Format) (register : List ℕ) → slice_index register 13 ≢ 1
+    → register_text format register ≡ recall_text format register (holding_of register)
 unfolding register_text
-recalled-shown format register other = unmarked format (number_in register) register (not_one (slice_index register 13) other)
+recall_text-shown format register other = unmarked format (number_in register) register (not_one (slice_index register 13) other)

@@ -4,22 +4,22 @@ use Rattle.std.specs.Prelude.{ℤ, if◌then◌else◌, nat_lt}
 use Rattle.std.proofs.lemmas.Bool.{cases_lt}
 use Rattle.std.proofs.lemmas.Bool.Decides.{nat_tests}
 use Rattle.h41_decimal.specs.Holding.{Holding, Number, Text, Other, worth}
-use Rattle.h41_rows.specs.Wholes.{told}
+use Rattle.h41_rows.specs.Wholes.{told_number}
 
 -- where a test is below 1000, or at least it
-pub told_below : (n : ℕ) → n < 1000 → told n ≡ n
+pub told_below : (n : ℕ) → n < 1000 → told_number n ≡ n
 told_below n small =
     let t : nat_lt n 1000 ≡ true = grind (arith, nat_tests) in
     ap (λ b. if b then n else 1000) t
 
-pub told_above : (n : ℕ) → 1000 ≤ n → told n ≡ 1000
+pub told_above : (n : ℕ) → 1000 ≤ n → told_number n ≡ 1000
 told_above n large =
     let t : nat_lt n 1000 ≡ false = grind (arith, nat_tests) in
     ap (λ b. if b then n else 1000) t
 
 -- a test that fails from some number below 1000 on has one answer for both
 pub told_asked : {A : Type 0} (most : ℕ) (f : ℕ → A) (other : A) (n : ℕ) → most ≤ 1000
-    → (if nat_lt (told n) most then f (told n) else other) ≡ (if nat_lt n most then f n else other)
+    → (if nat_lt (told_number n) most then f (told_number n) else other) ≡ (if nat_lt n most then f n else other)
 told_asked most f other n small =
     ⊎_elim
     (λ (less : n < 1000). ap (λ t. if nat_lt t most then f t else other) (told_below n less))

@@ -1,49 +1,39 @@
 -- Why a value leaves nothing open.
-use Rattle.std.proofs.Common.{◌≡◌, ℕ, ◌*◌, ◌^◌, Bool, true, false, List, Result, Ok, Err, sym, ap, subst, ◌∙◌}
+use Rattle.std.proofs.Common.{◌≡◌, ℕ, ◌*◌, Bool, true, false, List, [], ◌∷◌, Result, Ok, Err, MatchBool, refl, sym, ap, subst, ◌∙◌}
 use Rattle.std.specs.Prelude.{ℤ, pos, neg_ℤ, ◌+ℤ◌, ◌-ℤ◌, ◌*ℤ◌, unsigned_abs, IsOkAnd}
 use Rattle.std.specs.Option.{option_map_or}
 use Rattle.h41_codes.specs.declared.characters.Character.{Character}
 use Rattle.h41_decimal.specs.Holding.{holding_of, worth}
-use Rattle.h41_decimal.specs.Laws.{FractionIsDetermined, IntegerPartIsDetermined, ModuloIsDetermined, NearestIsDetermined, NearestRootIsDetermined, QuotientIsDetermined, RegisterIsDetermined, StepsAreDetermined, TypedIsDetermined, UnitsAreInjective}
+use Rattle.h41_decimal.specs.Laws.{FractionIsDetermined, IntegerPartIsDetermined, ModuloIsDetermined, NearestIsDetermined}
+use Rattle.h41_decimal.specs.Laws.{NearestRootIsDetermined, QuotientIsDetermined, RegisterIsDetermined, StepsAreDetermined}
+use Rattle.h41_decimal.specs.Laws.{UnitsAreInjective}
 use Rattle.h41_decimal.specs.NearestDecimal.{Nearest}
-use Rattle.h41_decimal.specs.NumberEntry.{IsTyped, greatest}
+use Rattle.h41_decimal.specs.NumberEntry.{greatest}
 use Rattle.h41_decimal.specs.Operations.{NearestModulo, RoundsTo, step_of}
 use Rattle.h41_decimal.specs.Signs.{signed}
 use Rattle.h41_decimal.specs.Units.{one, units}
 use Rattle.h41_decimal.specs.declared.fault.DecimalFault.{DecimalFault}
 use Rattle.h41_decimal.specs.declared.fault.DecimalFault.TheVariants.{Data, Range}
-use Rattle.h41_decimal.specs.declared.parts.Exponent.{Exponent}
 use Rattle.h41_decimal.specs.declared.sign.Sign.{Sign}
 use Rattle.h41_decimal.specs.declared.ten.Ten.{Ten}
-use Rattle.h41_ram.specs.RegisterMap.{RegisterMap, flag_of}
+use Rattle.h41_ram.specs.RegisterMap.{RegisterMap, d_address, flag_of, register_at, zeros}
 use Rattle.h41_show.specs.DisplayFormat.{format_of}
-use Rattle.h41_rows.specs.Counters.{recounted}
-use Rattle.h41_rows.specs.NumberLines.{IsNumberOf, decimal_places, mantissa_digits, mantissa_part, number_from, sign_in}
-use Rattle.h41_rows.specs.Places.{amount_in, register_in}
-use Rattle.h41_rows.specs.RowLaws.{ValuesAreDetermined}
-use Rattle.h41_rows.specs.Values.{Counted, Difference, Displayed, Fraction, Given, IntegerPart, Inverse, IsRegisterOf, IsValue, Kept, Negative, Percentage, Product, Quotient, Remainder, Root, Size, Sum, Unit, Value, Written, places_of, range_flag, sign_of_value, unit_of}
+use Rattle.h41_numbers.specs.NumberLaws.{NumbersAreDetermined}
+use Rattle.h41_numbers.specs.NumberLines.{IsNumberOf}
+use Rattle.h41_rows.specs.Computing.{WorksOn, value_of_one, value_of_two}
+use Rattle.h41_rows.specs.Counters.{number_after}
+use Rattle.h41_rows.specs.Places.{Named, X, Y, amount_in, are_numbers, register_in}
+use Rattle.h41_rows.specs.RowEffects.{holds_in}
+use Rattle.h41_rows.specs.RowLaws.{AlwaysIsDetermined, OneIsDetermined, TestIsDetermined, TwoIsDetermined, ValuesAreDetermined}
+use Rattle.h41_rows.specs.Rows.{places_in_condition, places_in_value}
+use Rattle.h41_rows.specs.Values.{Computes, Counted, Difference, Displayed, Fraction, Given, IntegerPart, Inverse, IsRegisterOf, IsValue}
+use Rattle.h41_rows.specs.Values.{Kept, Negative, Percentage, Product, Quotient, Remainder, Root, AbsoluteValue, Sum, Unit, Value, Written}
+use Rattle.h41_rows.specs.Values.{places_of, range_flag, sign_of_value, unit_of}
 use Rattle.h41_rows.specs.declared.fault.LineFault.{LineFault}
-
--- what is typed hangs on the number of its exponent
-typed_at : (sign : Sign) (digits places : ℕ) (e f : Exponent) (number : Ten) → e.biased ≡ f.biased → IsTyped sign digits places e number
-    → IsTyped sign digits places f number
-typed_at sign digits places e f number same typed =
-    record {
-      answer = typed.answer;
-      nearest = subst (λ biased. Nearest (signed sign (digits * one * 10 ^ biased)) (10 ^ places * 10 ^ 99) typed.answer) same typed.nearest;
-      value = typed.value;
-    }
+use Rattle.h41_rows.specs.declared.fault.LineFault.TheVariants.{AlphaData}
 
 -- the number of a number line
-module _ (same_typed : TypedIsDetermined) where
-  same_number : (text : List Character) (x y : Ten) → IsNumberOf text x → IsNumberOf text y → x ≡ y
-  same_number text x y p q =
-      let sign : Sign = sign_in (mantissa_part text) in
-      let digits : ℕ = number_from 0 (mantissa_digits text) in
-      let places : ℕ = decimal_places text in
-      same_typed sign digits places q.exponent x y
-      (typed_at sign digits places p.exponent q.exponent x (p.biased ∙ sym q.biased) p.typed) q.typed
-
+module _ (same_number : NumbersAreDetermined) where
   same_written : (text : List Character) (x y : Result Ten DecimalFault) → IsOkAnd x (IsNumberOf text) → IsOkAnd y (IsNumberOf text) → x ≡ y
   same_written text (Ok x) (Ok y) p q = ap Ok (same_number text x y p q)
   same_written text (Ok x) (Err fault) p q = absurd q
@@ -51,13 +41,15 @@ module _ (same_typed : TypedIsDetermined) where
 
 -- the answer for a value
 module _
-    (same_nearest : NearestIsDetermined) (same_root : NearestRootIsDetermined) (same_part : IntegerPartIsDetermined) (same_fraction : FractionIsDetermined)
-    (same_typed : TypedIsDetermined) (same_units : UnitsAreInjective) (same_quotient : QuotientIsDetermined) (same_modulo : ModuloIsDetermined)
+    (same_nearest : NearestIsDetermined) (same_root : NearestRootIsDetermined)
+    (same_part : IntegerPartIsDetermined) (same_fraction : FractionIsDetermined)
+    (same_number : NumbersAreDetermined) (same_units : UnitsAreInjective)
+    (same_quotient : QuotientIsDetermined) (same_modulo : ModuloIsDetermined)
     (same_steps : StepsAreDetermined) where
   same_answer : (value : Value) (memory : RegisterMap) (named : ℕ) (x y : Result Ten DecimalFault)
       → IsValue value memory named x → IsValue value memory named y → x ≡ y
   same_answer (Given number) memory named x y p q = same_nearest number 1 x y p q
-  same_answer (Written characters) memory named x y p q = same_written same_typed characters x y p q
+  same_answer (Written characters) memory named x y p q = same_written same_number characters x y p q
   same_answer (Sum a b) memory named x y p q = same_nearest (amount_in memory named a +ℤ amount_in memory named b) 1 x y p q
   same_answer (Difference a b) memory named x y p q = same_nearest (amount_in memory named a -ℤ amount_in memory named b) 1 x y p q
   same_answer (Product a b) memory named x y p q = same_nearest (amount_in memory named a *ℤ amount_in memory named b) one x y p q
@@ -67,11 +59,12 @@ module _
       let below : p.1 ≡ q.1 = same_units p.1 q.1 (p.3 ∙ sym q.3) in
       let other : NearestModulo q.0 q.1 x = subst (λ of. NearestModulo q.0 of x) below (subst (λ of. NearestModulo of p.1 x) above p.4) in
       same_modulo q.0 q.1 x y other q.4
-  same_answer (Percentage a b) memory named x y p q = same_nearest (amount_in memory named a *ℤ amount_in memory named b) (100 * one) x y p q
+  same_answer (Percentage a b) memory named x y p q =
+      same_nearest (amount_in memory named a *ℤ amount_in memory named b) (100 * one) x y p q
   same_answer (Root a) memory named x y p q = same_root (amount_in memory named a) x y p q
   same_answer (Inverse a) memory named x y p q = same_quotient (pos one) (amount_in memory named a) x y p q
   same_answer (Negative a) memory named x y p q = same_nearest (neg_ℤ (amount_in memory named a)) 1 x y p q
-  same_answer (Size a) memory named x y p q = same_nearest (pos (unsigned_abs (amount_in memory named a))) 1 x y p q
+  same_answer (AbsoluteValue a) memory named x y p q = same_nearest (pos (unsigned_abs (amount_in memory named a))) 1 x y p q
   same_answer (IntegerPart a) memory named x y p q =
       let part : p.0 ≡ q.0 = same_part (amount_in memory named a) p.0 q.0 p.1 q.1 in
       same_nearest q.0 1 x y (subst (λ of. Nearest of 1 x) part p.2) q.2
@@ -82,8 +75,9 @@ module _
       let number : p.0 ≡ q.0 = same_units p.0 q.0 (p.1 ∙ sym q.1) in
       same_steps (step_of (places_of (format_of memory)) q.0) (units q.0) x y
       (subst (λ of. RoundsTo (step_of (places_of (format_of memory)) of) (units of) x) number p.2) q.2
-  same_answer (Unit a) memory named x y p q = same_nearest (option_map_or unit_of (worth (holding_of (register_in memory named a))) (pos 0)) 1 x y p q
-  same_answer (Counted way a) memory named x y p q = same_nearest (recounted way (amount_in memory named a)) 1 x y p q
+  same_answer (Unit a) memory named x y p q =
+      same_nearest (option_map_or unit_of (worth (holding_of (register_in memory named a))) (pos 0)) 1 x y p q
+  same_answer (Counted way a) memory named x y p q = same_nearest (number_after way (amount_in memory named a)) 1 x y p q
 
 -- what is kept of an answer
 module _ (same_register : RegisterIsDetermined) where
@@ -99,18 +93,71 @@ module _ (same_register : RegisterIsDetermined) where
   same_kept sign true (Err Range) a b p q = same_held (signed sign greatest) a b p q
   same_kept sign false (Err Range) a b p q = p ∙ sym q
 
+-- memory that holds nothing
+abbrev empty_memory : RegisterMap
+empty_memory = record { status = []; main = [] }
+
+-- memory with two registers in Y and X, and with the flags of another
+abbrev with_two : RegisterMap → List ℕ → List ℕ → RegisterMap
+with_two memory y x =
+    record {
+      status =
+          zeros ∷ zeros ∷ y ∷ x ∷ zeros ∷ zeros ∷ zeros ∷ zeros ∷ zeros ∷ zeros ∷ zeros ∷ zeros ∷ zeros ∷ zeros
+          ∷ register_at memory d_address ∷ zeros ∷ [];
+      main = [];
+    }
+
+same_held_register : (register other : List ℕ) → ◌≡◌ {A = Result (List ℕ) LineFault} (Ok register) (Ok other) → register ≡ other
+same_held_register register other is = cc
+
+-- a test asks for numbers, or it is told
+by_numbers : {A : Type 0} (numbers : Bool) (a b other fault : A) → MatchBool numbers (a ≡ other) (a ≡ fault)
+    → MatchBool numbers (b ≡ other) (b ≡ fault) → a ≡ b
+by_numbers true a b other fault p q = p ∙ sym q
+by_numbers false a b other fault p q = p ∙ sym q
+
+pub test_determined : TestIsDetermined
+test_determined memory condition a b p q =
+    by_numbers (are_numbers memory 0 (places_in_condition condition)) a b (Ok (holds_in memory 0 condition)) (Err AlphaData) (p 0) (q 0)
+
 -- the register of a value, or the fault
 module _
-    (same_nearest : NearestIsDetermined) (same_root : NearestRootIsDetermined) (same_part : IntegerPartIsDetermined) (same_fraction : FractionIsDetermined)
-    (same_typed : TypedIsDetermined) (same_units : UnitsAreInjective) (same_quotient : QuotientIsDetermined) (same_modulo : ModuloIsDetermined)
+    (same_nearest : NearestIsDetermined) (same_root : NearestRootIsDetermined)
+    (same_part : IntegerPartIsDetermined) (same_fraction : FractionIsDetermined)
+    (same_number : NumbersAreDetermined) (same_units : UnitsAreInjective)
+    (same_quotient : QuotientIsDetermined) (same_modulo : ModuloIsDetermined)
     (same_steps : StepsAreDetermined) (same_register : RegisterIsDetermined) where
   pub values_determined : ValuesAreDetermined
   values_determined value memory named a b p q =
       let same : p.answer ≡ q.answer =
-      same_answer same_nearest same_root same_part same_fraction same_typed same_units same_quotient same_modulo same_steps
+      same_answer same_nearest same_root same_part same_fraction same_number same_units same_quotient same_modulo same_steps
       value memory named p.answer q.answer p.nearest q.nearest
       in
       let kept : Kept (sign_of_value value memory named) (flag_of memory range_flag) q.answer a =
       subst (λ answer. Kept (sign_of_value value memory named) (flag_of memory range_flag) answer a) same p.kept
       in
       same_kept same_register (sign_of_value value memory named) (flag_of memory range_flag) q.answer a b kept q.kept
+
+  -- a value that works on numbers
+  works_determined : (memory : RegisterMap) (named : ℕ) (value : Value) (a b : Result (List ℕ) LineFault)
+      → WorksOn memory named value a → WorksOn memory named value b → a ≡ b
+  works_determined memory named value a b p q = by_numbers (are_numbers memory named (places_in_value value)) p q
+    where
+      by_numbers : (numbers : Bool) → MatchBool numbers (Computes value memory named a) (a ≡ Err AlphaData)
+          → MatchBool numbers (Computes value memory named b) (b ≡ Err AlphaData) → a ≡ b
+      by_numbers true p q = values_determined value memory named a b p q
+      by_numbers false p q = p ∙ sym q
+
+  pub one_determined : OneIsDetermined
+  one_determined value memory address a b p q =
+      works_determined memory address (value_of_one value Named) a b (p address Named refl) (q address Named refl)
+
+  pub two_determined : TwoIsDetermined
+  two_determined value memory first second a b p q =
+      let other : RegisterMap = with_two memory (register_at memory first) (register_at memory second) in
+      works_determined other 0 (value_of_two value Y X) a b (p other 0 Y X refl refl refl) (q other 0 Y X refl refl refl)
+
+  pub always_determined : AlwaysIsDetermined
+  always_determined value register other p q =
+      same_held_register register other
+      (values_determined value empty_memory 0 (Ok register) (Ok other) (p empty_memory 0) (q empty_memory 0))

@@ -1,5 +1,6 @@
 -- What is computed of the numbers at addresses is computed of the places that have these addresses.
-use Rattle.std.proofs.Common.{◌≡◌, ℕ, sym, ◌∙◌, ap, refl, subst, Bool, true, false, MatchBool, IsOkAnd, List, [], ◌∷◌, Option, Some, None, Result, Ok, Err}
+use Rattle.std.proofs.Common.{◌≡◌, ℕ, sym, ◌∙◌, ap, refl, subst, Bool, true, false, MatchBool, IsOkAnd, List, [], ◌∷◌, Option, Some, None}
+use Rattle.std.proofs.Common.{Result, Ok, Err}
 use Rattle.std.specs.Prelude.{ℤ, pos, neg_ℤ, ◌+ℤ◌, ◌-ℤ◌, ◌*ℤ◌, ◌*◌, unsigned_abs, is_some, ◌&&◌, ◌==◌, if◌then◌else◌, slice_index}
 use Rattle.std.specs.Option.{option_map_or}
 use Rattle.h41_decimal.specs.Holding.{Holding, Text, Other, holding, holding_of, number_in, text_in, worth}
@@ -9,10 +10,10 @@ use Rattle.h41_decimal.specs.Signs.{sign_of}
 use Rattle.h41_decimal.specs.Units.{one, units}
 use Rattle.h41_decimal.specs.WholeParts.{IsFraction, IsIntegerPart}
 use Rattle.h41_decimal.specs.declared.ten.Ten.{Ten}
-use Rattle.h41_ram.specs.RegisterMap.{RegisterMap, flag_of}
-use Rattle.h41_rows.specs.Answers.{KeptOne, KeptTwo, WithoutNumber, worth_at}
+use Rattle.h41_ram.specs.RegisterMap.{RegisterMap, flag_of, register_at}
+use Rattle.h41_rows.specs.Answers.{KeptOne, KeptTwo, WithoutNumber, sign_of_two, worth_at}
 use Rattle.h41_rows.specs.Computing.{IsAlways, WorksOn, WorksOnOne, WorksOnTwo, value_of_one, value_of_two}
-use Rattle.h41_rows.specs.Counters.{Up, Down, recounted}
+use Rattle.h41_rows.specs.Counters.{Up, Down, number_after}
 use Rattle.h41_rows.specs.Places.{Place, amount_in, are_numbers, place_address, register_in}
 use Rattle.h41_rows.specs.Rows.{places_in_value}
 use Rattle.h41_rows.specs.Values as values
@@ -61,12 +62,20 @@ computes_one ones.Inverse memory named a number result e w k =
     record { answer = k.answer; nearest = subst (λ (t : ℤ). NearestQuotient (pos one) t k.answer) e k.answers; kept = k.kept }
 computes_one ones.Negative memory named a number result e w k =
     record { answer = k.answer; nearest = subst (λ (t : ℤ). Nearest (neg_ℤ t) 1 k.answer) e k.answers; kept = k.kept }
-computes_one ones.Size memory named a number result e w k =
+computes_one ones.AbsoluteValue memory named a number result e w k =
     record { answer = k.answer; nearest = subst (λ (t : ℤ). Nearest (pos (unsigned_abs t)) 1 k.answer) e k.answers; kept = k.kept }
 computes_one ones.IntegerPart memory named a number result e w k =
-    record { answer = k.answer; nearest = subst (λ (t : ℤ). (part : ℤ) × IsIntegerPart t part × Nearest part 1 k.answer) e k.answers; kept = k.kept }
+    record {
+      answer = k.answer;
+      nearest = subst (λ (t : ℤ). (part : ℤ) × IsIntegerPart t part × Nearest part 1 k.answer) e k.answers;
+      kept = k.kept;
+    }
 computes_one ones.Fraction memory named a number result e w k =
-    record { answer = k.answer; nearest = subst (λ (t : ℤ). (rest : ℤ) × IsFraction t rest × Nearest rest 1 k.answer) e k.answers; kept = k.kept }
+    record {
+      answer = k.answer;
+      nearest = subst (λ (t : ℤ). (rest : ℤ) × IsFraction t rest × Nearest rest 1 k.answer) e k.answers;
+      kept = k.kept;
+    }
 computes_one ones.Displayed memory named a number result e w k =
     record {
       answer = k.answer;
@@ -80,9 +89,9 @@ computes_one ones.Unit memory named a number result e w k =
       kept = k.kept;
     }
 computes_one ones.CountedUp memory named a number result e w k =
-    record { answer = k.answer; nearest = subst (λ (t : ℤ). Nearest (recounted Up t) 1 k.answer) e k.answers; kept = k.kept }
+    record { answer = k.answer; nearest = subst (λ (t : ℤ). Nearest (number_after Up t) 1 k.answer) e k.answers; kept = k.kept }
 computes_one ones.CountedDown memory named a number result e w k =
-    record { answer = k.answer; nearest = subst (λ (t : ℤ). Nearest (recounted Down t) 1 k.answer) e k.answers; kept = k.kept }
+    record { answer = k.answer; nearest = subst (λ (t : ℤ). Nearest (number_after Down t) 1 k.answer) e k.answers; kept = k.kept }
 
 pub works_one : (value : OfOne) (memory : RegisterMap) (address : ℕ) (number : Ten) (result : Result (List ℕ) LineFault)
     → worth_at memory address ≡ Some (units number) → KeptOne value memory number result → WorksOnOne value memory address result
@@ -98,7 +107,7 @@ works_one value memory address number result w k named a e =
     worked ones.Root t computes = where_true _ _ _ t computes
     worked ones.Inverse t computes = where_true _ _ _ t computes
     worked ones.Negative t computes = where_true _ _ _ t computes
-    worked ones.Size t computes = where_true _ _ _ t computes
+    worked ones.AbsoluteValue t computes = where_true _ _ _ t computes
     worked ones.IntegerPart t computes = where_true _ _ _ t computes
     worked ones.Fraction t computes = where_true _ _ _ t computes
     worked ones.Displayed t computes = where_true _ _ _ t computes
@@ -134,7 +143,7 @@ works_without value memory address fault result w f without named a e =
     refused ones.Root t none said without = where_false _ _ _ t (without ∙ said)
     refused ones.Inverse t none said without = where_false _ _ _ t (without ∙ said)
     refused ones.Negative t none said without = where_false _ _ _ t (without ∙ said)
-    refused ones.Size t none said without = where_false _ _ _ t (without ∙ said)
+    refused ones.AbsoluteValue t none said without = where_false _ _ _ t (without ∙ said)
     refused ones.IntegerPart t none said without = where_false _ _ _ t (without ∙ said)
     refused ones.Fraction t none said without = where_false _ _ _ t (without ∙ said)
     refused ones.Displayed t none said without = where_false _ _ _ t (without ∙ said)
@@ -171,10 +180,13 @@ computes_two twos.Quotient memory named a b x y result e f k =
     let together : units x *ℤ units y ≡ amount_in memory named a *ℤ amount_in memory named b = cc in
     record {
       answer = k.answer;
-      nearest = subst (λ (t : ℤ). NearestQuotient t (amount_in memory named b) k.answer) e (subst (λ (t : ℤ). NearestQuotient (units x) t k.answer) f k.answers);
+      nearest =
+          subst (λ (t : ℤ). NearestQuotient t (amount_in memory named b) k.answer)
+          e (subst (λ (t : ℤ). NearestQuotient (units x) t k.answer) f k.answers);
       kept = subst (λ (t : ℤ). Kept (sign_of t) (flag_of memory range_flag) k.answer result) together k.kept;
     }
-computes_two twos.Remainder memory named a b x y result e f k = record { answer = k.answer; nearest = (x, y, e, f, k.answers); kept = k.kept }
+computes_two twos.Remainder memory named a b x y result e f k =
+    record { answer = k.answer; nearest = (x, y, e, f, k.answers); kept = k.kept }
 computes_two twos.Percentage memory named a b x y result e f k =
     let together : units x *ℤ units y ≡ amount_in memory named a *ℤ amount_in memory named b = cc in
     record {
@@ -196,7 +208,8 @@ second_without None p e = refl
 second_without (Some x) p e = ap (λ (t : Option ℤ). is_some t && true) e
 
 -- two places are asked for by each value of two numbers
-two_asked : (value : OfTwo) (memory : RegisterMap) (named : ℕ) (a b : Place) → are_numbers memory named (places_in_value (value_of_two value a b)) ≡ are_numbers memory named (a ∷ b ∷ [])
+two_asked : (value : OfTwo) (memory : RegisterMap) (named : ℕ) (a b : Place)
+    → are_numbers memory named (places_in_value (value_of_two value a b)) ≡ are_numbers memory named (a ∷ b ∷ [])
 two_asked twos.Sum memory named a b = refl
 two_asked twos.Difference memory named a b = refl
 two_asked twos.Product memory named a b = refl
@@ -204,20 +217,53 @@ two_asked twos.Quotient memory named a b = refl
 two_asked twos.Remainder memory named a b = refl
 two_asked twos.Percentage memory named a b = refl
 
+-- a register that stands elsewhere holds the number that it holds here
+held_elsewhere : (memory other : RegisterMap) (named : ℕ) (a : Place) (address : ℕ) (number : Option ℤ)
+    → register_in other named a ≡ register_at memory address → worth_at memory address ≡ number
+    → worth (holding_of (register_in other named a)) ≡ number
+held_elsewhere memory other named a address number e w = ap (λ (r : List ℕ). worth (holding_of r)) e ∙ w
+
+amount_elsewhere : (memory other : RegisterMap) (named : ℕ) (a : Place) (address : ℕ) (number : ℤ)
+    → register_in other named a ≡ register_at memory address → worth_at memory address ≡ Some number → number ≡ amount_in other named a
+amount_elsewhere memory other named a address number e w =
+    amount_of other named a (place_address named a) number refl (held_elsewhere memory other named a address (Some number) e w)
+
+number_elsewhere : (memory other : RegisterMap) (named : ℕ) (a : Place) (address : ℕ) (number : Option ℤ)
+    → register_in other named a ≡ register_at memory address → worth_at memory address ≡ number
+    → number_in (register_in other named a) ≡ number
+number_elsewhere memory other named a address number e w =
+    number_of other named a (place_address named a) number refl (held_elsewhere memory other named a address number e w)
+
+-- of memory flag 24 alone has a part in what is kept of an answer
+kept_elsewhere : (value : OfTwo) (memory other : RegisterMap) (x y : Ten) (result : Result (List ℕ) LineFault)
+    → flag_of other range_flag ≡ flag_of memory range_flag → KeptTwo value memory x y result → KeptTwo value other x y result
+kept_elsewhere value memory other x y result same k =
+    record {
+      answer = k.answer;
+      answers = k.answers;
+      kept = subst (λ (flag : Bool). Kept (sign_of_two value (units x) (units y)) flag k.answer result) (sym same) k.kept;
+    }
+
 pub works_two : (value : OfTwo) (memory : RegisterMap) (first second : ℕ) (x y : Ten) (result : Result (List ℕ) LineFault)
     → worth_at memory first ≡ Some (units x) → worth_at memory second ≡ Some (units y) → KeptTwo value memory x y result
     → WorksOnTwo value memory first second result
-works_two value memory first second x y result v w k named a b e f =
-    let are = both_numbers _ _ (units x) (units y) (number_of memory named a first (Some (units x)) e v) (number_of memory named b second (Some (units y)) f w) in
-    where_true _ _ _ (two_asked value memory named a b ∙ are)
-    (computes_two value memory named a b x y result (amount_of memory named a first (units x) e v) (amount_of memory named b second (units y) f w) k)
+works_two value memory first second x y result v w k other named a b e f flag =
+    let are = both_numbers _ _ (units x) (units y)
+    (number_elsewhere memory other named a first (Some (units x)) e v)
+    (number_elsewhere memory other named b second (Some (units y)) f w) in
+    where_true _ _ _ (two_asked value other named a b ∙ are)
+    (computes_two value other named a b x y result
+    (amount_elsewhere memory other named a first (units x) e v) (amount_elsewhere memory other named b second (units y) f w)
+    (kept_elsewhere value memory other x y result flag k))
 
 pub first_fails : (value : OfTwo) (memory : RegisterMap) (first second : ℕ) (fault : LineFault)
     → worth_at memory first ≡ None → fault ≡ AlphaData → WorksOnTwo value memory first second (Err fault)
-first_fails value memory first second fault w said named a b e f =
-    where_false _ _ _ (two_asked value memory named a b ∙ first_without _ _ (number_of memory named a first None e w)) (ap Err said)
+first_fails value memory first second fault w said other named a b e f flag =
+    where_false _ _ _
+    (two_asked value other named a b ∙ first_without _ _ (number_elsewhere memory other named a first None e w)) (ap Err said)
 
 pub second_fails : (value : OfTwo) (memory : RegisterMap) (first second : ℕ) (fault : LineFault)
     → worth_at memory second ≡ None → fault ≡ AlphaData → WorksOnTwo value memory first second (Err fault)
-second_fails value memory first second fault w said named a b e f =
-    where_false _ _ _ (two_asked value memory named a b ∙ second_without _ _ (number_of memory named b second None f w)) (ap Err said)
+second_fails value memory first second fault w said other named a b e f flag =
+    where_false _ _ _
+    (two_asked value other named a b ∙ second_without _ _ (number_elsewhere memory other named b second None f w)) (ap Err said)

@@ -1,5 +1,6 @@
 -- What is answered for numbers, before a register is made of it.
-use Rattle.std.specs.Prelude.{◌≡◌, ℕ, ◌*◌, Option, Some, None, Result, Ok, Err, MatchBool, IsOkAnd, List, ℤ, pos, neg_ℤ, ◌+ℤ◌, ◌-ℤ◌, ◌*ℤ◌, unsigned_abs}
+use Rattle.std.specs.Prelude.{◌≡◌, ℕ, ◌*◌, Option, Some, None, Result, Ok, Err, MatchBool, IsOkAnd}
+use Rattle.std.specs.Prelude.{List, ℤ, pos, neg_ℤ, ◌+ℤ◌, ◌-ℤ◌, ◌*ℤ◌, unsigned_abs}
 use Rattle.h41_decimal.specs.Holding.{holding_of, worth}
 use Rattle.h41_decimal.specs.NearestDecimal.{Nearest, NearestRoot}
 use Rattle.h41_decimal.specs.NumberEntry.{greatest}
@@ -14,7 +15,7 @@ use Rattle.h41_decimal.specs.declared.ten.Ten.{Ten}
 use Rattle.h41_ram.specs.RegisterMap.{RegisterMap, flag_of, register_at}
 use Rattle.h41_show.specs.DisplayFormat.{format_of}
 use Rattle.h41_rows.specs.Computing.{IsAlways}
-use Rattle.h41_rows.specs.Counters.{Up, Down, recounted}
+use Rattle.h41_rows.specs.Counters.{Up, Down, number_after}
 use Rattle.h41_rows.specs.Values.{Given, IsRegisterOf, Kept, places_of, range_flag, unit_of}
 use Rattle.h41_rows.specs.declared.fault.LineFault.{LineFault}
 use Rattle.h41_rows.specs.declared.fault.LineFault.TheVariants.{AlphaData, OutOfRange}
@@ -36,13 +37,18 @@ abbrev pub AnswersOne : OfOne → RegisterMap → Ten → Result Ten DecimalFaul
 AnswersOne ones.Root memory number answer = NearestRoot (units number) answer
 AnswersOne ones.Inverse memory number answer = NearestQuotient (pos one) (units number) answer
 AnswersOne ones.Negative memory number answer = Nearest (neg_ℤ (units number)) 1 answer
-AnswersOne ones.Size memory number answer = Nearest (pos (unsigned_abs (units number))) 1 answer
-AnswersOne ones.IntegerPart memory number answer = (part : ℤ) × IsIntegerPart (units number) part × Nearest part 1 answer
-AnswersOne ones.Fraction memory number answer = (rest : ℤ) × IsFraction (units number) rest × Nearest rest 1 answer
-AnswersOne ones.Displayed memory number answer = RoundsTo (step_of (places_of (format_of memory)) number) (units number) answer
+AnswersOne ones.AbsoluteValue memory number answer =
+    Nearest (pos (unsigned_abs (units number))) 1 answer
+AnswersOne ones.IntegerPart memory number answer =
+    (part : ℤ) × IsIntegerPart (units number) part × Nearest part 1 answer
+AnswersOne ones.Fraction memory number answer =
+    (rest : ℤ) × IsFraction (units number) rest × Nearest rest 1 answer
+AnswersOne ones.Displayed memory number answer =
+    RoundsTo (step_of (places_of (format_of memory)) number) (units number) answer
 AnswersOne ones.Unit memory number answer = Nearest (unit_of (units number)) 1 answer
-AnswersOne ones.CountedUp memory number answer = Nearest (recounted Up (units number)) 1 answer
-AnswersOne ones.CountedDown memory number answer = Nearest (recounted Down (units number)) 1 answer
+AnswersOne ones.CountedUp memory number answer = Nearest (number_after Up (units number)) 1 answer
+AnswersOne ones.CountedDown memory number answer =
+    Nearest (number_after Down (units number)) 1 answer
 
 -- and its sign, where it can be out of range
 abbrev pub sign_of_one : OfOne → ℤ → Sign
@@ -69,20 +75,24 @@ sign_of_two twos.Percentage x y = sign_of (x *ℤ y)
 -- what stands for a result out of range
 abbrev pub KeptRange : RegisterMap → Sign → Result (List ℕ) LineFault → Type 0
 KeptRange memory sign result =
-    MatchBool (flag_of memory range_flag) (IsOkAnd result (IsRegisterOf (signed sign greatest))) (result ≡ Err OutOfRange)
+    MatchBool (flag_of memory range_flag)
+    (IsOkAnd result (IsRegisterOf (signed sign greatest))) (result ≡ Err OutOfRange)
 
 -- the register of an answer for one number, or for two
-pub record KeptOne (value : OfOne) (memory : RegisterMap) (number : Ten) (result : Result (List ℕ) LineFault) : Type 0 where
+pub record KeptOne (value : OfOne) (memory : RegisterMap)
+    (number : Ten) (result : Result (List ℕ) LineFault) : Type 0 where
   pub answer : Result Ten DecimalFault
   pub answers : AnswersOne value memory number answer
   pub kept : Kept (sign_of_one value (units number)) (flag_of memory range_flag) answer result
 
-pub record KeptTwo (value : OfTwo) (memory : RegisterMap) (x y : Ten) (result : Result (List ℕ) LineFault) : Type 0 where
+pub record KeptTwo (value : OfTwo) (memory : RegisterMap)
+    (x y : Ten) (result : Result (List ℕ) LineFault) : Type 0 where
   pub answer : Result Ten DecimalFault
   pub answers : AnswersTwo value x y answer
   pub kept : Kept (sign_of_two value (units x) (units y)) (flag_of memory range_flag) answer result
 
 -- what is computed where no number is: the unit is zero
 abbrev pub WithoutNumber : OfOne → LineFault → Result (List ℕ) LineFault → Type 0
-WithoutNumber ones.Unit fault result = IsOkAnd result (λ register. IsAlways (Given (pos 0)) register)
+WithoutNumber ones.Unit fault result =
+    IsOkAnd result (λ register. IsAlways (Given (pos 0)) register)
 WithoutNumber value fault result = result ≡ Err fault

@@ -3,7 +3,7 @@ use Rattle.std.specs.Prelude.{Bool, Option, Some, None, Result, Ok, Err, ℤ}
 use Rattle.h41_rows.specs.declared.fault.LineFault.{LineFault}
 use Rattle.h41_rows.specs.declared.fault.LineFault.TheVariants.{AlphaData}
 
-abbrev pub asked : (ℤ → ℤ → Bool) → Option ℤ → Option ℤ → Result Bool LineFault
-asked test (Some x) (Some y) = Ok (test x y)
-asked test (Some x) None = Err AlphaData
-asked test None y = Err AlphaData
+abbrev pub answer_of_comparison : (ℤ → ℤ → Bool) → Option ℤ → Option ℤ → Result Bool LineFault
+answer_of_comparison test (Some x) (Some y) = Ok (test x y)
+answer_of_comparison test (Some x) None = Err AlphaData
+answer_of_comparison test None y = Err AlphaData

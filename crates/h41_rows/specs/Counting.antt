@@ -1,9 +1,16 @@
 -- A loop's number by its parts.
-use Rattle.std.specs.Prelude.{ℕ, ◌+◌, ◌*◌, ◌/◌, ◌%◌, ◌^◌, ◌==◌, if◌then◌else◌, ℤ, ◌+ℤ◌, unsigned_abs}
+use Rattle.std.specs.Prelude.{ℕ, ◌+◌, ◌*◌, ◌/◌, ◌%◌, ◌^◌, ◌==◌, if◌then◌else◌, ℤ, ◌+ℤ◌}
+use Rattle.std.specs.Prelude.{unsigned_abs}
 use Rattle.h41_decimal.specs.Signs.{signed, sign_of}
 use Rattle.h41_decimal.specs.Units.{one}
 use Rattle.h41_decimal.specs.declared.sign.Sign.{Sign}
-use Rattle.h41_rows.specs.Counters.{count_of, counter_of, fraction_of}
+use Rattle.h41_decimal.specs.declared.sign.Sign.TheVariants.{Plus, Minus}
+use Rattle.h41_rows.specs.Counters.{Way, Up, Down, count_of, counter_of, fraction_of}
+
+-- which way a direction is: plus up, minus down
+abbrev pub way_of : Sign → Way
+way_of Plus = Up
+way_of Minus = Down
 
 -- by how much a fraction says that is counted
 abbrev pub count_in : ℕ → ℕ
@@ -14,5 +21,6 @@ abbrev pub with_ones : ℤ → ℕ → ℤ
 with_ones ones fraction = signed (sign_of ones) (unsigned_abs ones * one + fraction)
 
 -- a number counted up, direction plus, or down
-abbrev pub counted_along : Sign → ℤ → ℤ
-counted_along direction number = with_ones (counter_of number +ℤ signed direction (count_of number)) (fraction_of number)
+abbrev pub number_along : Sign → ℤ → ℤ
+number_along direction number =
+    with_ones (counter_of number +ℤ signed direction (count_of number)) (fraction_of number)

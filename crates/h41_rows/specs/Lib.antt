@@ -5,8 +5,6 @@ pub mod Counters
 pub mod Counting
 pub mod FunctionRows
 pub mod LineRows
-pub mod NumberLines
-pub mod NumberReading
 pub mod Operands
 pub mod Places
 pub mod Profile

@@ -1,21 +1,26 @@
 -- The rows of lines, once it is found what their operands mean.
-use Rattle.std.specs.Prelude.{ℕ, ◌/◌, ◌%◌, Bool, true, false, List, [], ◌∷◌, Some, ◌==◌, if◌then◌else◌}
+use Rattle.std.specs.Prelude.{ℕ, ◌/◌, ◌%◌, Bool, true, false, List, [], ◌∷◌, Some, ◌==◌}
+use Rattle.std.specs.Prelude.{if◌then◌else◌}
 use Rattle.std.specs.Option.{option_map_or}
 use Rattle.h41_codes.specs.declared.functions.Branch.{Branch}
 use Rattle.h41_codes.specs.declared.functions.Branch.TheVariants.{GoTo, Execute}
 use Rattle.h41_codes.specs.declared.functions.NameFunction.{NameFunction}
-use Rattle.h41_codes.specs.declared.functions.NameFunction.TheVariants.{GoToName, ExecuteName, Wordless}
+use Rattle.h41_codes.specs.declared.functions.NameFunction.TheVariants.{GoToName, ExecuteName}
+use Rattle.h41_codes.specs.declared.functions.NameFunction.TheVariants.{Wordless}
 use Rattle.h41_codes.specs.declared.functions.ParameterFunction.{ParameterFunction}
 use Rattle.h41_codes.specs.declared.functions.ParameterFunction.TheVariants as functions
 use Rattle.h41_codes.specs.declared.functions.RegisterFunction.{RegisterFunction}
-use Rattle.h41_codes.specs.declared.functions.RegisterFunction.TheVariants.{RecallRegister, StoreRegister}
+use Rattle.h41_codes.specs.declared.functions.RegisterFunction.TheVariants.{RecallRegister}
+use Rattle.h41_codes.specs.declared.functions.RegisterFunction.TheVariants.{StoreRegister}
 use Rattle.h41_codes.specs.declared.line.Line.{Line}
 use Rattle.h41_codes.specs.declared.line.Line.TheVariants as lines
 use Rattle.h41_rows.specs.Counters.{Way, Up, Down}
 use Rattle.h41_rows.specs.FunctionRows.{function_row}
 use Rattle.h41_rows.specs.Operands.{Meant, Count, Name}
 use Rattle.h41_rows.specs.Places.{X, Named}
-use Rattle.h41_rows.specs.Rows.{Row, FlagChange, Becomes, Appends, AppendsNamed, Counts, Flag, Loops, NamedText, Returns, SixCharacters, ToLabel, ToName, nothing, silent, copy, compute, coming_in, test}
+use Rattle.h41_rows.specs.Rows.{Row, FlagChange, Becomes, Appends, AppendsNamed, Counts, Flag}
+use Rattle.h41_rows.specs.Rows.{Loops, NamedText, Returns, SixCharacters, ToLabel, ToName, nothing}
+use Rattle.h41_rows.specs.Rows.{silent, copy, compute, coming_in, test}
 use Rattle.h41_rows.specs.Values as values
 
 -- RCL and STO
@@ -31,17 +36,23 @@ into_register value = record nothing { value = Some value; takes = compute Named
 
 -- ISG and DSE
 abbrev pub loop : Way → Row
-loop way = record nothing { value = Some (values.Counted way Named); takes = compute Named ∷ []; goes = Counts (Loops way Named) }
+loop way = record nothing {
+  value = Some (values.Counted way Named);
+  takes = compute Named ∷ [];
+  goes = Counts (Loops way Named);
+}
 
 -- a flag that is set, or cleared
 abbrev pub change : ℕ → Bool → FlagChange
 change flag on = record { flag = flag; on = on }
 
--- the display format: the digit in flags 36 to 39, 36 weighing 8, and the notation in flags 40 (FIX) and 41 (ENG)
+-- the display format: the digit in flags 36 to 39, 36 weighing 8, and the notation in flags 40
+-- (FIX) and 41 (ENG)
 abbrev pub format : ℕ → (fixed engineering : Bool) → Row
 format n fixed engineering = record nothing {
   flags =
-      change 36 (n / 8 % 2 == 1) ∷ change 37 (n / 4 % 2 == 1) ∷ change 38 (n / 2 % 2 == 1) ∷ change 39 (n % 2 == 1)
+      change 36 (n / 8 % 2 == 1) ∷ change 37 (n / 4 % 2 == 1) ∷ change 38 (n / 2 % 2 == 1)
+      ∷ change 39 (n % 2 == 1)
       ∷ change 40 fixed ∷ change 41 engineering ∷ [];
 }
 
@@ -56,7 +67,8 @@ count_row functions.TestSet n = test (Flag n true)
 count_row functions.TestClear n = test (Flag n false)
 -- these test the flag and then clear it
 count_row functions.TestSetAndClear n = record (test (Flag n true)) { flags = change n false ∷ [] }
-count_row functions.TestClearAndClear n = record (test (Flag n false)) { flags = change n false ∷ [] }
+count_row functions.TestClearAndClear n =
+    record (test (Flag n false)) { flags = change n false ∷ [] }
 -- a sound is nothing here
 count_row functions.Tone n = nothing
 -- the others have no number
@@ -73,7 +85,8 @@ register_row functions.StoreDivide = into_register (values.Quotient Named X)
 register_row functions.IncrementSkip = loop Up
 register_row functions.DecrementSkip = loop Down
 register_row functions.View = record nothing { shows = NamedText }
-register_row functions.StoreAlpha = record nothing { takes = record { place = Named; source = SixCharacters } ∷ [] }
+register_row functions.StoreAlpha =
+    record nothing { takes = record { place = Named; source = SixCharacters } ∷ [] }
 register_row functions.RecallAlpha = record nothing { alpha = Some AppendsNamed }
 register_row functions.Exchange = record nothing { takes = copy X Named ∷ copy Named X ∷ [] }
 register_row functions.Label = silent
@@ -105,17 +118,21 @@ named_row GoToName name = to_name GoTo name
 named_row ExecuteName name = to_name Execute name
 named_row Wordless name = silent
 
--- a text is put into ALPHA; one that begins with the append sign comes behind what it holds, and one of no character does nothing
+-- a text is put into ALPHA; one that begins with the append sign comes behind what it holds, and
+-- one of no character does nothing
 abbrev pub text_row : List ℕ → Row
 text_row [] = nothing
 text_row (character ∷ text) =
-    record nothing { alpha = Some (if character == 0x7F then Appends text else Becomes (character ∷ text)) }
+    record nothing {
+      alpha = Some (if character == 0x7F then Appends text else Becomes (character ∷ text));
+    }
 
 -- the row of a line
 abbrev pub row_of : Line → Meant → Row
 row_of lines.Null meant = nothing
 row_of (lines.LocalLabel label) meant = silent
-row_of (lines.Number characters) meant = record (coming_in (compute X)) { value = Some (values.Written characters) }
+row_of (lines.Number characters) meant =
+    record (coming_in (compute X)) { value = Some (values.Written characters) }
 row_of (lines.Named function name) meant = named_row function name
 row_of (lines.Register function register) meant = short_row function
 row_of (lines.Plain function) meant = option_map_or (λ row. row) (function_row function) nothing

@@ -31,8 +31,10 @@ register_in memory named place = register_at memory (place_address named place)
 
 -- what the number there is worth, in units; zero where it holds none, which no line asks
 abbrev pub amount_in : RegisterMap → ℕ → Place → ℤ
-amount_in memory named place = option_map_or (λ number. number) (worth (holding_of (register_in memory named place))) (pos 0)
+amount_in memory named place =
+    option_map_or (λ number. number) (worth (holding_of (register_in memory named place))) (pos 0)
 
 -- whether each place holds a number
 abbrev pub are_numbers : RegisterMap → ℕ → List Place → Bool
-are_numbers memory named places = list_all (λ place. is_some (number_in (register_in memory named place))) places
+are_numbers memory named places =
+    list_all (λ place. is_some (number_in (register_in memory named place))) places

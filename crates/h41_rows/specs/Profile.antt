@@ -2,16 +2,19 @@
 use Rattle.std.specs.Prelude.{ℕ, Bool, true, false, ◌&&◌, ◌||◌, nat_le, is_none}
 use Rattle.h41_codes.specs.declared.functions.NameFunction.TheVariants.{Wordless}
 use Rattle.h41_codes.specs.declared.functions.ParameterFunction.{ParameterFunction}
-use Rattle.h41_codes.specs.declared.functions.ParameterFunction.TheVariants.{Label, StatisticsRegisters}
+use Rattle.h41_codes.specs.declared.functions.ParameterFunction.TheVariants.{Label}
+use Rattle.h41_codes.specs.declared.functions.ParameterFunction.TheVariants.{StatisticsRegisters}
 use Rattle.h41_codes.specs.declared.line.Line.{Line}
-use Rattle.h41_codes.specs.declared.line.Line.TheVariants.{BranchIndirect, Named, Plain, WithOperand}
+use Rattle.h41_codes.specs.declared.line.Line.TheVariants.{BranchIndirect, Named, Plain}
+use Rattle.h41_codes.specs.declared.line.Line.TheVariants.{WithOperand}
 use Rattle.h41_codes.specs.declared.line.Operand.{Operand}
 use Rattle.h41_codes.specs.declared.line.Operand.TheVariants.{Direct, Indirect}
 use Rattle.h41_rows.specs.FunctionRows.{function_row}
 
 -- registers 100 and above and M to e, as a line's bytes name them; 112 to 116 are T Z Y X L
 abbrev pub is_parameter_left_out : ℕ → Bool
-is_parameter_left_out parameter = (nat_le 100 parameter && nat_le parameter 111) || nat_le 117 parameter
+is_parameter_left_out parameter =
+    (nat_le 100 parameter && nat_le parameter 111) || nat_le 117 parameter
 
 abbrev pub is_operand_left_out : Operand → Bool
 is_operand_left_out (Direct parameter) = is_parameter_left_out parameter

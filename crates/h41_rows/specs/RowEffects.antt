@@ -1,5 +1,8 @@
--- What a row makes of memory. All that it takes is taken from memory as it was; what it does not name stays.
-use Rattle.std.specs.Prelude.{ℕ, ◌-◌, Bool, true, false, not, ◌&&◌, List, [], ◌∷◌, ◌++◌, map, length, take, drop, replicate, nat_lt, int_le, int_lt, if◌then◌else◌, Option, Some, None, ℤ, pos}
+-- What a row makes of memory. All that it takes is taken from memory as it was; what it does not
+-- name stays.
+use Rattle.std.specs.Prelude.{ℕ, ◌-◌, Bool, true, false, not, ◌&&◌, List, [], ◌∷◌, ◌++◌, map}
+use Rattle.std.specs.Prelude.{length, take, drop, replicate, nat_lt, int_le, int_lt, if◌then◌else◌}
+use Rattle.std.specs.Prelude.{Option, Some, None, ℤ, pos}
 use Rattle.std.specs.List.{range_with_len}
 use Rattle.std.specs.Str.{bytes_eq}
 use Rattle.h41_decimal.specs.Holding.{Holding, Number, Text, Other, after_nulls, holding_of}
@@ -7,15 +10,19 @@ use Rattle.h41_digits.specs.Register.{text}
 use Rattle.h41_rows.specs.Counters.{goes_on}
 use Rattle.h41_rows.specs.Places.{place_address, register_in, amount_in, T, Z, Y, X}
 use Rattle.h41_rows.specs.Rows as rows
-use Rattle.h41_ram.specs.RegisterMap.{RegisterMap, alpha_of, curtain_of, digits_from, flag_of, main_start, register_at, with_alpha, with_flag, with_register, zeros}
+use Rattle.h41_ram.specs.RegisterMap.{RegisterMap, alpha_of, curtain_of, digits_from, flag_of}
+use Rattle.h41_ram.specs.RegisterMap.{main_start, register_at, with_alpha, with_flag, with_register}
+use Rattle.h41_ram.specs.RegisterMap.{zeros}
 use Rattle.h41_show.specs.DisplayFormat.{format_of}
 use Rattle.h41_show.specs.NumberText.{number_text}
 use Rattle.h41_show.specs.declared.format.Format.{Format}
 
--- ALPHA data of at most six characters: 1 in place 13, 0 in place 12, and the characters at the right
+-- ALPHA data of at most six characters: 1 in place 13, 0 in place 12, and the characters at the
+-- right
 abbrev pub text_register : List ℕ → List ℕ
 text_register characters =
-    digits_from (replicate (6 - length characters) 0x00 ++ characters) (0 ∷ 1 ∷ 2 ∷ 3 ∷ 4 ∷ 5 ∷ []) ++ 0x0 ∷ 0x1 ∷ []
+    digits_from (replicate (6 - length characters) 0x00 ++ characters) (0 ∷ 1 ∷ 2 ∷ 3 ∷ 4 ∷ 5 ∷ [])
+    ++ 0x0 ∷ 0x1 ∷ []
 
 -- ALPHA's first six characters; leading nulls are none
 abbrev pub six_characters : RegisterMap → List ℕ
@@ -28,25 +35,29 @@ taken_from memory named result rows.Result = result
 taken_from memory named result rows.SixCharacters = text_register (six_characters memory)
 
 -- a lift: T takes Z, Z takes Y, Y takes X
-abbrev pub lifted : List rows.Takes
-lifted = rows.copy T Z ∷ rows.copy Z Y ∷ rows.copy Y X ∷ []
+abbrev pub lift_takes : List rows.Takes
+lift_takes = rows.copy T Z ∷ rows.copy Z Y ∷ rows.copy Y X ∷ []
 
 -- all places that take registers
 abbrev pub takes_of : rows.Row → Bool → List rows.Takes
-takes_of row lift = if row.lifts && lift then lifted ++ row.takes else row.takes
+takes_of row lift = if row.lifts && lift then lift_takes ++ row.takes else row.takes
 
 -- registers are written that were taken from memory as it was
 abbrev pub with_taken : RegisterMap → ℕ → List ℕ → List rows.Takes → RegisterMap → RegisterMap
 with_taken old named result [] memory = memory
 with_taken old named result (taken ∷ others) memory =
-    with_taken old named result others (with_register memory (place_address named taken.place) (taken_from old named result taken.source))
+    with_taken old named result others (with_register memory
+    (place_address named taken.place) (taken_from old named result taken.source))
 
 -- memory with zero in all data registers, those from the curtain up
 abbrev pub cleared_register : RegisterMap → ℕ → List ℕ
-cleared_register memory address = if nat_lt address (curtain_of memory) then register_at memory address else zeros
+cleared_register memory address =
+    if nat_lt address (curtain_of memory) then register_at memory address else zeros
 
 abbrev pub with_cleared_data : RegisterMap → RegisterMap
-with_cleared_data memory = record memory { main = map (cleared_register memory) (range_with_len main_start (length memory.main)) }
+with_cleared_data memory = record memory {
+  main = map (cleared_register memory) (range_with_len main_start (length memory.main));
+}
 
 abbrev pub with_data_if : Bool → RegisterMap → RegisterMap
 with_data_if clears memory = if clears then with_cleared_data memory else memory
@@ -55,15 +66,17 @@ with_data_if clears memory = if clears then with_cleared_data memory else memory
 abbrev pub last_24 : List ℕ → List ℕ
 last_24 characters = drop (length characters) (replicate 24 0x00 ++ characters)
 
--- a register as it comes into ALPHA: a number as the display shows it, ALPHA data as its characters, what is neither as its digits
--- (this project's choice)
-abbrev pub recalled : Format → List ℕ → Holding → List ℕ
-recalled format register (Number value) = number_text format value
-recalled format register (Text characters) = characters
-recalled format register Other = text register
+-- a register as it comes into ALPHA: a number as the display shows it, ALPHA data as its
+-- characters, what is neither as its digits (this project's choice)
+abbrev pub recall_text : Format → List ℕ → Holding → List ℕ
+recall_text format register (Number value) = number_text format value
+recall_text format register (Text characters) = characters
+recall_text format register Other = text register
 
 abbrev pub recalled_text : RegisterMap → ℕ → List ℕ
-recalled_text memory named = recalled (format_of memory) (register_at memory named) (holding_of (register_at memory named))
+recalled_text memory named =
+    recall_text (format_of memory) (register_at memory named)
+    (holding_of (register_at memory named))
 
 -- what ALPHA holds after a change
 abbrev pub alpha_after : RegisterMap → ℕ → rows.AlphaChange → List ℕ
@@ -81,11 +94,13 @@ abbrev pub with_flags : List rows.FlagChange → RegisterMap → RegisterMap
 with_flags [] memory = memory
 with_flags (change ∷ changes) memory = with_flags changes (with_flag memory change.flag change.on)
 
--- memory after a row, where the register that the line names, the computed register and whether lift was on are given
+-- memory after a row, where the register that the line names, the computed register and whether
+-- lift was on are given
 abbrev pub memory_after : rows.Row → ℕ → List ℕ → Bool → RegisterMap → RegisterMap
 memory_after row named result lift memory =
     with_flags row.flags
-    (with_alpha_change memory named row.alpha (with_data_if row.clears_data (with_taken memory named result (takes_of row lift) memory)))
+    (with_alpha_change memory named row.alpha
+    (with_data_if row.clears_data (with_taken memory named result (takes_of row lift) memory)))
 
 -- whether lift is on after a row
 abbrev pub lift_after : rows.Lift → Bool → Bool
@@ -109,9 +124,13 @@ agrees false other = not other
 
 -- whether a condition holds in memory as it was
 abbrev pub holds_in : RegisterMap → ℕ → rows.Condition → Bool
-holds_in memory named (rows.Same a b) = bytes_eq (term_register memory named a) (term_register memory named b)
-holds_in memory named (rows.Differ a b) = not (bytes_eq (term_register memory named a) (term_register memory named b))
-holds_in memory named (rows.Below a b) = int_lt (term_amount memory named a) (term_amount memory named b)
-holds_in memory named (rows.AtMost a b) = int_le (term_amount memory named a) (term_amount memory named b)
+holds_in memory named (rows.Same a b) =
+    bytes_eq (term_register memory named a) (term_register memory named b)
+holds_in memory named (rows.Differ a b) =
+    not (bytes_eq (term_register memory named a) (term_register memory named b))
+holds_in memory named (rows.Below a b) =
+    int_lt (term_amount memory named a) (term_amount memory named b)
+holds_in memory named (rows.AtMost a b) =
+    int_le (term_amount memory named a) (term_amount memory named b)
 holds_in memory named (rows.Flag flag on) = agrees on (flag_of memory flag)
 holds_in memory named (rows.Loops way place) = goes_on way (amount_in memory named place)

@@ -1,11 +1,75 @@
--- What holds of the values that lines compute, whatever the code does.
-use Rattle.std.specs.Prelude.{◌≡◌, ℕ, List, Result}
+-- What holds of the values that lines compute, and of what the calls promise, whatever the code
+-- does.
+use Rattle.std.specs.Prelude.{◌≡◌, ℕ, Bool, List, Result}
 use Rattle.h41_ram.specs.RegisterMap.{RegisterMap}
+use Rattle.h41_rows.specs.Computing.{BringsIn, ChangesAlpha, Exchanges, IsAlways, Moved, Stores}
+use Rattle.h41_rows.specs.Computing.{Tells, Took, WorksOnOne, WorksOnTwo}
+use Rattle.h41_rows.specs.Rows.{AlphaChange, Condition, Takes}
 use Rattle.h41_rows.specs.Values.{Computes, Value}
 use Rattle.h41_rows.specs.declared.fault.LineFault.{LineFault}
+use Rattle.h41_rows.specs.declared.values.OfOne.{OfOne}
+use Rattle.h41_rows.specs.declared.values.OfTwo.{OfTwo}
 
 -- a value has one register, or one fault
 abbrev pub ValuesAreDetermined : Type 0
 ValuesAreDetermined =
     (value : Value) (memory : RegisterMap) (named : ℕ) (result other : Result (List ℕ) LineFault)
     → Computes value memory named result → Computes value memory named other → result ≡ other
+
+-- What a call answers by these promises is one, whatever its arguments are: no register, no pair of
+-- registers and no test is left out
+
+abbrev pub OneIsDetermined : Type 0
+OneIsDetermined =
+    (value : OfOne) (memory : RegisterMap) (address : ℕ) (result other : Result (List ℕ) LineFault)
+    → WorksOnOne value memory address result → WorksOnOne value memory address other
+    → result ≡ other
+
+abbrev pub TwoIsDetermined : Type 0
+TwoIsDetermined =
+    (value : OfTwo) (memory : RegisterMap) (first second : ℕ)
+    (result other : Result (List ℕ) LineFault)
+    → WorksOnTwo value memory first second result → WorksOnTwo value memory first second other
+    → result ≡ other
+
+abbrev pub AlwaysIsDetermined : Type 0
+AlwaysIsDetermined =
+    (value : Value) (register other : List ℕ)
+    → IsAlways value register → IsAlways value other → register ≡ other
+
+abbrev pub TestIsDetermined : Type 0
+TestIsDetermined =
+    (memory : RegisterMap) (condition : Condition) (result other : Result Bool LineFault)
+    → Tells memory condition result → Tells memory condition other → result ≡ other
+
+-- and so is the memory that a call leaves
+
+abbrev pub TakingIsDetermined : Type 0
+TakingIsDetermined =
+    (old new other : RegisterMap) (register : List ℕ) (takes : List Takes)
+    → Took old new register takes → Took old other register takes → new ≡ other
+
+abbrev pub MovingIsDetermined : Type 0
+MovingIsDetermined =
+    (old new other : RegisterMap) (takes : List Takes) → Moved old new takes → Moved old other takes
+    → new ≡ other
+
+abbrev pub BringingIsDetermined : Type 0
+BringingIsDetermined =
+    (old new other : RegisterMap) (address : ℕ) (lift : Bool)
+    → BringsIn old new address lift → BringsIn old other address lift → new ≡ other
+
+abbrev pub ExchangeIsDetermined : Type 0
+ExchangeIsDetermined =
+    (old new other : RegisterMap) (address : ℕ)
+    → Exchanges old new address → Exchanges old other address → new ≡ other
+
+abbrev pub StoringIsDetermined : Type 0
+StoringIsDetermined =
+    (old new other : RegisterMap) (address : ℕ) → Stores old new address → Stores old other address
+    → new ≡ other
+
+abbrev pub AlphaIsDetermined : Type 0
+AlphaIsDetermined =
+    (old new other : RegisterMap) (change : AlphaChange)
+    → ChangesAlpha old new change → ChangesAlpha old other change → new ≡ other

@@ -4,7 +4,9 @@ use Rattle.std.specs.Option.{option_map_or}
 use Rattle.h41_codes.specs.declared.functions.Branch.{Branch}
 use Rattle.h41_rows.specs.Counters.{Way}
 use Rattle.h41_rows.specs.Places.{Place, T, Z, Y, X, LastX}
-use Rattle.h41_rows.specs.Values.{Value, Given, Written, Sum, Difference, Product, Quotient, Remainder, Percentage, Root, Inverse, Negative, Size, IntegerPart, Fraction, Displayed, Unit, Counted}
+use Rattle.h41_rows.specs.Values.{Value, Given, Written, Sum, Difference, Product, Quotient}
+use Rattle.h41_rows.specs.Values.{Remainder, Percentage, Root, Inverse, Negative, AbsoluteValue}
+use Rattle.h41_rows.specs.Values.{IntegerPart, Fraction, Displayed, Unit, Counted}
 
 -- what a place takes; all are taken from what stood there before the line
 pub data Source : Type 0 where
@@ -57,7 +59,8 @@ pub data Condition : Type 0 where
 pub data Going : Type 0 where
   -- to the next line
   Next : Going
-  -- to the next line where the condition holds, else past it; where the line is typed, the answer is shown
+  -- to the next line where the condition holds, else past it; where the line is typed, the answer
+  -- is shown
   Tests : Condition → Going
   -- the same of a loop; where the line is typed, nothing is asked
   Counts : Condition → Going
@@ -83,7 +86,8 @@ pub data Ending : Type 0 where
   Stops : Ending
   TurnsOff : Ending
 
--- whether the stack is lifted when the next number comes in. Which lines turn lift on is this project's choice.
+-- whether the stack is lifted when the next number comes in. Which lines turn lift on is this
+-- project's choice.
 pub data Lift : Type 0 where
   On : Lift
   Off : Lift
@@ -164,7 +168,7 @@ places_in_value (Percentage a b) = a ∷ b ∷ []
 places_in_value (Root a) = a ∷ []
 places_in_value (Inverse a) = a ∷ []
 places_in_value (Negative a) = a ∷ []
-places_in_value (Size a) = a ∷ []
+places_in_value (AbsoluteValue a) = a ∷ []
 places_in_value (IntegerPart a) = a ∷ []
 places_in_value (Fraction a) = a ∷ []
 places_in_value (Displayed a) = a ∷ []

@@ -1,5 +1,7 @@
--- The values that lines compute. Each is exact, of the numbers in the places that it names, and is rounded to ten digits.
-use Rattle.std.specs.Prelude.{◌≡◌, ℕ, ◌+◌, ◌*◌, Bool, List, Result, Ok, Err, IsOkAnd, MatchBool, ℤ, pos, neg_ℤ, ◌+ℤ◌, ◌-ℤ◌, ◌*ℤ◌, unsigned_abs}
+-- The values that lines compute. Each is exact, of the numbers in the places that it names, and is
+-- rounded to ten digits.
+use Rattle.std.specs.Prelude.{◌≡◌, ℕ, ◌+◌, ◌*◌, Bool, List, Result, Ok, Err, IsOkAnd, MatchBool, ℤ}
+use Rattle.std.specs.Prelude.{pos, neg_ℤ, ◌+ℤ◌, ◌-ℤ◌, ◌*ℤ◌, unsigned_abs}
 use Rattle.std.specs.Option.{option_map_or}
 use Rattle.h41_codes.specs.declared.characters.Character.{Character}
 use Rattle.h41_decimal.specs.Holding.{Number, holding_of, worth}
@@ -22,8 +24,8 @@ use Rattle.h41_show.specs.DisplayFormat.{format_of}
 use Rattle.h41_show.specs.declared.format.Format.{Format}
 use Rattle.h41_show.specs.declared.format.Notation.{Notation}
 use Rattle.h41_show.specs.declared.format.Notation.TheVariants.{Fixed, Scientific, Engineering}
-use Rattle.h41_rows.specs.Counters.{Way, recounted}
-use Rattle.h41_rows.specs.NumberLines.{IsNumberOf}
+use Rattle.h41_numbers.specs.NumberLines.{IsNumberOf}
+use Rattle.h41_rows.specs.Counters.{Way, number_after}
 use Rattle.h41_rows.specs.Places.{Place, amount_in, register_in}
 use Rattle.h41_rows.specs.declared.fault.LineFault.{LineFault}
 use Rattle.h41_rows.specs.declared.fault.LineFault.TheVariants.{DataError, OutOfRange}
@@ -47,17 +49,19 @@ pub data Value : Type 0 where
   Root : Place → Value
   Inverse : Place → Value
   Negative : Place → Value
-  Size : Place → Value
+  AbsoluteValue : Place → Value
   IntegerPart : Place → Value
   Fraction : Place → Value
   -- the number rounded as the display format says
   Displayed : Place → Value
-  -- 1 with the number's sign, and 0 where there is no number
+  -- 1 with the number's sign, and 0 where there is no number (this project's choice where there is
+  -- no ALPHA data either)
   Unit : Place → Value
   -- a loop's counter, counted
   Counted : Way → Place → Value
 
--- to how many decimals or digits the display format rounds: SCI and ENG have one digit in front of the mark
+-- to how many decimals or digits the display format rounds: SCI and ENG have one digit in front of
+-- the mark
 abbrev pub places_of_notation : Notation → ℕ → Places
 places_of_notation Fixed digits = Decimals digits
 places_of_notation Scientific digits = Digits (digits + 1)
@@ -70,36 +74,60 @@ places_of format = places_of_notation format.notation format.digits
 abbrev pub unit_of : ℤ → ℤ
 unit_of number = signed (sign_of number) one
 
--- the answer for a value: its nearest decimal, or why there is none. A zero divisor and the root of a negative number are DATA ERROR:
+-- the answer for a value: its nearest decimal, or why there is none. A zero divisor and the root of
+-- a negative number are DATA ERROR:
 -- so say `NearestQuotient` and `NearestRoot`.
 abbrev pub IsValue : Value → RegisterMap → ℕ → Result Ten DecimalFault → Type 0
 IsValue (Given number) memory named answer = Nearest number 1 answer
 IsValue (Written characters) memory named answer = IsOkAnd answer (IsNumberOf characters)
-IsValue (Sum a b) memory named answer = Nearest (amount_in memory named a +ℤ amount_in memory named b) 1 answer
-IsValue (Difference a b) memory named answer = Nearest (amount_in memory named a -ℤ amount_in memory named b) 1 answer
-IsValue (Product a b) memory named answer = Nearest (amount_in memory named a *ℤ amount_in memory named b) one answer
-IsValue (Quotient a b) memory named answer = NearestQuotient (amount_in memory named a) (amount_in memory named b) answer
+IsValue (Sum a b) memory named answer =
+    Nearest (amount_in memory named a +ℤ amount_in memory named b) 1 answer
+IsValue (Difference a b) memory named answer =
+    Nearest (amount_in memory named a -ℤ amount_in memory named b) 1 answer
+IsValue (Product a b) memory named answer =
+    Nearest (amount_in memory named a *ℤ amount_in memory named b) one answer
+IsValue (Quotient a b) memory named answer =
+    NearestQuotient (amount_in memory named a) (amount_in memory named b) answer
 IsValue (Remainder a b) memory named answer =
-    (y : Ten) × (x : Ten) × (units y ≡ amount_in memory named a) × (units x ≡ amount_in memory named b) × NearestModulo y x answer
-IsValue (Percentage a b) memory named answer = Nearest (amount_in memory named a *ℤ amount_in memory named b) (100 * one) answer
+    (y : Ten)
+    × (x : Ten)
+    × (units y ≡ amount_in memory named a)
+    × (units x ≡ amount_in memory named b)
+    × NearestModulo y x answer
+IsValue (Percentage a b) memory named answer =
+    Nearest (amount_in memory named a *ℤ amount_in memory named b) (100 * one) answer
 IsValue (Root a) memory named answer = NearestRoot (amount_in memory named a) answer
-IsValue (Inverse a) memory named answer = NearestQuotient (pos one) (amount_in memory named a) answer
+IsValue (Inverse a) memory named answer =
+    NearestQuotient (pos one) (amount_in memory named a) answer
 IsValue (Negative a) memory named answer = Nearest (neg_ℤ (amount_in memory named a)) 1 answer
-IsValue (Size a) memory named answer = Nearest (pos (unsigned_abs (amount_in memory named a))) 1 answer
-IsValue (IntegerPart a) memory named answer = (part : ℤ) × IsIntegerPart (amount_in memory named a) part × Nearest part 1 answer
-IsValue (Fraction a) memory named answer = (rest : ℤ) × IsFraction (amount_in memory named a) rest × Nearest rest 1 answer
+IsValue (AbsoluteValue a) memory named answer =
+    Nearest (pos (unsigned_abs (amount_in memory named a))) 1 answer
+IsValue (IntegerPart a) memory named answer =
+    (part : ℤ) × IsIntegerPart (amount_in memory named a) part × Nearest part 1 answer
+IsValue (Fraction a) memory named answer =
+    (rest : ℤ) × IsFraction (amount_in memory named a) rest × Nearest rest 1 answer
 IsValue (Displayed a) memory named answer =
-    (number : Ten) × (units number ≡ amount_in memory named a) × RoundsTo (step_of (places_of (format_of memory)) number) (units number) answer
-IsValue (Unit a) memory named answer = Nearest (option_map_or unit_of (worth (holding_of (register_in memory named a))) (pos 0)) 1 answer
-IsValue (Counted way a) memory named answer = Nearest (recounted way (amount_in memory named a)) 1 answer
+    (number : Ten)
+    × (units number ≡ amount_in memory named a)
+    × RoundsTo (step_of (places_of (format_of memory)) number) (units number) answer
+IsValue (Unit a) memory named answer =
+    Nearest (option_map_or unit_of (worth (holding_of (register_in memory named a))) (pos 0))
+    1 answer
+IsValue (Counted way a) memory named answer =
+    Nearest (number_after way (amount_in memory named a)) 1 answer
 
 -- the sign of a value that can be out of range
 abbrev pub sign_of_value : Value → RegisterMap → ℕ → Sign
-sign_of_value (Sum a b) memory named = sign_of (amount_in memory named a +ℤ amount_in memory named b)
-sign_of_value (Difference a b) memory named = sign_of (amount_in memory named a -ℤ amount_in memory named b)
-sign_of_value (Product a b) memory named = sign_of (amount_in memory named a *ℤ amount_in memory named b)
-sign_of_value (Quotient a b) memory named = sign_of (amount_in memory named a *ℤ amount_in memory named b)
-sign_of_value (Percentage a b) memory named = sign_of (amount_in memory named a *ℤ amount_in memory named b)
+sign_of_value (Sum a b) memory named =
+    sign_of (amount_in memory named a +ℤ amount_in memory named b)
+sign_of_value (Difference a b) memory named =
+    sign_of (amount_in memory named a -ℤ amount_in memory named b)
+sign_of_value (Product a b) memory named =
+    sign_of (amount_in memory named a *ℤ amount_in memory named b)
+sign_of_value (Quotient a b) memory named =
+    sign_of (amount_in memory named a *ℤ amount_in memory named b)
+sign_of_value (Percentage a b) memory named =
+    sign_of (amount_in memory named a *ℤ amount_in memory named b)
 sign_of_value (Displayed a) memory named = sign_of (amount_in memory named a)
 sign_of_value value memory named = Plus
 
@@ -116,10 +144,13 @@ pub record IsRegisterOf (number : ℤ) (register : List ℕ) : Type 0 where
 abbrev pub Kept : Sign → Bool → Result Ten DecimalFault → Result (List ℕ) LineFault → Type 0
 Kept sign ignored (Ok number) result = IsOkAnd result (IsRegisterOf (units number))
 Kept sign ignored (Err Data) result = result ≡ Err DataError
-Kept sign ignored (Err Range) result = MatchBool ignored (IsOkAnd result (IsRegisterOf (signed sign greatest))) (result ≡ Err OutOfRange)
+Kept sign ignored (Err Range) result =
+    MatchBool ignored (IsOkAnd result (IsRegisterOf (signed sign greatest)))
+    (result ≡ Err OutOfRange)
 
 -- a value is computed: the register of it, or the fault
-pub record Computes (value : Value) (memory : RegisterMap) (named : ℕ) (result : Result (List ℕ) LineFault) : Type 0 where
+pub record Computes (value : Value) (memory : RegisterMap)
+    (named : ℕ) (result : Result (List ℕ) LineFault) : Type 0 where
   pub answer : Result Ten DecimalFault
   pub nearest : IsValue value memory named answer
   pub kept : Kept (sign_of_value value memory named) (flag_of memory range_flag) answer result

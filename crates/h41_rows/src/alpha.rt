@@ -1,25 +1,16 @@
 //! What becomes of ALPHA.
 
 ghost use Rattle.h41_rows.specs.Computing.{ChangesAlpha};
-ghost use Rattle.std.specs.Prelude.{◌≡◌, ℕ, ◌-◌, ◌++◌, [], ◌∷◌, length, map, replicate, take};
-ghost use Rattle.h41_decimal.specs.Holding as holding;
-ghost use Rattle.h41_digits.specs.Register.{byte_at};
+ghost use Rattle.std.specs.Prelude.{◌≡◌, ℕ, ◌-◌, ◌++◌, [], ◌∷◌, length, replicate, take};
 ghost use Rattle.h41_ram.specs.RegisterMap.{digits_from};
-ghost use Rattle.h41_rows.specs.RowEffects.{last_24, six_characters, text_register, with_alpha_change};
+ghost use Rattle.h41_rows.specs.RowEffects.{last_24, six_characters, text_register};
+ghost use Rattle.h41_rows.specs.RowEffects.{with_alpha_change};
 ghost use Rattle.h41_rows.specs.Rows.{Appends, AppendsNamed, Becomes, LosesSix};
 
+use crate::texts::{ALPHA_DATA, KIND_PLACE, REGISTER_CHARACTERS, after_nulls, alpha_data};
 use h41_digits::Reg;
 use h41_ram::{ALPHA_LENGTH, Ram};
 use h41_show::{Format, register_text};
-
-/// The place of a register that tells ALPHA data from numbers.
-const KIND_PLACE: usize = 13;
-
-/// What stands there in ALPHA data.
-const ALPHA_DATA: u8 = 1;
-
-/// How many characters a register holds.
-const REGISTER_CHARACTERS: usize = 6;
 
 /// ALPHA holds a text alone: its last 24 characters.
 pub fn replace_text<const REGS: usize>(ram: &mut Ram<REGS>, text: &[u8])
@@ -76,31 +67,6 @@ fn put_behind(old: [u8; ALPHA_LENGTH], text: &[u8]) -> [u8; ALPHA_LENGTH]
     bytes[..kept].copy_from_slice(&old[last.len()..]);
     bytes[kept..].copy_from_slice(last);
     bytes
-}
-
-/// Bytes without the leading ones that are zero.
-fn after_nulls(bytes: &[u8]) -> &[u8]
-    ensures { result.now ≡ holding.after_nulls bytes.now }
-{
-    let mut shown = bytes;
-    while let [0, rest @ ..] = shown {
-        shown = rest;
-    }
-    shown
-}
-
-/// The six bytes of ALPHA data in a register, the leftmost first.
-fn alpha_data(register: Reg) -> [u8; REGISTER_CHARACTERS]
-    ensures { result ≡ map (byte_at register) (5 ∷ 4 ∷ 3 ∷ 2 ∷ 1 ∷ 0 ∷ []) }
-{
-    [
-        register.byte(5),
-        register.byte(4),
-        register.byte(3),
-        register.byte(2),
-        register.byte(1),
-        register.byte(0),
-    ]
 }
 
 /// The first six characters of a text, with nulls in front where there are fewer.

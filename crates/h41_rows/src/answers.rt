@@ -6,16 +6,17 @@ ghost use Rattle.h41_decimal.specs.Operations.{NearestQuotient};
 ghost use Rattle.h41_decimal.specs.Units.{one, units};
 ghost use Rattle.h41_decimal.specs.WholeParts.{IsFraction, IsIntegerPart};
 ghost use Rattle.h41_show.specs.DisplayFormat.{format_of};
-ghost use Rattle.h41_rows.specs.Answers.{AnswersOne, AnswersTwo, IsNumberAt, KeptRange, sign_of_one, sign_of_two};
+ghost use Rattle.h41_rows.specs.Answers.{AnswersOne, AnswersTwo, IsNumberAt, KeptRange};
+ghost use Rattle.h41_rows.specs.Answers.{sign_of_one, sign_of_two};
 ghost use Rattle.h41_rows.specs.Values.{IsRegisterOf, places_of, unit_of};
 
-use crate::counting::{counted_down, counted_up};
+use crate::counters::{counted_down, counted_up};
 use crate::fault::LineFault;
-use crate::signs::{sign_of_difference, sign_of_product, sign_of_sum};
 use crate::values::{OfOne, OfTwo};
 use h41_decimal::laws::decimal_is_its_nearest;
 use h41_decimal::{DecimalFault, Places, Sign, Ten};
 use h41_digits::Reg;
+use h41_numbers::{sign_of_difference, sign_of_product, sign_of_sum};
 use h41_ram::Ram;
 use h41_show::{Format, Notation};
 
@@ -62,7 +63,7 @@ pub fn answer_of_one<const REGS: usize>(
         OfOne::Root => number.sqrt(),
         OfOne::Inverse => inverse(number),
         OfOne::Negative => negative(number),
-        OfOne::Size => size(number),
+        OfOne::AbsoluteValue => absolute_value(number),
         OfOne::IntegerPart => integer_part(number),
         OfOne::Fraction => fraction(number),
         OfOne::Displayed => number.round_to(display_places(ram)),
@@ -134,7 +135,7 @@ fn negative(number: Ten) -> Result<Ten, DecimalFault>
 }
 
 /// A number without its sign.
-fn size(number: Ten) -> Result<Ten, DecimalFault>
+fn absolute_value(number: Ten) -> Result<Ten, DecimalFault>
     ensures { Nearest (pos (unsigned_abs (units number))) 1 result }
 {
     exact(number.abs())

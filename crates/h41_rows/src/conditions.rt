@@ -8,7 +8,7 @@ ghost use Rattle.h41_decimal.specs.Units.{units};
 ghost use Rattle.h41_ram.specs.NamedRegisters.{status_of};
 ghost use Rattle.h41_ram.specs.RegisterMap.{zeros};
 ghost use Rattle.h41_ram.specs.declared.status.StatusRegister.TheVariants as names;
-ghost use Rattle.h41_rows.specs.Comparisons.{asked};
+ghost use Rattle.h41_rows.specs.Comparisons.{answer_of_comparison};
 ghost use Rattle.h41_rows.specs.Computing.{Tells, condition_of};
 
 use crate::fault::LineFault;
@@ -89,7 +89,7 @@ fn number_in_y<const REGS: usize>(ram: &Ram<REGS>) -> Option<Ten>
 
 /// Whether a number is below another, or that one of them is none.
 fn below(x: Option<Ten>, y: Option<Ten>) -> Result<bool, LineFault>
-    ensures { result ≡ asked int_lt (option_map units x) (option_map units y) }
+    ensures { result ≡ answer_of_comparison int_lt (option_map units x) (option_map units y) }
 {
     match (x, y) {
         (Some(x), Some(y)) => Ok(x.cmp(y).is_lt()),
@@ -99,7 +99,7 @@ fn below(x: Option<Ten>, y: Option<Ten>) -> Result<bool, LineFault>
 
 /// Whether a number is at most another, or that one of them is none.
 fn at_most(x: Option<Ten>, y: Option<Ten>) -> Result<bool, LineFault>
-    ensures { result ≡ asked int_le (option_map units x) (option_map units y) }
+    ensures { result ≡ answer_of_comparison int_le (option_map units x) (option_map units y) }
 {
     match (x, y) {
         (Some(x), Some(y)) => Ok(x.cmp(y).is_le()),

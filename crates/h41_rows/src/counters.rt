@@ -1,41 +1,60 @@
-//! Whether loops go on.
+//! Loops: whether they go on, and the numbers by which they count.
 
-ghost use Rattle.std.specs.Prelude.{◌≡◌, ◌<◌, ◌≤◌, ◌/◌, ◌%◌, ◌^◌, ◌==◌, ◌+ℤ◌, ◌-ℤ◌, if◌then◌else◌, int_le, int_lt, pos, unsigned_abs};
+ghost use Rattle.std.specs.Prelude.{◌≡◌, ℕ, ◌+◌, ◌*◌, ◌<◌, ◌≤◌, ◌/◌, ◌%◌, ◌^◌, ◌==◌, ◌+ℤ◌, ◌-ℤ◌};
+ghost use Rattle.std.specs.Prelude.{if◌then◌else◌, int_le, int_lt, pos, unsigned_abs};
+ghost use Rattle.h41_decimal.specs.NearestDecimal.{Nearest};
 ghost use Rattle.h41_decimal.specs.Signs.{signed};
 ghost use Rattle.h41_decimal.specs.Units.{one, size, units};
 ghost use Rattle.h41_rows.specs.Computing.{amount_at};
-ghost use Rattle.h41_rows.specs.Counters.{Down, Up, fraction_of, goes_on};
-ghost use Rattle.h41_rows.specs.Wholes.{few};
+ghost use Rattle.h41_rows.specs.Counters.{Down, Up, fraction_of, goes_on, number_after};
+ghost use Rattle.h41_rows.specs.Counting.{number_along, way_of};
+ghost use Rattle.h41_rows.specs.Readings.{IsCounted};
+ghost use Rattle.h41_rows.specs.Wholes.{told_ones};
 
-use h41_decimal::{Exponent, Sign, Size, Ten};
+use h41_decimal::{DecimalFault, Exponent, Mantissa, Sign, Size, Ten};
 use h41_ram::Ram;
 
 /// Whether a loop goes on that counts up by the register at an address.
 pub fn goes_on_up<const REGS: usize>(ram: &Ram<REGS>, address: u16) -> bool
     ensures { result ≡ goes_on Up (amount_at ram.now address) }
 {
-    let counter = counter_at(ram, address);
-    let decimals = five_decimals(counter);
-    is_at_most(
-        counter.sign(),
-        ones(counter),
-        count(decimals),
-        decimals / 100,
-    )
+    goes_on(ram, address, Sign::Plus)
 }
 
 /// Whether a loop goes on that counts down by the register at an address.
 pub fn goes_on_down<const REGS: usize>(ram: &Ram<REGS>, address: u16) -> bool
     ensures { result ≡ goes_on Down (amount_at ram.now address) }
 {
+    goes_on(ram, address, Sign::Minus)
+}
+
+/// A loop's counter, counted up.
+pub fn counted_up(number: Ten) -> Result<Ten, DecimalFault>
+    ensures { Nearest (number_after Up (units number)) 1 result }
+{
+    counted(number, Sign::Plus)
+}
+
+/// A loop's counter, counted down.
+pub fn counted_down(number: Ten) -> Result<Ten, DecimalFault>
+    ensures { Nearest (number_after Down (units number)) 1 result }
+{
+    counted(number, Sign::Minus)
+}
+
+/// Whether a loop goes on by the register at an address, counted up for plus and down for minus.
+fn goes_on<const REGS: usize>(ram: &Ram<REGS>, address: u16, direction: Sign) -> bool
+    ensures { result ≡ goes_on (way_of direction) (amount_at ram.now address) }
+{
     let counter = counter_at(ram, address);
     let decimals = five_decimals(counter);
-    is_above(
-        counter.sign(),
-        ones(counter),
-        count(decimals),
-        decimals / 100,
-    )
+    let ones = ones(counter);
+    let count = increment(decimals);
+    let last = decimals / 100;
+    match direction {
+        Sign::Plus => is_at_most(counter.sign(), ones, count, last),
+        Sign::Minus => is_above(counter.sign(), ones, count, last),
+    }
 }
 
 /// The number in the register at an address; zero where it holds none.
@@ -50,7 +69,7 @@ fn counter_at<const REGS: usize>(ram: &Ram<REGS>, address: u16) -> Ten
 
 /// The whole ones of a number's size, where 10^10 stands for more.
 fn ones(number: Ten) -> u64
-    ensures { result ≡ few (unsigned_abs (units number) / one) }
+    ensures { result ≡ told_ones (unsigned_abs (units number) / one) }
 {
     match number.ones() {
         Some(ones) => ones,
@@ -89,9 +108,10 @@ fn five_digits(rest: Size) -> u64
 }
 
 /// What a loop counts by: the last two of five decimals, and 1 where they are 00.
-fn count(decimals: u64) -> u64
+fn increment(decimals: u64) -> u64
     ensures value { result ≡ if decimals % 100 == 0 then 1 else decimals % 100 }
-    ensures bound { result < 100 }
+    ensures some { 0 < result }
+    ensures few { result < 100 }
 {
     let count = decimals % 100;
     if count == 0 { 1 } else { count }
@@ -121,4 +141,81 @@ fn is_above(sign: Sign, ones: u64, count: u64, last: u64) -> bool
         Sign::Plus => last + count < ones,
         Sign::Minus => false,
     }
+}
+
+/// A loop's counter, counted up for plus and down for minus. A number with no fraction counts 1.
+fn counted(number: Ten, direction: Sign) -> Result<Ten, DecimalFault>
+    ensures { Nearest (number_along direction (units number)) 1 result }
+{
+    match number.fraction() {
+        Ten::Zero => number.add(single(direction)),
+        Ten::Nonzero(_, fraction) => match number.ones() {
+            Some(ones) => {
+                let count = increment(five_digits(fraction));
+                stepped(number.sign(), ones, direction, count, fraction)
+            }
+            None => number.add(single(direction)),
+        },
+    }
+}
+
+/// 1 with a sign.
+fn single(sign: Sign) -> Ten
+    ensures { units result ≡ signed sign one }
+{
+    let mantissa = Mantissa {
+        digits: 1_000_000_000,
+    };
+    let exponent = Exponent { biased: 99 };
+    Ten::Nonzero(sign, Size { mantissa, exponent })
+}
+
+/// Ones with a sign counted in a direction, with the same fraction.
+fn stepped(
+    sign: Sign,
+    ones: u64,
+    direction: Sign,
+    count: u64,
+    fraction: Size,
+) -> Result<Ten, DecimalFault>
+    requires few_ones { ones < 10 ^ 9 }
+    requires some { 0 < count }
+    requires few { count < 100 }
+    ensures { IsCounted sign ones direction count (size fraction) result }
+{
+    if sign == direction {
+        joined(sign, ones + count, fraction)
+    } else if ones > count {
+        joined(sign, ones - count, fraction)
+    } else if ones < count {
+        joined(direction, count - ones, fraction)
+    } else {
+        joined(Sign::Plus, 0, fraction)
+    }
+}
+
+/// The number of ones and a fraction, with a sign.
+fn joined(sign: Sign, ones: u64, fraction: Size) -> Result<Ten, DecimalFault>
+    requires { ones < 10 ^ 10 }
+    ensures { Nearest (signed sign (ones * one + size fraction)) 1 result }
+{
+    whole_number(sign, ones).add(Ten::Nonzero(sign, fraction))
+}
+
+/// A whole number of up to ten digits with a sign.
+fn whole_number(sign: Sign, ones: u64) -> Ten
+    requires { ones < 10 ^ 10 }
+    ensures { units result ≡ signed sign (ones * one) }
+{
+    if ones == 0 {
+        return Ten::Zero;
+    }
+    let log = ones.ilog10();
+    let mantissa = Mantissa {
+        digits: ones * 10u64.pow(9 - log),
+    };
+    let exponent = Exponent {
+        biased: 99 + log as u8,
+    };
+    Ten::Nonzero(sign, Size { mantissa, exponent })
 }

@@ -1,12 +1,16 @@
 //! Laws of rows: each is the contract of a function with nothing to do but to call the laws it rests on.
 
+ghost use Rattle.h41_rows.specs.RowLaws.{AlphaIsDetermined, AlwaysIsDetermined};
+ghost use Rattle.h41_rows.specs.RowLaws.{BringingIsDetermined, ExchangeIsDetermined};
+ghost use Rattle.h41_rows.specs.RowLaws.{MovingIsDetermined, OneIsDetermined, StoringIsDetermined};
+ghost use Rattle.h41_rows.specs.RowLaws.{TakingIsDetermined, TestIsDetermined, TwoIsDetermined};
 ghost use Rattle.h41_rows.specs.RowLaws.{ValuesAreDetermined};
 
 use h41_decimal::laws::{
     nearest_is_determined, nearest_root_is_determined, parts_are_determined,
-    quotients_are_determined, register_is_determined, steps_are_determined, typed_is_determined,
-    units_are_injective,
+    quotients_are_determined, register_is_determined, steps_are_determined, units_are_injective,
 };
+use h41_numbers::laws::numbers_are_determined;
 
 /// What a line computes is determined: the register, or the fault.
 pub fn values_are_determined()
@@ -15,9 +19,36 @@ pub fn values_are_determined()
     nearest_is_determined();
     nearest_root_is_determined();
     parts_are_determined();
-    typed_is_determined();
+    numbers_are_determined();
     units_are_injective();
     quotients_are_determined();
     steps_are_determined();
     register_is_determined();
 }
+
+/// What the calls answer is determined, whatever registers they work on.
+pub fn results_are_determined()
+    ensures one { OneIsDetermined }
+    ensures two { TwoIsDetermined }
+    ensures always { AlwaysIsDetermined }
+    ensures test { TestIsDetermined }
+{
+    nearest_is_determined();
+    nearest_root_is_determined();
+    parts_are_determined();
+    numbers_are_determined();
+    units_are_injective();
+    quotients_are_determined();
+    steps_are_determined();
+    register_is_determined();
+}
+
+/// What the calls make of memory is determined, whatever registers they work on.
+pub fn changes_are_determined()
+    ensures taking { TakingIsDetermined }
+    ensures moving { MovingIsDetermined }
+    ensures bringing { BringingIsDetermined }
+    ensures exchange { ExchangeIsDetermined }
+    ensures storing { StoringIsDetermined }
+    ensures alpha { AlphaIsDetermined }
+{}

@@ -6,16 +6,14 @@ mod answers;
 mod clearing;
 mod conditions;
 mod counters;
-mod counting;
 mod fault;
 mod flags;
 pub mod laws;
-mod number;
 mod operands;
 mod readings;
-mod signs;
 mod stack;
 mod targets;
+mod texts;
 mod values;
 
 pub use alpha::{append_register, append_text, first_six, replace_text, shift_six};
@@ -24,10 +22,9 @@ pub use conditions::{Test, asks};
 pub use counters::{goes_on_down, goes_on_up};
 pub use fault::LineFault;
 pub use flags::{set_angles, set_format};
-pub use number::written;
 pub use operands::{BranchTarget, branch_target, data_address, digit_of, flag_of, register_of};
 pub use stack::{
     bring_in, bring_in_from, clear_stack, drop_into, enter, exchange, keep_last, roll_down,
     roll_up, store_x,
 };
-pub use values::{OfOne, OfTwo, compute_of_one, compute_of_two, pi, zero};
+pub use values::{OfOne, OfTwo, compute_of_one, compute_of_two, pi, written, zero};

@@ -3,7 +3,8 @@
 ghost use Rattle.std.specs.Prelude.{◌≡◌, ◌<◌, ◌+◌, false, IfOk};
 ghost use Rattle.h41_rows.specs.Results.{result_map};
 ghost use Rattle.h41_rows.specs.Computing.{meant_by};
-ghost use Rattle.h41_rows.specs.Operands.{Address, Count, DigitKind, FlagKind, RegisterKind, data_register, meant_as, meant_of};
+ghost use Rattle.h41_rows.specs.Operands.{Address, Count, DigitKind, FlagKind, RegisterKind};
+ghost use Rattle.h41_rows.specs.Operands.{data_register, meant_as, meant_of};
 ghost use Rattle.h41_rows.specs.Profile.{is_operand_left_out, is_parameter_left_out};
 ghost use Rattle.h41_codes.specs.declared.line.Line.TheVariants.{BranchIndirect};
 

@@ -1,14 +1,13 @@
-//! What the registers that operands name hold: whole numbers and texts.
+//! What the registers that operands name hold, as whole numbers.
 
-ghost use Rattle.std.specs.Prelude.{◌≡◌, ◌<◌, ◌≤◌, ◌/◌, [], ◌∷◌, false, length, map, unsigned_abs};
+ghost use Rattle.std.specs.Prelude.{◌≡◌, ◌<◌, ◌≤◌, ◌/◌, false, unsigned_abs};
 ghost use Rattle.h41_decimal.specs.Holding as holding;
 ghost use Rattle.h41_decimal.specs.Units.{one, units};
-ghost use Rattle.h41_digits.specs.Register as digits;
 ghost use Rattle.h41_ram.specs.NamedRegisters.{size_of};
 ghost use Rattle.h41_rows.specs.Operands as spec;
 ghost use Rattle.h41_rows.specs.Profile.{is_operand_left_out, is_parameter_left_out};
 ghost use Rattle.h41_rows.specs.Readings.{IsTold, number_found, register_found};
-ghost use Rattle.h41_rows.specs.Wholes.{told};
+ghost use Rattle.h41_rows.specs.Wholes.{told_number};
 
 use crate::fault::LineFault;
 use h41_codes::{Operand, Parameter};
@@ -63,12 +62,15 @@ pub(crate) fn operand_number<const REGS: usize>(
 {
     match operand {
         Operand::Direct(parameter) => Ok(u16::from(parameter.number())),
-        Operand::Indirect(parameter) => number_at(ram, *parameter),
+        Operand::Indirect(parameter) => parameter_number(ram, *parameter),
     }
 }
 
 /// The whole number in the register of a parameter.
-fn number_at<const REGS: usize>(ram: &Ram<REGS>, parameter: Parameter) -> Result<u16, LineFault>
+fn parameter_number<const REGS: usize>(
+    ram: &Ram<REGS>,
+    parameter: Parameter,
+) -> Result<u16, LineFault>
     requires { is_parameter_left_out parameter ≡ false }
     ensures { IsTold (number_found ram.now parameter) result }
 {
@@ -98,7 +100,7 @@ fn indirect_register<const REGS: usize>(
     requires { is_parameter_left_out parameter ≡ false }
     ensures { result ≡ register_found ram.now parameter }
 {
-    let number = number_at(ram, parameter)?;
+    let number = parameter_number(ram, parameter)?;
     numbered_register(ram, number)
 }
 
@@ -107,50 +109,24 @@ fn whole_in(register: Reg) -> Result<u16, LineFault>
     ensures { IsTold (spec.whole_of (holding.worth (holding.holding_of register))) result }
 {
     match Ten::from_reg(register) {
-        Some(number) => Ok(whole(number)),
+        Some(number) => Ok(told_whole(number)),
         None => Err(LineFault::AlphaData),
     }
 }
 
 /// The integer part of the size of a number.
-pub(crate) fn whole(number: Ten) -> u16
-    ensures { result ≡ told (unsigned_abs (units number) / one) }
+pub(crate) fn told_whole(number: Ten) -> u16
+    ensures { result ≡ told_number (unsigned_abs (units number) / one) }
 {
     match number.ones() {
-        Some(ones) => told(ones),
+        Some(ones) => told_number(ones),
         None => MOST_TOLD,
     }
 }
 
 /// A whole number as operands read it.
-fn told(ones: u64) -> u16
-    ensures { result ≡ told ones }
+fn told_number(ones: u64) -> u16
+    ensures { result ≡ told_number ones }
 {
     if ones < 1000 { ones as u16 } else { MOST_TOLD }
-}
-
-/// The six bytes at the right of a register, the leftmost first.
-pub(crate) fn alpha_data(register: Reg) -> [u8; 6]
-    ensures { result ≡ map (digits.byte_at register) (5 ∷ 4 ∷ 3 ∷ 2 ∷ 1 ∷ 0 ∷ []) }
-{
-    [
-        register.byte(5),
-        register.byte(4),
-        register.byte(3),
-        register.byte(2),
-        register.byte(1),
-        register.byte(0),
-    ]
-}
-
-/// Bytes without the leading ones that are zero.
-pub(crate) fn after_nulls(bytes: &[u8]) -> &[u8]
-    ensures bytes { result.now ≡ holding.after_nulls bytes.now }
-    ensures most { length result.now ≤ length bytes.now }
-{
-    let mut shown = bytes;
-    while let [0, rest @ ..] = shown {
-        shown = rest;
-    }
-    shown
 }

@@ -1,7 +1,8 @@
 //! What stack, LAST X and registers take.
 
 ghost use Rattle.std.specs.Prelude.{ℕ, [], ◌∷◌};
-ghost use Rattle.h41_rows.specs.Computing.{BringsIn, Exchanges, Moved, Stores, Took, dropped, whole_stack};
+ghost use Rattle.h41_rows.specs.Computing.{BringsIn, Exchanges, Moved, Stores, Took, drop_takes};
+ghost use Rattle.h41_rows.specs.Computing.{whole_stack};
 ghost use Rattle.h41_rows.specs.Places.{LastX, T, X, Y, Z};
 ghost use Rattle.h41_rows.specs.RowEffects.{takes_of};
 ghost use Rattle.h41_rows.specs.Rows.{coming_in, compute, copy};
@@ -38,7 +39,7 @@ pub fn keep_last<const REGS: usize>(ram: &mut Ram<REGS>, register: Reg)
 
 /// X takes a register, LAST X what X held, and the stack drops: T stays.
 pub fn drop_into<const REGS: usize>(ram: &mut Ram<REGS>, register: Reg)
-    ensures { Took ram.old ram.new register dropped }
+    ensures { Took ram.old ram.new register drop_takes }
 {
     let t = ram.status_register(StatusRegister::T);
     let z = ram.status_register(StatusRegister::Z);

@@ -10,19 +10,17 @@ ghost use Rattle.h41_rows.specs.Readings.{LeadsTo};
 use crate::fault::LineFault;
 use crate::operands::BranchTarget;
 use crate::readings;
+use crate::texts::{ALPHA_DATA, KIND_PLACE, after_nulls, alpha_data};
 use h41_codes::{Parameter, Text};
 use h41_decimal::Ten;
 use h41_digits::Reg;
-
-/// The digit in place 13 of a register that holds ALPHA data.
-const ALPHA_DATA: u8 = 1;
 
 /// Where a branch goes by what a register holds.
 pub(crate) fn target_in(register: Reg) -> Result<BranchTarget, LineFault>
     ensures { LeadsTo (spec.target_of (holding_of register)) result }
 {
     match Ten::from_reg(register) {
-        Some(number) => label(readings::whole(number)),
+        Some(number) => label(readings::told_whole(number)),
         None => name_in(register),
     }
 }
@@ -43,8 +41,8 @@ fn name_in(register: Reg) -> Result<BranchTarget, LineFault>
     requires { worth (holding_of register) ≡ None }
     ensures { LeadsTo (spec.target_of (holding_of register)) result }
 {
-    if register.get(13) == ALPHA_DATA {
-        name(readings::after_nulls(&readings::alpha_data(register)))
+    if register.get(KIND_PLACE) == ALPHA_DATA {
+        name(after_nulls(&alpha_data(register)))
     } else {
         Err(LineFault::AlphaData)
     }

@@ -5,15 +5,17 @@ ghost use Rattle.h41_decimal.specs.Units.{units};
 ghost use Rattle.h41_rows.specs.Answers.{KeptOne, KeptTwo, WithoutNumber};
 ghost use Rattle.h41_rows.specs.Computing.{IsAlways, WorksOnOne, WorksOnTwo};
 ghost use Rattle.h41_rows.specs.FunctionRows as functions;
-ghost use Rattle.h41_rows.specs.Values.{Given};
+ghost use Rattle.h41_rows.specs.Values.{Given, Written};
 
 use crate::answers::{
     answer_of_one, answer_of_two, number_at, out_of_range, register, sign_of_one, sign_of_two,
 };
 use crate::fault::LineFault;
+use h41_codes::Number;
 use h41_decimal::laws::decimal_is_its_nearest;
 use h41_decimal::{DecimalFault, Exponent, Mantissa, Sign, Size, Ten};
 use h41_digits::Reg;
+use h41_numbers::number_of;
 use h41_ram::Ram;
 
 /// A value of one number.
@@ -26,7 +28,7 @@ pub enum OfOne {
     /// It with the other sign.
     Negative,
     /// It without its sign.
-    Size,
+    AbsoluteValue,
     /// Its digits in front of the point.
     IntegerPart,
     /// Its digits behind the point.
@@ -105,6 +107,13 @@ pub fn zero() -> Reg
     ensures { IsAlways (Given (pos 0)) result }
 {
     always(Ten::Zero)
+}
+
+/// The register of the number that a number line is.
+pub fn written(number: &Number) -> Reg
+    ensures { IsAlways (Written number.now) result }
+{
+    register(number_of(number.characters()))
 }
 
 /// The register of a value of one number.

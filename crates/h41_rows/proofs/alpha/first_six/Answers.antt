@@ -8,4 +8,4 @@ pub returns : goal.returns
 returns g c =
     c.holding_bytes.ensures
     ∙ ap (λ (bytes : List ℕ). digits_from bytes (0 ∷ 1 ∷ 2 ∷ 3 ∷ 4 ∷ 5 ∷ []) ++ 0 ∷ 1 ∷ []) c.first_at_right.ensures
-    ∙ ap (λ (shown : List ℕ). text_register (take 6 shown)) (c.after_nulls.ensures ∙ ap after_nulls c.alpha-alpha.ensures)
+    ∙ ap (λ (shown : List ℕ). text_register (take 6 shown)) (c.after_nulls.ensures.bytes ∙ ap after_nulls c.alpha-alpha.ensures)

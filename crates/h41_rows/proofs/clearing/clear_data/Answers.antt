@@ -8,7 +8,9 @@ loop-place-init g c = record { memory = cleared_none c.args.ram.now c.min-first.
 
 pub loop-place-preserved : goal.loop-place-preserved
 loop-place-preserved g c = record {
-  memory = cleared_more c.args.ram.now c.loop-place.ram c.write.new.self c.min-first.result c.loop-place.place c.zero.result c.loop-place.auto.place
+  memory =
+      cleared_more c.args.ram.now c.loop-place.ram c.write.new.self
+      c.min-first.result c.loop-place.place c.zero.result c.loop-place.auto.place
       (omega (arith, c.loop-place-test.true, c.curtain.ensures.memory.main)) c.loop-place.invariant.memory c.zero.ensures c.write.ensures;
 }
 

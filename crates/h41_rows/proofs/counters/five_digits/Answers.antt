@@ -9,7 +9,8 @@ invariant_of-exponent c =
     record { in_range = omega (arith, h) }
 
 pub returns-in-Some-clause-value : goal.returns-in-Some-clause-value
-returns-in-Some-clause-value c = shifted_ones c.args.rest.mantissa.digits c.args.rest.exponent.biased c.in-Some.decimals c.in-Some.ensures.ones
+returns-in-Some-clause-value c =
+    shifted_ones c.args.rest.mantissa.digits c.args.rest.exponent.biased c.in-Some.decimals c.in-Some.ensures.ones
 
 pub returns-in-Some-clause-bound : goal.returns-in-Some-clause-bound
 returns-in-Some-clause-bound c =

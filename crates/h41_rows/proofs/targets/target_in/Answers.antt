@@ -14,5 +14,5 @@ returns-in-Some c =
     let value = units c.in-Some.number in
     let worth_of : worth (holding_of c.args.register) ≡ Some value = sym c.from_reg.ensures ∙ ap (option_map units) c.in-Some.is in
     let held = number_held (holding_of c.args.register) value worth_of in
-    c.label.ensures ∙ (ap label_of c.whole.ensures
+    c.label.ensures ∙ (ap label_of c.told_whole.ensures
     ∙ (told_asked 100 (λ n. Ok (Count n)) (Err Nonexistent) (unsigned_abs value / one) (omega arith) ∙ sym (ap target_of held)))

@@ -1,0 +1,3 @@
+pub mod NumberParts
+pub mod NumberReading
+pub mod TypedLaws

@@ -1,0 +1,8 @@
+use Rattle.std.proofs.Common.{◌≡◌, ◌+◌, drop}
+use Rattle.std.specs.List.{position_or_len}
+use Rattle.h41_numbers.specs.NumberLines.{is_point}
+use Rattle.h41_numbers.proofs.number.point_place.Given as goal
+
+-- the characters so far are no mark
+abbrev pub invariant-loop-index : goal.invariant-loop-index
+invariant-loop-index l = position_or_len is_point l.text ≡ l.index + position_or_len is_point (drop l.index l.text)

@@ -1,0 +1,3 @@
+pub mod NumberLaws
+pub mod NumberLines
+pub mod NumberReading

@@ -1,0 +1,234 @@
+//! The number of a number line.
+
+ghost use Rattle.std.specs.Prelude.{◌≡◌, ◌+◌, ◌-◌, ◌*◌, ◌^◌, ◌<◌, ◌≤◌, List, ◌∷◌, length, take};
+ghost use Rattle.std.specs.Prelude.{IfSome};
+ghost use Rattle.std.specs.List.{position_or_len};
+ghost use Rattle.h41_numbers.specs.NumberLines as lines;
+ghost use Rattle.h41_numbers.specs.NumberReading.{ReadsCount, ReadsOn, biased_in, places_in};
+
+use h41_codes::Character;
+use h41_decimal::{Exponent, Sign, Ten};
+
+/// How many digits of a mantissa count.
+const MANTISSA_DIGITS: u8 = 10;
+
+/// How many digits of an exponent count.
+const EXPONENT_DIGITS: u8 = 2;
+
+/// The exponent 0, counted from -99.
+const EXPONENT_BIAS: u8 = 99;
+
+/// Digits as one whole number, and how many they are.
+#[derive(Clone, Copy)]
+struct Digits {
+    number: u64,
+    count: u8,
+    ghost below: { number < 10 ^ count },
+    ghost few: { count ≤ 10 },
+}
+
+impl Digits {
+    /// With one more digit.
+    fn push(self, digit: u8) -> Self
+        requires room { self.count < 10 }
+        requires digit { digit < 10 }
+        ensures number { result.number ≡ 10 * self.number + digit }
+        ensures count { result.count ≡ self.count + 1 }
+    {
+        Digits {
+            number: 10 * self.number + u64::from(digit),
+            count: self.count + 1,
+        }
+    }
+
+    /// With a character's digit, where it has one that counts.
+    fn read(self, character: Character, most: u8) -> Self
+        requires most { most ≤ 10 }
+        requires within { self.count ≤ most }
+        ensures number { ReadsOn most self.number self.count character result.number result.count }
+        ensures count { ReadsCount most self.count character result.count }
+        ensures within { result.count ≤ most }
+    {
+        match digit_of(character) {
+            Some(digit) => {
+                if self.count < most {
+                    self.push(digit)
+                } else {
+                    self
+                }
+            }
+            None => self,
+        }
+    }
+}
+
+/// The number that the characters of a number line are.
+pub fn number_of(text: &[Character]) -> Ten
+    ensures { lines.IsNumberOf text.now result }
+{
+    let end = exponent_place(text);
+    let mantissa = &text[..end];
+    let digits = mantissa_digits(text, end);
+    let places = decimal_places(mantissa, digits.count);
+    let exponent = exponent_of(exponent_part(text, end));
+    Ten::typed(sign_of(mantissa), digits.number, places, exponent)
+}
+
+/// The exponent of the characters behind the E.
+fn exponent_of(text: &[Character]) -> Exponent
+    ensures { result.biased ≡ biased_in text.now }
+{
+    let size = first_digits(text, EXPONENT_DIGITS).number as u8;
+    match sign_of(text) {
+        Sign::Plus => Exponent {
+            biased: EXPONENT_BIAS + size,
+        },
+        Sign::Minus => Exponent {
+            biased: EXPONENT_BIAS - size,
+        },
+    }
+}
+
+/// The characters behind the E, where its place is given.
+fn exponent_part(text: &[Character], end: usize) -> &[Character]
+    requires { end ≡ position_or_len lines.is_exponent text.now }
+    ensures { result.now ≡ lines.exponent_part text.now }
+{
+    if end < text.len() {
+        &text[end + 1..]
+    } else {
+        &[]
+    }
+}
+
+/// The digits of the mantissa that count, where the place of the E is given.
+fn mantissa_digits(text: &[Character], end: usize) -> Digits
+    requires { end ≡ position_or_len lines.is_exponent text.now }
+    ensures number { result.number ≡ lines.number_from 0 (lines.mantissa_digits text.now) }
+    ensures count { result.count ≡ length (lines.mantissa_digits text.now) }
+{
+    let digits = first_digits(&text[..end], MANTISSA_DIGITS);
+    if digits.count == 0 && end < text.len() {
+        Digits {
+            number: 1,
+            count: 1,
+        }
+    } else {
+        digits
+    }
+}
+
+/// How many of the digits that count stand behind the point.
+fn decimal_places(mantissa: &[Character], count: u8) -> u8
+    requires { count ≤ 10 }
+    ensures value { result ≡ places_in mantissa.now count }
+    ensures bound { result ≤ 10 }
+{
+    let point = point_place(mantissa);
+    if point < mantissa.len() {
+        count.saturating_sub(first_digits(&mantissa[..point], MANTISSA_DIGITS).count)
+    } else {
+        0
+    }
+}
+
+/// The first digits of a text, as many as count.
+fn first_digits(text: &[Character], most: u8) -> Digits
+    requires { most ≤ 10 }
+    ensures number { result.number ≡ lines.number_from 0 (take most (lines.digits_in text.now)) }
+    ensures count { result.count ≡ length (take most (lines.digits_in text.now)) }
+    ensures bound { result.number < 10 ^ most }
+{
+    let mut digits = Digits {
+        number: 0,
+        count: 0,
+    };
+    for character in text {
+        digits = digits.read(*character, most);
+    }
+    digits
+}
+
+/// The sign of a text: an even count of minus signs is plus.
+fn sign_of(text: &[Character]) -> Sign
+    ensures { result ≡ lines.sign_in text.now }
+{
+    let mut signs: usize = 0;
+    for character in text {
+        if is_minus(*character) {
+            signs += 1;
+        }
+    }
+    if signs % 2 == 0 {
+        Sign::Plus
+    } else {
+        Sign::Minus
+    }
+}
+
+/// Where the first E stands, or the length where there is none.
+fn exponent_place(text: &[Character]) -> usize
+    ensures place { result ≡ position_or_len lines.is_exponent text.now }
+    ensures bound { result ≤ length text.now }
+{
+    for (index, character) in text.iter().enumerate() {
+        if is_exponent(*character) {
+            return index;
+        }
+    }
+    text.len()
+}
+
+/// Where the first point stands, or the length where there is none.
+fn point_place(text: &[Character]) -> usize
+    ensures place { result ≡ position_or_len lines.is_point text.now }
+    ensures bound { result ≤ length text.now }
+{
+    for (index, character) in text.iter().enumerate() {
+        if is_point(*character) {
+            return index;
+        }
+    }
+    text.len()
+}
+
+/// A digit's number.
+fn digit_of(character: Character) -> Option<u8>
+    ensures value { result ≡ lines.digit_of character }
+    ensures bound { IfSome result (λ digit. digit < 10) }
+{
+    match character {
+        Character::Zero => Some(0),
+        Character::One => Some(1),
+        Character::Two => Some(2),
+        Character::Three => Some(3),
+        Character::Four => Some(4),
+        Character::Five => Some(5),
+        Character::Six => Some(6),
+        Character::Seven => Some(7),
+        Character::Eight => Some(8),
+        Character::Nine => Some(9),
+        Character::Point | Character::Exponent | Character::Minus => None,
+    }
+}
+
+/// Whether a character is the radix mark.
+fn is_point(character: Character) -> bool
+    ensures { result ≡ lines.is_point character }
+{
+    matches!(character, Character::Point)
+}
+
+/// Whether a character is the E in front of an exponent.
+fn is_exponent(character: Character) -> bool
+    ensures { result ≡ lines.is_exponent character }
+{
+    matches!(character, Character::Exponent)
+}
+
+/// Whether a character is a minus sign.
+fn is_minus(character: Character) -> bool
+    ensures { result ≡ lines.is_minus character }
+{
+    matches!(character, Character::Minus)
+}

@@ -9,10 +9,10 @@ use Rattle.h41_xrom.specs.Calculator.{CalculatorState, RefusesLine, RefusesStep,
 use Rattle.h41_xrom.specs.CalculatorLaws.{StepIsDetermined, StepRefusalIsDetermined}
 use Rattle.h41_debug.specs.Advancing.{Advances, Made}
 use Rattle.h41_debug.specs.Bench.{BenchState, with_calculator}
-use Rattle.h41_debug.specs.Breakpoints.{is_set}
+use Rattle.h41_breakpoints.specs.Breakpoints.{is_set}
 use Rattle.h41_debug.specs.Run.{place_in}
 use Rattle.h41_debug.specs.Running.{break_at, stop_at, stop_behind}
-use Rattle.h41_debug.specs.declared.breakpoint.Breakpoint.TheVariants.{Word}
+use Rattle.h41_breakpoints.specs.declared.location.Location.TheVariants.{Word}
 use Rattle.h41_debug.specs.declared.run.Stop.TheVariants.{Idle}
 use Rattle.h41_debug.proofs.Runs.{made_more}
 

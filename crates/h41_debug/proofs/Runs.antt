@@ -8,7 +8,7 @@ use Rattle.h41_xrom.specs.Calculator.{CalculatorState, RefusesStep, Step, is_idl
 use Rattle.h41_xrom.specs.CalculatorLaws.{StepIsDetermined, StepRefusalIsDetermined}
 use Rattle.h41_debug.specs.Bench.{BenchState, Steps, with_calculator}
 use Rattle.h41_debug.specs.BenchLaws.{RefusedStepIsRun, RunsAddUp, RunsAreDetermined, StepIsRun}
-use Rattle.h41_debug.specs.Breakpoints.{is_set}
+use Rattle.h41_breakpoints.specs.Breakpoints.{is_set}
 use Rattle.h41_debug.specs.Run.{Run, StopsFor, place_of, turn_of}
 use Rattle.h41_debug.specs.Advancing.{EndsFor, Made, NoneBefore}
 use Rattle.h41_debug.specs.Running.{stop_at, stop_behind}

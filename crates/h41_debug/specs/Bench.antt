@@ -5,8 +5,8 @@ use Rattle.h41_xrom.specs.Calculator.{CalculatorState, RefusesStep, Step}
 use Rattle.h41_xrom.specs.Calculator as calculator
 use Rattle.h41_xrom.specs.KeyActions.{Presses}
 use Rattle.h41_xrom.specs.declared.refusal.CalculatorRefusal.{CalculatorRefusal}
-use Rattle.h41_debug.specs.Breakpoints.{BreakpointSet, no_breakpoints, with_breakpoint, without_breakpoint}
-use Rattle.h41_debug.specs.declared.breakpoint.Breakpoint.{Breakpoint}
+use Rattle.h41_breakpoints.specs.Breakpoints.{BreakpointSet, no_breakpoints, with_breakpoint, without_breakpoint}
+use Rattle.h41_breakpoints.specs.declared.location.Location.{Location}
 
 -- The state of the bench.
 pub record BenchState : Type 0 where
@@ -23,12 +23,12 @@ abbrev pub with_calculator : CalculatorState → BenchState → BenchState
 with_calculator c s = record s { calculator = c }
 
 -- with a breakpoint that is set
-abbrev pub with_set : Breakpoint → BenchState → BenchState
-with_set breakpoint s = record s { breakpoints = with_breakpoint breakpoint s.breakpoints }
+abbrev pub with_set : Location → BenchState → BenchState
+with_set location s = record s { breakpoints = with_breakpoint location s.breakpoints }
 
 -- with a breakpoint that is taken away
-abbrev pub without_set : Breakpoint → BenchState → BenchState
-without_set breakpoint s = record s { breakpoints = without_breakpoint breakpoint s.breakpoints }
+abbrev pub without_set : Location → BenchState → BenchState
+without_set location s = record s { breakpoints = without_breakpoint location s.breakpoints }
 
 -- so many single steps, up to the first that is refused, and its refusal
 abbrev pub Steps : ℕ → BenchState → BenchState → Option CalculatorRefusal → Type 0

@@ -5,19 +5,19 @@ use Rattle.h41_xrom.specs.Calculator.{CalculatorState, RefusesStep, is_idle}
 use Rattle.h41_xrom.specs.declared.calculator.Mode.{Mode}
 use Rattle.h41_xrom.specs.declared.calculator.Mode.TheVariants as modes
 use Rattle.h41_debug.specs.Bench.{BenchState, Steps}
-use Rattle.h41_debug.specs.Breakpoints.{is_set}
-use Rattle.h41_debug.specs.declared.breakpoint.Breakpoint.{Breakpoint}
-use Rattle.h41_debug.specs.declared.breakpoint.Breakpoint.TheVariants.{Line, Word}
+use Rattle.h41_breakpoints.specs.Breakpoints.{is_set}
+use Rattle.h41_breakpoints.specs.declared.location.Location.{Location}
+use Rattle.h41_breakpoints.specs.declared.location.Location.TheVariants.{Line, Word}
 use Rattle.h41_debug.specs.declared.run.Stop.{Stop}
 use Rattle.h41_debug.specs.declared.run.Stop.TheVariants.{Break, Idle, Limit, Refused}
 
 -- the breakpoint that stands where the calculator is: at the next word while a function runs, else at the line of the position
-abbrev pub place_in : CalculatorState → Mode → Breakpoint
+abbrev pub place_in : CalculatorState → Mode → Location
 place_in s modes.Idle = Line s.focal.position
 place_in s modes.Run = Line s.focal.position
 place_in s (modes.Micro caller) = Word s.nut.processor.pc
 
-abbrev pub place_of : CalculatorState → Breakpoint
+abbrev pub place_of : CalculatorState → Location
 place_of s = place_in s s.mode
 
 -- a reason to stop after so many steps of at most so many

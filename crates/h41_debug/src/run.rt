@@ -9,7 +9,7 @@ ghost use Rattle.h41_debug.specs.Running.{break_behind, stop_behind};
 ghost use Rattle.h41_xrom.specs.declared.calculator.Mode.TheVariants.{Micro};
 
 use crate::bench::Bench;
-use crate::breakpoint::Breakpoint;
+use h41_breakpoints::Location;
 use h41_xrom::laws::step_is_determined;
 use h41_xrom::{CalculatorRefusal, Caller, Mode};
 
@@ -107,7 +107,7 @@ impl Bench {
                 Ok(false) => return (made + 1, None),
                 Err(refusal) => return (made, Some(refusal)),
             }
-            if watched && self.has_breakpoint(Breakpoint::Word(self.calculator().cpu().pc())) {
+            if watched && self.has_breakpoint(Location::Word(self.calculator().cpu().pc())) {
                 return (made + 1, None);
             }
         }
@@ -125,23 +125,15 @@ impl Bench {
         match calculator.mode() {
             Mode::Idle if behind => Some(Stop::Idle),
             Mode::Idle => None,
-            Mode::Run => self.stop_at(
-                Breakpoint::Line(calculator.focal().position),
-                behind,
-                watched,
-            ),
-            Mode::Micro(_) => self.stop_at(
-                Breakpoint::Word(calculator.cpu().pc()),
-                behind,
-                watched,
-            ),
+            Mode::Run => self.stop_at(Location::Line(calculator.focal().position), behind, watched),
+            Mode::Micro(_) => self.stop_at(Location::Word(calculator.cpu().pc()), behind, watched),
         }
     }
 
     /// Why a run stops at a place, but in front of its first step. No breakpoint is asked for where the run is not watched, since none
     /// is set.
     #[inline(always)]
-    fn stop_at(&self, place: Breakpoint, behind: bool, watched: bool) -> Option<Stop>
+    fn stop_at(&self, place: Location, behind: bool, watched: bool) -> Option<Stop>
         requires { watched ≡ false → len self.now.breakpoints ≡ 0 }
         ensures { result ≡ break_behind behind self.now.breakpoints place }
     {

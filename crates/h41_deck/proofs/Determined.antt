@@ -98,8 +98,8 @@ module _ (same_steps : StepsAreDetermined) (same_load : LoadIsDetermined) (same_
         p.3 ∙ ap (λ (lines : List ℕ). says_and_ends lines (option_map Calculator p.1)) all.1
             ∙ ap (λ (why : Option CalculatorRefusal). says_and_ends q.0 (option_map Calculator why)) all.2 ∙ sym q.3,
       )
-  same_reply (commands.Break place) values s t u a b p q = (p.0 ∙ sym q.0, p.1 ∙ sym q.1)
-  same_reply (commands.Unbreak place) values s t u a b p q = (p.0 ∙ sym q.0, p.1 ∙ sym q.1)
+  same_reply (commands.Break location) values s t u a b p q = (p.0 ∙ sym q.0, p.1 ∙ sym q.1)
+  same_reply (commands.Unbreak location) values s t u a b p q = (p.0 ∙ sym q.0, p.1 ∙ sym q.1)
   same_reply (commands.Key keys) values s t u a b p q =
       let both = same_keys keys s t u p.0 q.0 p.1 q.1 in
       (both.0, p.2 ∙ ap (λ (why : Option CalculatorRefusal). ends_by (option_map Calculator why)) both.1 ∙ sym q.2)

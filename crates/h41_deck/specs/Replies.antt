@@ -1,6 +1,8 @@
 -- What each command does to the bench, and what it answers. The language is this project's own.
 use Rattle.std.specs.Bool.{then_some}
 use Rattle.std.specs.Prelude.{◌≡◌, ℕ, Bool, true, false, List, Option, Some, None, Result, Ok, Err, option_map}
+use Rattle.h41_breakpoints.specs.Breakpoints.{lacks_breakpoint, refuses_breakpoint}
+use Rattle.h41_breakpoints.specs.declared.location.Location.{Location}
 use Rattle.h41_commands.specs.declared.commands.PageKind.{PageKind}
 use Rattle.h41_commands.specs.declared.commands.ProgramKind.{ProgramKind}
 use Rattle.h41_commands.specs.declared.commands.Command.{Command}
@@ -12,10 +14,8 @@ use Rattle.h41_commands.specs.Items.{Spelled}
 use Rattle.h41_commands.specs.PageBlocks.{Fills}
 use Rattle.h41_commands.specs.ProgramBlocks.{Means}
 use Rattle.h41_debug.specs.Bench.{BenchState, PressesInTurn, Steps, with_calculator, with_set, without_set}
-use Rattle.h41_debug.specs.Breakpoints.{lacks_breakpoint, refuses_breakpoint}
 use Rattle.h41_debug.specs.Run as runs
 use Rattle.h41_debug.specs.Traces.{Traces}
-use Rattle.h41_debug.specs.declared.breakpoint.Breakpoint.{Breakpoint}
 use Rattle.h41_debug.specs.declared.run.Stop.{Stop}
 use Rattle.h41_xrom.specs.declared.refusal.CalculatorRefusal.{CalculatorRefusal}
 use Rattle.h41_xrom.specs.Calculator.{CalculatorState, with_page, without_page, restarted, call_refusal, called}
@@ -25,7 +25,7 @@ use Rattle.h41_deck.specs.declared.refusal.Refusal.TheVariants.{BreakFull, Calcu
 use Rattle.h41_deck.specs.Answers.{Answer, ends_by, says_and_ends, says_or_ends}
 use Rattle.h41_deck.specs.Listings.{listed}
 use Rattle.h41_deck.specs.Pages.{block_bank, page_refusal, unplug_refusal}
-use Rattle.h41_deck.specs.Runs.{breakpoint_at, ran}
+use Rattle.h41_deck.specs.Runs.{ran}
 use Rattle.h41_deck.specs.Views.{Shows}
 
 -- the state after a change that is made unless there is a refusal
@@ -75,11 +75,11 @@ abbrev pub LoadsBlock : ProgramKind → List ℕ → BenchState → BenchState �
 LoadsBlock kind values s t answer = (bytes : Result (List ℕ) LineRefusal) × Means kind values bytes × LoadsBytes bytes s t answer
 
 -- why a breakpoint is not set, and why none is taken away
-abbrev pub set_refusal : BenchState → Breakpoint → Option Refusal
-set_refusal s breakpoint = then_some (refuses_breakpoint s.breakpoints breakpoint) BreakFull
+abbrev pub set_refusal : BenchState → Location → Option Refusal
+set_refusal s location = then_some (refuses_breakpoint s.breakpoints location) BreakFull
 
-abbrev pub unset_refusal : BenchState → Breakpoint → Option Refusal
-unset_refusal s breakpoint = then_some (lacks_breakpoint s.breakpoints breakpoint) NoBreak
+abbrev pub unset_refusal : BenchState → Location → Option Refusal
+unset_refusal s location = then_some (lacks_breakpoint s.breakpoints location) NoBreak
 
 -- each command's change of the bench, from s to t, and its answer; a command with a block has its block's values
 abbrev pub Reply : Command → List ℕ → BenchState → BenchState → Answer → Type 0
@@ -110,11 +110,11 @@ Reply (Trace count) values s t answer =
     (lines : List ℕ) × (refusal : Option CalculatorRefusal) × Traces count s t lines refusal
     × (answer ≡ says_and_ends lines (option_map Calculator refusal))
 -- break w hhhh, break l n: the breakpoint is set, or 19
-Reply (Break place) values s t answer =
-    ChangesUnless (set_refusal s (breakpoint_at place)) (with_set (breakpoint_at place) s) s t answer
+Reply (Break location) values s t answer =
+    ChangesUnless (set_refusal s location) (with_set location s) s t answer
 -- unbreak w hhhh, unbreak l n: it is taken away, or 20
-Reply (Unbreak place) values s t answer =
-    ChangesUnless (unset_refusal s (breakpoint_at place)) (without_set (breakpoint_at place) s) s t answer
+Reply (Unbreak location) values s t answer =
+    ChangesUnless (unset_refusal s location) (without_set location s) s t answer
 -- list hhhh n: the words' listing, or 8, 9 or 4, and nothing changes
 Reply (commands.List address count) values s t answer = (t ≡ s) × (answer ≡ says_or_ends (listed s.calculator.nut.pages address count))
 -- show WHAT: the view's text, or why it is refused, and nothing changes
@@ -137,7 +137,7 @@ takes_memory (Key keys) = false
 takes_memory (Step count) = false
 takes_memory (Run limit) = false
 takes_memory (Trace count) = false
-takes_memory (Break place) = false
-takes_memory (Unbreak place) = false
+takes_memory (Break location) = false
+takes_memory (Unbreak location) = false
 takes_memory (commands.List address count) = true
 takes_memory (Show view) = true

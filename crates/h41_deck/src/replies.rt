@@ -142,8 +142,8 @@ fn say_alone<W: Sink>(
         Command::Step(count) => Ok(step(bench, count)),
         Command::Run(limit) => Ok(run(bench, limit, writer)?),
         Command::Trace(count) => Ok(trace(bench, count, writer)?),
-        Command::Break(place) => Ok(set_break(bench, place)),
-        Command::Unbreak(place) => Ok(unbreak(bench, place)),
+        Command::Break(location) => Ok(set_break(bench, location)),
+        Command::Unbreak(location) => Ok(unbreak(bench, location)),
         Command::List { address, count } => {
             let listing = listed(alloc, bench.calculator().pages(), address, count)?;
             Ok(say_made(listing, writer)?)

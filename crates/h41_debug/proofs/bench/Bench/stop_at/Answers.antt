@@ -1,7 +1,7 @@
 use Rattle.std.proofs.Common.{◌≡◌, Bool, Option, None, refl, sym, ◌∙◌, true, false}
 use Rattle.std.specs.Prelude.{if◌then◌else◌}
 use Rattle.h41_debug.specs.declared.run.Stop.{Stop}
-use Rattle.h41_debug.proofs.BreakpointSets.{none_set}
+use Rattle.h41_breakpoints.proofs.Members.{none_set}
 use Rattle.h41_debug.proofs.bench.Bench.stop_at.Goals as goal
 use Rattle.h41_debug.proofs.bench.Bench.stop_at.Goals.{else-watched-via-then-watched+then-behind+else-has_breakpoint, else-watched-via-then-watched+else-behind, else-watched-via-else-watched}
 

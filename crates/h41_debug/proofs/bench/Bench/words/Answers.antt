@@ -3,10 +3,10 @@ use Rattle.h41_nut.specs.Processor.{Processor}
 use Rattle.h41_xrom.specs.Calculator.{CalculatorState}
 use Rattle.h41_xrom.specs.declared.calculator.Mode.TheVariants.{Micro}
 use Rattle.h41_debug.specs.Bench.{BenchState}
-use Rattle.h41_debug.specs.Breakpoints.{is_set}
-use Rattle.h41_debug.specs.declared.breakpoint.Breakpoint.TheVariants.{Word}
+use Rattle.h41_breakpoints.specs.Breakpoints.{is_set}
+use Rattle.h41_breakpoints.specs.declared.location.Location.TheVariants.{Word}
 use Rattle.h41_debug.proofs.Advancing.{clear_behind, ends_piece, one_more}
-use Rattle.h41_debug.proofs.BreakpointSets.{none_set}
+use Rattle.h41_breakpoints.proofs.Members.{none_set}
 use Rattle.h41_debug.proofs.bench.Bench.words.Goals as goal
 use Rattle.h41_debug.proofs.bench.Bench.words.Goals.{else-watched-via-then-watched+else-has_breakpoint, else-watched-via-else-watched}
 

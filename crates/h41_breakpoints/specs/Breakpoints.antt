@@ -1,4 +1,5 @@
--- Breakpoints: a finite set of locations. How many there are at most, and the refusals, are this project's choice.
+-- Breakpoints: a finite set of locations. How many there are at most, and the refusals, are this
+-- project's choice.
 use Rattle.std.specs.Prelude.{ℕ, Bool, not, ◌&&◌, nat_le}
 use Rattle.std.specs.Ordering.{nat_cmp}
 use Rattle.std.specs.FinSet.{FinSet, contains, empty, insert, len, remove}
@@ -7,7 +8,8 @@ use Rattle.std.specs.declared.cmp.Ordering.TheVariants.{Greater, Less}
 use Rattle.h41_breakpoints.specs.declared.location.Location.{Location}
 use Rattle.h41_breakpoints.specs.declared.location.Location.TheVariants.{Line, Word}
 
--- the order of locations, which only the same one shares a place in: words before lines, and each by their numbers
+-- the order of locations, which only the same one shares a place in: words before lines, and each
+-- by their numbers
 abbrev pub location_cmp : Location → Location → Ordering
 location_cmp (Word address) (Word other) = nat_cmp address other
 location_cmp (Word address) (Line position) = Less

@@ -1,4 +1,5 @@
--- What private functions promise one another of a set by the list of its members. A reader of the promises can leave it out.
+-- What private functions promise one another of a set by the list of its members. A reader of the
+-- promises can leave it out.
 use Rattle.std.specs.Prelude.{◌≡◌, ◌==◌, ◌%◌, ℕ, Bool, false, IsTrue, List, length, get_or}
 use Rattle.std.specs.FinSet.{from_list, len}
 use Rattle.h41_breakpoints.specs.Breakpoints.{BreakpointSet, is_set}

@@ -4,7 +4,9 @@ ghost use Rattle.std.specs.Prelude.{◌≡◌, ◌≤◌, ◌<◌, false, OnErr,
 ghost use Rattle.std.specs.FinSet.{len};
 ghost use Rattle.std.specs.List.{list_any};
 ghost use Rattle.h41_breakpoints.specs.declared.location.Location.TheVariants.{Line, Word};
-ghost use Rattle.h41_breakpoints.specs.Breakpoints.{is_set, lacks_breakpoint, most_breakpoints, no_breakpoints, refuses_breakpoint, with_breakpoint, without_breakpoint};
+ghost use Rattle.h41_breakpoints.specs.Breakpoints.{is_set, most_breakpoints, no_breakpoints};
+ghost use Rattle.h41_breakpoints.specs.Breakpoints.{lacks_breakpoint, refuses_breakpoint};
+ghost use Rattle.h41_breakpoints.specs.Breakpoints.{with_breakpoint, without_breakpoint};
 ghost use Rattle.h41_breakpoints.specs.Members.{is_same, low_byte};
 
 use crate::location::Location;
@@ -29,7 +31,8 @@ pub struct NoBreak;
 #[derive(Drop)]
 pub struct Breakpoints {
     items: ArrayVec<Location, MOST>,
-    /// By the low byte of a number: whether a breakpoint may have it. Most steps are told apart from all breakpoints by it alone.
+    /// By the low byte of a number: whether a breakpoint may have it. Most steps are told apart from
+    /// all breakpoints by it alone.
     low_bytes: [bool; LOW_BYTES],
 }
 
@@ -77,7 +80,8 @@ impl Breakpoints {
         }
     }
 
-    /// Whether a line's breakpoint may be set. Its machine code stands apart, so that words have the shorter way.
+    /// Whether a line's breakpoint may be set. Its machine code stands apart, so that words have the
+    /// shorter way.
     #[inline(never)]
     fn may_contain_line(&self, position: u16) -> bool
         ensures { result ≡ false → is_set self.now (Line position) ≡ false }
@@ -93,7 +97,8 @@ impl Breakpoints {
         self.items.len()
     }
 
-    /// Sets a breakpoint; one that is set stays so. 19 where it is not, and as many others are as there can be.
+    /// Sets a breakpoint; one that is set stays so. 19 where it is not, and as many others are as
+    /// there can be.
     pub fn insert(&mut self, location: Location) -> Result<(), BreakFull>
         ensures refusal { is_err result ≡ refuses_breakpoint self.old location }
         ensures change { OnOk result (self.new ≡ with_breakpoint location self.old) }

@@ -10,10 +10,9 @@ use Rattle.h41_xrom.specs.CalculatorLaws.{StepIsDetermined, StepRefusalIsDetermi
 use Rattle.h41_debug.specs.Advancing.{Advances, Made}
 use Rattle.h41_debug.specs.Bench.{BenchState, with_calculator}
 use Rattle.h41_breakpoints.specs.Breakpoints.{is_set}
-use Rattle.h41_debug.specs.Run.{place_in}
-use Rattle.h41_debug.specs.Running.{break_at, stop_at, stop_behind}
-use Rattle.h41_breakpoints.specs.declared.location.Location.TheVariants.{Word}
-use Rattle.h41_debug.specs.declared.run.Stop.TheVariants.{Idle}
+use Rattle.h41_debug.specs.Positions.{location_of}
+use Rattle.h41_debug.specs.Running.{stop_at, stop_behind, stop_running}
+use Rattle.h41_debug.specs.declared.run.Stop.TheVariants.{Break, Idle}
 use Rattle.h41_debug.proofs.Runs.{made_more}
 
 -- whether a function in microcode runs
@@ -44,10 +43,11 @@ stop_either true t none = none
 stop_either false t none = refl
 
 pub clear_behind : (behind : Bool) (t : BenchState) (caller : Caller) → t.calculator.mode ≡ modes.Micro caller
-    → is_set t.breakpoints (Word t.calculator.nut.processor.pc) ≡ false → stop_behind behind t ≡ None
+    → is_set t.breakpoints (location_of t.calculator) ≡ false → stop_behind behind t ≡ None
 clear_behind behind t caller mode free =
     stop_either behind t
-    (subst (λ (m : Mode). (if is_idle m then Some Idle else break_at t.breakpoints (place_in t.calculator m)) ≡ None) (sym mode) (rw free refl))
+    (subst (λ (m : Mode). (if is_idle m then Some Idle else stop_running t) ≡ None) (sym mode)
+    (ap (λ (set : Bool). if set then Some Break else None) free))
 
 module _ (same_refusal : StepRefusalIsDetermined) (same_step : StepIsDetermined) where
   -- one step more

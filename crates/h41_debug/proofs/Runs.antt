@@ -9,7 +9,8 @@ use Rattle.h41_xrom.specs.CalculatorLaws.{StepIsDetermined, StepRefusalIsDetermi
 use Rattle.h41_debug.specs.Bench.{BenchState, Steps, with_calculator}
 use Rattle.h41_debug.specs.BenchLaws.{RefusedStepIsRun, RunsAddUp, RunsAreDetermined, StepIsRun}
 use Rattle.h41_breakpoints.specs.Breakpoints.{is_set}
-use Rattle.h41_debug.specs.Run.{Run, StopsFor, place_of, turn_of}
+use Rattle.h41_debug.specs.Positions.{location_of}
+use Rattle.h41_debug.specs.Run.{Run, StopsFor, turn_of}
 use Rattle.h41_debug.specs.Advancing.{EndsFor, Made, NoneBefore}
 use Rattle.h41_debug.specs.Running.{stop_at, stop_behind}
 use Rattle.h41_debug.specs.declared.run.Stop.{Stop}
@@ -85,7 +86,7 @@ steps_to_refusal left made s t why below steps refused =
 pub record GoesOn (limit made : ℕ) (s t : BenchState) : Type 0 where
   pub steps : Steps made s t None
   pub running : is_idle t.calculator.mode ≡ false
-  pub clear : 1 ≤ made → is_set t.breakpoints (place_of t.calculator) ≡ false
+  pub clear : 1 ≤ made → is_set t.breakpoints (location_of t.calculator) ≡ false
   pub before : NoneBefore limit made s
 
 pub begins : (limit : ℕ) (s : BenchState) → is_idle s.calculator.mode ≡ false → GoesOn limit 0 s s
@@ -110,12 +111,12 @@ module _ (limit made : ℕ) (t : BenchState) (running : is_idle t.calculator.mod
   not_idle Limit below holds = absurd (omega (arith, below))
   not_idle (Refused why) below holds = absurd (omega (arith, below))
 
-  module _ (clear : 1 ≤ made → is_set t.breakpoints (place_of t.calculator) ≡ false) where
+  module _ (clear : 1 ≤ made → is_set t.breakpoints (location_of t.calculator) ≡ false) where
     not_broken : (other : Stop) → turn_of other < 2 → StopsFor limit made t other → ⊥
     not_broken Idle below holds = let idle : is_idle t.calculator.mode ≡ true = holds in cc
     not_broken Break below holds =
-        let set : is_set t.breakpoints (place_of t.calculator) ≡ true = holds.1 in
-        let free : is_set t.breakpoints (place_of t.calculator) ≡ false = clear holds.0 in cc
+        let set : is_set t.breakpoints (location_of t.calculator) ≡ true = holds.1 in
+        let free : is_set t.breakpoints (location_of t.calculator) ≡ false = clear holds.0 in cc
     not_broken Limit below holds = absurd (omega (arith, below))
     not_broken (Refused why) below holds = absurd (omega (arith, below))
 
@@ -165,7 +166,7 @@ Ended limit made s t why = EndsFor limit made t why × (is_idle s.calculator.mod
 -- where there is no reason to stop behind a step the run goes on, and else it ends there
 on_behind : (limit made : ℕ) (s t : BenchState) → Made limit made s t → stop_at t ≡ None → is_idle s.calculator.mode ≡ false → GoesOn limit made s t
 on_behind limit made s t so_far stop running =
-    let free = stop_none (is_idle t.calculator.mode) (is_set t.breakpoints (place_of t.calculator)) stop in record {
+    let free = stop_none (is_idle t.calculator.mode) (is_set t.breakpoints (location_of t.calculator)) stop in record {
       steps = so_far.steps;
       running = free.0;
       clear = λ some. free.1;
@@ -174,7 +175,7 @@ on_behind limit made s t so_far stop running =
 
 stops_behind : (limit made : ℕ) (s t : BenchState) (why : Stop) → Made limit made s t → 1 ≤ made → stop_at t ≡ Some why → Ended limit made s t why
 stops_behind limit made s t why so_far some stop =
-    elim (stop_some (is_idle t.calculator.mode) (is_set t.breakpoints (place_of t.calculator)) why stop) [
+    elim (stop_some (is_idle t.calculator.mode) (is_set t.breakpoints (location_of t.calculator)) why stop) [
       | inl idle ↦ subst (Ended limit made s t) (sym idle.1) (
         some,
         λ running. record {
@@ -341,7 +342,7 @@ module _ (same_refusal : StepRefusalIsDetermined) (same_step : StepIsDetermined)
     onward k x (Refused refusal) holds = holds
 
     no_break : (x : BenchState) → x ≡ t → StopsFor (limit + more) made x Break → ⊥
-    no_break x same holds = one.first Break (omega arith) (holds.0, subst (λ (at : BenchState). is_set at.breakpoints (place_of at.calculator) ≡ true) same holds.1)
+    no_break x same holds = one.first Break (omega arith) (holds.0, subst (λ (at : BenchState). is_set at.breakpoints (location_of at.calculator) ≡ true) same holds.1)
 
     back_at_break : (k : ℕ) (x : BenchState) → Steps k t x None → StopsFor (limit + more) (made + k) x Break → StopsFor more k x Break
     back_at_break zero x steps holds = absurd (no_break x steps.0 (omega (arith, holds.0), holds.1))

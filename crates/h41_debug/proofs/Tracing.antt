@@ -1,6 +1,8 @@
 -- Traces: what comes next can always be told, in one way; a trace is its steps, and steps can be traced.
 use Rattle.std.proofs.Common.{◌≡◌, ℕ, zero, suc, ◌++◌, Bool, true, false, List, [], ◌∷◌, Option, Some, None, Result, Ok, Err, refl, sym, ap, subst, ◌∙◌}
 use Rattle.std.specs.Prelude.{MatchBool, MatchOption, codes}
+use Rattle.h41_breakpoints.specs.declared.location.Location.{Location}
+use Rattle.h41_breakpoints.specs.declared.location.Location.TheVariants.{Line, Word}
 use Rattle.h41_program.specs.declared.listed_line.ListedLine.{ListedLine}
 use Rattle.h41_program.specs.declared.refusal.ProgramRefusal.{ProgramRefusal}
 use Rattle.h41_program.specs.declared.refusal.ProgramRefusal.TheVariants.{BrokenProgram}
@@ -11,13 +13,11 @@ use Rattle.h41_ram.specs.RegisterMap.{RegisterMap, is_sound}
 use Rattle.h41_text.specs.LineText.{line_text}
 use Rattle.h41_xrom.specs.Calculator.{CalculatorState, Step}
 use Rattle.h41_xrom.specs.CalculatorLaws.{StepIsDetermined, StepRefusalIsDetermined}
-use Rattle.h41_xrom.specs.declared.calculator.Mode.{Mode}
-use Rattle.h41_xrom.specs.declared.calculator.Mode.TheVariants as modes
 use Rattle.h41_xrom.specs.declared.refusal.CalculatorRefusal.{CalculatorRefusal}
 use Rattle.h41_debug.specs.Bench.{BenchState, Steps, with_calculator}
 use Rattle.h41_debug.specs.BenchLaws.{StatesAreTold, StepsAreTraced, TracesAreDetermined, TracesAreSteps}
-use Rattle.h41_debug.specs.Positions.{position_text}
-use Rattle.h41_debug.specs.Traces.{TellsLine, TellsNextIn, TellsStep, Traces, instruction_at, line_or_unknown, traced_line, unknown_text}
+use Rattle.h41_debug.specs.Positions.{location_of, position_text}
+use Rattle.h41_debug.specs.Traces.{TellsAt, TellsLine, TellsStep, Traces, instruction_at, line_or_unknown, traced_line, unknown_text}
 
 -- A TRACE MAKES ITS STEPS
 abbrev Makes : ℕ → Type 0
@@ -49,14 +49,13 @@ module _ (one : OneList) where
         | false ↦ λ _. (unknown_text, refl)
       ] refl
 
-  next_told : (mode : Mode) (s : CalculatorState) → (text : List ℕ) × TellsNextIn mode s text
-  next_told modes.Idle s = line_told s.nut.ram s.focal.position
-  next_told modes.Run s = line_told s.nut.ram s.focal.position
-  next_told (modes.Micro caller) s = (instruction_at s.nut.pages s.nut.processor.pc, refl)
+  told_at : (at : Location) (s : CalculatorState) → (text : List ℕ) × TellsAt at s text
+  told_at (Word address) s = (instruction_at s.nut.pages address, refl)
+  told_at (Line position) s = line_told s.nut.ram position
 
   pub step_told : StatesAreTold
   step_told s =
-      let next = next_told s.calculator.mode s.calculator in
+      let next = told_at (location_of s.calculator) s.calculator in
       (position_text s ++ codes " " ++ next.0, (next.0, next.1, refl))
 
   -- and so can steps to their end
@@ -105,14 +104,13 @@ module _ (same_first : FirstIsDetermined) where
   same_told memory at true text other p q = p.2 ∙ same_line memory at p.0 q.0 p.1 q.1 ∙ sym q.2
   same_told memory at false text other p q = p ∙ sym q
 
-  same_next : (mode : Mode) (s : CalculatorState) (text other : List ℕ) → TellsNextIn mode s text → TellsNextIn mode s other → text ≡ other
-  same_next modes.Idle s text other p q = same_told s.nut.ram s.focal.position (is_sound s.nut.ram) text other p q
-  same_next modes.Run s text other p q = same_told s.nut.ram s.focal.position (is_sound s.nut.ram) text other p q
-  same_next (modes.Micro caller) s text other p q = p ∙ sym q
+  same_at : (at : Location) (s : CalculatorState) (text other : List ℕ) → TellsAt at s text → TellsAt at s other → text ≡ other
+  same_at (Word address) s text other p q = p ∙ sym q
+  same_at (Line position) s text other p q = same_told s.nut.ram position (is_sound s.nut.ram) text other p q
 
   same_step_told : (s : BenchState) (text other : List ℕ) → TellsStep s text → TellsStep s other → text ≡ other
   same_step_told s text other p q =
-      p.2 ∙ ap (λ (next : List ℕ). position_text s ++ codes " " ++ next) (same_next s.calculator.mode s.calculator p.0 q.0 p.1 q.1) ∙ sym q.2
+      p.2 ∙ ap (λ (next : List ℕ). position_text s ++ codes " " ++ next) (same_at (location_of s.calculator) s.calculator p.0 q.0 p.1 q.1) ∙ sym q.2
 
   -- and so is a trace
   module _ (same_refusal : StepRefusalIsDetermined) (same_step : StepIsDetermined) where

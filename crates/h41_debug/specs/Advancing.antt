@@ -1,7 +1,5 @@
 -- What the loops of all single steps promise one another. A reader of the promises can leave it out.
-use Rattle.std.specs.Prelude.{◌≡◌, ◌<◌, ◌≤◌, ℕ, Bool, true, false, nat_lt, Option, Some, None, MatchOption}
-use Rattle.h41_xrom.specs.declared.calculator.Mode.{Mode}
-use Rattle.h41_xrom.specs.declared.calculator.Mode.TheVariants as modes
+use Rattle.std.specs.Prelude.{◌≡◌, ◌<◌, ◌≤◌, ℕ, false, nat_lt, Option, Some, None, MatchOption}
 use Rattle.h41_xrom.specs.declared.refusal.CalculatorRefusal.{CalculatorRefusal}
 use Rattle.h41_xrom.specs.Calculator.{RefusesStep, is_idle}
 use Rattle.h41_debug.specs.Bench.{BenchState, Steps}

@@ -6,13 +6,14 @@ ghost use Rattle.std.specs.Result.{result_err};
 ghost use Rattle.std.specs.Borrow.{sem};
 ghost use Rattle.h41_breakpoints.specs.Breakpoints.{is_set, lacks_breakpoint, most_breakpoints, refuses_breakpoint};
 ghost use Rattle.h41_debug.specs.Bench.{PressesInTurn, Steps, start, with_calculator, with_set, without_set};
+ghost use Rattle.h41_debug.specs.Positions.{location_of};
 ghost use Rattle.h41_xrom.specs.Calculator.{RefusesLine, RefusesStep, Step, StepsByLine, mode_behind_word};
 ghost use Rattle.h41_xrom.specs.declared.calculator.Mode.TheVariants.{Micro};
 
 use crate::run::Stop;
 use h41_breakpoints::{BreakFull, Breakpoints, Location, NoBreak};
 use h41_keys::Key;
-use h41_xrom::{Calculator, CalculatorRefusal, Caller};
+use h41_xrom::{Calculator, CalculatorRefusal, Caller, Mode};
 use std::alloc::{AllocError, Global};
 use std::marker::Model;
 
@@ -63,6 +64,16 @@ impl Bench {
         ensures value { result.now ≡ self.old.calculator }
     {
         &mut self.calculator
+    }
+
+    /// Where the calculator is: before the next word while a function runs, else before the line at its position.
+    pub fn location(&self) -> Location
+        ensures { result ≡ location_of self.now.calculator }
+    {
+        match self.calculator.mode() {
+            Mode::Idle | Mode::Run => Location::Line(self.calculator.focal().position),
+            Mode::Micro(_) => Location::Word(self.calculator.cpu().pc()),
+        }
     }
 
     /// One single step. What is refused changes nothing.

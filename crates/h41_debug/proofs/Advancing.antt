@@ -7,7 +7,7 @@ use Rattle.h41_xrom.specs.declared.calculator.Mode.TheVariants as modes
 use Rattle.h41_xrom.specs.declared.refusal.CalculatorRefusal.{CalculatorRefusal}
 use Rattle.h41_xrom.specs.Calculator.{CalculatorState, RefusesLine, RefusesStep, RefusesStepIn, Step, StepIn, StepsByLine, is_idle}
 use Rattle.h41_xrom.specs.CalculatorLaws.{StepIsDetermined, StepRefusalIsDetermined}
-use Rattle.h41_debug.specs.Advancing.{Advances, Made}
+use Rattle.h41_debug.specs.Advancing.{Advances, MakesSteps}
 use Rattle.h41_debug.specs.Bench.{BenchState, with_calculator}
 use Rattle.h41_breakpoints.specs.Breakpoints.{is_set}
 use Rattle.h41_debug.specs.Positions.{location_of}
@@ -51,14 +51,14 @@ clear_behind behind t caller mode free =
 
 module _ (same_refusal : StepRefusalIsDetermined) (same_step : StepIsDetermined) where
   -- one step more
-  pub one_more : (limit from made : ℕ) (first s t : BenchState) → ((start : BenchState) → Made limit from start first → Made limit made start s)
+  pub one_more : (limit from made : ℕ) (first s t : BenchState) → ((start : BenchState) → MakesSteps limit from start first → MakesSteps limit made start s)
       → stop_behind (nat_lt 0 made) s ≡ None → made < limit → RefusesStep s.calculator None → Step s.calculator t.calculator → t ≡ with_calculator t.calculator s
-      → (start : BenchState) → Made limit from start first → Made limit (made + 1) start t
+      → (start : BenchState) → MakesSteps limit from start first → MakesSteps limit (made + 1) start t
   one_more limit from made first s t so_far clear below accepted step others start begun =
       made_more same_refusal same_step limit made start s t (so_far start begun) clear below accepted step others
 
   -- a piece of steps, the last of which is this one
-  pub ends_piece : (limit from made : ℕ) (first s t : BenchState) → ((start : BenchState) → Made limit from start first → Made limit made start s) → s.breakpoints ≡ first.breakpoints
+  pub ends_piece : (limit from made : ℕ) (first s t : BenchState) → ((start : BenchState) → MakesSteps limit from start first → MakesSteps limit made start s) → s.breakpoints ≡ first.breakpoints
       → from ≤ made → stop_behind (nat_lt 0 made) s ≡ None → made < limit → RefusesStep s.calculator None → Step s.calculator t.calculator → t ≡ with_calculator t.calculator s
       → Advances limit from first (made + 1) t None
   ends_piece limit from made first s t so_far kept behind clear below accepted step others = record {
@@ -69,7 +69,7 @@ module _ (same_refusal : StepRefusalIsDetermined) (same_step : StepIsDetermined)
   }
 
 -- a piece of steps, behind which the next is refused
-pub refused_piece : (limit from made : ℕ) (first s t : BenchState) (why : CalculatorRefusal) → ((start : BenchState) → Made limit from start first → Made limit made start s) → s.breakpoints ≡ first.breakpoints
+pub refused_piece : (limit from made : ℕ) (first s t : BenchState) (why : CalculatorRefusal) → ((start : BenchState) → MakesSteps limit from start first → MakesSteps limit made start s) → s.breakpoints ≡ first.breakpoints
     → stop_behind (nat_lt 0 made) s ≡ None → made < limit → RefusesStep s.calculator (Some why) → t ≡ s → Advances limit from first made t (Some why)
 refused_piece limit from made first s t why so_far kept clear below refused stays =
     subst (λ (at : BenchState). Advances limit from first made at (Some why)) (sym stays) (record {

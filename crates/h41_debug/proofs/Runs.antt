@@ -6,12 +6,12 @@ use borrow.Author.Tests.{ltb-true, ltb-false}
 use Rattle.h41_xrom.specs.declared.refusal.CalculatorRefusal.{CalculatorRefusal}
 use Rattle.h41_xrom.specs.Calculator.{CalculatorState, RefusesStep, Step, is_idle}
 use Rattle.h41_xrom.specs.CalculatorLaws.{StepIsDetermined, StepRefusalIsDetermined}
-use Rattle.h41_debug.specs.Bench.{BenchState, Steps, with_calculator}
+use Rattle.h41_debug.specs.Bench.{BenchState, Steps, StepsInto, with_calculator}
 use Rattle.h41_debug.specs.BenchLaws.{RefusedStepIsRun, RunsAddUp, RunsAreDetermined, StepIsRun}
 use Rattle.h41_breakpoints.specs.Breakpoints.{is_set}
 use Rattle.h41_debug.specs.Positions.{location_of}
 use Rattle.h41_debug.specs.Run.{Run, StopsFor, turn_of}
-use Rattle.h41_debug.specs.Advancing.{EndsFor, Made, NoneBefore}
+use Rattle.h41_debug.specs.Advancing.{EndsFor, MakesSteps, NoneBefore}
 use Rattle.h41_debug.specs.Running.{stop_at, stop_behind}
 use Rattle.h41_debug.specs.declared.run.Stop.{Stop}
 use Rattle.h41_debug.specs.declared.run.Stop.TheVariants.{Break, Idle, Limit, Refused}
@@ -22,7 +22,7 @@ First : ℕ → BenchState → BenchState → Type 0
 First count s t = (mid : CalculatorState) × Step s.calculator mid × Steps count (with_calculator mid s) t None
 
 by_why : (count : ℕ) (s t : BenchState) (why : Option CalculatorRefusal) → RefusesStep s.calculator why
-    → MatchOption why ((mid : CalculatorState) × Step s.calculator mid × Steps count (with_calculator mid s) t None) (λ why. (t ≡ s) × (None ≡ Some why))
+    → MatchOption why (StepsInto (λ mid. Steps count mid t None) s) (λ why. (t ≡ s) × (None ≡ Some why))
     → RefusesStep s.calculator None × First count s t
 unfolding First
 by_why count s t None accepted rest = (accepted, rest)
@@ -97,7 +97,7 @@ begins limit s running = record {
   before = λ fewer u other below _ _. absurd (omega (arith, below));
 }
 
-pub made_none : (limit : ℕ) (s : BenchState) → Made limit 0 s s
+pub made_none : (limit : ℕ) (s : BenchState) → MakesSteps limit 0 s s
 made_none limit s = record {
   steps = (refl, refl);
   before = λ running fewer u other below _ _. absurd (omega (arith, below));
@@ -164,7 +164,7 @@ abbrev pub Ended : ℕ → ℕ → BenchState → BenchState → Stop → Type 0
 Ended limit made s t why = EndsFor limit made t why × (is_idle s.calculator.mode ≡ false → Run limit s t made why)
 
 -- where there is no reason to stop behind a step the run goes on, and else it ends there
-on_behind : (limit made : ℕ) (s t : BenchState) → Made limit made s t → stop_at t ≡ None → is_idle s.calculator.mode ≡ false → GoesOn limit made s t
+on_behind : (limit made : ℕ) (s t : BenchState) → MakesSteps limit made s t → stop_at t ≡ None → is_idle s.calculator.mode ≡ false → GoesOn limit made s t
 on_behind limit made s t so_far stop running =
     let free = stop_none (is_idle t.calculator.mode) (is_set t.breakpoints (location_of t.calculator)) stop in record {
       steps = so_far.steps;
@@ -173,7 +173,7 @@ on_behind limit made s t so_far stop running =
       before = so_far.before running;
     }
 
-stops_behind : (limit made : ℕ) (s t : BenchState) (why : Stop) → Made limit made s t → 1 ≤ made → stop_at t ≡ Some why → Ended limit made s t why
+stops_behind : (limit made : ℕ) (s t : BenchState) (why : Stop) → MakesSteps limit made s t → 1 ≤ made → stop_at t ≡ Some why → Ended limit made s t why
 stops_behind limit made s t why so_far some stop =
     elim (stop_some (is_idle t.calculator.mode) (is_set t.breakpoints (location_of t.calculator)) why stop) [
       | inl idle ↦ subst (Ended limit made s t) (sym idle.1) (
@@ -201,7 +201,7 @@ at_first : (made : ℕ) (s t : BenchState) → nat_lt 0 made ≡ false → Steps
 at_first zero s t none steps = steps.0
 at_first (suc made) s t none steps = absurd (omega (arith, ltb-false _ _ none))
 
-pub goes_on : (limit made : ℕ) (s t : BenchState) → Made limit made s t → stop_behind (nat_lt 0 made) t ≡ None → is_idle s.calculator.mode ≡ false
+pub goes_on : (limit made : ℕ) (s t : BenchState) → MakesSteps limit made s t → stop_behind (nat_lt 0 made) t ≡ None → is_idle s.calculator.mode ≡ false
     → GoesOn limit made s t
 goes_on limit made s t so_far stop running =
     elim (nat_lt 0 made) as (λ behind. nat_lt 0 made ≡ behind → stop_behind behind t ≡ None → GoesOn limit made s t) [
@@ -214,7 +214,7 @@ goes_on limit made s t so_far stop running =
       }
     ] refl stop
 
-pub stops : (limit made : ℕ) (s t : BenchState) (why : Stop) → Made limit made s t → stop_behind (nat_lt 0 made) t ≡ Some why → Ended limit made s t why
+pub stops : (limit made : ℕ) (s t : BenchState) (why : Stop) → MakesSteps limit made s t → stop_behind (nat_lt 0 made) t ≡ Some why → Ended limit made s t why
 stops limit made s t why so_far stop =
     elim (nat_lt 0 made) as (λ behind. nat_lt 0 made ≡ behind → stop_behind behind t ≡ Some why → Ended limit made s t why) [
       | true ↦ λ some stop. stops_behind limit made s t why so_far (ltb-true _ _ some) stop
@@ -222,13 +222,13 @@ stops limit made s t why so_far stop =
     ] refl stop
 
 -- the next step is refused
-pub ends_at_refusal : (limit made : ℕ) (s t : BenchState) (why : CalculatorRefusal) → Made limit made s t → stop_behind (nat_lt 0 made) t ≡ None → made < limit
+pub ends_at_refusal : (limit made : ℕ) (s t : BenchState) (why : CalculatorRefusal) → MakesSteps limit made s t → stop_behind (nat_lt 0 made) t ≡ None → made < limit
     → RefusesStep t.calculator (Some why) → Ended limit made s t (Refused why)
 ends_at_refusal limit made s t why so_far stop below refused =
     ((below, refused), λ running. ends_refused limit made s t why (goes_on limit made s t so_far stop running) below refused)
 
 -- as many steps were made as may be
-pub ends_made : (limit : ℕ) (s t : BenchState) → 1 ≤ limit → Made limit limit s t → Ended limit limit s t (unwrap_or (stop_at t) Limit)
+pub ends_made : (limit : ℕ) (s t : BenchState) → 1 ≤ limit → MakesSteps limit limit s t → Ended limit limit s t (unwrap_or (stop_at t) Limit)
 ends_made limit s t some so_far =
     elim (stop_at t) as (λ stop. stop_at t ≡ stop → Ended limit limit s t (unwrap_or stop Limit)) [
       | Some why ↦ λ is. stops_behind limit limit s t why so_far some is
@@ -281,8 +281,8 @@ module _ (same_refusal : StepRefusalIsDetermined) (same_step : StepIsDetermined)
       ]
 
   -- one more step
-  pub made_more : (limit made : ℕ) (s t next : BenchState) → Made limit made s t → stop_behind (nat_lt 0 made) t ≡ None → made < limit
-      → RefusesStep t.calculator None → Step t.calculator next.calculator → next ≡ with_calculator next.calculator t → Made limit (made + 1) s next
+  pub made_more : (limit made : ℕ) (s t next : BenchState) → MakesSteps limit made s t → stop_behind (nat_lt 0 made) t ≡ None → made < limit
+      → RefusesStep t.calculator None → Step t.calculator next.calculator → next ≡ with_calculator next.calculator t → MakesSteps limit (made + 1) s next
   made_more limit made s t next so_far stop below accepted step others = record {
     steps = subst (λ (to : BenchState). Steps (made + 1) s to None) (sym others)
         (steps_add made 1 s t (with_calculator next.calculator t) None so_far.steps (one_step t next.calculator accepted step));

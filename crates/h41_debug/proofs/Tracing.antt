@@ -14,7 +14,7 @@ use Rattle.h41_text.specs.LineText.{line_text}
 use Rattle.h41_xrom.specs.Calculator.{CalculatorState, Step}
 use Rattle.h41_xrom.specs.CalculatorLaws.{StepIsDetermined, StepRefusalIsDetermined}
 use Rattle.h41_xrom.specs.declared.refusal.CalculatorRefusal.{CalculatorRefusal}
-use Rattle.h41_debug.specs.Bench.{BenchState, Steps, with_calculator}
+use Rattle.h41_debug.specs.Bench.{BenchState, Steps, StepsInto, with_calculator}
 use Rattle.h41_debug.specs.BenchLaws.{StatesAreTold, StepsAreTraced, TracesAreDetermined, TracesAreSteps}
 use Rattle.h41_debug.specs.Positions.{location_of, position_text}
 use Rattle.h41_debug.specs.Traces.{TellsAt, TellsLine, TellsStep, Traces, instruction_at, line_or_unknown, traced_line, unknown_text}
@@ -24,8 +24,8 @@ abbrev Makes : ℕ → Type 0
 Makes count = (s t : BenchState) (lines : List ℕ) (refusal : Option CalculatorRefusal) → Traces count s t lines refusal → Steps count s t refusal
 
 made_after : (count : ℕ) → Makes count → (why : Option CalculatorRefusal) (s t : BenchState) (rest : List ℕ) (refusal : Option CalculatorRefusal)
-    → MatchOption why ((next : CalculatorState) × Step s.calculator next × Traces count (with_calculator next s) t rest refusal) (λ why. (t ≡ s) × (rest ≡ []) × (refusal ≡ Some why))
-    → MatchOption why ((next : CalculatorState) × Step s.calculator next × Steps count (with_calculator next s) t refusal) (λ why. (t ≡ s) × (refusal ≡ Some why))
+    → MatchOption why (StepsInto (λ next. Traces count next t rest refusal) s) (λ why. (t ≡ s) × (rest ≡ []) × (refusal ≡ Some why))
+    → MatchOption why (StepsInto (λ next. Steps count next t refusal) s) (λ why. (t ≡ s) × (refusal ≡ Some why))
 made_after count makes None s t rest refusal p = (p.0, p.1, makes (with_calculator p.0 s) t rest refusal p.2)
 made_after count makes (Some why) s t rest refusal p = (p.0, p.2)
 
@@ -63,8 +63,8 @@ module _ (one : OneList) where
   Told count = (s t : BenchState) (refusal : Option CalculatorRefusal) → Steps count s t refusal → (lines : List ℕ) × Traces count s t lines refusal
 
   told_after : (count : ℕ) → Told count → (why : Option CalculatorRefusal) (s t : BenchState) (refusal : Option CalculatorRefusal)
-      → MatchOption why ((next : CalculatorState) × Step s.calculator next × Steps count (with_calculator next s) t refusal) (λ why. (t ≡ s) × (refusal ≡ Some why))
-      → (rest : List ℕ) × MatchOption why ((next : CalculatorState) × Step s.calculator next × Traces count (with_calculator next s) t rest refusal)
+      → MatchOption why (StepsInto (λ next. Steps count next t refusal) s) (λ why. (t ≡ s) × (refusal ≡ Some why))
+      → (rest : List ℕ) × MatchOption why (StepsInto (λ next. Traces count next t rest refusal) s)
       (λ why. (t ≡ s) × (rest ≡ []) × (refusal ≡ Some why))
   told_after count told None s t refusal p =
       let more = told (with_calculator p.0 s) t refusal p.2 in
@@ -121,7 +121,7 @@ module _ (same_first : FirstIsDetermined) where
 
     abbrev After : ℕ → BenchState → BenchState → List ℕ → Option CalculatorRefusal → Option CalculatorRefusal → Type 0
     After count s t rest a why =
-        MatchOption why ((next : CalculatorState) × Step s.calculator next × Traces count (with_calculator next s) t rest a) (λ why. (t ≡ s) × (rest ≡ []) × (a ≡ Some why))
+        MatchOption why (StepsInto (λ next. Traces count next t rest a) s) (λ why. (t ≡ s) × (rest ≡ []) × (a ≡ Some why))
 
     same_more : (count : ℕ) → Same count → (why : Option CalculatorRefusal) (s t u : BenchState) (rest more : List ℕ) (a b : Option CalculatorRefusal)
         → After count s t rest a why → After count s u more b why → (t ≡ u) × (rest ≡ more) × (a ≡ b)

@@ -17,7 +17,7 @@ abbrev pub NoneBefore : ℕ → ℕ → BenchState → Type 0
 NoneBefore limit made s = (fewer : ℕ) (u : BenchState) (other : Stop) → fewer < made → Steps fewer s u None → StopsFor limit fewer u other → ⊥
 
 -- so many steps were made, the first of them whatever was there; where something ran, there was no reason to stop after fewer
-pub record Made (limit made : ℕ) (s t : BenchState) : Type 0 where
+pub record MakesSteps (limit made : ℕ) (s t : BenchState) : Type 0 where
   pub steps : Steps made s t None
   pub before : IfRunning s (NoneBefore limit made s)
 
@@ -36,6 +36,6 @@ IsRefused limit made t refusal = (made < limit) × (stop_behind (nat_lt 0 made) 
 -- least, but where it is refused
 pub record Advances (limit from : ℕ) (s : BenchState) (made : ℕ) (t : BenchState) (refusal : Option CalculatorRefusal) : Type 0 where
   pub most : made ≤ limit
-  pub goes_on : (start : BenchState) → Made limit from start s → Made limit made start t
+  pub goes_on : (start : BenchState) → MakesSteps limit from start s → MakesSteps limit made start t
   pub kept : t.breakpoints ≡ s.breakpoints
   pub ends : MatchOption refusal (from < made) (IsRefused limit made t)

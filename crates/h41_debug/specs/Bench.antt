@@ -30,12 +30,18 @@ with_set location s = record s { breakpoints = with_breakpoint location s.breakp
 abbrev pub without_set : Location → BenchState → BenchState
 without_set location s = record s { breakpoints = without_breakpoint location s.breakpoints }
 
+-- a single step is made, and what it leaves is in this relation
+abbrev pub StepsInto : (BenchState → Type 0) → BenchState → Type 0
+StepsInto holds s =
+    (next : CalculatorState) × Step s.calculator next × holds (with_calculator next s)
+
 -- so many single steps, up to the first that is refused, and its refusal
 abbrev pub Steps : ℕ → BenchState → BenchState → Option CalculatorRefusal → Type 0
 Steps zero s t refusal = (t ≡ s) × (refusal ≡ None)
 Steps (suc count) s t refusal =
     (why : Option CalculatorRefusal) × RefusesStep s.calculator why
-    × MatchOption why ((next : CalculatorState) × Step s.calculator next × Steps count (with_calculator next s) t refusal) (λ why. (t ≡ s) × (refusal ≡ Some why))
+    × MatchOption why (StepsInto (λ next. Steps count next t refusal) s)
+    (λ why. (t ≡ s) × (refusal ≡ Some why))
 
 -- keys in turn, up to the first that is refused, and its refusal; that key changes nothing
 abbrev pub PressesInTurn : List Key → BenchState → BenchState → Option CalculatorRefusal → Type 0

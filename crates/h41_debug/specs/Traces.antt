@@ -12,9 +12,9 @@ use Rattle.h41_program.specs.ProgramLines.{AnswersFirst}
 use Rattle.h41_ram.specs.RegisterMap.{RegisterMap, is_sound}
 use Rattle.h41_text.specs.LineText.{line_text}
 use Rattle.h41_words.specs.WordTable.{length_of}
-use Rattle.h41_xrom.specs.Calculator.{CalculatorState, RefusesStep, Step}
+use Rattle.h41_xrom.specs.Calculator.{CalculatorState, RefusesStep}
 use Rattle.h41_xrom.specs.declared.refusal.CalculatorRefusal.{CalculatorRefusal}
-use Rattle.h41_debug.specs.Bench.{BenchState, with_calculator}
+use Rattle.h41_debug.specs.Bench.{BenchState, StepsInto}
 use Rattle.h41_debug.specs.Positions.{location_of, position_text}
 
 -- what stands for an instruction or a line that cannot be read
@@ -68,5 +68,5 @@ Traces zero s t lines refusal = (t ≡ s) × (lines ≡ []) × (refusal ≡ None
 Traces (suc count) s t lines refusal =
     (text : List ℕ) × TellsStep s text × (rest : List ℕ) × (lines ≡ traced_line text ++ rest)
     × (why : Option CalculatorRefusal) × RefusesStep s.calculator why
-    × MatchOption why ((next : CalculatorState) × Step s.calculator next × Traces count (with_calculator next s) t rest refusal)
+    × MatchOption why (StepsInto (λ next. Traces count next t rest refusal) s)
     (λ why. (t ≡ s) × (rest ≡ []) × (refusal ≡ Some why))

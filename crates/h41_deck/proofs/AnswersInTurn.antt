@@ -15,7 +15,7 @@ use Rattle.h41_deck.specs.declared.replies.Outcome.TheVariants.{Accepted, Refuse
 use Rattle.h41_commands.specs.Items.{Spelled, is_open, closed}
 use Rattle.h41_debug.specs.Bench.{BenchState, start}
 use Rattle.h41_deck.specs.AnsweredItems.{AnswersItems, answered_items, outcome_and}
-use Rattle.h41_deck.specs.Answers.{Answer, printed}
+use Rattle.h41_deck.specs.Answers.{Answer, printed_text}
 use Rattle.h41_deck.specs.Deck.{AnswersInTurn, FirstReplies, LeavesFirst, outcome_of}
 use Rattle.h41_deck.specs.Faults.{of_command}
 use Rattle.h41_deck.specs.Writing.{Leaves, Replies, RepliesInPart, outcome_in}
@@ -26,7 +26,7 @@ pub record Told (old new : Option (List ℕ)) (all left : List Spelled) (s : Ben
   pub done : List Spelled
   pub parts : all ≡ done ++ left
   pub answers : List Answer
-  pub written : Appends old new (flat_map printed answers)
+  pub written : Appends old new (flat_map printed_text answers)
   pub outcome_is : outcome ≡ outcome_of answers
   pub goes_on : (items : List Spelled) (more : List Answer) → AnswersInTurn items s more → AnswersInTurn (done ++ items) start (answers ++ more)
 
@@ -54,8 +54,8 @@ told_more old mid new all left rest s t outcome next item told first replied = r
   done = told.done ++ item ∷ [];
   parts = told.parts ∙ ap (λ items. told.done ++ items) first ∙ sym (append_assoc told.done (item ∷ []) rest);
   answers = told.answers ++ replied.answer ∷ [];
-  written = subst (Appends old new) (sym (flat_map-append printed told.answers (replied.answer ∷ []) ∙ ap (λ text. flat_map printed told.answers ++ text) (append-nil (printed replied.answer))))
-      (Appends-trans old mid new (flat_map printed told.answers) (printed replied.answer) told.written replied.written);
+  written = subst (Appends old new) (sym (flat_map-append printed_text told.answers (replied.answer ∷ []) ∙ ap (λ text. flat_map printed_text told.answers ++ text) (append-nil (printed_text replied.answer))))
+      (Appends-trans old mid new (flat_map printed_text told.answers) (printed_text replied.answer) told.written replied.written);
   outcome_is = rw (told.outcome_is, replied.outcome_is) (sym (outcome_of-push told.answers replied.answer));
   goes_on = λ items more later. subst (λ (of : List Spelled). AnswersInTurn of start ((told.answers ++ replied.answer ∷ []) ++ more)) (sym (append_assoc told.done (item ∷ []) items))
       (subst (AnswersInTurn (told.done ++ item ∷ items) start) (sym (append_assoc told.answers (replied.answer ∷ []) more)) (told.goes_on (item ∷ items) (replied.answer ∷ more) (t, replied.reply, later)));
@@ -64,7 +64,7 @@ told_more old mid new all left rest s t outcome next item told first replied = r
 pub told_all : (old new : Option (List ℕ)) (all : List Spelled) (s : BenchState) (outcome : Outcome) (left : List Spelled) → Told old new all left s outcome → left ≡ []
     → AnswersItems all old new outcome
 told_all old new all s outcome left told none = (
-  flat_map printed told.answers,
+  flat_map printed_text told.answers,
   record {
     answers = told.answers;
     answered = subst (λ (items : List Spelled). AnswersInTurn items start told.answers) (sym (told.parts ∙ ap (λ items. told.done ++ items) none))
@@ -103,18 +103,18 @@ module _ (old mid new : Option (List ℕ)) (all left : List Spelled) (s : BenchS
   done_answered = subst (λ (items : List Spelled). AnswersInTurn items start told.answers) (append-nil told.done)
       (subst (AnswersInTurn (told.done ++ []) start) (append-nil told.answers) (told.goes_on [] [] tt))
 
-  first_replies : FirstReplies all (flat_map printed told.answers)
+  first_replies : FirstReplies all (flat_map printed_text told.answers)
   first_replies = record { first = told.done; rest = left; begins = told.parts; answers = told.answers; answered = done_answered; text_is = refl }
 
   -- memory was refused, or the whole was not passed on
   pub told_kept : (fault : Fault) → fault ≢ WriteFault → Keeps mid new → LeavesFirst all old new fault
-  told_kept OutOfMemory other kept = (flat_map printed told.answers, first_replies, Appends-kept old mid new _ told.written kept)
-  told_kept ReadFault other kept = (flat_map printed told.answers, first_replies, Appends-kept old mid new _ told.written kept)
+  told_kept OutOfMemory other kept = (flat_map printed_text told.answers, first_replies, Appends-kept old mid new _ told.written kept)
+  told_kept ReadFault other kept = (flat_map printed_text told.answers, first_replies, Appends-kept old mid new _ told.written kept)
   told_kept WriteFault other kept = absurd (other refl)
 
   pub told_unpassed : Keeps mid new → LeavesFirst all old new WriteFault
   told_unpassed kept =
-      let text = flat_map printed told.answers in
+      let text = flat_map printed_text told.answers in
       (text, first_replies, (length text, subst (Appends old new) (sym (take_all (length text) text (omega arith))) (Appends-kept old mid new text told.written kept)))
 
   -- the next one is written in part
@@ -122,9 +122,9 @@ module _ (old mid new : Option (List ℕ)) (all left : List Spelled) (s : BenchS
       → LeavesFirst all old new WriteFault
   told_part item rest t first part =
       let next = part.printed_until.0 in
-      let before = flat_map printed told.answers in
-      let texts : flat_map printed (told.answers ++ next ∷ []) ≡ before ++ part.text =
-      flat_map-append printed told.answers (next ∷ []) ∙ ap (λ text. before ++ text) (append-nil (printed next) ∙ sym part.printed_until.2) in (
+      let before = flat_map printed_text told.answers in
+      let texts : flat_map printed_text (told.answers ++ next ∷ []) ≡ before ++ part.text =
+      flat_map-append printed_text told.answers (next ∷ []) ∙ ap (λ text. before ++ text) (append-nil (printed_text next) ∙ sym part.printed_until.2) in (
         before ++ part.text,
         record {
           first = told.done ++ item ∷ [];
@@ -144,7 +144,7 @@ module _ (old mid new : Option (List ℕ)) (all left : List Spelled) (s : BenchS
 -- it ends with a fault: before the next one, at the next one, and where the whole is passed on
 pub told_left : (old new : Option (List ℕ)) (all left : List Spelled) (s : BenchState) (outcome : Outcome) → Told old new all left s outcome
     → LeavesFirst all old new OutOfMemory
-told_left old new all left s outcome told = (flat_map printed told.answers, first_replies old new new all left s outcome told, told.written)
+told_left old new all left s outcome told = (flat_map printed_text told.answers, first_replies old new new all left s outcome told, told.written)
 
 pub told_fault : {W : Type 0} (contents : W → Option (List ℕ)) (old before after : W) (all left rest : List Spelled) (s t : BenchState)
     (outcome : Outcome) (item : Spelled) (fault : CommandFault) → Told (contents old) (contents before) all left s outcome → left ≡ item ∷ rest

@@ -25,10 +25,10 @@ use Rattle.h41_ends.specs.Ends.{AppendsPart}
 use Rattle.h41_deck.specs.declared.refusal.Refusal.{Refusal}
 use Rattle.h41_deck.specs.declared.refusal.Refusal.TheVariants.{Line}
 use Rattle.h41_deck.specs.declared.replies.Outcome.{Outcome}
-use Rattle.h41_deck.specs.Answers.{Answer, ending_line, ends_by, printed, says_or_ends}
+use Rattle.h41_deck.specs.Answers.{Answer, ending_line, ends_by, printed_text, says_or_ends}
 use Rattle.h41_pages.specs.PageMap.{PageMap}
 use Rattle.h41_deck.specs.declared.fault.CommandFault.{CommandFault}
-use Rattle.h41_deck.specs.Listings.{listed}
+use Rattle.h41_deck.specs.Listings.{listing_at}
 use Rattle.h41_deck.specs.Blocks.{LoadsTaken, PlugsTaken}
 use Rattle.h41_deck.specs.Replies.{LoadsBlock, LoadsBytes, Plugs, Reply}
 use Rattle.h41_deck.specs.Writing.{SaysAlone, IsListed, IsRefusalOf, IsShown, LeavesText, Replies, RepliesInPart, SaysText, item_of, made_text, outcome_in, text_in}
@@ -116,7 +116,7 @@ pub list_said : (command : Command) (values : List ℕ) (address count : ℕ) (s
     → command ≡ commands.List address count → pages ≡ s.calculator.nut.pages → IsListed pages address count made
     → Reply command values s s (says_or_ends (text_in made))
 list_said command values address count s pages made spelt same is =
-    rw spelt (refl, ap says_or_ends (is ∙ ap (λ (of : PageMap). listed of address count) same))
+    rw spelt (refl, ap says_or_ends (is ∙ ap (λ (of : PageMap). listing_at of address count) same))
 
 pub show_said : (command : Command) (values : List ℕ) (view : View) (s : BenchState) (made : Result (Vec ℕ Global) Refusal)
     → command ≡ commands.Show view → IsShown view s made → Reply command values s s (says_or_ends (text_in made))
@@ -130,7 +130,7 @@ part_longer old new text more part = (
   subst (λ (written : List ℕ). Appends old new written) (sym (take-append-le part.0 text more (omega arith))) part.2,
 )
 
-made_printed : (made : Result (Vec ℕ Global) Refusal) → (ending : List ℕ) × (printed (says_or_ends (text_in made)) ≡ made_text made ++ ending)
+made_printed : (made : Result (Vec ℕ Global) Refusal) → (ending : List ℕ) × (printed_text (says_or_ends (text_in made)) ≡ made_text made ++ ending)
 made_printed (Ok text) = ([], refl)
 made_printed (Err refusal) = (ending_line (Some refusal), refl)
 
@@ -138,7 +138,7 @@ pub part_alone : (command : Command) (values : List ℕ) (s : BenchState) (old n
     → Reply command values s s (says_or_ends (text_in made)) → AppendsPart old new (made_text made) → RepliesInPart (Ok (command, values)) s s old new
 part_alone command values s old new made reply part =
     let ending = made_printed made in record {
-      text = printed (says_or_ends (text_in made));
+      text = printed_text (says_or_ends (text_in made));
       printed_until = (says_or_ends (text_in made), reply, refl);
       written = subst (AppendsPart old new) (sym ending.1) (part_longer old new (made_text made) ending.0 part);
     }
@@ -163,7 +163,7 @@ later_part old mid new text ending first part = (
 pub ends_part : (item : Spelled) (s t : BenchState) (old mid new : Option (List ℕ)) (refusal : Option Refusal)
     → SaysText item s t old mid refusal → AppendsPart mid new (ending_line refusal) → RepliesInPart item s t old new
 ends_part item s t old mid new refusal said part = record {
-  text = printed (record { text = said.text; refusal = refusal });
+  text = printed_text (record { text = said.text; refusal = refusal });
   printed_until = (record { text = said.text; refusal = refusal }, said.reply, refl);
   written = later_part old mid new said.text (ending_line refusal) said.written part;
 }

@@ -22,11 +22,11 @@ use Rattle.h41_xrom.specs.CalculatorLaws.{DisplayIsDetermined, LoadIsDetermined}
 use Rattle.h41_xrom.specs.Programs.{Becomes, Loads, size_makes}
 use Rattle.h41_deck.specs.declared.refusal.Refusal.{Refusal}
 use Rattle.h41_deck.specs.declared.refusal.Refusal.TheVariants.{Calculator}
-use Rattle.h41_deck.specs.Answers.{Answer, ends_by, printed, says_and_ends, says_or_ends}
+use Rattle.h41_deck.specs.Answers.{Answer, ends_by, printed_text, says_and_ends, says_or_ends}
 use Rattle.h41_deck.specs.Deck.{AnswersInTurn, DeckDeterminesOutcome, DeckDeterminesText, FirstTextIsFront, LongDeckDeterminesText, commands_of, commands_within, outcome_of}
 use Rattle.h41_deck.specs.ProgramListing.{listed_line}
 use Rattle.h41_deck.specs.Replies.{Calls, ItemReply, LoadsBytes, PlugsWords, Reply}
-use Rattle.h41_deck.specs.Runs.{ran}
+use Rattle.h41_deck.specs.Runs.{run_answer}
 use Rattle.h41_deck.specs.Views.{Shows, line_of}
 
 -- a relation of the calculator's that leaves nothing open
@@ -91,7 +91,7 @@ module _ (same_steps : StepsAreDetermined) (same_load : LoadIsDetermined) (same_
       (both.0, p.2 ∙ ap (λ (why : Option CalculatorRefusal). ends_by (option_map Calculator why)) both.1 ∙ sym q.2)
   same_reply (commands.Run limit) values s t u a b p q =
       let all = same_run limit s t u p.0 q.0 p.1 q.1 p.2 q.2 in
-      (all.0, p.3 ∙ ap (λ (made : ℕ). ran made p.1) all.1 ∙ ap (λ (why : Stop). ran q.0 why) all.2 ∙ sym q.3)
+      (all.0, p.3 ∙ ap (λ (made : ℕ). run_answer made p.1) all.1 ∙ ap (λ (why : Stop). run_answer q.0 why) all.2 ∙ sym q.3)
   same_reply (commands.Trace count) values s t u a b p q =
       let all = same_trace count s t u p.0 q.0 p.1 q.1 p.2 q.2 in (
         all.0,
@@ -123,10 +123,10 @@ module _ (same_steps : StepsAreDetermined) (same_load : LoadIsDetermined) (same_
       λ i. both.1 i ∷ rest i
 
   pub same_text : DeckDeterminesText
-  same_text bytes text other p q = p.2 ∙ ap (λ answers. flat_map printed answers) (same_answers _ start p.0 q.0 p.1.answered q.1.answered) ∙ sym q.2
+  same_text bytes text other p q = p.2 ∙ ap (λ answers. flat_map printed_text answers) (same_answers _ start p.0 q.0 p.1.answered q.1.answered) ∙ sym q.2
 
   pub same_long : LongDeckDeterminesText
-  same_long bytes text other p q = p.2 ∙ ap (λ answers. flat_map printed answers) (same_answers _ start p.0 q.0 p.1.answered q.1.answered) ∙ sym q.2
+  same_long bytes text other p q = p.2 ∙ ap (λ answers. flat_map printed_text answers) (same_answers _ start p.0 q.0 p.1.answered q.1.answered) ∙ sym q.2
 
   pub same_outcome : DeckDeterminesOutcome
   same_outcome bytes outcome other p q = p.2 ∙ ap outcome_of (same_answers _ start p.0 q.0 p.1.answered q.1.answered) ∙ sym q.2
@@ -148,7 +148,7 @@ module _ (same_steps : StepsAreDetermined) (same_load : LoadIsDetermined) (same_
       ap (λ (short : Bool). if short then items.commands (lines deck) else commands_within deck) (le-leb _ _ q.1.bound) in
       let given = subst (λ (of : List Spelled). AnswersInTurn of start q.0) (sym whole ∙ p.begins) q.1.answered in
       let more = same_first p.first p.rest start p.answers q.0 p.answered given in (
-        flat_map printed more.0,
-        q.2 ∙ ap (λ answers. flat_map printed answers) more.1 ∙ flat_map-append printed p.answers more.0
-            ∙ ap (λ (front : List ℕ). front ++ flat_map printed more.0) (sym p.text_is),
+        flat_map printed_text more.0,
+        q.2 ∙ ap (λ answers. flat_map printed_text answers) more.1 ∙ flat_map-append printed_text p.answers more.0
+            ∙ ap (λ (front : List ℕ). front ++ flat_map printed_text more.0) (sym p.text_is),
       )

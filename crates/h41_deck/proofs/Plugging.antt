@@ -11,7 +11,7 @@ use Rattle.h41_debug.specs.Bench.{BenchState, with_calculator}
 use Rattle.h41_xrom.specs.Calculator.{CalculatorState, RefusesPage, TakesPage, with_page}
 use Rattle.h41_deck.specs.Answers.{ends_by}
 use Rattle.h41_deck.specs.Pages.{of_plug, page_refusal}
-use Rattle.h41_deck.specs.Replies.{PlugsWords, block_refusal, unless, with_words}
+use Rattle.h41_deck.specs.Replies.{PlugsWords, block_refusal, state_unless, with_words}
 
 -- what `resize` makes of a page's words
 pub resized : (values items : List ℕ) (count : ℕ) → count ≡ length values → count ≤ page_size
@@ -38,7 +38,7 @@ module _ (s : BenchState) (page : ℕ) (writable : Bool) (words items : List ℕ
       let accepted : None ≡ block_refusal s page words = accepted_page s.calculator.nut.pages page items (filled words) same
       (subst (λ (of : CalculatorState). TakesPage of page 1 items) is taken) in (
         ap (λ d. with_calculator d s) (changed ∙ (λ i. with_page page 1 writable (same i) (is i)))
-            ∙ ap (λ why. unless why (with_words page writable words s) s) accepted,
+            ∙ ap (λ why. state_unless why (with_words page writable words s) s) accepted,
         ap ends_by accepted,
       )
 
@@ -47,6 +47,6 @@ module _ (s : BenchState) (page : ℕ) (writable : Bool) (words items : List ℕ
   plugs_refused why refuses other stays =
       let refused : Some (of_plug why) ≡ block_refusal s page words = refused_page s.calculator.nut.pages page items (filled words) why same
       (subst (λ (of : CalculatorState). RefusesPage of page 1 items why) is refuses) other in (
-        ap (λ d. with_calculator d s) (stays ∙ is) ∙ ap (λ why. unless why (with_words page writable words s) s) refused,
+        ap (λ d. with_calculator d s) (stays ∙ is) ∙ ap (λ why. state_unless why (with_words page writable words s) s) refused,
         ap ends_by refused,
       )

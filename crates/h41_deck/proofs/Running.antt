@@ -15,9 +15,9 @@ use Rattle.h41_xrom.specs.Calculator.{CalculatorState, RefusesStep, Step}
 use Rattle.h41_xrom.specs.declared.refusal.CalculatorRefusal.{CalculatorRefusal}
 use Rattle.h41_deck.specs.declared.refusal.Refusal.{Refusal}
 use Rattle.h41_deck.specs.declared.refusal.Refusal.TheVariants.{Calculator}
-use Rattle.h41_deck.specs.Answers.{Answer, ending_line, printed, says_and_ends}
-use Rattle.h41_deck.specs.Runs.{ran, ran_text, stop_refusal}
-use Rattle.h41_deck.specs.Writing.{RepliesInPart, SaysText, TellsLine}
+use Rattle.h41_deck.specs.Answers.{Answer, ending_line, printed_text, says_and_ends}
+use Rattle.h41_deck.specs.Runs.{run_answer, ran_text, stop_refusal}
+use Rattle.h41_deck.specs.Writing.{RepliesInPart, SaysText, IsTraceLine}
 use Rattle.h41_deck.proofs.Commanded.{later_part, part_longer}
 
 -- a run is told
@@ -32,8 +32,8 @@ run_said limit made why values s t old new refusal run is written = record {
 pub run_in_part : (limit made : ℕ) (why : Stop) (values : List ℕ) (s t : BenchState) (old new : Option (List ℕ))
     → Run limit s t made why → AppendsPart old new (ran_text made why) → RepliesInPart (Ok (commands.Run limit, values)) s t old new
 run_in_part limit made why values s t old new run part = record {
-  text = printed (ran made why);
-  printed_until = (ran made why, (made, why, run, refl), refl);
+  text = printed_text (run_answer made why);
+  printed_until = (run_answer made why, (made, why, run, refl), refl);
   written = part_longer old new (ran_text made why) (ending_line (stop_refusal why)) part;
 }
 
@@ -49,7 +49,7 @@ traces_none count s old = record { lines = []; written = Appends-nil old; goes_o
 
 -- a step that is told and made, and one that is told and refused
 pub traces_more : (count left : ℕ) (s mid next : BenchState) (old before now : Option (List ℕ)) (line : List ℕ)
-    → TracesOn count (suc left) s mid old before → TellsLine mid line → Appends before now line
+    → TracesOn count (suc left) s mid old before → IsTraceLine mid line → Appends before now line
     → RefusesStep mid.calculator None → Step mid.calculator next.calculator → next ≡ with_calculator next.calculator mid
     → TracesOn count left s next old now
 traces_more count left s mid next old before now line on tells written accepted step others = record {
@@ -71,7 +71,7 @@ traces_end count left values s t old now none on = record {
 }
 
 pub traces_refused : (count left : ℕ) (values : List ℕ) (s t : BenchState) (old before now : Option (List ℕ)) (line : List ℕ) (why : CalculatorRefusal)
-    → TracesOn count (suc left) s t old before → TellsLine t line → Appends before now line → RefusesStep t.calculator (Some why)
+    → TracesOn count (suc left) s t old before → IsTraceLine t line → Appends before now line → RefusesStep t.calculator (Some why)
     → SaysText (Ok (commands.Trace count, values)) s t old now (Some (Calculator why))
 traces_refused count left values s t old before now line why on tells written refused = record {
   text = on.lines ++ line;
@@ -86,15 +86,15 @@ traces_refused count left values s t old before now line why on tells written re
 
 -- a line that is not written whole: the steps that are left are made all the same
 pub traces_in_part : StepsAreTraced → (count left : ℕ) (values : List ℕ) (s mid t : BenchState) (old before now : Option (List ℕ)) (line : List ℕ)
-    (refusal : Option CalculatorRefusal) → TracesOn count (suc left) s mid old before → TellsLine mid line → AppendsPart before now line
+    (refusal : Option CalculatorRefusal) → TracesOn count (suc left) s mid old before → IsTraceLine mid line → AppendsPart before now line
     → Steps (suc left) mid t refusal → RepliesInPart (Ok (commands.Trace count, values)) s t old now
 traces_in_part traced count left values s mid t old before now line refusal on tells part steps =
     let more = traced left mid t tells.0 refusal tells.1 steps in
     let all = on.goes_on t (traced_line tells.0 ++ more.0) refusal more.1 in
     let answer : Answer = says_and_ends (on.lines ++ (traced_line tells.0 ++ more.0)) (option_map Calculator refusal) in
-    let text : printed answer ≡ (on.lines ++ line) ++ (more.0 ++ ending_line answer.refusal) =
+    let text : printed_text answer ≡ (on.lines ++ line) ++ (more.0 ++ ending_line answer.refusal) =
     ap (λ (of : List ℕ). (on.lines ++ (of ++ more.0)) ++ ending_line answer.refusal) (sym tells.2) ∙ simp append_assoc in record {
-      text = printed answer;
+      text = printed_text answer;
       printed_until = (answer, (on.lines ++ (traced_line tells.0 ++ more.0), refusal, all, refl), refl);
       written = subst (AppendsPart old now) (sym text)
           (part_longer old now (on.lines ++ line) (more.0 ++ ending_line answer.refusal) (later_part old before now on.lines line on.written part));

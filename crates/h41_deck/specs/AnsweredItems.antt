@@ -9,16 +9,16 @@ use Rattle.h41_debug.specs.Bench.{BenchState, start}
 use Rattle.h41_deck.specs.declared.fault.CommandFault.{CommandFault}
 use Rattle.h41_deck.specs.declared.replies.Outcome.{Outcome}
 use Rattle.h41_deck.specs.declared.replies.Outcome.TheVariants.{Accepted, Refused}
-use Rattle.h41_deck.specs.Answers.{Answer, printed}
+use Rattle.h41_deck.specs.Answers.{Answer, printed_text}
 use Rattle.h41_deck.specs.Deck.{AnswersInTurn, LeavesFirst, outcome_of}
 use Rattle.h41_deck.specs.Faults.{of_command}
 use Rattle.h41_deck.specs.Writing.{Leaves}
 
 -- what these commands print, and how they end
-pub record Answered (items : List Spelled) (text : List ℕ) (outcome : Outcome) : Type 0 where
+pub record PrintsInTurn (items : List Spelled) (text : List ℕ) (outcome : Outcome) : Type 0 where
   pub answers : List Answer
   pub answered : AnswersInTurn items start answers
-  pub text_is : text ≡ flat_map printed answers
+  pub text_is : text ≡ flat_map printed_text answers
   pub outcome_is : outcome ≡ outcome_of answers
 
 -- the commands of a deck that are answered: of one that is cut, all but a block that is open
@@ -28,7 +28,7 @@ answered_items false items = closed items
 
 -- their text is written
 abbrev pub AnswersItems : List Spelled → Option (List ℕ) → Option (List ℕ) → Outcome → Type 0
-AnswersItems items old new outcome = (text : List ℕ) × Answered items text outcome × Appends old new text
+AnswersItems items old new outcome = (text : List ℕ) × PrintsInTurn items text outcome × Appends old new text
 
 -- where there is an outcome, the commands of these bytes are answered so
 abbrev pub AnswersBytes : {E W : Type 0} → Result Outcome E → Bool → List ℕ → (W → Option (List ℕ)) → W → W → Type 0

@@ -12,7 +12,7 @@ use Rattle.h41_commands.specs.Items.{Spelled, closed, commands}
 use Rattle.h41_lines.specs.Lines.{ended_lines, lines}
 use Rattle.h41_debug.specs.Bench.{BenchState, start}
 use Rattle.h41_ends.specs.Ends.{most_bytes}
-use Rattle.h41_deck.specs.Answers.{Answer, printed}
+use Rattle.h41_deck.specs.Answers.{Answer, printed_text}
 use Rattle.h41_deck.specs.Replies.{ItemReply}
 
 -- the answers to commands in turn, from a state on
@@ -37,7 +37,7 @@ pub record AnswersDeck (deck : List ℕ) (answers : List Answer) : Type 0 where
 
 -- the text that a deck prints
 abbrev pub Deck : List ℕ → List ℕ → Type 0
-Deck deck text = (answers : List Answer) × AnswersDeck deck answers × (text ≡ flat_map printed answers)
+Deck deck text = (answers : List Answer) × AnswersDeck deck answers × (text ≡ flat_map printed_text answers)
 
 -- the answers to a deck that is too long
 pub record AnswersLongDeck (deck : List ℕ) (answers : List Answer) : Type 0 where
@@ -46,7 +46,7 @@ pub record AnswersLongDeck (deck : List ℕ) (answers : List Answer) : Type 0 wh
 
 -- the text that such a deck prints, before its fault is told
 abbrev pub LongDeck : List ℕ → List ℕ → Type 0
-LongDeck deck text = (answers : List Answer) × AnswersLongDeck deck answers × (text ≡ flat_map printed answers)
+LongDeck deck text = (answers : List Answer) × AnswersLongDeck deck answers × (text ≡ flat_map printed_text answers)
 
 -- whether one of the answers is a refusal
 abbrev pub outcome_of : List Answer → Outcome
@@ -75,7 +75,7 @@ pub record FirstReplies (items : List Spelled) (text : List ℕ) : Type 0 where
   pub begins : items ≡ first ++ rest
   pub answers : List Answer
   pub answered : AnswersInTurn first start answers
-  pub text_is : text ≡ flat_map printed answers
+  pub text_is : text ≡ flat_map printed_text answers
 
 -- the text of the replies to some first commands of a deck
 abbrev pub FirstText : List ℕ → List ℕ → Type 0

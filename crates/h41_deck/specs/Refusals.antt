@@ -107,11 +107,11 @@ detail_text (Some (details.Address address)) = codes " " ++ hexadecimal_text 4 a
 detail_text (Some (details.Line line)) = codes " " ++ decimal line
 
 -- how a refusal is printed: without its detail, whole, and with the line's end
-abbrev pub headed : List ℕ → List ℕ
-headed name = codes "! " ++ name
+abbrev pub heading_of : List ℕ → List ℕ
+heading_of name = codes "! " ++ name
 
 abbrev pub heading : Refusal → List ℕ
-heading refusal = headed (number_and_name refusal)
+heading refusal = heading_of (number_and_name refusal)
 
 abbrev pub refusal_text : Refusal → List ℕ
 refusal_text refusal = heading refusal ++ detail_text (detail refusal)

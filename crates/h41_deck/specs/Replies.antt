@@ -23,19 +23,19 @@ use Rattle.h41_xrom.specs.Programs.{Becomes, Loads, size_makes}
 use Rattle.h41_deck.specs.declared.refusal.Refusal.{Refusal}
 use Rattle.h41_deck.specs.declared.refusal.Refusal.TheVariants.{BreakFull, Calculator, Line, NoBreak}
 use Rattle.h41_deck.specs.Answers.{Answer, ends_by, says_and_ends, says_or_ends}
-use Rattle.h41_deck.specs.Listings.{listed}
+use Rattle.h41_deck.specs.Listings.{listing_at}
 use Rattle.h41_deck.specs.Pages.{block_bank, page_refusal, unplug_refusal}
-use Rattle.h41_deck.specs.Runs.{ran}
+use Rattle.h41_deck.specs.Runs.{run_answer}
 use Rattle.h41_deck.specs.Views.{Shows}
 
 -- the state after a change that is made unless there is a refusal
-abbrev pub unless : Option Refusal → BenchState → BenchState → BenchState
-unless None changed s = changed
-unless (Some refusal) changed s = s
+abbrev pub state_unless : Option Refusal → BenchState → BenchState → BenchState
+state_unless None changed s = changed
+state_unless (Some refusal) changed s = s
 
 -- the change is made in silence, or there is a refusal and nothing changes
 abbrev pub ChangesUnless : Option Refusal → BenchState → BenchState → BenchState → Answer → Type 0
-ChangesUnless refusal changed s t answer = (t ≡ unless refusal changed s) × (answer ≡ ends_by refusal)
+ChangesUnless refusal changed s t answer = (t ≡ state_unless refusal changed s) × (answer ≡ ends_by refusal)
 
 -- lines are refused, and nothing changes
 abbrev pub RefusesLines : LineRefusal → BenchState → BenchState → Answer → Type 0
@@ -104,7 +104,7 @@ Reply (Key keys) values s t answer =
 Reply (Step count) values s t answer =
     (refusal : Option CalculatorRefusal) × Steps count s t refusal × (answer ≡ ends_by (option_map Calculator refusal))
 -- run n: a run of at most so many steps, which tells how many it made and why it stopped, and then the refusal where that is why
-Reply (Run limit) values s t answer = (made : ℕ) × (why : Stop) × runs.Run limit s t made why × (answer ≡ ran made why)
+Reply (Run limit) values s t answer = (made : ℕ) × (why : Stop) × runs.Run limit s t made why × (answer ≡ run_answer made why)
 -- trace n: single steps up to the first refusal, each told before it is made
 Reply (Trace count) values s t answer =
     (lines : List ℕ) × (refusal : Option CalculatorRefusal) × Traces count s t lines refusal
@@ -116,7 +116,7 @@ Reply (Break location) values s t answer =
 Reply (Unbreak location) values s t answer =
     ChangesUnless (unset_refusal s location) (without_set location s) s t answer
 -- list hhhh n: the words' listing, or 8, 9 or 4, and nothing changes
-Reply (commands.List address count) values s t answer = (t ≡ s) × (answer ≡ says_or_ends (listed s.calculator.nut.pages address count))
+Reply (commands.List address count) values s t answer = (t ≡ s) × (answer ≡ says_or_ends (listing_at s.calculator.nut.pages address count))
 -- show WHAT: the view's text, or why it is refused, and nothing changes
 Reply (Show view) values s t answer = (t ≡ s) × (made : Result (List ℕ) Refusal) × Shows view s made × (answer ≡ says_or_ends made)
 

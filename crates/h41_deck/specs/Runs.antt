@@ -24,5 +24,5 @@ stop_refusal (Refused refusal) = Some (Calculator refusal)
 abbrev pub ran_text : ℕ → Stop → List ℕ
 ran_text made why = codes "ran " ++ decimal made ++ codes " " ++ stop_name why ++ codes "\n"
 
-abbrev pub ran : ℕ → Stop → Answer
-ran made why = says_and_ends (ran_text made why) (stop_refusal why)
+abbrev pub run_answer : ℕ → Stop → Answer
+run_answer made why = says_and_ends (ran_text made why) (stop_refusal why)

@@ -19,8 +19,8 @@ use Rattle.h41_deck.specs.declared.fault.CommandFault.TheVariants.{OutOfMemory, 
 use Rattle.h41_deck.specs.declared.replies.Outcome.{Outcome}
 use Rattle.h41_deck.specs.declared.replies.Outcome.TheVariants.{Accepted, Refused}
 use Rattle.h41_deck.specs.declared.refusal.Refusal.{Refusal}
-use Rattle.h41_deck.specs.Answers.{Answer, ending_line, printed}
-use Rattle.h41_deck.specs.Listings.{listed}
+use Rattle.h41_deck.specs.Answers.{Answer, ending_line, printed_text}
+use Rattle.h41_deck.specs.Listings.{listing_at}
 use Rattle.h41_deck.specs.Replies.{ItemReply}
 use Rattle.h41_deck.specs.Views.{Shows, image_view}
 
@@ -36,12 +36,12 @@ EndsAs refusal outcome = outcome ≡ outcome_in refusal
 pub record Replies (item : Spelled) (s t : BenchState) (old new : Option (List ℕ)) (outcome : Outcome) : Type 0 where
   pub answer : Answer
   pub reply : ItemReply item s t answer
-  pub written : Appends old new (printed answer)
+  pub written : Appends old new (printed_text answer)
   pub outcome_is : outcome ≡ outcome_in answer.refusal
 
 -- what is printed of a command that leaves the bench so: what a command does to the bench does not hang on its writer
 abbrev pub PrintsUntil : Spelled → BenchState → BenchState → List ℕ → Type 0
-PrintsUntil item s t text = (answer : Answer) × ItemReply item s t answer × (text ≡ printed answer)
+PrintsUntil item s t text = (answer : Answer) × ItemReply item s t answer × (text ≡ printed_text answer)
 
 -- a front of that is written, and not all of it
 pub record RepliesInPart (item : Spelled) (s t : BenchState) (old new : Option (List ℕ)) : Type 0 where
@@ -93,8 +93,8 @@ abbrev pub TracesAlone : {W : Type 0} → Result (Option Refusal) fault.WriteFau
 TracesAlone result count s t contents old new = WritesAlone result (commands.Trace count) s t contents old new
 
 -- the line of a trace that tells of the next step
-abbrev pub TellsLine : BenchState → List ℕ → Type 0
-TellsLine s line = (text : List ℕ) × TellsStep s text × (line ≡ traced_line text)
+abbrev pub IsTraceLine : BenchState → List ℕ → Type 0
+IsTraceLine s line = (text : List ℕ) × TellsStep s text × (line ≡ traced_line text)
 
 -- what was made: a text or its refusal, and the text alone
 abbrev pub text_in : Result (Vec ℕ Global) Refusal → Result (List ℕ) Refusal
@@ -116,4 +116,4 @@ abbrev pub IsImageShown : PageMap → ℕ → Result (Vec ℕ Global) Refusal �
 IsImageShown pages page made = text_in made ≡ image_view pages page
 
 abbrev pub IsListed : PageMap → ℕ → ℕ → Result (Vec ℕ Global) Refusal → Type 0
-IsListed pages address count made = text_in made ≡ listed pages address count
+IsListed pages address count made = text_in made ≡ listing_at pages address count

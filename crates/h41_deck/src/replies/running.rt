@@ -5,7 +5,7 @@ ghost use Rattle.h41_commands.specs.declared.commands.Command.TheVariants as com
 ghost use Rattle.h41_deck.specs.Answers.{ends_by};
 ghost use Rattle.h41_deck.specs.Replies.{Reply};
 ghost use Rattle.h41_deck.specs.Runs as spec;
-ghost use Rattle.h41_deck.specs.Writing.{RunsAlone, TellsLine, TracesAlone};
+ghost use Rattle.h41_deck.specs.Writing.{RunsAlone, IsTraceLine, TracesAlone};
 
 use crate::refusal::Refusal;
 use arrayvec::ArrayString;
@@ -101,7 +101,7 @@ pub fn trace<W: Sink>(
 
 /// The line that tells of the next step.
 fn traced_line(bench: &Bench) -> ArrayString<TRACED>
-    ensures { TellsLine bench.now result.bytes }
+    ensures { IsTraceLine bench.now result.bytes }
 {
     let mut line = ArrayString::new();
     line.push_str(bench.trace_line().as_str());

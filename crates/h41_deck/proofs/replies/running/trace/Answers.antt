@@ -4,7 +4,7 @@ use Rattle.std.specs.Result.{result_err}
 use Rattle.h41_ends.specs.Ends.{AppendsPart}
 use Rattle.h41_xrom.specs.Calculator.{RefusesStep, Step}
 use Rattle.h41_debug.specs.Bench.{Steps}
-use Rattle.h41_deck.specs.Writing.{SaysText, TellsLine}
+use Rattle.h41_deck.specs.Writing.{SaysText, IsTraceLine}
 use Rattle.h41_deck.proofs.Running.{TracesOn, traces_end, traces_in_part, traces_more, traces_refused}
 use Rattle.h41_deck.proofs.replies.running.trace.Goals as goal
 

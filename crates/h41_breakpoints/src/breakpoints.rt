@@ -48,7 +48,8 @@ impl Model for Breakpoints {
 
     ghost view = { λ set. set_of set.items.items };
 
-    ghost invariant = { λ set. IsEachOnce set.items.items × AreMarked set.low_bytes set.items.items };
+    ghost invariant = { λ set.
+        IsEachOnce set.items.items × AreMarked set.low_bytes set.items.items };
 }
 
 impl Breakpoints {

@@ -27,7 +27,8 @@ no_function modes.Idle other = refl
 no_function modes.Run other = refl
 no_function (modes.Micro caller) other = absurd (other caller refl)
 
-pub line_refuses : (m : Mode) (s : CalculatorState) (why : Option CalculatorRefusal) → runs_function m ≡ false → RefusesLine s why → RefusesStepIn m s why
+pub line_refuses : (m : Mode) (s : CalculatorState) (why : Option CalculatorRefusal) → runs_function m ≡ false → RefusesLine s why
+    → RefusesStepIn m s why
 line_refuses modes.Idle s why none refuses = refuses
 line_refuses modes.Run s why none refuses = refuses
 line_refuses (modes.Micro caller) s why none refuses = cc
@@ -51,16 +52,18 @@ clear_behind behind t caller mode free =
 
 module _ (same_refusal : StepRefusalIsDetermined) (same_step : StepIsDetermined) where
   -- one step more
-  pub one_more : (limit from made : ℕ) (first s t : BenchState) → ((start : BenchState) → MakesSteps limit from start first → MakesSteps limit made start s)
-      → stop_behind (nat_lt 0 made) s ≡ None → made < limit → RefusesStep s.calculator None → Step s.calculator t.calculator → t ≡ with_calculator t.calculator s
+  pub one_more : (limit from made : ℕ) (first s t : BenchState)
+      → ((start : BenchState) → MakesSteps limit from start first → MakesSteps limit made start s) → stop_behind (nat_lt 0 made) s ≡ None
+      → made < limit → RefusesStep s.calculator None → Step s.calculator t.calculator → t ≡ with_calculator t.calculator s
       → (start : BenchState) → MakesSteps limit from start first → MakesSteps limit (made + 1) start t
   one_more limit from made first s t so_far clear below accepted step others start begun =
       made_more same_refusal same_step limit made start s t (so_far start begun) clear below accepted step others
 
   -- a piece of steps, the last of which is this one
-  pub ends_piece : (limit from made : ℕ) (first s t : BenchState) → ((start : BenchState) → MakesSteps limit from start first → MakesSteps limit made start s) → s.breakpoints ≡ first.breakpoints
-      → from ≤ made → stop_behind (nat_lt 0 made) s ≡ None → made < limit → RefusesStep s.calculator None → Step s.calculator t.calculator → t ≡ with_calculator t.calculator s
-      → Advances limit from first (made + 1) t None
+  pub ends_piece : (limit from made : ℕ) (first s t : BenchState)
+      → ((start : BenchState) → MakesSteps limit from start first → MakesSteps limit made start s) → s.breakpoints ≡ first.breakpoints
+      → from ≤ made → stop_behind (nat_lt 0 made) s ≡ None → made < limit → RefusesStep s.calculator None → Step s.calculator t.calculator
+      → t ≡ with_calculator t.calculator s → Advances limit from first (made + 1) t None
   ends_piece limit from made first s t so_far kept behind clear below accepted step others = record {
     most = omega (arith, below);
     goes_on = one_more limit from made first s t so_far clear below accepted step others;
@@ -69,8 +72,10 @@ module _ (same_refusal : StepRefusalIsDetermined) (same_step : StepIsDetermined)
   }
 
 -- a piece of steps, behind which the next is refused
-pub refused_piece : (limit from made : ℕ) (first s t : BenchState) (why : CalculatorRefusal) → ((start : BenchState) → MakesSteps limit from start first → MakesSteps limit made start s) → s.breakpoints ≡ first.breakpoints
-    → stop_behind (nat_lt 0 made) s ≡ None → made < limit → RefusesStep s.calculator (Some why) → t ≡ s → Advances limit from first made t (Some why)
+pub refused_piece : (limit from made : ℕ) (first s t : BenchState) (why : CalculatorRefusal)
+    → ((start : BenchState) → MakesSteps limit from start first → MakesSteps limit made start s) → s.breakpoints ≡ first.breakpoints
+    → stop_behind (nat_lt 0 made) s ≡ None → made < limit → RefusesStep s.calculator (Some why) → t ≡ s
+    → Advances limit from first made t (Some why)
 refused_piece limit from made first s t why so_far kept clear below refused stays =
     subst (λ (at : BenchState). Advances limit from first made at (Some why)) (sym stays) (record {
       most = omega (arith, below);

@@ -1,5 +1,6 @@
 -- Traces: what comes next can always be told, in one way; a trace is its steps, and steps can be traced.
-use Rattle.std.proofs.Common.{◌≡◌, ℕ, zero, suc, ◌++◌, Bool, true, false, List, [], ◌∷◌, Option, Some, None, Result, Ok, Err, refl, sym, ap, subst, ◌∙◌}
+use Rattle.std.proofs.Common.{◌≡◌, ℕ, zero, suc, ◌++◌, Bool, true, false, List, [], ◌∷◌, Option, Some, None, Result, Ok, Err, refl, sym, ap}
+use Rattle.std.proofs.Common.{subst, ◌∙◌}
 use Rattle.std.specs.Prelude.{MatchBool, MatchOption, codes}
 use Rattle.h41_breakpoints.specs.declared.location.Location.{Location}
 use Rattle.h41_breakpoints.specs.declared.location.Location.TheVariants.{Line, Word}
@@ -21,9 +22,11 @@ use Rattle.h41_debug.specs.Traces.{TellsAt, TellsLine, TellsStep, Traces, instru
 
 -- A TRACE MAKES ITS STEPS
 abbrev Makes : ℕ → Type 0
-Makes count = (s t : BenchState) (lines : List ℕ) (refusal : Option CalculatorRefusal) → Traces count s t lines refusal → Steps count s t refusal
+Makes count =
+    (s t : BenchState) (lines : List ℕ) (refusal : Option CalculatorRefusal) → Traces count s t lines refusal → Steps count s t refusal
 
-made_after : (count : ℕ) → Makes count → (why : Option CalculatorRefusal) (s t : BenchState) (rest : List ℕ) (refusal : Option CalculatorRefusal)
+made_after : (count : ℕ) → Makes count
+    → (why : Option CalculatorRefusal) (s t : BenchState) (rest : List ℕ) (refusal : Option CalculatorRefusal)
     → MatchOption why (StepsInto (λ next. Traces count next t rest refusal) s) (λ why. (t ≡ s) × (rest ≡ []) × (refusal ≡ Some why))
     → MatchOption why (StepsInto (λ next. Steps count next t refusal) s) (λ why. (t ≡ s) × (refusal ≡ Some why))
 made_after count makes None s t rest refusal p = (p.0, p.1, makes (with_calculator p.0 s) t rest refusal p.2)
@@ -44,7 +47,8 @@ module _ (one : OneList) where
   line_told memory at =
       let all = one memory at in
       elim (is_sound memory) as (λ sound. is_sound memory ≡ sound → (text : List ℕ)
-      × MatchBool sound ((answer : Result ListedLine ProgramRefusal) × AnswersFirst memory at answer × (text ≡ line_or_unknown answer)) (text ≡ unknown_text)) [
+      × MatchBool sound ((answer : Result ListedLine ProgramRefusal) × AnswersFirst memory at answer × (text ≡ line_or_unknown answer))
+      (text ≡ unknown_text)) [
         | true ↦ λ sound. line_of memory at all.lines (all.from.sound sound)
         | false ↦ λ _. (unknown_text, refl)
       ] refl
@@ -60,7 +64,8 @@ module _ (one : OneList) where
 
   -- and so can steps to their end
   abbrev Told : ℕ → Type 0
-  Told count = (s t : BenchState) (refusal : Option CalculatorRefusal) → Steps count s t refusal → (lines : List ℕ) × Traces count s t lines refusal
+  Told count =
+      (s t : BenchState) (refusal : Option CalculatorRefusal) → Steps count s t refusal → (lines : List ℕ) × Traces count s t lines refusal
 
   told_after : (count : ℕ) → Told count → (why : Option CalculatorRefusal) (s t : BenchState) (refusal : Option CalculatorRefusal)
       → MatchOption why (StepsInto (λ next. Steps count next t refusal) s) (λ why. (t ≡ s) × (refusal ≡ Some why))
@@ -71,8 +76,8 @@ module _ (one : OneList) where
       (more.0, (p.0, p.1, more.1))
   told_after count told (Some why) s t refusal p = ([], (p.0, refl, p.1))
 
-  told_from : (count : ℕ) → Told count → (s t : BenchState) (text : List ℕ) (refusal : Option CalculatorRefusal) → TellsStep s text → Steps (suc count) s t refusal
-      → (rest : List ℕ) × Traces (suc count) s t (traced_line text ++ rest) refusal
+  told_from : (count : ℕ) → Told count → (s t : BenchState) (text : List ℕ) (refusal : Option CalculatorRefusal) → TellsStep s text
+      → Steps (suc count) s t refusal → (rest : List ℕ) × Traces (suc count) s t (traced_line text ++ rest) refusal
   told_from count told s t text refusal tells p =
       let more = told_after count told p.0 s t refusal p.2 in
       (more.0, (text, tells, more.0, refl, p.0, p.1, more.1))
@@ -98,8 +103,10 @@ module _ (same_first : FirstIsDetermined) where
   same_line memory at (Err why) (Err other) p q = refl
 
   same_told : (memory : RegisterMap) (at : ℕ) (sound : Bool) (text other : List ℕ)
-      → MatchBool sound ((answer : Result ListedLine ProgramRefusal) × AnswersFirst memory at answer × (text ≡ line_or_unknown answer)) (text ≡ unknown_text)
-      → MatchBool sound ((answer : Result ListedLine ProgramRefusal) × AnswersFirst memory at answer × (other ≡ line_or_unknown answer)) (other ≡ unknown_text)
+      → MatchBool sound ((answer : Result ListedLine ProgramRefusal) × AnswersFirst memory at answer × (text ≡ line_or_unknown answer))
+      (text ≡ unknown_text)
+      → MatchBool sound ((answer : Result ListedLine ProgramRefusal) × AnswersFirst memory at answer × (other ≡ line_or_unknown answer))
+      (other ≡ unknown_text)
       → text ≡ other
   same_told memory at true text other p q = p.2 ∙ same_line memory at p.0 q.0 p.1 q.1 ∙ sym q.2
   same_told memory at false text other p q = p ∙ sym q
@@ -110,7 +117,8 @@ module _ (same_first : FirstIsDetermined) where
 
   same_step_told : (s : BenchState) (text other : List ℕ) → TellsStep s text → TellsStep s other → text ≡ other
   same_step_told s text other p q =
-      p.2 ∙ ap (λ (next : List ℕ). position_text s ++ codes " " ++ next) (same_at (location_of s.calculator) s.calculator p.0 q.0 p.1 q.1) ∙ sym q.2
+      p.2 ∙ ap (λ (next : List ℕ). position_text s ++ codes " " ++ next) (same_at (location_of s.calculator) s.calculator p.0 q.0 p.1 q.1)
+      ∙ sym q.2
 
   -- and so is a trace
   module _ (same_refusal : StepRefusalIsDetermined) (same_step : StepIsDetermined) where
@@ -123,7 +131,8 @@ module _ (same_first : FirstIsDetermined) where
     After count s t rest a why =
         MatchOption why (StepsInto (λ next. Traces count next t rest a) s) (λ why. (t ≡ s) × (rest ≡ []) × (a ≡ Some why))
 
-    same_more : (count : ℕ) → Same count → (why : Option CalculatorRefusal) (s t u : BenchState) (rest more : List ℕ) (a b : Option CalculatorRefusal)
+    same_more : (count : ℕ) → Same count
+        → (why : Option CalculatorRefusal) (s t u : BenchState) (rest more : List ℕ) (a b : Option CalculatorRefusal)
         → After count s t rest a why → After count s u more b why → (t ≡ u) × (rest ≡ more) × (a ≡ b)
     same_more count same None s t u rest more a b p q =
         let next : p.0 ≡ q.0 = same_step s.calculator p.0 q.0 p.1 q.1 in
@@ -135,5 +144,8 @@ module _ (same_first : FirstIsDetermined) where
     traces_determined (suc count) s t u lines text a b p q =
         let why : p.4 ≡ q.4 = same_refusal s.calculator p.4 q.4 p.5 q.5 in
         let more = same_more count (traces_determined count) q.4 s t u p.2 q.2 a b (subst (After count s t p.2 a) why p.6) q.6 in
-        let first : p.0 ≡ q.0 = same_step_told s p.0 q.0 p.1 q.1 in
-        (more.0, p.3 ∙ ap (λ (line : List ℕ). traced_line line ++ p.2) first ∙ ap (λ (rest : List ℕ). traced_line q.0 ++ rest) more.1 ∙ sym q.3, more.2)
+        let first : p.0 ≡ q.0 = same_step_told s p.0 q.0 p.1 q.1 in (
+          more.0,
+          p.3 ∙ ap (λ (line : List ℕ). traced_line line ++ p.2) first ∙ ap (λ (rest : List ℕ). traced_line q.0 ++ rest) more.1 ∙ sym q.3,
+          more.2,
+        )

@@ -5,7 +5,8 @@ use Rattle.h41_xrom.specs.Calculator.{CalculatorState, RefusesStep, Step}
 use Rattle.h41_xrom.specs.Calculator as calculator
 use Rattle.h41_xrom.specs.KeyActions.{Presses}
 use Rattle.h41_xrom.specs.declared.refusal.CalculatorRefusal.{CalculatorRefusal}
-use Rattle.h41_breakpoints.specs.Breakpoints.{BreakpointSet, no_breakpoints, with_breakpoint, without_breakpoint}
+use Rattle.h41_breakpoints.specs.Breakpoints.{BreakpointSet, no_breakpoints, with_breakpoint}
+use Rattle.h41_breakpoints.specs.Breakpoints.{without_breakpoint}
 use Rattle.h41_breakpoints.specs.declared.location.Location.{Location}
 
 -- The state of the bench.
@@ -48,4 +49,5 @@ abbrev pub PressesInTurn : List Key → BenchState → BenchState → Option Cal
 PressesInTurn [] s t refusal = (t ≡ s) × (refusal ≡ None)
 PressesInTurn (key ∷ keys) s t refusal =
     (next : CalculatorState) × (why : Option CalculatorRefusal) × Presses key s.calculator next why
-    × MatchOption why (PressesInTurn keys (with_calculator next s) t refusal) (λ why. (t ≡ with_calculator next s) × (refusal ≡ Some why))
+    × MatchOption why (PressesInTurn keys (with_calculator next s) t refusal)
+    (λ why. (t ≡ with_calculator next s) × (refusal ≡ Some why))

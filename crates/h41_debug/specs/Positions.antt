@@ -9,7 +9,8 @@ use Rattle.h41_xrom.specs.Calculator.{CalculatorState}
 use Rattle.h41_xrom.specs.declared.calculator.Mode.{Mode}
 use Rattle.h41_xrom.specs.declared.calculator.Mode.TheVariants as modes
 
--- where the calculator is: before the next word while a function runs, else before the line at its position
+-- where the calculator is: before the next word while a function runs, else before the line at its
+-- position
 abbrev pub location_in : CalculatorState → Mode → Location
 location_in s modes.Idle = Line s.focal.position
 location_in s modes.Run = Line s.focal.position
@@ -34,4 +35,5 @@ mode_name (modes.Micro caller) = codes "Micro"
 
 -- the mode, and where the calculator is
 abbrev pub position_text : BenchState → List ℕ
-position_text s = mode_name s.calculator.mode ++ codes " " ++ location_digits (location_of s.calculator)
+position_text s =
+    mode_name s.calculator.mode ++ codes " " ++ location_digits (location_of s.calculator)

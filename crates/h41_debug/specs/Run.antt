@@ -1,5 +1,5 @@
--- A run: the least number of single steps after which there is a reason to stop, and the first of the reasons there. The reasons and their
--- order are this project's choice.
+-- A run: the least number of single steps after which there is a reason to stop, and the first of
+-- the reasons there. The reasons and their order are this project's choice.
 use Rattle.std.specs.Prelude.{◌≡◌, ℕ, ◌<◌, ◌≤◌, IsTrue, Some, None}
 use Rattle.h41_xrom.specs.Calculator.{RefusesStep, is_idle}
 use Rattle.h41_debug.specs.Bench.{BenchState, Steps}
@@ -34,4 +34,5 @@ pub record Run (limit : ℕ) (s t : BenchState) (made : ℕ) (why : Stop) : Type
   pub stops : StopsFor limit made t why
   pub first : (other : Stop) → turn_of other < turn_of why → StopsFor limit made t other → ⊥
   -- there was none after fewer steps
-  pub least : (fewer : ℕ) (u : BenchState) (other : Stop) → fewer < made → Steps fewer s u None → StopsFor limit fewer u other → ⊥
+  pub least : (fewer : ℕ) (u : BenchState) (other : Stop) → fewer < made → Steps fewer s u None
+      → StopsFor limit fewer u other → ⊥

@@ -1,5 +1,7 @@
--- A trace: before each single step a line that says where the calculator is and what comes next. The form is this project's choice.
-use Rattle.std.specs.Prelude.{◌≡◌, ◌==◌, ℕ, zero, suc, List, [], ◌++◌, codes, if◌then◌else◌, MatchBool, MatchOption, Option, Some, None, Result, Ok, Err}
+-- A trace: before each single step a line that says where the calculator is and what comes next.
+-- The form is this project's choice.
+use Rattle.std.specs.Prelude.{◌≡◌, ◌==◌, ℕ, zero, suc, List, [], ◌++◌, codes, if◌then◌else◌}
+use Rattle.std.specs.Prelude.{MatchBool, MatchOption, Option, Some, None, Result, Ok, Err}
 use Rattle.h41_breakpoints.specs.declared.location.Location.{Location}
 use Rattle.h41_breakpoints.specs.declared.location.Location.TheVariants.{Line, Word}
 use Rattle.h41_dis.specs.Spelling.{piece_text}
@@ -29,7 +31,8 @@ with_second first (Err refusal) = unknown_text
 -- the text of the instruction at an address, by what is fetched of its first word
 abbrev pub instruction_text : PageMap → ℕ → Result ℕ FetchRefusal → List ℕ
 instruction_text pages address (Ok first) =
-    if length_of first == 2 then with_second first (fetched pages (address_after address 1)) else piece_text first None
+    if length_of first == 2 then with_second first (fetched pages (address_after address 1))
+    else piece_text first None
 instruction_text pages address (Err refusal) = unknown_text
 
 abbrev pub instruction_at : PageMap → ℕ → List ℕ
@@ -44,7 +47,9 @@ line_or_unknown (Err refusal) = unknown_text
 abbrev pub TellsLine : RegisterMap → ℕ → List ℕ → Type 0
 TellsLine memory at text =
     MatchBool (is_sound memory)
-    ((answer : Result ListedLine ProgramRefusal) × AnswersFirst memory at answer × (text ≡ line_or_unknown answer))
+    ((answer : Result ListedLine ProgramRefusal)
+    × AnswersFirst memory at answer
+    × (text ≡ line_or_unknown answer))
     (text ≡ unknown_text)
 
 -- the text of what stands at a location: of an instruction, or a line
@@ -62,7 +67,8 @@ TellsStep s text =
 abbrev pub traced_line : List ℕ → List ℕ
 traced_line text = text ++ codes "\n"
 
--- so many single steps, up to the first that is refused, and its refusal, with a line before each, that one too
+-- so many single steps, up to the first that is refused, and its refusal, with a line before each,
+-- that one too
 abbrev pub Traces : ℕ → BenchState → BenchState → List ℕ → Option CalculatorRefusal → Type 0
 Traces zero s t lines refusal = (t ≡ s) × (lines ≡ []) × (refusal ≡ None)
 Traces (suc count) s t lines refusal =

@@ -4,10 +4,13 @@ ghost use Rattle.std.specs.Prelude.{◌≡◌, ◌≤◌, IfOk, OnErr, OnOk, is_
 ghost use Rattle.std.specs.FinSet.{len};
 ghost use Rattle.std.specs.Result.{result_err};
 ghost use Rattle.std.specs.Borrow.{sem};
-ghost use Rattle.h41_breakpoints.specs.Breakpoints.{is_set, lacks_breakpoint, most_breakpoints, refuses_breakpoint};
-ghost use Rattle.h41_debug.specs.Bench.{PressesInTurn, Steps, start, with_calculator, with_set, without_set};
+ghost use Rattle.h41_breakpoints.specs.Breakpoints.{is_set, lacks_breakpoint, most_breakpoints};
+ghost use Rattle.h41_breakpoints.specs.Breakpoints.{refuses_breakpoint};
+ghost use Rattle.h41_debug.specs.Bench.{PressesInTurn, Steps, start, with_calculator, with_set};
+ghost use Rattle.h41_debug.specs.Bench.{without_set};
 ghost use Rattle.h41_debug.specs.Positions.{location_of};
-ghost use Rattle.h41_xrom.specs.Calculator.{RefusesLine, RefusesStep, Step, StepsByLine, mode_behind_word};
+ghost use Rattle.h41_xrom.specs.Calculator.{RefusesLine, RefusesStep, Step, StepsByLine};
+ghost use Rattle.h41_xrom.specs.Calculator.{mode_behind_word};
 ghost use Rattle.h41_xrom.specs.declared.calculator.Mode.TheVariants.{Micro};
 
 use crate::run::Stop;
@@ -35,7 +38,8 @@ impl Model for Bench {
 
     ghost coded = { Prim.hlevel (codes, set.code {R = location_cmp} member.the_row.coded) };
 
-    ghost view = { λ bench. record { calculator = bench.calculator; breakpoints = bench.breakpoints } };
+    ghost view = { λ bench.
+        record { calculator = bench.calculator; breakpoints = bench.breakpoints } };
 }
 
 impl Bench {

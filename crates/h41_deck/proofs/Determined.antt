@@ -1,5 +1,6 @@
 -- Why a deck determines what it prints, where steps, loads, blocks and lists of lines are determined.
-use Rattle.std.proofs.Common.{◌≡◌, ℕ, Bool, Result, Option, Some, Ok, Err, List, [], ◌∷◌, ◌++◌, if◌then◌else◌, flat_map, refl, sym, ap, subst, ◌∙◌}
+use Rattle.std.proofs.Common.{◌≡◌, ℕ, Bool, Result, Option, Some, Ok, Err, List, [], ◌∷◌, ◌++◌, if◌then◌else◌, flat_map, refl, sym, ap}
+use Rattle.std.proofs.Common.{subst, ◌∙◌}
 use Rattle.std.specs.Prelude.{option_map}
 use Rattle.std.proofs.lemmas.Bool.{le-leb}
 use Rattle.std.proofs.lemmas.Grind.{flat_map-append}
@@ -23,7 +24,8 @@ use Rattle.h41_xrom.specs.Programs.{Becomes, Loads, size_makes}
 use Rattle.h41_deck.specs.declared.refusal.Refusal.{Refusal}
 use Rattle.h41_deck.specs.declared.refusal.Refusal.TheVariants.{Calculator}
 use Rattle.h41_deck.specs.Answers.{Answer, ends_by, printed_text, says_and_ends, says_or_ends}
-use Rattle.h41_deck.specs.Deck.{AnswersInTurn, DeckDeterminesOutcome, DeckDeterminesText, FirstTextIsFront, LongDeckDeterminesText, commands_of, commands_within, outcome_of}
+use Rattle.h41_deck.specs.Deck.{AnswersInTurn, DeckDeterminesOutcome, DeckDeterminesText, FirstTextIsFront, LongDeckDeterminesText}
+use Rattle.h41_deck.specs.Deck.{commands_of, commands_within, outcome_of}
 use Rattle.h41_deck.specs.ProgramListing.{listed_line}
 use Rattle.h41_deck.specs.Replies.{Calls, ItemReply, LoadsBytes, PlugsWords, Reply}
 use Rattle.h41_deck.specs.Runs.{run_answer}
@@ -36,7 +38,8 @@ Leaves = CalculatorState → CalculatorState → Option CalculatorRefusal → Ty
 abbrev IsDetermined : Leaves → Type 0
 IsDetermined does = (s t u : CalculatorState) (a b : Option CalculatorRefusal) → does s t a → does s u b → (t ≡ u) × (a ≡ b)
 
-same_call : (does : Leaves) → IsDetermined does → (s t u : BenchState) (a b : Answer) → Calls does s t a → Calls does s u b → (t ≡ u) × (a ≡ b)
+same_call : (does : Leaves) → IsDetermined does → (s t u : BenchState) (a b : Answer) → Calls does s t a → Calls does s u b
+    → (t ≡ u) × (a ≡ b)
 same_call does same s t u a b p q =
     let both = same s.calculator t.calculator u.calculator p.0 q.0 p.1 q.1 in (
       p.2 ∙ ap (λ c. with_calculator c s) both.0 ∙ sym q.2,
@@ -52,10 +55,12 @@ same_plug page writable (Ok words) s t u a b p q = (p.0 ∙ sym q.0, p.1 ∙ sym
 same_plug page writable (Err why) s t u a b p q = (p.0 ∙ sym q.0, p.1 ∙ sym q.1)
 
 module _ (same_steps : StepsAreDetermined) (same_load : LoadIsDetermined) (same_filling : FillingIsDetermined)
-    (same_meaning : MeaningIsDetermined) (same_list : ListsAreDetermined) (same_keys : PressesAreDetermined) (same_display : DisplayIsDetermined)
+    (same_meaning : MeaningIsDetermined) (same_list : ListsAreDetermined)
+    (same_keys : PressesAreDetermined) (same_display : DisplayIsDetermined)
     (same_run : RunsAreDetermined) (same_trace : TracesAreDetermined) where
   -- what is loaded
-  same_bytes : (bytes : Result (List ℕ) LineRefusal) (s t u : BenchState) (a b : Answer) → LoadsBytes bytes s t a → LoadsBytes bytes s u b → (t ≡ u) × (a ≡ b)
+  same_bytes : (bytes : Result (List ℕ) LineRefusal) (s t u : BenchState) (a b : Answer) → LoadsBytes bytes s t a → LoadsBytes bytes s u b
+      → (t ≡ u) × (a ≡ b)
   same_bytes (Ok bytes) s t u a b p q = same_call (Loads bytes) (same_load bytes) s t u a b p q
   same_bytes (Err why) s t u a b p q = (p.0 ∙ sym q.0, p.1 ∙ sym q.1)
 
@@ -75,14 +80,16 @@ module _ (same_steps : StepsAreDetermined) (same_load : LoadIsDetermined) (same_
   same_view (views.Image page) s a b p q = p ∙ sym q
   same_view views.Functions s a b p q = p ∙ sym q
 
-  same_reply : (command : Command) (values : List ℕ) (s t u : BenchState) (a b : Answer) → Reply command values s t a → Reply command values s u b → (t ≡ u) × (a ≡ b)
+  same_reply : (command : Command) (values : List ℕ) (s t u : BenchState) (a b : Answer) → Reply command values s t a
+      → Reply command values s u b → (t ≡ u) × (a ≡ b)
   same_reply (commands.Plug kind page writable) values s t u a b p q =
       let same : p.0 ≡ q.0 = same_filling kind page values p.0 q.0 p.1 q.1 in
       same_plug page writable q.0 s t u a b (subst (λ made. PlugsWords page writable made s t a) same p.2) q.2
   same_reply (commands.Load kind) values s t u a b p q =
       let same : p.0 ≡ q.0 = same_meaning kind values p.0 q.0 p.1 q.1 in
       same_bytes q.0 s t u a b (subst (λ bytes. LoadsBytes bytes s t a) same p.2) q.2
-  same_reply (commands.Size count) values s t u a b p q = same_call (λ old. Becomes (size_makes old count) old) (same_size count) s t u a b p q
+  same_reply (commands.Size count) values s t u a b p q =
+      same_call (λ old. Becomes (size_makes old count) old) (same_size count) s t u a b p q
   same_reply (commands.Unplug page) values s t u a b p q = (p.0 ∙ sym q.0, p.1 ∙ sym q.1)
   same_reply commands.Reset values s t u a b p q = (p.0 ∙ sym q.0, p.1 ∙ sym q.1)
   same_reply (commands.Call address) values s t u a b p q = (p.0 ∙ sym q.0, p.1 ∙ sym q.1)
@@ -123,16 +130,18 @@ module _ (same_steps : StepsAreDetermined) (same_load : LoadIsDetermined) (same_
       λ i. both.1 i ∷ rest i
 
   pub same_text : DeckDeterminesText
-  same_text bytes text other p q = p.2 ∙ ap (λ answers. flat_map printed_text answers) (same_answers _ start p.0 q.0 p.1.answered q.1.answered) ∙ sym q.2
+  same_text bytes text other p q =
+      p.2 ∙ ap (λ answers. flat_map printed_text answers) (same_answers _ start p.0 q.0 p.1.answered q.1.answered) ∙ sym q.2
 
   pub same_long : LongDeckDeterminesText
-  same_long bytes text other p q = p.2 ∙ ap (λ answers. flat_map printed_text answers) (same_answers _ start p.0 q.0 p.1.answered q.1.answered) ∙ sym q.2
+  same_long bytes text other p q =
+      p.2 ∙ ap (λ answers. flat_map printed_text answers) (same_answers _ start p.0 q.0 p.1.answered q.1.answered) ∙ sym q.2
 
   pub same_outcome : DeckDeterminesOutcome
   same_outcome bytes outcome other p q = p.2 ∙ ap outcome_of (same_answers _ start p.0 q.0 p.1.answered q.1.answered) ∙ sym q.2
 
-  same_first : (items more : List Spelled) (s : BenchState) (a b : List Answer) → AnswersInTurn items s a → AnswersInTurn (items ++ more) s b
-      → (c : List Answer) × (b ≡ a ++ c)
+  same_first : (items more : List Spelled) (s : BenchState) (a b : List Answer) → AnswersInTurn items s a
+      → AnswersInTurn (items ++ more) s b → (c : List Answer) × (b ≡ a ++ c)
   same_first [] more s [] b p q = (b, refl)
   same_first [] more s (x ∷ a) b p q = absurd p
   same_first (item ∷ items) more s [] b p q = absurd p

@@ -1,5 +1,6 @@
 -- What plugging a page answers, in the words of a deck.
-use Rattle.std.proofs.Common.{◌≡◌, ◌≤◌, ℕ, ◌-◌, Bool, List, ◌++◌, length, take, replicate, Some, None, Ok, inl, inr, refl, sym, ap, subst, ◌∙◌, arith}
+use Rattle.std.proofs.Common.{◌≡◌, ◌≤◌, ℕ, ◌-◌, Bool, List, ◌++◌, length, take, replicate, Some, None, Ok, inl, inr, refl, sym, ap, subst}
+use Rattle.std.proofs.Common.{◌∙◌, arith}
 use Rattle.std.proofs.lemmas.List.{take_all}
 use Rattle.std.specs.Prelude.{option_map}
 use Rattle.h41_pages.specs.Addresses.{page_size}
@@ -21,8 +22,8 @@ resized values items count same room e =
     e ∙ (λ i. take_all page_size values short i ++ replicate (page_size - same i) 0)
 
 -- a page that is refused for another reason than memory
-pub refused_page : (all : PageMap) (page : ℕ) (words filled : List ℕ) (why : PlugRefusal) → words ≡ filled → RefusesPlug all page 1 words why
-    → (why ≡ plugs.OutOfMemory → ⊥) → Some (of_plug why) ≡ page_refusal all page filled
+pub refused_page : (all : PageMap) (page : ℕ) (words filled : List ℕ) (why : PlugRefusal) → words ≡ filled
+    → RefusesPlug all page 1 words why → (why ≡ plugs.OutOfMemory → ⊥) → Some (of_plug why) ≡ page_refusal all page filled
 refused_page all page words filled why same (inl e) other = sym (ap (option_map of_plug) (ap (plug_refusal all page 1) (sym same) ∙ e))
 refused_page all page words filled why same (inr e) other = absurd (other e.1)
 
@@ -33,7 +34,8 @@ accepted_page all page words filled same e = sym (ap (option_map of_plug) (ap (p
 -- what plugging words leaves of the bench
 module _ (s : BenchState) (page : ℕ) (writable : Bool) (words items : List ℕ) (from c : CalculatorState)
     (is : from ≡ s.calculator) (same : items ≡ filled words) where
-  pub plugs_done : TakesPage from page 1 items → c ≡ with_page page 1 writable items from → PlugsWords page writable (Ok words) s (with_calculator c s) (ends_by None)
+  pub plugs_done : TakesPage from page 1 items → c ≡ with_page page 1 writable items from
+      → PlugsWords page writable (Ok words) s (with_calculator c s) (ends_by None)
   plugs_done taken changed =
       let accepted : None ≡ block_refusal s page words = accepted_page s.calculator.nut.pages page items (filled words) same
       (subst (λ (of : CalculatorState). TakesPage of page 1 items) is taken) in (

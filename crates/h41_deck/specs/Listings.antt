@@ -23,4 +23,5 @@ words_at pages address count = take count (words_from pages address)
 -- their listing, or why they are not listed
 abbrev pub listing_at : PageMap → ℕ → ℕ → Result (List ℕ) Refusal
 listing_at pages address count =
-    text_unless (list_refusal pages address count) (listing_text (words_at pages address count) address)
+    text_unless (list_refusal pages address count)
+    (listing_text (words_at pages address count) address)

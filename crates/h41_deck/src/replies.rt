@@ -1,6 +1,7 @@
 //! The replies to commands: what each does to the bench, and what it prints.
 
-ghost use Rattle.std.specs.Prelude.{◌≡◌, ◌≢◌, true, false, Err, IfOk, None, Ok, OnOk, OnErr, vec_len, ◌≤◌, []};
+ghost use Rattle.std.specs.Prelude.{◌≡◌, ◌≢◌, true, false, Err, IfOk, None, Ok, OnOk, OnErr};
+ghost use Rattle.std.specs.Prelude.{vec_len, ◌≤◌, []};
 ghost use Rattle.std.specs.Result.{result_err};
 ghost use Rattle.h41_commands.specs.Blocks.{judgement};
 ghost use Rattle.h41_commands.specs.Commands.{kind_of};

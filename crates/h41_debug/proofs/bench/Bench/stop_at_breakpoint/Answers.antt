@@ -5,7 +5,8 @@ use Rattle.h41_breakpoints.proofs.Members.{none_set}
 use Rattle.h41_debug.specs.Positions.{location_of}
 use Rattle.h41_debug.specs.declared.run.Stop.TheVariants.{Break}
 use Rattle.h41_debug.proofs.bench.Bench.stop_at_breakpoint.Goals as goal
-use Rattle.h41_debug.proofs.bench.Bench.stop_at_breakpoint.Goals.{else-watched-via-then-watched+else-has_breakpoint, else-watched-via-else-watched}
+use Rattle.h41_debug.proofs.bench.Bench.stop_at_breakpoint.Goals.{else-watched-via-then-watched+else-has_breakpoint}
+use Rattle.h41_debug.proofs.bench.Bench.stop_at_breakpoint.Goals.{else-watched-via-else-watched}
 
 pub returns-else-watched : goal.returns-else-watched
 returns-else-watched c =

@@ -9,4 +9,6 @@ use Rattle.h41_debug.proofs.bench.Bench.words.Given as goal
 abbrev pub invariant-loop-made : goal.invariant-loop-made
 invariant-loop-made l =
     ((start : BenchState) → MakesSteps l.fn.limit l.fn.from start l.fn.self → MakesSteps l.fn.limit l.made start l.self)
-    × (stop_behind (nat_lt 0 l.made) l.self ≡ None) × (l.self.calculator.mode ≡ Micro l.fn.caller) × (l.self.breakpoints ≡ l.fn.self.breakpoints)
+    × (stop_behind (nat_lt 0 l.made) l.self ≡ None)
+    × (l.self.calculator.mode ≡ Micro l.fn.caller)
+    × (l.self.breakpoints ≡ l.fn.self.breakpoints)

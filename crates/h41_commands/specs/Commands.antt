@@ -4,9 +4,9 @@ use Rattle.std.specs.Prelude.{ℕ, Bool, true, false, List, [], ◌∷◌, if◌
 use Rattle.std.specs.Option.{option_map_or}
 use Rattle.h41_keys.specs.declared.key.Key.{Key}
 use Rattle.h41_keys.specs.Keyboard.{key_named}
+use Rattle.h41_breakpoints.specs.declared.location.Location.{Location}
+use Rattle.h41_breakpoints.specs.declared.location.Location.TheVariants.{Line, Word}
 use Rattle.h41_commands.specs.declared.commands.Command.{Command}
-use Rattle.h41_commands.specs.declared.commands.BreakPlace.{BreakPlace}
-use Rattle.h41_commands.specs.declared.commands.BreakPlace.TheVariants.{Line, Word}
 use Rattle.h41_commands.specs.declared.commands.Command.TheVariants.{Plug, Load, Unplug, Size, Reset, Call, Step, Run, Trace, Break, Unbreak, Show}
 use Rattle.h41_commands.specs.declared.commands.Command.TheVariants as commands
 use Rattle.h41_commands.specs.declared.commands.BlockKind.{BlockKind}
@@ -93,19 +93,19 @@ counted_command command (count ∷ []) = and_then (number_up_to most_steps 10 co
 counted_command command operands = Err BadCommand
 
 -- where a breakpoint stands: w hhhh, l n
-abbrev pub place_by : List ℕ → List ℕ → Result BreakPlace LineRefusal
-place_by kind number =
+abbrev pub location_by : List ℕ → List ℕ → Result Location LineRefusal
+location_by kind number =
     if bytes_eq kind (codes "w") then and_then (hexadecimal 4 number) (λ address. Ok (Word address))
     else (if bytes_eq kind (codes "l") then and_then (number_up_to most_position 10 number) (λ position. Ok (Line position))
     else Err BadCommand)
 
-abbrev pub break_place : List (List ℕ) → Result BreakPlace LineRefusal
-break_place (kind ∷ number ∷ []) = place_by kind number
-break_place operands = Err BadCommand
+abbrev pub break_location : List (List ℕ) → Result Location LineRefusal
+break_location (kind ∷ number ∷ []) = location_by kind number
+break_location operands = Err BadCommand
 
--- break and unbreak, and a place
-abbrev pub placed_command : (BreakPlace → Command) → List (List ℕ) → Result Command LineRefusal
-placed_command command operands = and_then (break_place operands) (λ place. Ok (command place))
+-- break and unbreak, and a location
+abbrev pub placed_command : (Location → Command) → List (List ℕ) → Result Command LineRefusal
+placed_command command operands = and_then (break_location operands) (λ location. Ok (command location))
 
 -- the key that a word names
 abbrev pub key_of : List ℕ → Result Key LineRefusal

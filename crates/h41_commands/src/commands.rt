@@ -3,6 +3,7 @@
 ghost use Rattle.std.specs.Prelude.{◌≡◌};
 
 use crate::commands::keys::Keys;
+use h41_breakpoints::Location;
 
 pub mod keys;
 pub mod number;
@@ -113,15 +114,6 @@ impl PlainKind {
     }
 }
 
-/// Where a breakpoint stands.
-#[derive(Clone, Copy, Debug, PartialEq, Eq)]
-pub enum BreakPlace {
-    /// `w hhhh`: at the word at an address, while a function runs.
-    Word(u16),
-    /// `l n`: at the line at a position in program memory, 0 to 9,999, while no function runs.
-    Line(u16),
-}
-
 /// What `show` prints.
 #[derive(Clone, Copy, Debug, PartialEq, Eq)]
 pub enum View {
@@ -173,10 +165,10 @@ pub enum Command {
     Run(u32),
     /// `trace n`: n single steps, 0 to 9,999,999, each told before it is made.
     Trace(u32),
-    /// `break w hhhh`, `break l n`: sets a breakpoint.
-    Break(BreakPlace),
+    /// `break w hhhh`, `break l n`: sets a breakpoint at the word at an address, or at the line at a position, 0 to 9,999.
+    Break(Location),
     /// `unbreak w hhhh`, `unbreak l n`: takes a breakpoint away.
-    Unbreak(BreakPlace),
+    Unbreak(Location),
     /// `list hhhh n`: prints the listing of n words, 1 to 4,096, of one page from an address on.
     List {
         address: u16,

@@ -13,7 +13,7 @@ pub use blocks::Block;
 pub use blocks::page_words::PAGE_WORDS;
 pub use commands::keys::Keys;
 pub use commands::parse::parse;
-pub use commands::{BlockKind, BreakPlace, Command, PageKind, ProgramKind, View};
+pub use commands::{BlockKind, Command, PageKind, ProgramKind, View};
 pub use item::{Entry, Item};
 pub use items::next_item;
 pub use refusal::LineRefusal;

@@ -7,13 +7,12 @@ use Rattle.h41_xrom.specs.declared.calculator.Mode.TheVariants as modes
 use Rattle.h41_xrom.specs.declared.refusal.CalculatorRefusal.{CalculatorRefusal}
 use Rattle.h41_xrom.specs.Calculator.{CalculatorState, RefusesLine, RefusesStep, RefusesStepIn, Step, StepIn, StepsByLine, is_idle}
 use Rattle.h41_xrom.specs.CalculatorLaws.{StepIsDetermined, StepRefusalIsDetermined}
-use Rattle.h41_debug.specs.Advancing.{Advances, Made}
+use Rattle.h41_debug.specs.Advancing.{Advances, MakesSteps}
 use Rattle.h41_debug.specs.Bench.{BenchState, with_calculator}
-use Rattle.h41_debug.specs.Breakpoints.{is_set}
-use Rattle.h41_debug.specs.Run.{place_in}
-use Rattle.h41_debug.specs.Running.{break_at, stop_at, stop_behind}
-use Rattle.h41_debug.specs.declared.breakpoint.Breakpoint.TheVariants.{Word}
-use Rattle.h41_debug.specs.declared.run.Stop.TheVariants.{Idle}
+use Rattle.h41_breakpoints.specs.Breakpoints.{is_set}
+use Rattle.h41_debug.specs.Positions.{location_of}
+use Rattle.h41_debug.specs.Running.{stop_at, stop_behind, stop_running}
+use Rattle.h41_debug.specs.declared.run.Stop.TheVariants.{Break, Idle}
 use Rattle.h41_debug.proofs.Runs.{made_more}
 
 -- whether a function in microcode runs
@@ -28,7 +27,8 @@ no_function modes.Idle other = refl
 no_function modes.Run other = refl
 no_function (modes.Micro caller) other = absurd (other caller refl)
 
-pub line_refuses : (m : Mode) (s : CalculatorState) (why : Option CalculatorRefusal) → runs_function m ≡ false → RefusesLine s why → RefusesStepIn m s why
+pub line_refuses : (m : Mode) (s : CalculatorState) (why : Option CalculatorRefusal) → runs_function m ≡ false → RefusesLine s why
+    → RefusesStepIn m s why
 line_refuses modes.Idle s why none refuses = refuses
 line_refuses modes.Run s why none refuses = refuses
 line_refuses (modes.Micro caller) s why none refuses = cc
@@ -44,23 +44,26 @@ stop_either true t none = none
 stop_either false t none = refl
 
 pub clear_behind : (behind : Bool) (t : BenchState) (caller : Caller) → t.calculator.mode ≡ modes.Micro caller
-    → is_set t.breakpoints (Word t.calculator.nut.processor.pc) ≡ false → stop_behind behind t ≡ None
+    → is_set t.breakpoints (location_of t.calculator) ≡ false → stop_behind behind t ≡ None
 clear_behind behind t caller mode free =
     stop_either behind t
-    (subst (λ (m : Mode). (if is_idle m then Some Idle else break_at t.breakpoints (place_in t.calculator m)) ≡ None) (sym mode) (rw free refl))
+    (subst (λ (m : Mode). (if is_idle m then Some Idle else stop_running t) ≡ None) (sym mode)
+    (ap (λ (set : Bool). if set then Some Break else None) free))
 
 module _ (same_refusal : StepRefusalIsDetermined) (same_step : StepIsDetermined) where
   -- one step more
-  pub one_more : (limit from made : ℕ) (first s t : BenchState) → ((start : BenchState) → Made limit from start first → Made limit made start s)
-      → stop_behind (nat_lt 0 made) s ≡ None → made < limit → RefusesStep s.calculator None → Step s.calculator t.calculator → t ≡ with_calculator t.calculator s
-      → (start : BenchState) → Made limit from start first → Made limit (made + 1) start t
+  pub one_more : (limit from made : ℕ) (first s t : BenchState)
+      → ((start : BenchState) → MakesSteps limit from start first → MakesSteps limit made start s) → stop_behind (nat_lt 0 made) s ≡ None
+      → made < limit → RefusesStep s.calculator None → Step s.calculator t.calculator → t ≡ with_calculator t.calculator s
+      → (start : BenchState) → MakesSteps limit from start first → MakesSteps limit (made + 1) start t
   one_more limit from made first s t so_far clear below accepted step others start begun =
       made_more same_refusal same_step limit made start s t (so_far start begun) clear below accepted step others
 
   -- a piece of steps, the last of which is this one
-  pub ends_piece : (limit from made : ℕ) (first s t : BenchState) → ((start : BenchState) → Made limit from start first → Made limit made start s) → s.breakpoints ≡ first.breakpoints
-      → from ≤ made → stop_behind (nat_lt 0 made) s ≡ None → made < limit → RefusesStep s.calculator None → Step s.calculator t.calculator → t ≡ with_calculator t.calculator s
-      → Advances limit from first (made + 1) t None
+  pub ends_piece : (limit from made : ℕ) (first s t : BenchState)
+      → ((start : BenchState) → MakesSteps limit from start first → MakesSteps limit made start s) → s.breakpoints ≡ first.breakpoints
+      → from ≤ made → stop_behind (nat_lt 0 made) s ≡ None → made < limit → RefusesStep s.calculator None → Step s.calculator t.calculator
+      → t ≡ with_calculator t.calculator s → Advances limit from first (made + 1) t None
   ends_piece limit from made first s t so_far kept behind clear below accepted step others = record {
     most = omega (arith, below);
     goes_on = one_more limit from made first s t so_far clear below accepted step others;
@@ -69,8 +72,10 @@ module _ (same_refusal : StepRefusalIsDetermined) (same_step : StepIsDetermined)
   }
 
 -- a piece of steps, behind which the next is refused
-pub refused_piece : (limit from made : ℕ) (first s t : BenchState) (why : CalculatorRefusal) → ((start : BenchState) → Made limit from start first → Made limit made start s) → s.breakpoints ≡ first.breakpoints
-    → stop_behind (nat_lt 0 made) s ≡ None → made < limit → RefusesStep s.calculator (Some why) → t ≡ s → Advances limit from first made t (Some why)
+pub refused_piece : (limit from made : ℕ) (first s t : BenchState) (why : CalculatorRefusal)
+    → ((start : BenchState) → MakesSteps limit from start first → MakesSteps limit made start s) → s.breakpoints ≡ first.breakpoints
+    → stop_behind (nat_lt 0 made) s ≡ None → made < limit → RefusesStep s.calculator (Some why) → t ≡ s
+    → Advances limit from first made t (Some why)
 refused_piece limit from made first s t why so_far kept clear below refused stays =
     subst (λ (at : BenchState). Advances limit from first made at (Some why)) (sym stays) (record {
       most = omega (arith, below);

@@ -1,5 +1,4 @@
 pub mod Advancing
-pub mod BreakpointSets
 pub mod KeysInTurn
 pub mod Runs
 pub mod StepsInTurn

@@ -1,16 +1,18 @@
 -- Runs: how single steps make one, why it leaves nothing open, and how two make one.
-use Rattle.std.proofs.Common.{◌≡◌, ◌<◌, ◌≤◌, ◌⊎◌, ℕ, zero, suc, ◌+◌, ◌-◌, inl, inr, Bool, true, false, Option, Some, None, refl, sym, ap, ◌∙◌, subst, zero-add, arith}
+use Rattle.std.proofs.Common.{◌≡◌, ◌<◌, ◌≤◌, ◌⊎◌, ℕ, zero, suc, ◌+◌, ◌-◌, inl, inr, Bool, true, false, Option, Some, None, refl, sym, ap}
+use Rattle.std.proofs.Common.{◌∙◌, subst, zero-add, arith}
 use Rattle.std.specs.Prelude.{MatchOption, if◌then◌else◌, nat_lt}
 use Rattle.std.specs.Option.{unwrap_or}
 use borrow.Author.Tests.{ltb-true, ltb-false}
 use Rattle.h41_xrom.specs.declared.refusal.CalculatorRefusal.{CalculatorRefusal}
 use Rattle.h41_xrom.specs.Calculator.{CalculatorState, RefusesStep, Step, is_idle}
 use Rattle.h41_xrom.specs.CalculatorLaws.{StepIsDetermined, StepRefusalIsDetermined}
-use Rattle.h41_debug.specs.Bench.{BenchState, Steps, with_calculator}
+use Rattle.h41_debug.specs.Bench.{BenchState, Steps, StepsInto, with_calculator}
 use Rattle.h41_debug.specs.BenchLaws.{RefusedStepIsRun, RunsAddUp, RunsAreDetermined, StepIsRun}
-use Rattle.h41_debug.specs.Breakpoints.{is_set}
-use Rattle.h41_debug.specs.Run.{Run, StopsFor, place_of, turn_of}
-use Rattle.h41_debug.specs.Advancing.{EndsFor, Made, NoneBefore}
+use Rattle.h41_breakpoints.specs.Breakpoints.{is_set}
+use Rattle.h41_debug.specs.Positions.{location_of}
+use Rattle.h41_debug.specs.Run.{Run, StopsFor, turn_of}
+use Rattle.h41_debug.specs.Advancing.{EndsFor, MakesSteps, NoneBefore}
 use Rattle.h41_debug.specs.Running.{stop_at, stop_behind}
 use Rattle.h41_debug.specs.declared.run.Stop.{Stop}
 use Rattle.h41_debug.specs.declared.run.Stop.TheVariants.{Break, Idle, Limit, Refused}
@@ -21,7 +23,7 @@ First : ℕ → BenchState → BenchState → Type 0
 First count s t = (mid : CalculatorState) × Step s.calculator mid × Steps count (with_calculator mid s) t None
 
 by_why : (count : ℕ) (s t : BenchState) (why : Option CalculatorRefusal) → RefusesStep s.calculator why
-    → MatchOption why ((mid : CalculatorState) × Step s.calculator mid × Steps count (with_calculator mid s) t None) (λ why. (t ≡ s) × (None ≡ Some why))
+    → MatchOption why (StepsInto (λ mid. Steps count mid t None) s) (λ why. (t ≡ s) × (None ≡ Some why))
     → RefusesStep s.calculator None × First count s t
 unfolding First
 by_why count s t None accepted rest = (accepted, rest)
@@ -52,11 +54,13 @@ steps_split (suc count) more s u steps =
     let rest = steps_split count more (with_calculator first.1.0 s) u first.1.2 in
     (rest.0, (None, first.0, (first.1.0, first.1.1, rest.1)), rest.2)
 
-pub one_step : (s : BenchState) (next : CalculatorState) → RefusesStep s.calculator None → Step s.calculator next → Steps 1 s (with_calculator next s) None
+pub one_step : (s : BenchState) (next : CalculatorState) → RefusesStep s.calculator None → Step s.calculator next
+    → Steps 1 s (with_calculator next s) None
 one_step s next accepted step = (None, accepted, (next, step, (refl, refl)))
 
 -- one step that was made
-pub one_made : (s t : BenchState) → Steps 1 s t None → RefusesStep s.calculator None × Step s.calculator t.calculator × (t ≡ with_calculator t.calculator s)
+pub one_made : (s t : BenchState) → Steps 1 s t None
+    → RefusesStep s.calculator None × Step s.calculator t.calculator × (t ≡ with_calculator t.calculator s)
 unfolding First
 one_made s t steps =
     let first = first_step 0 s t steps in
@@ -85,7 +89,7 @@ steps_to_refusal left made s t why below steps refused =
 pub record GoesOn (limit made : ℕ) (s t : BenchState) : Type 0 where
   pub steps : Steps made s t None
   pub running : is_idle t.calculator.mode ≡ false
-  pub clear : 1 ≤ made → is_set t.breakpoints (place_of t.calculator) ≡ false
+  pub clear : 1 ≤ made → is_set t.breakpoints (location_of t.calculator) ≡ false
   pub before : NoneBefore limit made s
 
 pub begins : (limit : ℕ) (s : BenchState) → is_idle s.calculator.mode ≡ false → GoesOn limit 0 s s
@@ -96,7 +100,7 @@ begins limit s running = record {
   before = λ fewer u other below _ _. absurd (omega (arith, below));
 }
 
-pub made_none : (limit : ℕ) (s : BenchState) → Made limit 0 s s
+pub made_none : (limit : ℕ) (s : BenchState) → MakesSteps limit 0 s s
 made_none limit s = record {
   steps = (refl, refl);
   before = λ running fewer u other below _ _. absurd (omega (arith, below));
@@ -110,12 +114,12 @@ module _ (limit made : ℕ) (t : BenchState) (running : is_idle t.calculator.mod
   not_idle Limit below holds = absurd (omega (arith, below))
   not_idle (Refused why) below holds = absurd (omega (arith, below))
 
-  module _ (clear : 1 ≤ made → is_set t.breakpoints (place_of t.calculator) ≡ false) where
+  module _ (clear : 1 ≤ made → is_set t.breakpoints (location_of t.calculator) ≡ false) where
     not_broken : (other : Stop) → turn_of other < 2 → StopsFor limit made t other → ⊥
     not_broken Idle below holds = let idle : is_idle t.calculator.mode ≡ true = holds in cc
     not_broken Break below holds =
-        let set : is_set t.breakpoints (place_of t.calculator) ≡ true = holds.1 in
-        let free : is_set t.breakpoints (place_of t.calculator) ≡ false = clear holds.0 in cc
+        let set : is_set t.breakpoints (location_of t.calculator) ≡ true = holds.1 in
+        let free : is_set t.breakpoints (location_of t.calculator) ≡ false = clear holds.0 in cc
     not_broken Limit below holds = absurd (omega (arith, below))
     not_broken (Refused why) below holds = absurd (omega (arith, below))
 
@@ -163,18 +167,20 @@ abbrev pub Ended : ℕ → ℕ → BenchState → BenchState → Stop → Type 0
 Ended limit made s t why = EndsFor limit made t why × (is_idle s.calculator.mode ≡ false → Run limit s t made why)
 
 -- where there is no reason to stop behind a step the run goes on, and else it ends there
-on_behind : (limit made : ℕ) (s t : BenchState) → Made limit made s t → stop_at t ≡ None → is_idle s.calculator.mode ≡ false → GoesOn limit made s t
+on_behind : (limit made : ℕ) (s t : BenchState) → MakesSteps limit made s t → stop_at t ≡ None → is_idle s.calculator.mode ≡ false
+    → GoesOn limit made s t
 on_behind limit made s t so_far stop running =
-    let free = stop_none (is_idle t.calculator.mode) (is_set t.breakpoints (place_of t.calculator)) stop in record {
+    let free = stop_none (is_idle t.calculator.mode) (is_set t.breakpoints (location_of t.calculator)) stop in record {
       steps = so_far.steps;
       running = free.0;
       clear = λ some. free.1;
       before = so_far.before running;
     }
 
-stops_behind : (limit made : ℕ) (s t : BenchState) (why : Stop) → Made limit made s t → 1 ≤ made → stop_at t ≡ Some why → Ended limit made s t why
+stops_behind : (limit made : ℕ) (s t : BenchState) (why : Stop) → MakesSteps limit made s t → 1 ≤ made → stop_at t ≡ Some why
+    → Ended limit made s t why
 stops_behind limit made s t why so_far some stop =
-    elim (stop_some (is_idle t.calculator.mode) (is_set t.breakpoints (place_of t.calculator)) why stop) [
+    elim (stop_some (is_idle t.calculator.mode) (is_set t.breakpoints (location_of t.calculator)) why stop) [
       | inl idle ↦ subst (Ended limit made s t) (sym idle.1) (
         some,
         λ running. record {
@@ -200,8 +206,8 @@ at_first : (made : ℕ) (s t : BenchState) → nat_lt 0 made ≡ false → Steps
 at_first zero s t none steps = steps.0
 at_first (suc made) s t none steps = absurd (omega (arith, ltb-false _ _ none))
 
-pub goes_on : (limit made : ℕ) (s t : BenchState) → Made limit made s t → stop_behind (nat_lt 0 made) t ≡ None → is_idle s.calculator.mode ≡ false
-    → GoesOn limit made s t
+pub goes_on : (limit made : ℕ) (s t : BenchState) → MakesSteps limit made s t → stop_behind (nat_lt 0 made) t ≡ None
+    → is_idle s.calculator.mode ≡ false → GoesOn limit made s t
 goes_on limit made s t so_far stop running =
     elim (nat_lt 0 made) as (λ behind. nat_lt 0 made ≡ behind → stop_behind behind t ≡ None → GoesOn limit made s t) [
       | true ↦ λ some stop. on_behind limit made s t so_far stop running
@@ -213,7 +219,8 @@ goes_on limit made s t so_far stop running =
       }
     ] refl stop
 
-pub stops : (limit made : ℕ) (s t : BenchState) (why : Stop) → Made limit made s t → stop_behind (nat_lt 0 made) t ≡ Some why → Ended limit made s t why
+pub stops : (limit made : ℕ) (s t : BenchState) (why : Stop) → MakesSteps limit made s t → stop_behind (nat_lt 0 made) t ≡ Some why
+    → Ended limit made s t why
 stops limit made s t why so_far stop =
     elim (nat_lt 0 made) as (λ behind. nat_lt 0 made ≡ behind → stop_behind behind t ≡ Some why → Ended limit made s t why) [
       | true ↦ λ some stop. stops_behind limit made s t why so_far (ltb-true _ _ some) stop
@@ -221,13 +228,14 @@ stops limit made s t why so_far stop =
     ] refl stop
 
 -- the next step is refused
-pub ends_at_refusal : (limit made : ℕ) (s t : BenchState) (why : CalculatorRefusal) → Made limit made s t → stop_behind (nat_lt 0 made) t ≡ None → made < limit
-    → RefusesStep t.calculator (Some why) → Ended limit made s t (Refused why)
+pub ends_at_refusal : (limit made : ℕ) (s t : BenchState) (why : CalculatorRefusal) → MakesSteps limit made s t
+    → stop_behind (nat_lt 0 made) t ≡ None → made < limit → RefusesStep t.calculator (Some why) → Ended limit made s t (Refused why)
 ends_at_refusal limit made s t why so_far stop below refused =
     ((below, refused), λ running. ends_refused limit made s t why (goes_on limit made s t so_far stop running) below refused)
 
 -- as many steps were made as may be
-pub ends_made : (limit : ℕ) (s t : BenchState) → 1 ≤ limit → Made limit limit s t → Ended limit limit s t (unwrap_or (stop_at t) Limit)
+pub ends_made : (limit : ℕ) (s t : BenchState) → 1 ≤ limit → MakesSteps limit limit s t
+    → Ended limit limit s t (unwrap_or (stop_at t) Limit)
 ends_made limit s t some so_far =
     elim (stop_at t) as (λ stop. stop_at t ≡ stop → Ended limit limit s t (unwrap_or stop Limit)) [
       | Some why ↦ λ is. stops_behind limit limit s t why so_far some is
@@ -235,12 +243,12 @@ ends_made limit s t some so_far =
     ] refl
 
 -- what follows from why steps ended
-pub refused_for : (limit made : ℕ) (t : BenchState) (why : Stop) (refusal : CalculatorRefusal) → EndsFor limit made t why → why ≡ Refused refusal
-    → (made < limit) × RefusesStep t.calculator (Some refusal)
+pub refused_for : (limit made : ℕ) (t : BenchState) (why : Stop) (refusal : CalculatorRefusal) → EndsFor limit made t why
+    → why ≡ Refused refusal → (made < limit) × RefusesStep t.calculator (Some refusal)
 refused_for limit made t why refusal ends is = subst (EndsFor limit made t) is ends
 
-pub some_made : (limit made : ℕ) (t : BenchState) (why : Stop) → 1 ≤ limit → EndsFor limit made t why → ((refusal : CalculatorRefusal) → why ≡ Refused refusal → ⊥)
-    → 1 ≤ made
+pub some_made : (limit made : ℕ) (t : BenchState) (why : Stop) → 1 ≤ limit → EndsFor limit made t why
+    → ((refusal : CalculatorRefusal) → why ≡ Refused refusal → ⊥) → 1 ≤ made
 some_made limit made t Idle some ends other = ends
 some_made limit made t Break some ends other = ends
 some_made limit made t Limit some ends other = omega (arith, some, ends)
@@ -269,19 +277,22 @@ module _ (same_refusal : StepRefusalIsDetermined) (same_step : StepIsDetermined)
   none_here limit made s t on below accepted Break holds = not_broken limit made t on.running on.clear Break (omega arith) holds
   none_here limit made s t on below accepted Limit holds = omega (arith, holds, below)
 
-  none_more : (limit made : ℕ) (s t : BenchState) → GoesOn limit made s t → made < limit → RefusesStep t.calculator None → NoneBefore limit (made + 1) s
+  none_more : (limit made : ℕ) (s t : BenchState) → GoesOn limit made s t → made < limit → RefusesStep t.calculator None
+      → NoneBefore limit (made + 1) s
   none_more limit made s t on below accepted fewer u other under steps holds =
       elim (below_or_at fewer made under) [
         | inl less ↦ on.before fewer u other less steps holds
         | inr same ↦
-            let here : t ≡ u = (steps_determined same_refusal same_step made s t u None None on.steps (subst (λ k. Steps k s u None) same steps)).0 in
+            let here : t ≡ u =
+            (steps_determined same_refusal same_step made s t u None None on.steps (subst (λ k. Steps k s u None) same steps)).0 in
             none_here limit made s t on below accepted other
             (subst (λ (at : BenchState). StopsFor limit made at other) (sym here) (subst (λ k. StopsFor limit k u other) same holds))
       ]
 
   -- one more step
-  pub made_more : (limit made : ℕ) (s t next : BenchState) → Made limit made s t → stop_behind (nat_lt 0 made) t ≡ None → made < limit
-      → RefusesStep t.calculator None → Step t.calculator next.calculator → next ≡ with_calculator next.calculator t → Made limit (made + 1) s next
+  pub made_more : (limit made : ℕ) (s t next : BenchState) → MakesSteps limit made s t → stop_behind (nat_lt 0 made) t ≡ None → made < limit
+      → RefusesStep t.calculator None → Step t.calculator next.calculator → next ≡ with_calculator next.calculator t
+      → MakesSteps limit (made + 1) s next
   made_more limit made s t next so_far stop below accepted step others = record {
     steps = subst (λ (to : BenchState). Steps (made + 1) s to None) (sym others)
         (steps_add made 1 s t (with_calculator next.calculator t) None so_far.steps (one_step t next.calculator accepted step));
@@ -296,7 +307,8 @@ module _ (same_refusal : StepRefusalIsDetermined) (same_step : StepIsDetermined)
       (unwrap_or (stop_at after) Limit, (ends_made 1 s after (omega arith) so_far).1 running)
 
   -- one run and another from the same state
-  same_stop : (limit made : ℕ) (t : BenchState) (why other : Stop) → turn_of why ≡ turn_of other → StopsFor limit made t why → StopsFor limit made t other → why ≡ other
+  same_stop : (limit made : ℕ) (t : BenchState) (why other : Stop) → turn_of why ≡ turn_of other → StopsFor limit made t why
+      → StopsFor limit made t other → why ≡ other
   same_stop limit made t Idle Idle turn p q = refl
   same_stop limit made t Break Break turn p q = refl
   same_stop limit made t Limit Limit turn p q = refl
@@ -316,7 +328,8 @@ module _ (same_refusal : StepRefusalIsDetermined) (same_step : StepIsDetermined)
   same_stop limit made t (Refused why) Break turn p q = absurd (omega (arith, turn))
   same_stop limit made t (Refused why) Limit turn p q = absurd (omega (arith, turn))
 
-  not_longer : (limit : ℕ) (s t u : BenchState) (made count : ℕ) (why other : Stop) → Run limit s t made why → Run limit s u count other → made < count → ⊥
+  not_longer : (limit : ℕ) (s t u : BenchState) (made count : ℕ) (why other : Stop) → Run limit s t made why → Run limit s u count other
+      → made < count → ⊥
   not_longer limit s t u made count why other p q below = q.least made t why below p.steps p.stops
 
   pub runs_determined : RunsAreDetermined
@@ -326,14 +339,17 @@ module _ (same_refusal : StepRefusalIsDetermined) (same_step : StepIsDetermined)
       let counts : made ≡ count = equal_counts made count least most in
       let later : Steps made s u None = subst (λ k. Steps k s u None) (sym counts) q.steps in
       let states : t ≡ u = (steps_determined same_refusal same_step made s t u None None p.steps later).0 in
-      let here : StopsFor limit made t other = subst (λ (at : BenchState). StopsFor limit made at other) (sym states) (subst (λ k. StopsFor limit k u other) (sym counts) q.stops) in
-      let there : StopsFor limit count u why = subst (λ (at : BenchState). StopsFor limit count at why) states (subst (λ k. StopsFor limit k t why) counts p.stops) in
+      let here : StopsFor limit made t other =
+      subst (λ (at : BenchState). StopsFor limit made at other) (sym states) (subst (λ k. StopsFor limit k u other) (sym counts) q.stops) in
+      let there : StopsFor limit count u why =
+      subst (λ (at : BenchState). StopsFor limit count at why) states (subst (λ k. StopsFor limit k t why) counts p.stops) in
       let early : turn_of other < turn_of why → ⊥ = λ below. p.first other below here in
       let late : turn_of why < turn_of other → ⊥ = λ below. q.first why below there in
       (states, counts, same_stop limit made t why other (equal_counts (turn_of why) (turn_of other) late early) p.stops here)
 
   -- two runs make one
-  module _ (limit more : ℕ) (s t u : BenchState) (made count : ℕ) (why : Stop) (one : Run limit s t made Limit) (two : Run more t u count why) where
+  module _ (limit more : ℕ) (s t u : BenchState) (made count : ℕ) (why : Stop)
+      (one : Run limit s t made Limit) (two : Run more t u count why) where
     onward : (k : ℕ) (x : BenchState) (other : Stop) → StopsFor more k x other → StopsFor (limit + more) (made + k) x other
     onward k x Idle holds = holds
     onward k x Break holds = (omega (arith, holds.0), holds.1)
@@ -341,7 +357,9 @@ module _ (same_refusal : StepRefusalIsDetermined) (same_step : StepIsDetermined)
     onward k x (Refused refusal) holds = holds
 
     no_break : (x : BenchState) → x ≡ t → StopsFor (limit + more) made x Break → ⊥
-    no_break x same holds = one.first Break (omega arith) (holds.0, subst (λ (at : BenchState). is_set at.breakpoints (place_of at.calculator) ≡ true) same holds.1)
+    no_break x same holds =
+        one.first Break (omega arith)
+        (holds.0, subst (λ (at : BenchState). is_set at.breakpoints (location_of at.calculator) ≡ true) same holds.1)
 
     back_at_break : (k : ℕ) (x : BenchState) → Steps k t x None → StopsFor (limit + more) (made + k) x Break → StopsFor more k x Break
     back_at_break zero x steps holds = absurd (no_break x steps.0 (omega (arith, holds.0), holds.1))
@@ -353,7 +371,8 @@ module _ (same_refusal : StepRefusalIsDetermined) (same_step : StepIsDetermined)
     back k x Limit steps holds = omega (arith, holds, one.stops)
     back k x (Refused refusal) steps holds = holds
 
-    early : (fewer : ℕ) (v : BenchState) (other : Stop) → fewer < made → StopsFor (limit + more) fewer v other → StopsFor limit fewer v other
+    early : (fewer : ℕ) (v : BenchState) (other : Stop) → fewer < made → StopsFor (limit + more) fewer v other
+        → StopsFor limit fewer v other
     early fewer v Idle below holds = holds
     early fewer v Break below holds = holds
     early fewer v Limit below holds = absurd (omega (arith, holds, below, one.stops))
@@ -366,11 +385,14 @@ module _ (same_refusal : StepRefusalIsDetermined) (same_step : StepIsDetermined)
         let rest : Steps k t v None = subst (λ (from : BenchState). Steps k from v None) same parts.2 in
         two.least k v other below rest (back k v other rest holds)
 
-    sooner : (fewer : ℕ) (v : BenchState) (other : Stop) → fewer < made + count → Steps fewer s v None → StopsFor (limit + more) fewer v other → ⊥
+    sooner : (fewer : ℕ) (v : BenchState) (other : Stop) → fewer < made + count → Steps fewer s v None
+        → StopsFor (limit + more) fewer v other → ⊥
     sooner fewer v other below steps holds =
         elim (before_or_from fewer made) [
           | inl less ↦ one.least fewer v other less steps (early fewer v other less holds)
-          | inr from ↦ later from.0 v other (omega (arith, from.1, below)) (subst (λ k. Steps k s v None) from.1 steps) (subst (λ k. StopsFor (limit + more) k v other) from.1 holds)
+          | inr from ↦
+              later from.0 v other (omega (arith, from.1, below)) (subst (λ k. Steps k s v None) from.1 steps)
+              (subst (λ k. StopsFor (limit + more) k v other) from.1 holds)
         ]
 
     pub two_runs : Run (limit + more) s u (made + count) why

@@ -4,7 +4,7 @@ use Rattle.std.specs.Prelude.{MatchOption}
 use Rattle.h41_xrom.specs.declared.refusal.CalculatorRefusal.{CalculatorRefusal}
 use Rattle.h41_xrom.specs.Calculator.{CalculatorState, RefusesStep, Step}
 use Rattle.h41_xrom.specs.CalculatorLaws.{StepIsDetermined, StepRefusalIsDetermined}
-use Rattle.h41_debug.specs.Bench.{BenchState, Steps, with_calculator}
+use Rattle.h41_debug.specs.Bench.{BenchState, Steps, StepsInto, with_calculator}
 use Rattle.h41_debug.specs.BenchLaws.{StepsAreDetermined}
 
 -- a step that is refused ends them
@@ -18,7 +18,7 @@ module _ (same_refusal : StepRefusalIsDetermined) (same_step : StepIsDetermined)
 
   abbrev After : ℕ → BenchState → BenchState → Option CalculatorRefusal → Option CalculatorRefusal → Type 0
   After count s t a why =
-      MatchOption why ((next : CalculatorState) × Step s.calculator next × Steps count (with_calculator next s) t a) (λ why. (t ≡ s) × (a ≡ Some why))
+      MatchOption why (StepsInto (λ next. Steps count next t a) s) (λ why. (t ≡ s) × (a ≡ Some why))
 
   same_more : (count : ℕ) → SameSteps count → (why : Option CalculatorRefusal) (s t u : BenchState) (a b : Option CalculatorRefusal)
       → After count s t a why → After count s u b why → (t ≡ u) × (a ≡ b)

@@ -1,6 +1,9 @@
 -- Traces: what comes next can always be told, in one way; a trace is its steps, and steps can be traced.
-use Rattle.std.proofs.Common.{◌≡◌, ℕ, zero, suc, ◌++◌, Bool, true, false, List, [], ◌∷◌, Option, Some, None, Result, Ok, Err, refl, sym, ap, subst, ◌∙◌}
+use Rattle.std.proofs.Common.{◌≡◌, ℕ, zero, suc, ◌++◌, Bool, true, false, List, [], ◌∷◌, Option, Some, None, Result, Ok, Err, refl, sym, ap}
+use Rattle.std.proofs.Common.{subst, ◌∙◌}
 use Rattle.std.specs.Prelude.{MatchBool, MatchOption, codes}
+use Rattle.h41_breakpoints.specs.declared.location.Location.{Location}
+use Rattle.h41_breakpoints.specs.declared.location.Location.TheVariants.{Line, Word}
 use Rattle.h41_program.specs.declared.listed_line.ListedLine.{ListedLine}
 use Rattle.h41_program.specs.declared.refusal.ProgramRefusal.{ProgramRefusal}
 use Rattle.h41_program.specs.declared.refusal.ProgramRefusal.TheVariants.{BrokenProgram}
@@ -11,21 +14,21 @@ use Rattle.h41_ram.specs.RegisterMap.{RegisterMap, is_sound}
 use Rattle.h41_text.specs.LineText.{line_text}
 use Rattle.h41_xrom.specs.Calculator.{CalculatorState, Step}
 use Rattle.h41_xrom.specs.CalculatorLaws.{StepIsDetermined, StepRefusalIsDetermined}
-use Rattle.h41_xrom.specs.declared.calculator.Mode.{Mode}
-use Rattle.h41_xrom.specs.declared.calculator.Mode.TheVariants as modes
 use Rattle.h41_xrom.specs.declared.refusal.CalculatorRefusal.{CalculatorRefusal}
-use Rattle.h41_debug.specs.Bench.{BenchState, Steps, with_calculator}
+use Rattle.h41_debug.specs.Bench.{BenchState, Steps, StepsInto, with_calculator}
 use Rattle.h41_debug.specs.BenchLaws.{StatesAreTold, StepsAreTraced, TracesAreDetermined, TracesAreSteps}
-use Rattle.h41_debug.specs.Positions.{position_text}
-use Rattle.h41_debug.specs.Traces.{TellsLine, TellsNextIn, TellsStep, Traces, instruction_at, line_or_unknown, traced_line, unknown_text}
+use Rattle.h41_debug.specs.Positions.{location_of, position_text}
+use Rattle.h41_debug.specs.Traces.{TellsAt, TellsLine, TellsStep, Traces, instruction_at, line_or_unknown, traced_line, unknown_text}
 
 -- A TRACE MAKES ITS STEPS
 abbrev Makes : ℕ → Type 0
-Makes count = (s t : BenchState) (lines : List ℕ) (refusal : Option CalculatorRefusal) → Traces count s t lines refusal → Steps count s t refusal
+Makes count =
+    (s t : BenchState) (lines : List ℕ) (refusal : Option CalculatorRefusal) → Traces count s t lines refusal → Steps count s t refusal
 
-made_after : (count : ℕ) → Makes count → (why : Option CalculatorRefusal) (s t : BenchState) (rest : List ℕ) (refusal : Option CalculatorRefusal)
-    → MatchOption why ((next : CalculatorState) × Step s.calculator next × Traces count (with_calculator next s) t rest refusal) (λ why. (t ≡ s) × (rest ≡ []) × (refusal ≡ Some why))
-    → MatchOption why ((next : CalculatorState) × Step s.calculator next × Steps count (with_calculator next s) t refusal) (λ why. (t ≡ s) × (refusal ≡ Some why))
+made_after : (count : ℕ) → Makes count
+    → (why : Option CalculatorRefusal) (s t : BenchState) (rest : List ℕ) (refusal : Option CalculatorRefusal)
+    → MatchOption why (StepsInto (λ next. Traces count next t rest refusal) s) (λ why. (t ≡ s) × (rest ≡ []) × (refusal ≡ Some why))
+    → MatchOption why (StepsInto (λ next. Steps count next t refusal) s) (λ why. (t ≡ s) × (refusal ≡ Some why))
 made_after count makes None s t rest refusal p = (p.0, p.1, makes (with_calculator p.0 s) t rest refusal p.2)
 made_after count makes (Some why) s t rest refusal p = (p.0, p.2)
 
@@ -44,36 +47,37 @@ module _ (one : OneList) where
   line_told memory at =
       let all = one memory at in
       elim (is_sound memory) as (λ sound. is_sound memory ≡ sound → (text : List ℕ)
-      × MatchBool sound ((answer : Result ListedLine ProgramRefusal) × AnswersFirst memory at answer × (text ≡ line_or_unknown answer)) (text ≡ unknown_text)) [
+      × MatchBool sound ((answer : Result ListedLine ProgramRefusal) × AnswersFirst memory at answer × (text ≡ line_or_unknown answer))
+      (text ≡ unknown_text)) [
         | true ↦ λ sound. line_of memory at all.lines (all.from.sound sound)
         | false ↦ λ _. (unknown_text, refl)
       ] refl
 
-  next_told : (mode : Mode) (s : CalculatorState) → (text : List ℕ) × TellsNextIn mode s text
-  next_told modes.Idle s = line_told s.nut.ram s.focal.position
-  next_told modes.Run s = line_told s.nut.ram s.focal.position
-  next_told (modes.Micro caller) s = (instruction_at s.nut.pages s.nut.processor.pc, refl)
+  told_at : (at : Location) (s : CalculatorState) → (text : List ℕ) × TellsAt at s text
+  told_at (Word address) s = (instruction_at s.nut.pages address, refl)
+  told_at (Line position) s = line_told s.nut.ram position
 
   pub step_told : StatesAreTold
   step_told s =
-      let next = next_told s.calculator.mode s.calculator in
+      let next = told_at (location_of s.calculator) s.calculator in
       (position_text s ++ codes " " ++ next.0, (next.0, next.1, refl))
 
   -- and so can steps to their end
   abbrev Told : ℕ → Type 0
-  Told count = (s t : BenchState) (refusal : Option CalculatorRefusal) → Steps count s t refusal → (lines : List ℕ) × Traces count s t lines refusal
+  Told count =
+      (s t : BenchState) (refusal : Option CalculatorRefusal) → Steps count s t refusal → (lines : List ℕ) × Traces count s t lines refusal
 
   told_after : (count : ℕ) → Told count → (why : Option CalculatorRefusal) (s t : BenchState) (refusal : Option CalculatorRefusal)
-      → MatchOption why ((next : CalculatorState) × Step s.calculator next × Steps count (with_calculator next s) t refusal) (λ why. (t ≡ s) × (refusal ≡ Some why))
-      → (rest : List ℕ) × MatchOption why ((next : CalculatorState) × Step s.calculator next × Traces count (with_calculator next s) t rest refusal)
+      → MatchOption why (StepsInto (λ next. Steps count next t refusal) s) (λ why. (t ≡ s) × (refusal ≡ Some why))
+      → (rest : List ℕ) × MatchOption why (StepsInto (λ next. Traces count next t rest refusal) s)
       (λ why. (t ≡ s) × (rest ≡ []) × (refusal ≡ Some why))
   told_after count told None s t refusal p =
       let more = told (with_calculator p.0 s) t refusal p.2 in
       (more.0, (p.0, p.1, more.1))
   told_after count told (Some why) s t refusal p = ([], (p.0, refl, p.1))
 
-  told_from : (count : ℕ) → Told count → (s t : BenchState) (text : List ℕ) (refusal : Option CalculatorRefusal) → TellsStep s text → Steps (suc count) s t refusal
-      → (rest : List ℕ) × Traces (suc count) s t (traced_line text ++ rest) refusal
+  told_from : (count : ℕ) → Told count → (s t : BenchState) (text : List ℕ) (refusal : Option CalculatorRefusal) → TellsStep s text
+      → Steps (suc count) s t refusal → (rest : List ℕ) × Traces (suc count) s t (traced_line text ++ rest) refusal
   told_from count told s t text refusal tells p =
       let more = told_after count told p.0 s t refusal p.2 in
       (more.0, (text, tells, more.0, refl, p.0, p.1, more.1))
@@ -99,20 +103,22 @@ module _ (same_first : FirstIsDetermined) where
   same_line memory at (Err why) (Err other) p q = refl
 
   same_told : (memory : RegisterMap) (at : ℕ) (sound : Bool) (text other : List ℕ)
-      → MatchBool sound ((answer : Result ListedLine ProgramRefusal) × AnswersFirst memory at answer × (text ≡ line_or_unknown answer)) (text ≡ unknown_text)
-      → MatchBool sound ((answer : Result ListedLine ProgramRefusal) × AnswersFirst memory at answer × (other ≡ line_or_unknown answer)) (other ≡ unknown_text)
+      → MatchBool sound ((answer : Result ListedLine ProgramRefusal) × AnswersFirst memory at answer × (text ≡ line_or_unknown answer))
+      (text ≡ unknown_text)
+      → MatchBool sound ((answer : Result ListedLine ProgramRefusal) × AnswersFirst memory at answer × (other ≡ line_or_unknown answer))
+      (other ≡ unknown_text)
       → text ≡ other
   same_told memory at true text other p q = p.2 ∙ same_line memory at p.0 q.0 p.1 q.1 ∙ sym q.2
   same_told memory at false text other p q = p ∙ sym q
 
-  same_next : (mode : Mode) (s : CalculatorState) (text other : List ℕ) → TellsNextIn mode s text → TellsNextIn mode s other → text ≡ other
-  same_next modes.Idle s text other p q = same_told s.nut.ram s.focal.position (is_sound s.nut.ram) text other p q
-  same_next modes.Run s text other p q = same_told s.nut.ram s.focal.position (is_sound s.nut.ram) text other p q
-  same_next (modes.Micro caller) s text other p q = p ∙ sym q
+  same_at : (at : Location) (s : CalculatorState) (text other : List ℕ) → TellsAt at s text → TellsAt at s other → text ≡ other
+  same_at (Word address) s text other p q = p ∙ sym q
+  same_at (Line position) s text other p q = same_told s.nut.ram position (is_sound s.nut.ram) text other p q
 
   same_step_told : (s : BenchState) (text other : List ℕ) → TellsStep s text → TellsStep s other → text ≡ other
   same_step_told s text other p q =
-      p.2 ∙ ap (λ (next : List ℕ). position_text s ++ codes " " ++ next) (same_next s.calculator.mode s.calculator p.0 q.0 p.1 q.1) ∙ sym q.2
+      p.2 ∙ ap (λ (next : List ℕ). position_text s ++ codes " " ++ next) (same_at (location_of s.calculator) s.calculator p.0 q.0 p.1 q.1)
+      ∙ sym q.2
 
   -- and so is a trace
   module _ (same_refusal : StepRefusalIsDetermined) (same_step : StepIsDetermined) where
@@ -123,9 +129,10 @@ module _ (same_first : FirstIsDetermined) where
 
     abbrev After : ℕ → BenchState → BenchState → List ℕ → Option CalculatorRefusal → Option CalculatorRefusal → Type 0
     After count s t rest a why =
-        MatchOption why ((next : CalculatorState) × Step s.calculator next × Traces count (with_calculator next s) t rest a) (λ why. (t ≡ s) × (rest ≡ []) × (a ≡ Some why))
+        MatchOption why (StepsInto (λ next. Traces count next t rest a) s) (λ why. (t ≡ s) × (rest ≡ []) × (a ≡ Some why))
 
-    same_more : (count : ℕ) → Same count → (why : Option CalculatorRefusal) (s t u : BenchState) (rest more : List ℕ) (a b : Option CalculatorRefusal)
+    same_more : (count : ℕ) → Same count
+        → (why : Option CalculatorRefusal) (s t u : BenchState) (rest more : List ℕ) (a b : Option CalculatorRefusal)
         → After count s t rest a why → After count s u more b why → (t ≡ u) × (rest ≡ more) × (a ≡ b)
     same_more count same None s t u rest more a b p q =
         let next : p.0 ≡ q.0 = same_step s.calculator p.0 q.0 p.1 q.1 in
@@ -137,5 +144,8 @@ module _ (same_first : FirstIsDetermined) where
     traces_determined (suc count) s t u lines text a b p q =
         let why : p.4 ≡ q.4 = same_refusal s.calculator p.4 q.4 p.5 q.5 in
         let more = same_more count (traces_determined count) q.4 s t u p.2 q.2 a b (subst (After count s t p.2 a) why p.6) q.6 in
-        let first : p.0 ≡ q.0 = same_step_told s p.0 q.0 p.1 q.1 in
-        (more.0, p.3 ∙ ap (λ (line : List ℕ). traced_line line ++ p.2) first ∙ ap (λ (rest : List ℕ). traced_line q.0 ++ rest) more.1 ∙ sym q.3, more.2)
+        let first : p.0 ≡ q.0 = same_step_told s p.0 q.0 p.1 q.1 in (
+          more.0,
+          p.3 ∙ ap (λ (line : List ℕ). traced_line line ++ p.2) first ∙ ap (λ (rest : List ℕ). traced_line q.0 ++ rest) more.1 ∙ sym q.3,
+          more.2,
+        )

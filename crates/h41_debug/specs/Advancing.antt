@@ -1,7 +1,6 @@
--- What the loops of all single steps promise one another. A reader of the promises can leave it out.
-use Rattle.std.specs.Prelude.{◌≡◌, ◌<◌, ◌≤◌, ℕ, Bool, true, false, nat_lt, Option, Some, None, MatchOption}
-use Rattle.h41_xrom.specs.declared.calculator.Mode.{Mode}
-use Rattle.h41_xrom.specs.declared.calculator.Mode.TheVariants as modes
+-- What the loops of all single steps promise one another. A reader of the promises can leave it
+-- out.
+use Rattle.std.specs.Prelude.{◌≡◌, ◌<◌, ◌≤◌, ℕ, false, nat_lt, Option, Some, None, MatchOption}
 use Rattle.h41_xrom.specs.declared.refusal.CalculatorRefusal.{CalculatorRefusal}
 use Rattle.h41_xrom.specs.Calculator.{RefusesStep, is_idle}
 use Rattle.h41_debug.specs.Bench.{BenchState, Steps}
@@ -16,10 +15,13 @@ IfRunning s holds = is_idle s.calculator.mode ≡ false → holds
 
 -- no reason to stop after fewer steps
 abbrev pub NoneBefore : ℕ → ℕ → BenchState → Type 0
-NoneBefore limit made s = (fewer : ℕ) (u : BenchState) (other : Stop) → fewer < made → Steps fewer s u None → StopsFor limit fewer u other → ⊥
+NoneBefore limit made s =
+    (fewer : ℕ) (u : BenchState) (other : Stop) → fewer < made → Steps fewer s u None
+    → StopsFor limit fewer u other → ⊥
 
--- so many steps were made, the first of them whatever was there; where something ran, there was no reason to stop after fewer
-pub record Made (limit made : ℕ) (s t : BenchState) : Type 0 where
+-- so many steps were made, the first of them whatever was there; where something ran, there was no
+-- reason to stop after fewer
+pub record MakesSteps (limit made : ℕ) (s t : BenchState) : Type 0 where
   pub steps : Steps made s t None
   pub before : IfRunning s (NoneBefore limit made s)
 
@@ -32,12 +34,16 @@ EndsFor limit made t (Refused refusal) = (made < limit) × RefusesStep t.calcula
 
 -- so many steps were made, and there is no reason to stop; but the next one is refused
 abbrev pub IsRefused : ℕ → ℕ → BenchState → CalculatorRefusal → Type 0
-IsRefused limit made t refusal = (made < limit) × (stop_behind (nat_lt 0 made) t ≡ None) × RefusesStep t.calculator (Some refusal)
+IsRefused limit made t refusal =
+    (made < limit)
+    × (stop_behind (nat_lt 0 made) t ≡ None)
+    × RefusesStep t.calculator (Some refusal)
 
--- steps that go on from some, of which the last left s: as many are made then as `made` says, and the last of them leaves t; one more at
--- least, but where it is refused
-pub record Advances (limit from : ℕ) (s : BenchState) (made : ℕ) (t : BenchState) (refusal : Option CalculatorRefusal) : Type 0 where
+-- steps that go on from some, of which the last left s: as many are made then as `made` says, and
+-- the last of them leaves t; one more at least, but where it is refused
+pub record Advances (limit from : ℕ) (s : BenchState) (made : ℕ)
+    (t : BenchState) (refusal : Option CalculatorRefusal) : Type 0 where
   pub most : made ≤ limit
-  pub goes_on : (start : BenchState) → Made limit from start s → Made limit made start t
+  pub goes_on : (start : BenchState) → MakesSteps limit from start s → MakesSteps limit made start t
   pub kept : t.breakpoints ≡ s.breakpoints
   pub ends : MatchOption refusal (from < made) (IsRefused limit made t)

@@ -5,8 +5,9 @@ use Rattle.h41_xrom.specs.Calculator.{CalculatorState, RefusesStep, Step}
 use Rattle.h41_xrom.specs.Calculator as calculator
 use Rattle.h41_xrom.specs.KeyActions.{Presses}
 use Rattle.h41_xrom.specs.declared.refusal.CalculatorRefusal.{CalculatorRefusal}
-use Rattle.h41_debug.specs.Breakpoints.{BreakpointSet, no_breakpoints, with_breakpoint, without_breakpoint}
-use Rattle.h41_debug.specs.declared.breakpoint.Breakpoint.{Breakpoint}
+use Rattle.h41_breakpoints.specs.Breakpoints.{BreakpointSet, no_breakpoints, with_breakpoint}
+use Rattle.h41_breakpoints.specs.Breakpoints.{without_breakpoint}
+use Rattle.h41_breakpoints.specs.declared.location.Location.{Location}
 
 -- The state of the bench.
 pub record BenchState : Type 0 where
@@ -23,23 +24,30 @@ abbrev pub with_calculator : CalculatorState → BenchState → BenchState
 with_calculator c s = record s { calculator = c }
 
 -- with a breakpoint that is set
-abbrev pub with_set : Breakpoint → BenchState → BenchState
-with_set breakpoint s = record s { breakpoints = with_breakpoint breakpoint s.breakpoints }
+abbrev pub with_set : Location → BenchState → BenchState
+with_set location s = record s { breakpoints = with_breakpoint location s.breakpoints }
 
 -- with a breakpoint that is taken away
-abbrev pub without_set : Breakpoint → BenchState → BenchState
-without_set breakpoint s = record s { breakpoints = without_breakpoint breakpoint s.breakpoints }
+abbrev pub without_set : Location → BenchState → BenchState
+without_set location s = record s { breakpoints = without_breakpoint location s.breakpoints }
+
+-- a single step is made, and what it leaves is in this relation
+abbrev pub StepsInto : (BenchState → Type 0) → BenchState → Type 0
+StepsInto holds s =
+    (next : CalculatorState) × Step s.calculator next × holds (with_calculator next s)
 
 -- so many single steps, up to the first that is refused, and its refusal
 abbrev pub Steps : ℕ → BenchState → BenchState → Option CalculatorRefusal → Type 0
 Steps zero s t refusal = (t ≡ s) × (refusal ≡ None)
 Steps (suc count) s t refusal =
     (why : Option CalculatorRefusal) × RefusesStep s.calculator why
-    × MatchOption why ((next : CalculatorState) × Step s.calculator next × Steps count (with_calculator next s) t refusal) (λ why. (t ≡ s) × (refusal ≡ Some why))
+    × MatchOption why (StepsInto (λ next. Steps count next t refusal) s)
+    (λ why. (t ≡ s) × (refusal ≡ Some why))
 
 -- keys in turn, up to the first that is refused, and its refusal; that key changes nothing
 abbrev pub PressesInTurn : List Key → BenchState → BenchState → Option CalculatorRefusal → Type 0
 PressesInTurn [] s t refusal = (t ≡ s) × (refusal ≡ None)
 PressesInTurn (key ∷ keys) s t refusal =
     (next : CalculatorState) × (why : Option CalculatorRefusal) × Presses key s.calculator next why
-    × MatchOption why (PressesInTurn keys (with_calculator next s) t refusal) (λ why. (t ≡ with_calculator next s) × (refusal ≡ Some why))
+    × MatchOption why (PressesInTurn keys (with_calculator next s) t refusal)
+    (λ why. (t ≡ with_calculator next s) × (refusal ≡ Some why))

@@ -33,32 +33,39 @@ RunsAddUp =
     (limit more : ℕ) (s t u : BenchState) (made count : ℕ) (why : Stop)
     → Run limit s t made Limit → Run more t u count why → Run (limit + more) s u (made + count) why
 
--- where something runs, a single step is a run of one step, whatever that one stops for; and a step that is refused is a run of none
+-- where something runs, a single step is a run of one step, whatever that one stops for; and a step
+-- that is refused is a run of none
 abbrev pub StepIsRun : Type 0
 StepIsRun =
-    (s : BenchState) (next : CalculatorState) → is_idle s.calculator.mode ≡ false → RefusesStep s.calculator None → Step s.calculator next
+    (s : BenchState) (next : CalculatorState) → is_idle s.calculator.mode ≡ false
+    → RefusesStep s.calculator None → Step s.calculator next
     → (why : Stop) × Run 1 s (with_calculator next s) 1 why
 
 abbrev pub RefusedStepIsRun : Type 0
 RefusedStepIsRun =
-    (s : BenchState) (why : CalculatorRefusal) → is_idle s.calculator.mode ≡ false → RefusesStep s.calculator (Some why)
+    (s : BenchState) (why : CalculatorRefusal) → is_idle s.calculator.mode ≡ false
+    → RefusesStep s.calculator (Some why)
     → Run 1 s s 0 (Refused why)
 
 -- a trace has one text, leaves one state, and has one refusal or none
 abbrev pub TracesAreDetermined : Type 0
 TracesAreDetermined =
-    (count : ℕ) (s t u : BenchState) (lines text : List ℕ) (refusal other : Option CalculatorRefusal)
-    → Traces count s t lines refusal → Traces count s u text other → (t ≡ u) × (lines ≡ text) × (refusal ≡ other)
+    (count : ℕ) (s t u : BenchState) (lines text : List ℕ)
+    (refusal other : Option CalculatorRefusal)
+    → Traces count s t lines refusal → Traces count s u text other
+    → (t ≡ u) × (lines ≡ text) × (refusal ≡ other)
 
 -- what comes next can be told of every state
 abbrev pub StatesAreTold : Type 0
 StatesAreTold = (s : BenchState) → (text : List ℕ) × TellsStep s text
 
--- steps that were begun can be told to their end: there is a trace of them, with this text before the first
+-- steps that were begun can be told to their end: there is a trace of them, with this text before
+-- the first
 abbrev pub StepsAreTraced : Type 0
 StepsAreTraced =
     (count : ℕ) (s t : BenchState) (text : List ℕ) (refusal : Option CalculatorRefusal)
-    → TellsStep s text → Steps (suc count) s t refusal → (rest : List ℕ) × Traces (suc count) s t (traced_line text ++ rest) refusal
+    → TellsStep s text → Steps (suc count) s t refusal
+    → (rest : List ℕ) × Traces (suc count) s t (traced_line text ++ rest) refusal
 
 -- a trace makes so many steps
 abbrev pub TracesAreSteps : Type 0

@@ -7,4 +7,5 @@ use Rattle.h41_xrom.specs.contracts.calculator.Calculator as lent
 
 -- the bench has the calculator that is left behind the loan, and all else of it stays
 abbrev pub LendsCalculator : MutBor BenchState → MutBor CalculatorState → Fml
-LendsCalculator s r = Lends the_row lent.the_row s r (λ (left : CalculatorState). with_calculator left s.now)
+LendsCalculator s r =
+    Lends the_row lent.the_row s r (λ (left : CalculatorState). with_calculator left s.now)

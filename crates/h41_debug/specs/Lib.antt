@@ -1,7 +1,6 @@
 pub mod Advancing
 pub mod Bench
 pub mod BenchLaws
-pub mod Breakpoints
 pub mod Lending
 pub mod Positions
 pub mod Run

@@ -1,5 +1,7 @@
--- Where the calculator is, as a text. The form is this project's choice.
+-- Where the calculator is, and its text. The form is this project's choice.
 use Rattle.std.specs.Prelude.{ℕ, ◌/◌, ◌%◌, List, ◌++◌, codes}
+use Rattle.h41_breakpoints.specs.declared.location.Location.{Location}
+use Rattle.h41_breakpoints.specs.declared.location.Location.TheVariants.{Line, Word}
 use Rattle.h41_digits.specs.Register.{hexadecimal_text}
 use Rattle.h41_lines.specs.Characters.{two_digits}
 use Rattle.h41_debug.specs.Bench.{BenchState}
@@ -7,15 +9,31 @@ use Rattle.h41_xrom.specs.Calculator.{CalculatorState}
 use Rattle.h41_xrom.specs.declared.calculator.Mode.{Mode}
 use Rattle.h41_xrom.specs.declared.calculator.Mode.TheVariants as modes
 
+-- where the calculator is: before the next word while a function runs, else before the line at its
+-- position
+abbrev pub location_in : CalculatorState → Mode → Location
+location_in s modes.Idle = Line s.focal.position
+location_in s modes.Run = Line s.focal.position
+location_in s (modes.Micro caller) = Word s.nut.processor.pc
+
+abbrev pub location_of : CalculatorState → Location
+location_of s = location_in s s.mode
+
 -- a position of program memory by its last four decimal digits
 abbrev pub position_digits : ℕ → List ℕ
 position_digits position = two_digits (position / 100 % 100) ++ two_digits (position % 100)
 
--- the mode, and the address of the next word while a function runs, else the position in program memory
-abbrev pub position_in : CalculatorState → Mode → List ℕ
-position_in s modes.Idle = codes "Idle " ++ position_digits s.focal.position
-position_in s modes.Run = codes "Run " ++ position_digits s.focal.position
-position_in s (modes.Micro caller) = codes "Micro " ++ hexadecimal_text 4 s.nut.processor.pc
+-- a location by four digits
+abbrev pub location_digits : Location → List ℕ
+location_digits (Word address) = hexadecimal_text 4 address
+location_digits (Line position) = position_digits position
 
+abbrev pub mode_name : Mode → List ℕ
+mode_name modes.Idle = codes "Idle"
+mode_name modes.Run = codes "Run"
+mode_name (modes.Micro caller) = codes "Micro"
+
+-- the mode, and where the calculator is
 abbrev pub position_text : BenchState → List ℕ
-position_text s = position_in s.calculator s.calculator.mode
+position_text s =
+    mode_name s.calculator.mode ++ codes " " ++ location_digits (location_of s.calculator)

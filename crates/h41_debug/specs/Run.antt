@@ -1,31 +1,19 @@
--- A run: the least number of single steps after which there is a reason to stop, and the first of the reasons there. The reasons and their
--- order are this project's choice.
+-- A run: the least number of single steps after which there is a reason to stop, and the first of
+-- the reasons there. The reasons and their order are this project's choice.
 use Rattle.std.specs.Prelude.{◌≡◌, ℕ, ◌<◌, ◌≤◌, IsTrue, Some, None}
-use Rattle.h41_xrom.specs.Calculator.{CalculatorState, RefusesStep, is_idle}
-use Rattle.h41_xrom.specs.declared.calculator.Mode.{Mode}
-use Rattle.h41_xrom.specs.declared.calculator.Mode.TheVariants as modes
+use Rattle.h41_xrom.specs.Calculator.{RefusesStep, is_idle}
 use Rattle.h41_debug.specs.Bench.{BenchState, Steps}
-use Rattle.h41_debug.specs.Breakpoints.{is_set}
-use Rattle.h41_debug.specs.declared.breakpoint.Breakpoint.{Breakpoint}
-use Rattle.h41_debug.specs.declared.breakpoint.Breakpoint.TheVariants.{Line, Word}
+use Rattle.h41_breakpoints.specs.Breakpoints.{is_set}
+use Rattle.h41_debug.specs.Positions.{location_of}
 use Rattle.h41_debug.specs.declared.run.Stop.{Stop}
 use Rattle.h41_debug.specs.declared.run.Stop.TheVariants.{Break, Idle, Limit, Refused}
-
--- the breakpoint that stands where the calculator is: at the next word while a function runs, else at the line of the position
-abbrev pub place_in : CalculatorState → Mode → Breakpoint
-place_in s modes.Idle = Line s.focal.position
-place_in s modes.Run = Line s.focal.position
-place_in s (modes.Micro caller) = Word s.nut.processor.pc
-
-abbrev pub place_of : CalculatorState → Breakpoint
-place_of s = place_in s s.mode
 
 -- a reason to stop after so many steps of at most so many
 abbrev pub StopsFor : ℕ → ℕ → BenchState → Stop → Type 0
 -- nothing runs
 StopsFor limit made s Idle = IsTrue (is_idle s.calculator.mode)
--- a breakpoint is set there; where a run begins none is asked for
-StopsFor limit made s Break = (1 ≤ made) × IsTrue (is_set s.breakpoints (place_of s.calculator))
+-- a breakpoint is set where the calculator is; where a run begins none is asked for
+StopsFor limit made s Break = (1 ≤ made) × IsTrue (is_set s.breakpoints (location_of s.calculator))
 -- these are all the steps that may be made
 StopsFor limit made s Limit = made ≡ limit
 -- the next step is refused
@@ -46,4 +34,5 @@ pub record Run (limit : ℕ) (s t : BenchState) (made : ℕ) (why : Stop) : Type
   pub stops : StopsFor limit made t why
   pub first : (other : Stop) → turn_of other < turn_of why → StopsFor limit made t other → ⊥
   -- there was none after fewer steps
-  pub least : (fewer : ℕ) (u : BenchState) (other : Stop) → fewer < made → Steps fewer s u None → StopsFor limit fewer u other → ⊥
+  pub least : (fewer : ℕ) (u : BenchState) (other : Stop) → fewer < made → Steps fewer s u None
+      → StopsFor limit fewer u other → ⊥

@@ -1,5 +1,9 @@
--- A trace: before each single step a line that says where the calculator is and what comes next. The form is this project's choice.
-use Rattle.std.specs.Prelude.{◌≡◌, ◌==◌, ℕ, zero, suc, List, [], ◌++◌, codes, if◌then◌else◌, MatchBool, MatchOption, Option, Some, None, Result, Ok, Err}
+-- A trace: before each single step a line that says where the calculator is and what comes next.
+-- The form is this project's choice.
+use Rattle.std.specs.Prelude.{◌≡◌, ◌==◌, ℕ, zero, suc, List, [], ◌++◌, codes, if◌then◌else◌}
+use Rattle.std.specs.Prelude.{MatchBool, MatchOption, Option, Some, None, Result, Ok, Err}
+use Rattle.h41_breakpoints.specs.declared.location.Location.{Location}
+use Rattle.h41_breakpoints.specs.declared.location.Location.TheVariants.{Line, Word}
 use Rattle.h41_dis.specs.Spelling.{piece_text}
 use Rattle.h41_nut.specs.Addresses.{address_after}
 use Rattle.h41_pages.specs.PageMap.{PageMap, fetched}
@@ -10,12 +14,10 @@ use Rattle.h41_program.specs.ProgramLines.{AnswersFirst}
 use Rattle.h41_ram.specs.RegisterMap.{RegisterMap, is_sound}
 use Rattle.h41_text.specs.LineText.{line_text}
 use Rattle.h41_words.specs.WordTable.{length_of}
-use Rattle.h41_xrom.specs.Calculator.{CalculatorState, RefusesStep, Step}
-use Rattle.h41_xrom.specs.declared.calculator.Mode.{Mode}
-use Rattle.h41_xrom.specs.declared.calculator.Mode.TheVariants as modes
+use Rattle.h41_xrom.specs.Calculator.{CalculatorState, RefusesStep}
 use Rattle.h41_xrom.specs.declared.refusal.CalculatorRefusal.{CalculatorRefusal}
-use Rattle.h41_debug.specs.Bench.{BenchState, with_calculator}
-use Rattle.h41_debug.specs.Positions.{position_text}
+use Rattle.h41_debug.specs.Bench.{BenchState, StepsInto}
+use Rattle.h41_debug.specs.Positions.{location_of, position_text}
 
 -- what stands for an instruction or a line that cannot be read
 abbrev pub unknown_text : List ℕ
@@ -29,7 +31,8 @@ with_second first (Err refusal) = unknown_text
 -- the text of the instruction at an address, by what is fetched of its first word
 abbrev pub instruction_text : PageMap → ℕ → Result ℕ FetchRefusal → List ℕ
 instruction_text pages address (Ok first) =
-    if length_of first == 2 then with_second first (fetched pages (address_after address 1)) else piece_text first None
+    if length_of first == 2 then with_second first (fetched pages (address_after address 1))
+    else piece_text first None
 instruction_text pages address (Err refusal) = unknown_text
 
 abbrev pub instruction_at : PageMap → ℕ → List ℕ
@@ -44,28 +47,32 @@ line_or_unknown (Err refusal) = unknown_text
 abbrev pub TellsLine : RegisterMap → ℕ → List ℕ → Type 0
 TellsLine memory at text =
     MatchBool (is_sound memory)
-    ((answer : Result ListedLine ProgramRefusal) × AnswersFirst memory at answer × (text ≡ line_or_unknown answer))
+    ((answer : Result ListedLine ProgramRefusal)
+    × AnswersFirst memory at answer
+    × (text ≡ line_or_unknown answer))
     (text ≡ unknown_text)
 
--- the next instruction while a function runs, else the next line
-abbrev pub TellsNextIn : Mode → CalculatorState → List ℕ → Type 0
-TellsNextIn modes.Idle s text = TellsLine s.nut.ram s.focal.position text
-TellsNextIn modes.Run s text = TellsLine s.nut.ram s.focal.position text
-TellsNextIn (modes.Micro caller) s text = text ≡ instruction_at s.nut.pages s.nut.processor.pc
+-- the text of what stands at a location: of an instruction, or a line
+abbrev pub TellsAt : Location → CalculatorState → List ℕ → Type 0
+TellsAt (Word address) s text = text ≡ instruction_at s.nut.pages address
+TellsAt (Line position) s text = TellsLine s.nut.ram position text
 
--- the mode and the position, and behind a blank what comes next
+-- the mode and where the calculator is, and behind a blank what stands there
 abbrev pub TellsStep : BenchState → List ℕ → Type 0
-TellsStep s text = (next : List ℕ) × TellsNextIn s.calculator.mode s.calculator next × (text ≡ position_text s ++ codes " " ++ next)
+TellsStep s text =
+    (next : List ℕ) × TellsAt (location_of s.calculator) s.calculator next
+    × (text ≡ position_text s ++ codes " " ++ next)
 
 -- the line of a trace
 abbrev pub traced_line : List ℕ → List ℕ
 traced_line text = text ++ codes "\n"
 
--- so many single steps, up to the first that is refused, and its refusal, with a line before each, that one too
+-- so many single steps, up to the first that is refused, and its refusal, with a line before each,
+-- that one too
 abbrev pub Traces : ℕ → BenchState → BenchState → List ℕ → Option CalculatorRefusal → Type 0
 Traces zero s t lines refusal = (t ≡ s) × (lines ≡ []) × (refusal ≡ None)
 Traces (suc count) s t lines refusal =
     (text : List ℕ) × TellsStep s text × (rest : List ℕ) × (lines ≡ traced_line text ++ rest)
     × (why : Option CalculatorRefusal) × RefusesStep s.calculator why
-    × MatchOption why ((next : CalculatorState) × Step s.calculator next × Traces count (with_calculator next s) t rest refusal)
+    × MatchOption why (StepsInto (λ next. Traces count next t rest refusal) s)
     (λ why. (t ≡ s) × (rest ≡ []) × (refusal ≡ Some why))

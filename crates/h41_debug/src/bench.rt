@@ -4,15 +4,19 @@ ghost use Rattle.std.specs.Prelude.{◌≡◌, ◌≤◌, IfOk, OnErr, OnOk, is_
 ghost use Rattle.std.specs.FinSet.{len};
 ghost use Rattle.std.specs.Result.{result_err};
 ghost use Rattle.std.specs.Borrow.{sem};
-ghost use Rattle.h41_debug.specs.Bench.{PressesInTurn, Steps, start, with_calculator, with_set, without_set};
-ghost use Rattle.h41_debug.specs.Breakpoints.{is_set, lacks_breakpoint, most_breakpoints, refuses_breakpoint};
-ghost use Rattle.h41_xrom.specs.Calculator.{RefusesLine, RefusesStep, Step, StepsByLine, mode_behind_word};
+ghost use Rattle.h41_breakpoints.specs.Breakpoints.{is_set, lacks_breakpoint, most_breakpoints};
+ghost use Rattle.h41_breakpoints.specs.Breakpoints.{refuses_breakpoint};
+ghost use Rattle.h41_debug.specs.Bench.{PressesInTurn, Steps, start, with_calculator, with_set};
+ghost use Rattle.h41_debug.specs.Bench.{without_set};
+ghost use Rattle.h41_debug.specs.Positions.{location_of};
+ghost use Rattle.h41_xrom.specs.Calculator.{RefusesLine, RefusesStep, Step, StepsByLine};
+ghost use Rattle.h41_xrom.specs.Calculator.{mode_behind_word};
 ghost use Rattle.h41_xrom.specs.declared.calculator.Mode.TheVariants.{Micro};
 
-use crate::breakpoint::{BreakFull, Breakpoint, Breakpoints, NoBreak};
 use crate::run::Stop;
+use h41_breakpoints::{BreakFull, Breakpoints, Location, NoBreak};
 use h41_keys::Key;
-use h41_xrom::{Calculator, CalculatorRefusal, Caller};
+use h41_xrom::{Calculator, CalculatorRefusal, Caller, Mode};
 use std::alloc::{AllocError, Global};
 use std::marker::Model;
 
@@ -27,14 +31,15 @@ impl Model for Bench {
     ghost use Rattle.std.specs.Coded.{codes};
     ghost use Rattle.std.specs.FinSet as set;
     ghost use Rattle.h41_debug.specs.Bench.{BenchState};
-    ghost use Rattle.h41_debug.specs.Breakpoints.{breakpoint_cmp};
-    ghost use Rattle.h41_debug.specs.contracts.breakpoint.Breakpoint as member;
+    ghost use Rattle.h41_breakpoints.specs.Breakpoints.{location_cmp};
+    ghost use Rattle.h41_breakpoints.specs.contracts.location.Location as member;
 
     ghost Value = { BenchState };
 
-    ghost coded = { Prim.hlevel (codes, set.code {R = breakpoint_cmp} member.the_row.coded) };
+    ghost coded = { Prim.hlevel (codes, set.code {R = location_cmp} member.the_row.coded) };
 
-    ghost view = { λ bench. record { calculator = bench.calculator; breakpoints = bench.breakpoints } };
+    ghost view = { λ bench.
+        record { calculator = bench.calculator; breakpoints = bench.breakpoints } };
 }
 
 impl Bench {
@@ -63,6 +68,16 @@ impl Bench {
         ensures value { result.now ≡ self.old.calculator }
     {
         &mut self.calculator
+    }
+
+    /// Where the calculator is: before the next word while a function runs, else before the line at its position.
+    pub fn location(&self) -> Location
+        ensures { result ≡ location_of self.now.calculator }
+    {
+        match self.calculator.mode() {
+            Mode::Idle | Mode::Run => Location::Line(self.calculator.focal().position),
+            Mode::Micro(_) => Location::Word(self.calculator.cpu().pc()),
+        }
     }
 
     /// One single step. What is refused changes nothing.
@@ -130,10 +145,10 @@ impl Bench {
     }
 
     /// Whether a breakpoint is set.
-    pub fn has_breakpoint(&self, breakpoint: Breakpoint) -> bool
-        ensures { result ≡ is_set self.now.breakpoints breakpoint }
+    pub fn has_breakpoint(&self, location: Location) -> bool
+        ensures { result ≡ is_set self.now.breakpoints location }
     {
-        self.breakpoints.contains(breakpoint)
+        self.breakpoints.contains(location)
     }
 
     /// How many breakpoints are set: 16 at most.
@@ -145,20 +160,20 @@ impl Bench {
     }
 
     /// Sets a breakpoint; one that is set stays so. 19 where it is not, and 16 others are; nothing is changed then.
-    pub fn break_at(&mut self, breakpoint: Breakpoint) -> Result<(), BreakFull>
-        ensures refusal { is_err result ≡ refuses_breakpoint self.old.breakpoints breakpoint }
-        ensures change { OnOk result (self.new ≡ with_set breakpoint self.old) }
+    pub fn break_at(&mut self, location: Location) -> Result<(), BreakFull>
+        ensures refusal { is_err result ≡ refuses_breakpoint self.old.breakpoints location }
+        ensures change { OnOk result (self.new ≡ with_set location self.old) }
         ensures err { OnErr result (self.new ≡ self.old) }
     {
-        self.breakpoints.insert(breakpoint)
+        self.breakpoints.insert(location)
     }
 
     /// Takes a breakpoint away. 20 where it is not set; nothing is changed then.
-    pub fn unbreak(&mut self, breakpoint: Breakpoint) -> Result<(), NoBreak>
-        ensures refusal { is_err result ≡ lacks_breakpoint self.old.breakpoints breakpoint }
-        ensures change { OnOk result (self.new ≡ without_set breakpoint self.old) }
+    pub fn unbreak(&mut self, location: Location) -> Result<(), NoBreak>
+        ensures refusal { is_err result ≡ lacks_breakpoint self.old.breakpoints location }
+        ensures change { OnOk result (self.new ≡ without_set location self.old) }
         ensures err { OnErr result (self.new ≡ self.old) }
     {
-        self.breakpoints.remove(breakpoint)
+        self.breakpoints.remove(location)
     }
 }

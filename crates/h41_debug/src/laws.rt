@@ -1,6 +1,9 @@
 //! Laws of the bench: each is the contract of a function with nothing to do but to call the laws it rests on.
 
-ghost use Rattle.h41_debug.specs.BenchLaws.{PressesAreDetermined, RefusedStepIsRun, RunsAddUp, RunsAreDetermined, StatesAreTold, StepIsRun, StepsAreDetermined, StepsAreTraced, TracesAreDetermined, TracesAreSteps};
+ghost use Rattle.h41_debug.specs.BenchLaws.{PressesAreDetermined, RefusedStepIsRun, RunsAddUp};
+ghost use Rattle.h41_debug.specs.BenchLaws.{RunsAreDetermined, StatesAreTold, StepIsRun};
+ghost use Rattle.h41_debug.specs.BenchLaws.{StepsAreDetermined, StepsAreTraced};
+ghost use Rattle.h41_debug.specs.BenchLaws.{TracesAreDetermined, TracesAreSteps};
 
 use h41_program::laws::{lists_are_determined, one_list};
 use h41_xrom::laws::{key_is_determined, step_is_determined};

@@ -2,14 +2,12 @@
 #![tactic(auto)]
 
 mod bench;
-mod breakpoint;
 pub mod laws;
 mod position;
 mod run;
 mod trace;
 
 pub use bench::Bench;
-pub use breakpoint::{BreakFull, Breakpoint, Breakpoints, NoBreak};
 pub use position::position_digits;
 pub use run::Stop;
 pub use trace::TRACE_CAPACITY;

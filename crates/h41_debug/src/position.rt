@@ -1,10 +1,11 @@
 //! Where the calculator is, as a text.
 
-ghost use Rattle.std.specs.Prelude.{◌≡◌};
+ghost use Rattle.std.specs.Prelude.{◌≡◌, ◌≤◌, length};
 ghost use Rattle.h41_debug.specs.Positions as spec;
 
 use crate::bench::Bench;
 use arrayvec::ArrayString;
+use h41_breakpoints::Location;
 use h41_lines::characters::{address_digits, two_digits};
 use h41_xrom::Mode;
 
@@ -16,23 +17,33 @@ impl Bench {
     pub fn position(&self) -> ArrayString<CAPACITY>
         ensures { result.bytes ≡ spec.position_text self.now }
     {
-        let calculator = self.calculator();
         let mut text = ArrayString::new();
-        match calculator.mode() {
-            Mode::Idle => {
-                text.push_str("Idle ");
-                text.push_str(position_digits(calculator.focal().position).as_str());
-            }
-            Mode::Run => {
-                text.push_str("Run ");
-                text.push_str(position_digits(calculator.focal().position).as_str());
-            }
-            Mode::Micro(_) => {
-                text.push_str("Micro ");
-                text.push_str(address_digits(calculator.cpu().pc()).as_str());
-            }
-        }
+        text.push_str(mode_name(self.calculator().mode()));
+        text.push_str(" ");
+        text.push_str(location_digits(self.location()).as_str());
         text
+    }
+}
+
+/// The name of a mode.
+fn mode_name(mode: Mode) -> &'static str
+    ensures text { result.now ≡ spec.mode_name mode }
+    ensures short { length result.now ≤ 5 }
+{
+    match mode {
+        Mode::Idle => "Idle",
+        Mode::Run => "Run",
+        Mode::Micro(_) => "Micro",
+    }
+}
+
+/// The four digits of a location: those of an address, or the last four of a position.
+fn location_digits(location: Location) -> ArrayString<4>
+    ensures { result.bytes ≡ spec.location_digits location }
+{
+    match location {
+        Location::Word(address) => address_digits(address),
+        Location::Line(position) => position_digits(position),
     }
 }
 

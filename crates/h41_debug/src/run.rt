@@ -5,11 +5,10 @@ ghost use Rattle.std.specs.FinSet.{len};
 ghost use Rattle.h41_debug.specs.Advancing.{Advances, EndsFor, IfRunning};
 ghost use Rattle.h41_debug.specs.Bench.{Steps};
 ghost use Rattle.h41_debug.specs.Run.{Run};
-ghost use Rattle.h41_debug.specs.Running.{break_behind, stop_behind};
+ghost use Rattle.h41_debug.specs.Running.{stop_behind, stop_running};
 ghost use Rattle.h41_xrom.specs.declared.calculator.Mode.TheVariants.{Micro};
 
 use crate::bench::Bench;
-use crate::breakpoint::Breakpoint;
 use h41_xrom::laws::step_is_determined;
 use h41_xrom::{CalculatorRefusal, Caller, Mode};
 
@@ -107,45 +106,37 @@ impl Bench {
                 Ok(false) => return (made + 1, None),
                 Err(refusal) => return (made, Some(refusal)),
             }
-            if watched && self.has_breakpoint(Breakpoint::Word(self.calculator().cpu().pc())) {
+            if watched && self.has_breakpoint(self.location()) {
                 return (made + 1, None);
             }
         }
         (limit, None)
     }
 
-    /// Why a run stops, whatever its limit: for nothing in front of its first step. Breakpoints are asked for where the run is watched,
-    /// and else none is set.
+    /// Why a run stops, whatever its limit: for nothing in front of its first step. Breakpoints are
+    /// asked for where the run is watched, and else none is set.
     #[inline(always)]
     fn stop(&self, behind: bool, watched: bool) -> Option<Stop>
         requires { watched ≡ false → len self.now.breakpoints ≡ 0 }
         ensures { result ≡ stop_behind behind self.now }
     {
-        let calculator = self.calculator();
-        match calculator.mode() {
-            Mode::Idle if behind => Some(Stop::Idle),
-            Mode::Idle => None,
-            Mode::Run => self.stop_at(
-                Breakpoint::Line(calculator.focal().position),
-                behind,
-                watched,
-            ),
-            Mode::Micro(_) => self.stop_at(
-                Breakpoint::Word(calculator.cpu().pc()),
-                behind,
-                watched,
-            ),
+        if !behind {
+            return None;
+        }
+        match self.calculator().mode() {
+            Mode::Idle => Some(Stop::Idle),
+            Mode::Run | Mode::Micro(_) => self.stop_at_breakpoint(watched),
         }
     }
 
-    /// Why a run stops at a place, but in front of its first step. No breakpoint is asked for where the run is not watched, since none
-    /// is set.
+    /// Why a run stops where something runs. No breakpoint is asked for where the run is not watched,
+    /// since none is set.
     #[inline(always)]
-    fn stop_at(&self, place: Breakpoint, behind: bool, watched: bool) -> Option<Stop>
+    fn stop_at_breakpoint(&self, watched: bool) -> Option<Stop>
         requires { watched ≡ false → len self.now.breakpoints ≡ 0 }
-        ensures { result ≡ break_behind behind self.now.breakpoints place }
+        ensures { result ≡ stop_running self.now }
     {
-        if watched && behind && self.has_breakpoint(place) {
+        if watched && self.has_breakpoint(self.location()) {
             Some(Stop::Break)
         } else {
             None

@@ -2,17 +2,18 @@
 
 ghost use Rattle.std.specs.Prelude.{◌≡◌};
 ghost use Rattle.h41_debug.specs.Traces as spec;
-ghost use Rattle.h41_debug.specs.Traces.{TellsLine, TellsNextIn, TellsStep};
+ghost use Rattle.h41_debug.specs.Traces.{TellsAt, TellsLine, TellsStep};
 
 use crate::bench::Bench;
 use arrayvec::ArrayString;
+use h41_breakpoints::Location;
 use h41_dis::instruction;
 use h41_pages::{FetchRefusal, Pages};
 use h41_program::line_at;
 use h41_ram::Ram;
 use h41_text::write_line;
 use h41_words::{Word, length};
-use h41_xrom::{Calculator, Mode, REGISTERS};
+use h41_xrom::{Calculator, REGISTERS};
 
 /// The most bytes of the text of an instruction or a line.
 const NEXT: usize = 51;
@@ -32,18 +33,18 @@ impl Bench {
         let mut text = ArrayString::new();
         text.push_str(self.position().as_str());
         text.push_str(" ");
-        text.push_str(next_text(self.calculator()).as_str());
+        text.push_str(text_at(self.calculator(), self.location()).as_str());
         text
     }
 }
 
-/// The text of the next instruction while a function runs, else of the next line.
-fn next_text(calculator: &Calculator) -> ArrayString<NEXT>
-    ensures { TellsNextIn calculator.now.mode calculator.now result.bytes }
+/// The text of what stands at a location: of an instruction, or a line.
+fn text_at(calculator: &Calculator, location: Location) -> ArrayString<NEXT>
+    ensures { TellsAt location calculator.now result.bytes }
 {
-    match calculator.mode() {
-        Mode::Idle | Mode::Run => line_text(calculator.ram(), calculator.focal().position),
-        Mode::Micro(_) => instruction_text(calculator.pages(), calculator.cpu().pc()),
+    match location {
+        Location::Word(address) => instruction_text(calculator.pages(), address),
+        Location::Line(position) => line_text(calculator.ram(), position),
     }
 }
 

@@ -1,5 +1,6 @@
 -- How a command that was carried out is answered.
-use Rattle.std.proofs.Common.{◌≡◌, ◌<◌, ℕ, ◌+◌, Bool, List, [], ◌++◌, length, length-append, take, Option, Some, None, Result, Ok, Err, refl, sym, ap, subst, append-nil, ◌∙◌, arith}
+use Rattle.std.proofs.Common.{◌≡◌, ◌<◌, ℕ, ◌+◌, Bool, List, [], ◌++◌, length, length-append, take, Option, Some, None, Result, Ok, Err}
+use Rattle.std.proofs.Common.{refl, sym, ap, subst, append-nil, ◌∙◌, arith}
 use Rattle.std.proofs.KnownBytes.{Appends-nil, Appends-trans}
 use Rattle.std.proofs.Math.Seq.{take-append-add}
 use Rattle.std.proofs.lemmas.List.{take-append-le}
@@ -25,16 +26,18 @@ use Rattle.h41_ends.specs.Ends.{AppendsPart}
 use Rattle.h41_deck.specs.declared.refusal.Refusal.{Refusal}
 use Rattle.h41_deck.specs.declared.refusal.Refusal.TheVariants.{Line}
 use Rattle.h41_deck.specs.declared.replies.Outcome.{Outcome}
-use Rattle.h41_deck.specs.Answers.{Answer, ending_line, ends_by, printed, says_or_ends}
+use Rattle.h41_deck.specs.Answers.{Answer, ending_line, ends_by, printed_text, says_or_ends}
 use Rattle.h41_pages.specs.PageMap.{PageMap}
 use Rattle.h41_deck.specs.declared.fault.CommandFault.{CommandFault}
-use Rattle.h41_deck.specs.Listings.{listed}
+use Rattle.h41_deck.specs.Listings.{listing_at}
 use Rattle.h41_deck.specs.Blocks.{LoadsTaken, PlugsTaken}
 use Rattle.h41_deck.specs.Replies.{LoadsBlock, LoadsBytes, Plugs, Reply}
-use Rattle.h41_deck.specs.Writing.{SaysAlone, IsListed, IsRefusalOf, IsShown, LeavesText, Replies, RepliesInPart, SaysText, item_of, made_text, outcome_in, text_in}
+use Rattle.h41_deck.specs.Writing.{SaysAlone, IsListed, IsRefusalOf, IsShown, LeavesText, Replies, RepliesInPart, SaysText, item_of}
+use Rattle.h41_deck.specs.Writing.{made_text, outcome_in, text_in}
 
 -- a block that is refused
-pub refused_text : (values : Result (List ℕ) LineRefusal) (command : Command) (refusal : LineRefusal) (s : BenchState) (old : Option (List ℕ))
+pub refused_text : (values : Result (List ℕ) LineRefusal) (command : Command)
+    (refusal : LineRefusal) (s : BenchState) (old : Option (List ℕ))
     → Some refusal ≡ result_err values → SaysText (with_values values command) s s old old (Some (Line refusal))
 refused_text (Ok given) command refusal s old e = cc
 refused_text (Err why) command refusal s old e =
@@ -44,11 +47,13 @@ refused_text (Err why) command refusal s old e =
 -- lines that are no command
 pub refused_item : (refusal : LineRefusal) (s : BenchState) (old : Option (List ℕ)) (own : Refusal) → own ≡ Line refusal
     → SaysText (Err refusal) s s old old (Some own)
-refused_item refusal s old own is = record { text = []; reply = (refl, ap (λ (of : Refusal). ends_by (Some of)) is); written = Appends-nil old }
+refused_item refusal s old own is =
+    record { text = []; reply = (refl, ap (λ (of : Refusal). ends_by (Some of)) is); written = Appends-nil old }
 
 -- as a block for a page, or one that is a program
-pub plug_text : (block : TakenBlock) (command : Command) (kind : PageKind) (page : ℕ) (writable : Bool) (s t : BenchState) (old : Option (List ℕ))
-    (refusal : Option Refusal) → command ≡ Plug kind page writable → block.kind ≡ kind_of command → PlugsTaken block page writable s t refusal
+pub plug_text : (block : TakenBlock) (command : Command) (kind : PageKind) (page : ℕ)
+    (writable : Bool) (s t : BenchState) (old : Option (List ℕ)) (refusal : Option Refusal)
+    → command ≡ Plug kind page writable → block.kind ≡ kind_of command → PlugsTaken block page writable s t refusal
     → SaysText (item_of command block) s t old old refusal
 plug_text block command kind page writable s t old refusal spelt own taken =
     let kind_is : block.kind ≡ Some (Page kind) = own ∙ ap kind_of spelt in
@@ -74,7 +79,8 @@ load_text block command kind s t old refusal spelt own taken =
     }
 
 -- the bytes that a block says are loaded, and those that it does not say
-pub loads_taken : (block : TakenBlock) (s t : BenchState) (bytes : List ℕ) (made : Result (Vec ℕ Global) LineRefusal) (refusal : Option Refusal)
+pub loads_taken : (block : TakenBlock) (s t : BenchState) (bytes : List ℕ)
+    (made : Result (Vec ℕ Global) LineRefusal) (refusal : Option Refusal)
     → MeansBy block made → values_in made ≡ Ok bytes → LoadsBytes (Ok bytes) s t (ends_by refusal) → LoadsTaken block s t refusal
 loads_taken block s t bytes made refusal means same loads = record {
   kind = means.kind;
@@ -102,8 +108,9 @@ reply_of_made : (made : Result (Vec ℕ Global) Refusal) (refusal : Option Refus
 reply_of_made (Ok text) refusal is = λ i. record { text = text.items; refusal = sym is i }
 reply_of_made (Err why) refusal is = λ i. record { text = []; refusal = sym is i }
 
-pub made_alone : (command : Command) (values : List ℕ) (s : BenchState) (old new : Option (List ℕ)) (made : Result (Vec ℕ Global) Refusal)
-    (refusal : Option Refusal) → IsRefusalOf made refusal → Reply command values s s (says_or_ends (text_in made)) → Appends old new (made_text made)
+pub made_alone : (command : Command) (values : List ℕ) (s : BenchState)
+    (old new : Option (List ℕ)) (made : Result (Vec ℕ Global) Refusal) (refusal : Option Refusal)
+    → IsRefusalOf made refusal → Reply command values s s (says_or_ends (text_in made)) → Appends old new (made_text made)
     → SaysText (Ok (command, values)) s s old new refusal
 made_alone command values s old new made refusal is reply written = record {
   text = made_text made;
@@ -112,11 +119,12 @@ made_alone command values s old new made refusal is reply written = record {
 }
 
 -- a listing, and a view
-pub list_said : (command : Command) (values : List ℕ) (address count : ℕ) (s : BenchState) (pages : PageMap) (made : Result (Vec ℕ Global) Refusal)
+pub list_said : (command : Command) (values : List ℕ) (address count : ℕ)
+    (s : BenchState) (pages : PageMap) (made : Result (Vec ℕ Global) Refusal)
     → command ≡ commands.List address count → pages ≡ s.calculator.nut.pages → IsListed pages address count made
     → Reply command values s s (says_or_ends (text_in made))
 list_said command values address count s pages made spelt same is =
-    rw spelt (refl, ap says_or_ends (is ∙ ap (λ (of : PageMap). listed of address count) same))
+    rw spelt (refl, ap says_or_ends (is ∙ ap (λ (of : PageMap). listing_at of address count) same))
 
 pub show_said : (command : Command) (values : List ℕ) (view : View) (s : BenchState) (made : Result (Vec ℕ Global) Refusal)
     → command ≡ commands.Show view → IsShown view s made → Reply command values s s (says_or_ends (text_in made))
@@ -130,22 +138,25 @@ part_longer old new text more part = (
   subst (λ (written : List ℕ). Appends old new written) (sym (take-append-le part.0 text more (omega arith))) part.2,
 )
 
-made_printed : (made : Result (Vec ℕ Global) Refusal) → (ending : List ℕ) × (printed (says_or_ends (text_in made)) ≡ made_text made ++ ending)
+made_printed : (made : Result (Vec ℕ Global) Refusal)
+    → (ending : List ℕ) × (printed_text (says_or_ends (text_in made)) ≡ made_text made ++ ending)
 made_printed (Ok text) = ([], refl)
 made_printed (Err refusal) = (ending_line (Some refusal), refl)
 
 pub part_alone : (command : Command) (values : List ℕ) (s : BenchState) (old new : Option (List ℕ)) (made : Result (Vec ℕ Global) Refusal)
-    → Reply command values s s (says_or_ends (text_in made)) → AppendsPart old new (made_text made) → RepliesInPart (Ok (command, values)) s s old new
+    → Reply command values s s (says_or_ends (text_in made)) → AppendsPart old new (made_text made)
+    → RepliesInPart (Ok (command, values)) s s old new
 part_alone command values s old new made reply part =
     let ending = made_printed made in record {
-      text = printed (says_or_ends (text_in made));
+      text = printed_text (says_or_ends (text_in made));
       printed_until = (says_or_ends (text_in made), reply, refl);
       written = subst (AppendsPart old new) (sym ending.1) (part_longer old new (made_text made) ending.0 part);
     }
 
 -- the text and then the refusal's line, and a front of that
 pub ends_reply : (item : Spelled) (s t : BenchState) (old mid new : Option (List ℕ)) (refusal : Option Refusal) (outcome : Outcome)
-    → SaysText item s t old mid refusal → outcome ≡ outcome_in refusal → Appends mid new (ending_line refusal) → Replies item s t old new outcome
+    → SaysText item s t old mid refusal → outcome ≡ outcome_in refusal → Appends mid new (ending_line refusal)
+    → Replies item s t old new outcome
 ends_reply item s t old mid new refusal outcome said is ending = record {
   answer = record { text = said.text; refusal = refusal };
   reply = said.reply;
@@ -153,7 +164,8 @@ ends_reply item s t old mid new refusal outcome said is ending = record {
   outcome_is = is;
 }
 
-pub later_part : (old mid new : Option (List ℕ)) (text ending : List ℕ) → Appends old mid text → AppendsPart mid new ending → AppendsPart old new (text ++ ending)
+pub later_part : (old mid new : Option (List ℕ)) (text ending : List ℕ) → Appends old mid text → AppendsPart mid new ending
+    → AppendsPart old new (text ++ ending)
 later_part old mid new text ending first part = (
   length text + part.0,
   omega (arith, part.1, length-append text ending),
@@ -163,7 +175,7 @@ later_part old mid new text ending first part = (
 pub ends_part : (item : Spelled) (s t : BenchState) (old mid new : Option (List ℕ)) (refusal : Option Refusal)
     → SaysText item s t old mid refusal → AppendsPart mid new (ending_line refusal) → RepliesInPart item s t old new
 ends_part item s t old mid new refusal said part = record {
-  text = printed (record { text = said.text; refusal = refusal });
+  text = printed_text (record { text = said.text; refusal = refusal });
   printed_until = (record { text = said.text; refusal = refusal }, said.reply, refl);
   written = later_part old mid new said.text (ending_line refusal) said.written part;
 }

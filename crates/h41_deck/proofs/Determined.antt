@@ -1,5 +1,6 @@
 -- Why a deck determines what it prints, where steps, loads, blocks and lists of lines are determined.
-use Rattle.std.proofs.Common.{◌≡◌, ℕ, Bool, Result, Option, Some, Ok, Err, List, [], ◌∷◌, ◌++◌, if◌then◌else◌, flat_map, refl, sym, ap, subst, ◌∙◌}
+use Rattle.std.proofs.Common.{◌≡◌, ℕ, Bool, Result, Option, Some, Ok, Err, List, [], ◌∷◌, ◌++◌, if◌then◌else◌, flat_map, refl, sym, ap}
+use Rattle.std.proofs.Common.{subst, ◌∙◌}
 use Rattle.std.specs.Prelude.{option_map}
 use Rattle.std.proofs.lemmas.Bool.{le-leb}
 use Rattle.std.proofs.lemmas.Grind.{flat_map-append}
@@ -22,11 +23,12 @@ use Rattle.h41_xrom.specs.CalculatorLaws.{DisplayIsDetermined, LoadIsDetermined}
 use Rattle.h41_xrom.specs.Programs.{Becomes, Loads, size_makes}
 use Rattle.h41_deck.specs.declared.refusal.Refusal.{Refusal}
 use Rattle.h41_deck.specs.declared.refusal.Refusal.TheVariants.{Calculator}
-use Rattle.h41_deck.specs.Answers.{Answer, ends_by, printed, says_and_ends, says_or_ends}
-use Rattle.h41_deck.specs.Deck.{AnswersInTurn, DeckDeterminesOutcome, DeckDeterminesText, FirstTextIsFront, LongDeckDeterminesText, commands_of, commands_within, outcome_of}
+use Rattle.h41_deck.specs.Answers.{Answer, ends_by, printed_text, says_and_ends, says_or_ends}
+use Rattle.h41_deck.specs.Deck.{AnswersInTurn, DeckDeterminesOutcome, DeckDeterminesText, FirstTextIsFront, LongDeckDeterminesText}
+use Rattle.h41_deck.specs.Deck.{commands_of, commands_within, outcome_of}
 use Rattle.h41_deck.specs.ProgramListing.{listed_line}
 use Rattle.h41_deck.specs.Replies.{Calls, ItemReply, LoadsBytes, PlugsWords, Reply}
-use Rattle.h41_deck.specs.Runs.{ran}
+use Rattle.h41_deck.specs.Runs.{run_answer}
 use Rattle.h41_deck.specs.Views.{Shows, line_of}
 
 -- a relation of the calculator's that leaves nothing open
@@ -36,7 +38,8 @@ Leaves = CalculatorState → CalculatorState → Option CalculatorRefusal → Ty
 abbrev IsDetermined : Leaves → Type 0
 IsDetermined does = (s t u : CalculatorState) (a b : Option CalculatorRefusal) → does s t a → does s u b → (t ≡ u) × (a ≡ b)
 
-same_call : (does : Leaves) → IsDetermined does → (s t u : BenchState) (a b : Answer) → Calls does s t a → Calls does s u b → (t ≡ u) × (a ≡ b)
+same_call : (does : Leaves) → IsDetermined does → (s t u : BenchState) (a b : Answer) → Calls does s t a → Calls does s u b
+    → (t ≡ u) × (a ≡ b)
 same_call does same s t u a b p q =
     let both = same s.calculator t.calculator u.calculator p.0 q.0 p.1 q.1 in (
       p.2 ∙ ap (λ c. with_calculator c s) both.0 ∙ sym q.2,
@@ -52,10 +55,12 @@ same_plug page writable (Ok words) s t u a b p q = (p.0 ∙ sym q.0, p.1 ∙ sym
 same_plug page writable (Err why) s t u a b p q = (p.0 ∙ sym q.0, p.1 ∙ sym q.1)
 
 module _ (same_steps : StepsAreDetermined) (same_load : LoadIsDetermined) (same_filling : FillingIsDetermined)
-    (same_meaning : MeaningIsDetermined) (same_list : ListsAreDetermined) (same_keys : PressesAreDetermined) (same_display : DisplayIsDetermined)
+    (same_meaning : MeaningIsDetermined) (same_list : ListsAreDetermined)
+    (same_keys : PressesAreDetermined) (same_display : DisplayIsDetermined)
     (same_run : RunsAreDetermined) (same_trace : TracesAreDetermined) where
   -- what is loaded
-  same_bytes : (bytes : Result (List ℕ) LineRefusal) (s t u : BenchState) (a b : Answer) → LoadsBytes bytes s t a → LoadsBytes bytes s u b → (t ≡ u) × (a ≡ b)
+  same_bytes : (bytes : Result (List ℕ) LineRefusal) (s t u : BenchState) (a b : Answer) → LoadsBytes bytes s t a → LoadsBytes bytes s u b
+      → (t ≡ u) × (a ≡ b)
   same_bytes (Ok bytes) s t u a b p q = same_call (Loads bytes) (same_load bytes) s t u a b p q
   same_bytes (Err why) s t u a b p q = (p.0 ∙ sym q.0, p.1 ∙ sym q.1)
 
@@ -75,14 +80,16 @@ module _ (same_steps : StepsAreDetermined) (same_load : LoadIsDetermined) (same_
   same_view (views.Image page) s a b p q = p ∙ sym q
   same_view views.Functions s a b p q = p ∙ sym q
 
-  same_reply : (command : Command) (values : List ℕ) (s t u : BenchState) (a b : Answer) → Reply command values s t a → Reply command values s u b → (t ≡ u) × (a ≡ b)
+  same_reply : (command : Command) (values : List ℕ) (s t u : BenchState) (a b : Answer) → Reply command values s t a
+      → Reply command values s u b → (t ≡ u) × (a ≡ b)
   same_reply (commands.Plug kind page writable) values s t u a b p q =
       let same : p.0 ≡ q.0 = same_filling kind page values p.0 q.0 p.1 q.1 in
       same_plug page writable q.0 s t u a b (subst (λ made. PlugsWords page writable made s t a) same p.2) q.2
   same_reply (commands.Load kind) values s t u a b p q =
       let same : p.0 ≡ q.0 = same_meaning kind values p.0 q.0 p.1 q.1 in
       same_bytes q.0 s t u a b (subst (λ bytes. LoadsBytes bytes s t a) same p.2) q.2
-  same_reply (commands.Size count) values s t u a b p q = same_call (λ old. Becomes (size_makes old count) old) (same_size count) s t u a b p q
+  same_reply (commands.Size count) values s t u a b p q =
+      same_call (λ old. Becomes (size_makes old count) old) (same_size count) s t u a b p q
   same_reply (commands.Unplug page) values s t u a b p q = (p.0 ∙ sym q.0, p.1 ∙ sym q.1)
   same_reply commands.Reset values s t u a b p q = (p.0 ∙ sym q.0, p.1 ∙ sym q.1)
   same_reply (commands.Call address) values s t u a b p q = (p.0 ∙ sym q.0, p.1 ∙ sym q.1)
@@ -91,15 +98,15 @@ module _ (same_steps : StepsAreDetermined) (same_load : LoadIsDetermined) (same_
       (both.0, p.2 ∙ ap (λ (why : Option CalculatorRefusal). ends_by (option_map Calculator why)) both.1 ∙ sym q.2)
   same_reply (commands.Run limit) values s t u a b p q =
       let all = same_run limit s t u p.0 q.0 p.1 q.1 p.2 q.2 in
-      (all.0, p.3 ∙ ap (λ (made : ℕ). ran made p.1) all.1 ∙ ap (λ (why : Stop). ran q.0 why) all.2 ∙ sym q.3)
+      (all.0, p.3 ∙ ap (λ (made : ℕ). run_answer made p.1) all.1 ∙ ap (λ (why : Stop). run_answer q.0 why) all.2 ∙ sym q.3)
   same_reply (commands.Trace count) values s t u a b p q =
       let all = same_trace count s t u p.0 q.0 p.1 q.1 p.2 q.2 in (
         all.0,
         p.3 ∙ ap (λ (lines : List ℕ). says_and_ends lines (option_map Calculator p.1)) all.1
             ∙ ap (λ (why : Option CalculatorRefusal). says_and_ends q.0 (option_map Calculator why)) all.2 ∙ sym q.3,
       )
-  same_reply (commands.Break place) values s t u a b p q = (p.0 ∙ sym q.0, p.1 ∙ sym q.1)
-  same_reply (commands.Unbreak place) values s t u a b p q = (p.0 ∙ sym q.0, p.1 ∙ sym q.1)
+  same_reply (commands.Break location) values s t u a b p q = (p.0 ∙ sym q.0, p.1 ∙ sym q.1)
+  same_reply (commands.Unbreak location) values s t u a b p q = (p.0 ∙ sym q.0, p.1 ∙ sym q.1)
   same_reply (commands.Key keys) values s t u a b p q =
       let both = same_keys keys s t u p.0 q.0 p.1 q.1 in
       (both.0, p.2 ∙ ap (λ (why : Option CalculatorRefusal). ends_by (option_map Calculator why)) both.1 ∙ sym q.2)
@@ -123,16 +130,18 @@ module _ (same_steps : StepsAreDetermined) (same_load : LoadIsDetermined) (same_
       λ i. both.1 i ∷ rest i
 
   pub same_text : DeckDeterminesText
-  same_text bytes text other p q = p.2 ∙ ap (λ answers. flat_map printed answers) (same_answers _ start p.0 q.0 p.1.answered q.1.answered) ∙ sym q.2
+  same_text bytes text other p q =
+      p.2 ∙ ap (λ answers. flat_map printed_text answers) (same_answers _ start p.0 q.0 p.1.answered q.1.answered) ∙ sym q.2
 
   pub same_long : LongDeckDeterminesText
-  same_long bytes text other p q = p.2 ∙ ap (λ answers. flat_map printed answers) (same_answers _ start p.0 q.0 p.1.answered q.1.answered) ∙ sym q.2
+  same_long bytes text other p q =
+      p.2 ∙ ap (λ answers. flat_map printed_text answers) (same_answers _ start p.0 q.0 p.1.answered q.1.answered) ∙ sym q.2
 
   pub same_outcome : DeckDeterminesOutcome
   same_outcome bytes outcome other p q = p.2 ∙ ap outcome_of (same_answers _ start p.0 q.0 p.1.answered q.1.answered) ∙ sym q.2
 
-  same_first : (items more : List Spelled) (s : BenchState) (a b : List Answer) → AnswersInTurn items s a → AnswersInTurn (items ++ more) s b
-      → (c : List Answer) × (b ≡ a ++ c)
+  same_first : (items more : List Spelled) (s : BenchState) (a b : List Answer) → AnswersInTurn items s a
+      → AnswersInTurn (items ++ more) s b → (c : List Answer) × (b ≡ a ++ c)
   same_first [] more s [] b p q = (b, refl)
   same_first [] more s (x ∷ a) b p q = absurd p
   same_first (item ∷ items) more s [] b p q = absurd p
@@ -148,7 +157,7 @@ module _ (same_steps : StepsAreDetermined) (same_load : LoadIsDetermined) (same_
       ap (λ (short : Bool). if short then items.commands (lines deck) else commands_within deck) (le-leb _ _ q.1.bound) in
       let given = subst (λ (of : List Spelled). AnswersInTurn of start q.0) (sym whole ∙ p.begins) q.1.answered in
       let more = same_first p.first p.rest start p.answers q.0 p.answered given in (
-        flat_map printed more.0,
-        q.2 ∙ ap (λ answers. flat_map printed answers) more.1 ∙ flat_map-append printed p.answers more.0
-            ∙ ap (λ (front : List ℕ). front ++ flat_map printed more.0) (sym p.text_is),
+        flat_map printed_text more.0,
+        q.2 ∙ ap (λ answers. flat_map printed_text answers) more.1 ∙ flat_map-append printed_text p.answers more.0
+            ∙ ap (λ (front : List ℕ). front ++ flat_map printed_text more.0) (sym p.text_is),
       )

@@ -1,5 +1,6 @@
 -- What plugging a page answers, in the words of a deck.
-use Rattle.std.proofs.Common.{◌≡◌, ◌≤◌, ℕ, ◌-◌, Bool, List, ◌++◌, length, take, replicate, Some, None, Ok, inl, inr, refl, sym, ap, subst, ◌∙◌, arith}
+use Rattle.std.proofs.Common.{◌≡◌, ◌≤◌, ℕ, ◌-◌, Bool, List, ◌++◌, length, take, replicate, Some, None, Ok, inl, inr, refl, sym, ap, subst}
+use Rattle.std.proofs.Common.{◌∙◌, arith}
 use Rattle.std.proofs.lemmas.List.{take_all}
 use Rattle.std.specs.Prelude.{option_map}
 use Rattle.h41_pages.specs.Addresses.{page_size}
@@ -11,7 +12,7 @@ use Rattle.h41_debug.specs.Bench.{BenchState, with_calculator}
 use Rattle.h41_xrom.specs.Calculator.{CalculatorState, RefusesPage, TakesPage, with_page}
 use Rattle.h41_deck.specs.Answers.{ends_by}
 use Rattle.h41_deck.specs.Pages.{of_plug, page_refusal}
-use Rattle.h41_deck.specs.Replies.{PlugsWords, block_refusal, unless, with_words}
+use Rattle.h41_deck.specs.Replies.{PlugsWords, block_refusal, state_unless, with_words}
 
 -- what `resize` makes of a page's words
 pub resized : (values items : List ℕ) (count : ℕ) → count ≡ length values → count ≤ page_size
@@ -21,8 +22,8 @@ resized values items count same room e =
     e ∙ (λ i. take_all page_size values short i ++ replicate (page_size - same i) 0)
 
 -- a page that is refused for another reason than memory
-pub refused_page : (all : PageMap) (page : ℕ) (words filled : List ℕ) (why : PlugRefusal) → words ≡ filled → RefusesPlug all page 1 words why
-    → (why ≡ plugs.OutOfMemory → ⊥) → Some (of_plug why) ≡ page_refusal all page filled
+pub refused_page : (all : PageMap) (page : ℕ) (words filled : List ℕ) (why : PlugRefusal) → words ≡ filled
+    → RefusesPlug all page 1 words why → (why ≡ plugs.OutOfMemory → ⊥) → Some (of_plug why) ≡ page_refusal all page filled
 refused_page all page words filled why same (inl e) other = sym (ap (option_map of_plug) (ap (plug_refusal all page 1) (sym same) ∙ e))
 refused_page all page words filled why same (inr e) other = absurd (other e.1)
 
@@ -33,12 +34,13 @@ accepted_page all page words filled same e = sym (ap (option_map of_plug) (ap (p
 -- what plugging words leaves of the bench
 module _ (s : BenchState) (page : ℕ) (writable : Bool) (words items : List ℕ) (from c : CalculatorState)
     (is : from ≡ s.calculator) (same : items ≡ filled words) where
-  pub plugs_done : TakesPage from page 1 items → c ≡ with_page page 1 writable items from → PlugsWords page writable (Ok words) s (with_calculator c s) (ends_by None)
+  pub plugs_done : TakesPage from page 1 items → c ≡ with_page page 1 writable items from
+      → PlugsWords page writable (Ok words) s (with_calculator c s) (ends_by None)
   plugs_done taken changed =
       let accepted : None ≡ block_refusal s page words = accepted_page s.calculator.nut.pages page items (filled words) same
       (subst (λ (of : CalculatorState). TakesPage of page 1 items) is taken) in (
         ap (λ d. with_calculator d s) (changed ∙ (λ i. with_page page 1 writable (same i) (is i)))
-            ∙ ap (λ why. unless why (with_words page writable words s) s) accepted,
+            ∙ ap (λ why. state_unless why (with_words page writable words s) s) accepted,
         ap ends_by accepted,
       )
 
@@ -47,6 +49,6 @@ module _ (s : BenchState) (page : ℕ) (writable : Bool) (words items : List ℕ
   plugs_refused why refuses other stays =
       let refused : Some (of_plug why) ≡ block_refusal s page words = refused_page s.calculator.nut.pages page items (filled words) why same
       (subst (λ (of : CalculatorState). RefusesPage of page 1 items why) is refuses) other in (
-        ap (λ d. with_calculator d s) (stays ∙ is) ∙ ap (λ why. unless why (with_words page writable words s) s) refused,
+        ap (λ d. with_calculator d s) (stays ∙ is) ∙ ap (λ why. state_unless why (with_words page writable words s) s) refused,
         ap ends_by refused,
       )

@@ -1,5 +1,6 @@
 -- What a deck that was read whole prints, by what its lines print.
-use Rattle.std.proofs.Common.{◌≡◌, ℕ, ◌≤◌, Bool, true, false, nat_le, if◌then◌else◌, List, [], length, take, Option, Some, None, IfSome, ap, refl, sym, subst, ◌∙◌}
+use Rattle.std.proofs.Common.{◌≡◌, ℕ, ◌≤◌, Bool, true, false, nat_le, if◌then◌else◌, List, [], length, take, Option, Some, None, IfSome, ap}
+use Rattle.std.proofs.Common.{refl, sym, subst, ◌∙◌}
 use Rattle.std.proofs.lemmas.Bool.{leb-true}
 use Rattle.std.proofs.lemmas.List.{append-nil, take_all}
 use Rattle.std.specs.Io.KnownBytes.{Appends}
@@ -49,9 +50,11 @@ module _ (known old new : Option (List ℕ)) (bytes : List ℕ) (whole : Bool) (
 -- what a fault leaves of the commands that are carried out, of a deck that is whole and of one that is too long
 module _ (known old new : Option (List ℕ)) (bytes : List ℕ) (whole : Bool) (fault : Fault) where
   pub whole_left : IfSome known (λ deck. bytes ≡ take most_bytes deck) → IfSome known (λ deck. whole ≡ nat_le (length deck) most_bytes)
-      → whole ≡ true → LeavesFirst (commands (lines bytes)) old new fault → IfSome known (λ deck. LeavesFirst (commands_of deck) old new fault)
+      → whole ≡ true → LeavesFirst (commands (lines bytes)) old new fault
+      → IfSome known (λ deck. LeavesFirst (commands_of deck) old new fault)
   whole_left front fits all left = elim known as (λ known. IfSome known (λ deck. bytes ≡ take most_bytes deck)
-      → IfSome known (λ deck. whole ≡ nat_le (length deck) most_bytes) → IfSome known (λ deck. LeavesFirst (commands_of deck) old new fault)) [
+      → IfSome known (λ deck. whole ≡ nat_le (length deck) most_bytes)
+      → IfSome known (λ deck. LeavesFirst (commands_of deck) old new fault)) [
         | None ↦ λ front fits. tt
         | Some deck ↦ λ front fits.
             let is = whole_is deck bytes whole front fits all in
@@ -64,10 +67,12 @@ module _ (known old new : Option (List ℕ)) (bytes : List ℕ) (whole : Bool) (
       → whole ≡ false → LeavesFirst (closed (commands (lines (ended_lines bytes)))) old new fault
       → IfSome known (λ deck. LeavesFirst (commands_of deck) old new fault)
   long_left front fits cut left = elim known as (λ known. IfSome known (λ deck. bytes ≡ take most_bytes deck)
-      → IfSome known (λ deck. whole ≡ nat_le (length deck) most_bytes) → IfSome known (λ deck. LeavesFirst (commands_of deck) old new fault)) [
+      → IfSome known (λ deck. whole ≡ nat_le (length deck) most_bytes)
+      → IfSome known (λ deck. LeavesFirst (commands_of deck) old new fault)) [
         | None ↦ λ front fits. tt
         | Some deck ↦ λ front fits.
-            let same : closed (commands (lines (ended_lines bytes))) ≡ commands_of deck = ap (λ (of : List ℕ). closed (commands (lines (ended_lines of)))) front
+            let same : closed (commands (lines (ended_lines bytes))) ≡ commands_of deck =
+            ap (λ (of : List ℕ). closed (commands (lines (ended_lines of)))) front
             ∙ sym (ap (λ (short : Bool). if short then commands (lines deck) else commands_within deck) (sym fits ∙ cut)) in
             subst (λ (items : List Spelled). LeavesFirst items old new fault) same left
       ] front fits
@@ -76,15 +81,24 @@ none_of : (items : List Spelled) → FirstReplies items []
 none_of items = record { first = []; rest = items; begins = refl; answers = []; answered = tt; text_is = refl }
 
 -- nothing is written, of any deck
-pub nothing_left : (known old : Option (List ℕ)) (fault : InputFault) → IfSome known (λ deck. LeavesFirst (commands_of deck) old old (of_input fault))
+pub nothing_left : (known old : Option (List ℕ)) (fault : InputFault)
+    → IfSome known (λ deck. LeavesFirst (commands_of deck) old old (of_input fault))
 nothing_left None old fault = tt
 nothing_left (Some deck) old input.OutOfMemory = ([], none_of (commands_of deck), Appends-nil old)
 nothing_left (Some deck) old input.ReadFault = ([], none_of (commands_of deck), Appends-nil old)
 
 -- the replies to all of them are written
-pub all_left : (items : List Spelled) (old new : Option (List ℕ)) (outcome : Outcome) → AnswersItems items old new outcome → LeavesFirst items old new ReadFault
+pub all_left : (items : List Spelled) (old new : Option (List ℕ)) (outcome : Outcome) → AnswersItems items old new outcome
+    → LeavesFirst items old new ReadFault
 all_left items old new outcome told = (
   told.0,
-  record { first = items; rest = []; begins = sym (append-nil items); answers = told.1.answers; answered = told.1.answered; text_is = told.1.text_is },
+  record {
+    first = items;
+    rest = [];
+    begins = sym (append-nil items);
+    answers = told.1.answers;
+    answered = told.1.answered;
+    text_is = told.1.text_is;
+  },
   told.2,
 )

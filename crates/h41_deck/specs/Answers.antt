@@ -33,5 +33,5 @@ abbrev pub ending_line : Option Refusal → List ℕ
 ending_line None = []
 ending_line (Some refusal) = refusal_line refusal
 
-abbrev pub printed : Answer → List ℕ
-printed answer = answer.text ++ ending_line answer.refusal
+abbrev pub printed_text : Answer → List ℕ
+printed_text answer = answer.text ++ ending_line answer.refusal

@@ -1,4 +1,5 @@
--- What is left of blocks that were carried out. It only connects the code with the other definitions.
+-- What is left of blocks that were carried out. It only connects the code with the other
+-- definitions.
 use Rattle.std.specs.Global.{Global}
 use Rattle.std.specs.Prelude.{◌≡◌, ℕ, Bool, Vec, List, Option, Some, Ok}
 use Rattle.h41_commands.specs.declared.commands.BlockKind.TheVariants.{Page, Program}
@@ -11,11 +12,14 @@ use Rattle.h41_deck.specs.Answers.{ends_by}
 use Rattle.h41_deck.specs.Replies.{LoadsBlock, Plugs, PlugsWords}
 
 -- words are plugged, or refused
-abbrev pub PlugsWordsOf : Vec ℕ Global → ℕ → Bool → BenchState → BenchState → Option Refusal → Type 0
-PlugsWordsOf words page writable s t refusal = PlugsWords page writable (Ok words.items) s t (ends_by refusal)
+abbrev pub PlugsWordsOf : Vec ℕ Global → ℕ → Bool → BenchState → BenchState → Option Refusal
+    → Type 0
+PlugsWordsOf words page writable s t refusal =
+    PlugsWords page writable (Ok words.items) s t (ends_by refusal)
 
 -- a block for a page, by what it says
-pub record PlugsTaken (block : TakenBlock) (page : ℕ) (writable : Bool) (s t : BenchState) (refusal : Option Refusal) : Type 0 where
+pub record PlugsTaken (block : TakenBlock) (page : ℕ) (writable : Bool)
+    (s t : BenchState) (refusal : Option Refusal) : Type 0 where
   pub kind : PageKind
   pub kind_is : block.kind ≡ Some (Page kind)
   pub values : List ℕ
@@ -23,7 +27,8 @@ pub record PlugsTaken (block : TakenBlock) (page : ℕ) (writable : Bool) (s t :
   pub plugs : Plugs kind page writable values s t (ends_by refusal)
 
 -- a block that is a program
-pub record LoadsTaken (block : TakenBlock) (s t : BenchState) (refusal : Option Refusal) : Type 0 where
+pub record LoadsTaken (block : TakenBlock) (s t : BenchState)
+    (refusal : Option Refusal) : Type 0 where
   pub kind : ProgramKind
   pub kind_is : block.kind ≡ Some (Program kind)
   pub values : List ℕ

@@ -21,6 +21,7 @@ abbrev pub words_at : PageMap → ℕ → ℕ → List ℕ
 words_at pages address count = take count (words_from pages address)
 
 -- their listing, or why they are not listed
-abbrev pub listed : PageMap → ℕ → ℕ → Result (List ℕ) Refusal
-listed pages address count =
-    text_unless (list_refusal pages address count) (listing_text (words_at pages address count) address)
+abbrev pub listing_at : PageMap → ℕ → ℕ → Result (List ℕ) Refusal
+listing_at pages address count =
+    text_unless (list_refusal pages address count)
+    (listing_text (words_at pages address count) address)

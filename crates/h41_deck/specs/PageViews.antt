@@ -17,7 +17,8 @@ name_text (Some name) = characters_text name
 -- a function by its two numbers and its name
 unfoldable pub function_line : Function → List ℕ
 function_line function =
-    codes "XROM " ++ two_digits function.number ++ codes "," ++ two_digits function.entry ++ codes " " ++ name_text function.name ++ codes "\n"
+    codes "XROM " ++ two_digits function.number ++ codes "," ++ two_digits function.entry
+    ++ codes " " ++ name_text function.name ++ codes "\n"
 
 abbrev pub functions_text : List Function → List ℕ
 functions_text functions = flat_map function_line functions
@@ -42,4 +43,6 @@ image_text bytes = image_lines bytes 256
 
 -- the image at the bank of a page that a deck's blocks fill
 abbrev pub image_at_text : PageMap → ℕ → List ℕ
-image_at_text pages page = option_map_or (λ image. image_text (image_bytes image.words)) (image_at pages page (bank_numbered block_bank)) []
+image_at_text pages page =
+    option_map_or (λ image. image_text (image_bytes image.words))
+    (image_at pages page (bank_numbered block_bank)) []

@@ -13,7 +13,8 @@ use Rattle.h41_pages.specs.PageMap as pages
 use Rattle.h41_commands.specs.declared.refusal.LineRefusal.TheVariants.{BadImage}
 use Rattle.h41_xrom.specs.declared.refusal.CalculatorRefusal.TheVariants.{Word}
 use Rattle.h41_deck.specs.declared.refusal.Refusal.{Refusal}
-use Rattle.h41_deck.specs.declared.refusal.Refusal.TheVariants.{NoSuchPage, Occupied, NotPlugged, Calculator, Line, OutOfMemory}
+use Rattle.h41_deck.specs.declared.refusal.Refusal.TheVariants.{NoSuchPage, Occupied, NotPlugged}
+use Rattle.h41_deck.specs.declared.refusal.Refusal.TheVariants.{Calculator, Line, OutOfMemory}
 
 -- the bank that a deck's blocks fill
 abbrev pub block_bank : ℕ

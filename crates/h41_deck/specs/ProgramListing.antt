@@ -8,8 +8,10 @@ use Rattle.h41_text.specs.LineText as text
 
 -- a line of the list by its position and its text
 unfoldable pub listed_line : ListedLine → List ℕ
-listed_line listed = position_digits listed.position ++ codes " " ++ text.line_text listed.line ++ codes "\n"
+listed_line listed =
+    position_digits listed.position ++ codes " " ++ text.line_text listed.line ++ codes "\n"
 
 -- the lines of memory from the first on; memory that is not sound has none
 abbrev pub ListsProgram : RegisterMap → List ℕ → Type 0
-ListsProgram memory listing = (lines : List ListedLine) × LinesFrom memory 0 lines × (listing ≡ flat_map listed_line lines)
+ListsProgram memory listing =
+    (lines : List ListedLine) × LinesFrom memory 0 lines × (listing ≡ flat_map listed_line lines)

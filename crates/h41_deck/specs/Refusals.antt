@@ -1,21 +1,34 @@
--- The refusals, each with its number, its name and the address or the line that it tells. Numbers, names and form are this project's own.
+-- The refusals, each with its number, its name and the address or the line that it tells. Numbers,
+-- names and form are this project's own.
 use Rattle.std.specs.Prelude.{ℕ, List, [], ◌++◌, Option, Some, None, codes}
 use Rattle.std.specs.Fmt.{decimal}
 use Rattle.h41_digits.specs.Register.{hexadecimal_text}
 use Rattle.h41_asm.specs.declared.fault.SourceFault as source
-use Rattle.h41_asm.specs.declared.fault.SourceFault.TheVariants.{BadLine, BadOperand, LabelTwice, NoLabel, TooFar, TooLong}
+use Rattle.h41_asm.specs.declared.fault.SourceFault.TheVariants.{BadLine, BadOperand, LabelTwice}
+use Rattle.h41_asm.specs.declared.fault.SourceFault.TheVariants.{NoLabel, TooFar, TooLong}
 use Rattle.h41_commands.specs.declared.refusal.LineRefusal.{LineRefusal}
-use Rattle.h41_commands.specs.declared.refusal.LineRefusal.TheVariants.{BadImage, Source, BadText, BadCommand, BadNumber, NoEnd, LineTooLong}
+use Rattle.h41_commands.specs.declared.refusal.LineRefusal.TheVariants.{BadImage, Source, BadText}
+use Rattle.h41_commands.specs.declared.refusal.LineRefusal.TheVariants.{BadCommand, BadNumber}
+use Rattle.h41_commands.specs.declared.refusal.LineRefusal.TheVariants.{NoEnd, LineTooLong}
 use Rattle.h41_nut.specs.declared.refusal.WordRefusal as word
-use Rattle.h41_nut.specs.declared.refusal.WordRefusal.TheVariants.{UndefinedWord, WordNotInProfile, SystemRom, EmptyPage, PeripheralNotHeld, Asleep, ReadOnly}
+use Rattle.h41_nut.specs.declared.refusal.WordRefusal.TheVariants.{UndefinedWord, WordNotInProfile}
+use Rattle.h41_nut.specs.declared.refusal.WordRefusal.TheVariants.{SystemRom, EmptyPage}
+use Rattle.h41_nut.specs.declared.refusal.WordRefusal.TheVariants.{PeripheralNotHeld, Asleep}
+use Rattle.h41_nut.specs.declared.refusal.WordRefusal.TheVariants.{ReadOnly}
 use Rattle.h41_program.specs.declared.refusal.ProgramRefusal as program
-use Rattle.h41_program.specs.declared.refusal.ProgramRefusal.TheVariants.{BrokenProgram, NoRoom, SizeTooLarge}
+use Rattle.h41_program.specs.declared.refusal.ProgramRefusal.TheVariants.{BrokenProgram, NoRoom}
+use Rattle.h41_program.specs.declared.refusal.ProgramRefusal.TheVariants.{SizeTooLarge}
 use Rattle.h41_xrom.specs.declared.refusal.CalculatorRefusal.{CalculatorRefusal}
-use Rattle.h41_xrom.specs.declared.refusal.CalculatorRefusal.TheVariants.{Word, NotInProfile, Program, MemoryLost, KeyNotHeld, Busy}
+use Rattle.h41_xrom.specs.declared.refusal.CalculatorRefusal.TheVariants.{Word, NotInProfile}
+use Rattle.h41_xrom.specs.declared.refusal.CalculatorRefusal.TheVariants.{Program, MemoryLost}
+use Rattle.h41_xrom.specs.declared.refusal.CalculatorRefusal.TheVariants.{KeyNotHeld, Busy}
 use Rattle.h41_deck.specs.declared.refusal.line.Detail.{Detail}
 use Rattle.h41_deck.specs.declared.refusal.line.Detail.TheVariants as details
 use Rattle.h41_deck.specs.declared.refusal.Refusal.{Refusal}
-use Rattle.h41_deck.specs.declared.refusal.Refusal.TheVariants.{NoSuchPage, Occupied, NotPlugged, Calculator, Line, BreakFull, NoBreak, OutOfMemory, ReadFault, WriteFault}
+use Rattle.h41_deck.specs.declared.refusal.Refusal.TheVariants.{NoSuchPage, Occupied, NotPlugged}
+use Rattle.h41_deck.specs.declared.refusal.Refusal.TheVariants.{Calculator, Line, BreakFull}
+use Rattle.h41_deck.specs.declared.refusal.Refusal.TheVariants.{NoBreak, OutOfMemory, ReadFault}
+use Rattle.h41_deck.specs.declared.refusal.Refusal.TheVariants.{WriteFault}
 use Rattle.h41_deck.specs.declared.fault.Fault.{Fault}
 use Rattle.h41_deck.specs.declared.fault.Fault.TheVariants as faults
 
@@ -107,11 +120,11 @@ detail_text (Some (details.Address address)) = codes " " ++ hexadecimal_text 4 a
 detail_text (Some (details.Line line)) = codes " " ++ decimal line
 
 -- how a refusal is printed: without its detail, whole, and with the line's end
-abbrev pub headed : List ℕ → List ℕ
-headed name = codes "! " ++ name
+abbrev pub heading_of : List ℕ → List ℕ
+heading_of name = codes "! " ++ name
 
 abbrev pub heading : Refusal → List ℕ
-heading refusal = headed (number_and_name refusal)
+heading refusal = heading_of (number_and_name refusal)
 
 abbrev pub refusal_text : Refusal → List ℕ
 refusal_text refusal = heading refusal ++ detail_text (detail refusal)

@@ -1,48 +1,56 @@
 -- What each command does to the bench, and what it answers. The language is this project's own.
 use Rattle.std.specs.Bool.{then_some}
-use Rattle.std.specs.Prelude.{◌≡◌, ℕ, Bool, true, false, List, Option, Some, None, Result, Ok, Err, option_map}
+use Rattle.std.specs.Prelude.{◌≡◌, ℕ, Bool, true, false, List, Option, Some, None, Result, Ok, Err}
+use Rattle.std.specs.Prelude.{option_map}
+use Rattle.h41_breakpoints.specs.Breakpoints.{lacks_breakpoint, refuses_breakpoint}
+use Rattle.h41_breakpoints.specs.declared.location.Location.{Location}
 use Rattle.h41_commands.specs.declared.commands.PageKind.{PageKind}
 use Rattle.h41_commands.specs.declared.commands.ProgramKind.{ProgramKind}
 use Rattle.h41_commands.specs.declared.commands.Command.{Command}
-use Rattle.h41_commands.specs.declared.commands.Command.TheVariants.{Plug, Load, Unplug, Size, Reset, Call, Key, Step, Run, Trace, Break, Unbreak, Show}
+use Rattle.h41_commands.specs.declared.commands.Command.TheVariants.{Plug, Load, Unplug, Size}
+use Rattle.h41_commands.specs.declared.commands.Command.TheVariants.{Reset, Call, Key, Step, Run}
+use Rattle.h41_commands.specs.declared.commands.Command.TheVariants.{Trace, Break, Unbreak, Show}
 use Rattle.h41_commands.specs.declared.commands.Command.TheVariants as commands
 use Rattle.h41_commands.specs.declared.refusal.LineRefusal.{LineRefusal}
 use Rattle.h41_commands.specs.Blocks.{filled}
 use Rattle.h41_commands.specs.Items.{Spelled}
 use Rattle.h41_commands.specs.PageBlocks.{Fills}
 use Rattle.h41_commands.specs.ProgramBlocks.{Means}
-use Rattle.h41_debug.specs.Bench.{BenchState, PressesInTurn, Steps, with_calculator, with_set, without_set}
-use Rattle.h41_debug.specs.Breakpoints.{lacks_breakpoint, refuses_breakpoint}
+use Rattle.h41_debug.specs.Bench.{BenchState, PressesInTurn, Steps, with_calculator, with_set}
+use Rattle.h41_debug.specs.Bench.{without_set}
 use Rattle.h41_debug.specs.Run as runs
 use Rattle.h41_debug.specs.Traces.{Traces}
-use Rattle.h41_debug.specs.declared.breakpoint.Breakpoint.{Breakpoint}
 use Rattle.h41_debug.specs.declared.run.Stop.{Stop}
 use Rattle.h41_xrom.specs.declared.refusal.CalculatorRefusal.{CalculatorRefusal}
-use Rattle.h41_xrom.specs.Calculator.{CalculatorState, with_page, without_page, restarted, call_refusal, called}
+use Rattle.h41_xrom.specs.Calculator.{CalculatorState, with_page, without_page, restarted}
+use Rattle.h41_xrom.specs.Calculator.{call_refusal, called}
 use Rattle.h41_xrom.specs.Programs.{Becomes, Loads, size_makes}
 use Rattle.h41_deck.specs.declared.refusal.Refusal.{Refusal}
-use Rattle.h41_deck.specs.declared.refusal.Refusal.TheVariants.{BreakFull, Calculator, Line, NoBreak}
+use Rattle.h41_deck.specs.declared.refusal.Refusal.TheVariants.{BreakFull, Calculator, Line}
+use Rattle.h41_deck.specs.declared.refusal.Refusal.TheVariants.{NoBreak}
 use Rattle.h41_deck.specs.Answers.{Answer, ends_by, says_and_ends, says_or_ends}
-use Rattle.h41_deck.specs.Listings.{listed}
+use Rattle.h41_deck.specs.Listings.{listing_at}
 use Rattle.h41_deck.specs.Pages.{block_bank, page_refusal, unplug_refusal}
-use Rattle.h41_deck.specs.Runs.{breakpoint_at, ran}
+use Rattle.h41_deck.specs.Runs.{run_answer}
 use Rattle.h41_deck.specs.Views.{Shows}
 
 -- the state after a change that is made unless there is a refusal
-abbrev pub unless : Option Refusal → BenchState → BenchState → BenchState
-unless None changed s = changed
-unless (Some refusal) changed s = s
+abbrev pub state_unless : Option Refusal → BenchState → BenchState → BenchState
+state_unless None changed s = changed
+state_unless (Some refusal) changed s = s
 
 -- the change is made in silence, or there is a refusal and nothing changes
 abbrev pub ChangesUnless : Option Refusal → BenchState → BenchState → BenchState → Answer → Type 0
-ChangesUnless refusal changed s t answer = (t ≡ unless refusal changed s) × (answer ≡ ends_by refusal)
+ChangesUnless refusal changed s t answer =
+    (t ≡ state_unless refusal changed s) × (answer ≡ ends_by refusal)
 
 -- lines are refused, and nothing changes
 abbrev pub RefusesLines : LineRefusal → BenchState → BenchState → Answer → Type 0
 RefusesLines refusal s t answer = (t ≡ s) × (answer ≡ ends_by (Some (Line refusal)))
 
 -- a call changes the calculator, and nothing else, or is refused
-abbrev pub Calls : (CalculatorState → CalculatorState → Option CalculatorRefusal → Type 0) → BenchState → BenchState → Answer → Type 0
+abbrev pub Calls : (CalculatorState → CalculatorState → Option CalculatorRefusal → Type 0)
+    → BenchState → BenchState → Answer → Type 0
 Calls does s t answer =
     (refusal : Option CalculatorRefusal) × does s.calculator t.calculator refusal
     × (t ≡ with_calculator t.calculator s) × (answer ≡ ends_by (option_map Calculator refusal))
@@ -53,17 +61,23 @@ block_refusal s page words = page_refusal s.calculator.nut.pages page (filled wo
 
 -- the bench with these words plugged there
 abbrev pub with_words : ℕ → Bool → List ℕ → BenchState → BenchState
-with_words page writable words s = with_calculator (with_page page block_bank writable (filled words) s.calculator) s
+with_words page writable words s =
+    with_calculator (with_page page block_bank writable (filled words) s.calculator) s
 
--- a page is plugged with these words, filled with 000, or refused as 1 or 2; nothing changes where there are none
-abbrev pub PlugsWords : ℕ → Bool → Result (List ℕ) LineRefusal → BenchState → BenchState → Answer → Type 0
-PlugsWords page writable (Ok words) s t answer = ChangesUnless (block_refusal s page words) (with_words page writable words s) s t answer
+-- a page is plugged with these words, filled with 000, or refused as 1 or 2; nothing changes where
+-- there are none
+abbrev pub PlugsWords : ℕ → Bool → Result (List ℕ) LineRefusal → BenchState → BenchState → Answer
+    → Type 0
+PlugsWords page writable (Ok words) s t answer =
+    ChangesUnless (block_refusal s page words) (with_words page writable words s) s t answer
 PlugsWords page writable (Err refusal) s t answer = RefusesLines refusal s t answer
 
 -- with the words that a block's values say for it
 abbrev pub Plugs : PageKind → ℕ → Bool → List ℕ → BenchState → BenchState → Answer → Type 0
 Plugs kind page writable values s t answer =
-    (words : Result (List ℕ) LineRefusal) × Fills kind page values words × PlugsWords page writable words s t answer
+    (words : Result (List ℕ) LineRefusal)
+    × Fills kind page values words
+    × PlugsWords page writable words s t answer
 
 -- bytes are loaded, or refused; nothing changes where a block says none
 abbrev pub LoadsBytes : Result (List ℕ) LineRefusal → BenchState → BenchState → Answer → Type 0
@@ -72,53 +86,68 @@ LoadsBytes (Err refusal) s t answer = RefusesLines refusal s t answer
 
 -- with the bytes that a block's values mean
 abbrev pub LoadsBlock : ProgramKind → List ℕ → BenchState → BenchState → Answer → Type 0
-LoadsBlock kind values s t answer = (bytes : Result (List ℕ) LineRefusal) × Means kind values bytes × LoadsBytes bytes s t answer
+LoadsBlock kind values s t answer =
+    (bytes : Result (List ℕ) LineRefusal) × Means kind values bytes × LoadsBytes bytes s t answer
 
 -- why a breakpoint is not set, and why none is taken away
-abbrev pub set_refusal : BenchState → Breakpoint → Option Refusal
-set_refusal s breakpoint = then_some (refuses_breakpoint s.breakpoints breakpoint) BreakFull
+abbrev pub set_refusal : BenchState → Location → Option Refusal
+set_refusal s location = then_some (refuses_breakpoint s.breakpoints location) BreakFull
 
-abbrev pub unset_refusal : BenchState → Breakpoint → Option Refusal
-unset_refusal s breakpoint = then_some (lacks_breakpoint s.breakpoints breakpoint) NoBreak
+abbrev pub unset_refusal : BenchState → Location → Option Refusal
+unset_refusal s location = then_some (lacks_breakpoint s.breakpoints location) NoBreak
 
--- each command's change of the bench, from s to t, and its answer; a command with a block has its block's values
+-- each command's change of the bench, from s to t, and its answer; a command with a block has its
+-- block's values
 abbrev pub Reply : Command → List ℕ → BenchState → BenchState → Answer → Type 0
--- words P [rw], image P [rw], asm P [rw] .. end: the page is plugged with what the block says, or refused
+-- words P [rw], image P [rw], asm P [rw] .. end: the page is plugged with what the block says, or
+-- refused
 Reply (Plug kind page writable) values s t answer = Plugs kind page writable values s t answer
--- load .. end, program .. end: the program that the block says is loaded, or refused: 41, 24, 15, 14, 16
+-- load .. end, program .. end: the program that the block says is loaded, or refused: 41, 24, 15,
+-- 14, 16
 Reply (Load kind) values s t answer = LoadsBlock kind values s t answer
 -- unplug P: all banks of the page are taken out, or 1 or 3
 Reply (Unplug page) values s t answer =
-    ChangesUnless (unplug_refusal s.calculator.nut.pages page) (with_calculator (without_page page s.calculator) s) s t answer
+    ChangesUnless (unplug_refusal s.calculator.nut.pages page)
+    (with_calculator (without_page page s.calculator) s) s t answer
 -- size n: so many data registers, or 24, 15, 17, 16
 Reply (Size count) values s t answer = Calls (λ old. Becomes (size_makes old count) old) s t answer
 -- reset: as at the start, but that the pages stay plugged
-Reply Reset values s t answer = (t ≡ with_calculator (restarted s.calculator) s) × (answer ≡ ends_by None)
+Reply Reset values s t answer =
+    (t ≡ with_calculator (restarted s.calculator) s) × (answer ≡ ends_by None)
 -- call hhhh: the function runs, or 24 or 8
 Reply (Call address) values s t answer =
-    ChangesUnless (option_map Calculator (call_refusal s.calculator address)) (with_calculator (called address s.calculator) s) s t answer
+    ChangesUnless (option_map Calculator (call_refusal s.calculator address))
+    (with_calculator (called address s.calculator) s) s t answer
 -- key NAME ..: keys in turn up to the first refusal
 Reply (Key keys) values s t answer =
-    (refusal : Option CalculatorRefusal) × PressesInTurn keys s t refusal × (answer ≡ ends_by (option_map Calculator refusal))
+    (refusal : Option CalculatorRefusal)
+    × PressesInTurn keys s t refusal
+    × (answer ≡ ends_by (option_map Calculator refusal))
 -- step [n]: single steps up to the first refusal
 Reply (Step count) values s t answer =
-    (refusal : Option CalculatorRefusal) × Steps count s t refusal × (answer ≡ ends_by (option_map Calculator refusal))
--- run n: a run of at most so many steps, which tells how many it made and why it stopped, and then the refusal where that is why
-Reply (Run limit) values s t answer = (made : ℕ) × (why : Stop) × runs.Run limit s t made why × (answer ≡ ran made why)
+    (refusal : Option CalculatorRefusal)
+    × Steps count s t refusal
+    × (answer ≡ ends_by (option_map Calculator refusal))
+-- run n: a run of at most so many steps, which tells how many it made and why it stopped, and then
+-- the refusal where that is why
+Reply (Run limit) values s t answer =
+    (made : ℕ) × (why : Stop) × runs.Run limit s t made why × (answer ≡ run_answer made why)
 -- trace n: single steps up to the first refusal, each told before it is made
 Reply (Trace count) values s t answer =
     (lines : List ℕ) × (refusal : Option CalculatorRefusal) × Traces count s t lines refusal
     × (answer ≡ says_and_ends lines (option_map Calculator refusal))
 -- break w hhhh, break l n: the breakpoint is set, or 19
-Reply (Break place) values s t answer =
-    ChangesUnless (set_refusal s (breakpoint_at place)) (with_set (breakpoint_at place) s) s t answer
+Reply (Break location) values s t answer =
+    ChangesUnless (set_refusal s location) (with_set location s) s t answer
 -- unbreak w hhhh, unbreak l n: it is taken away, or 20
-Reply (Unbreak place) values s t answer =
-    ChangesUnless (unset_refusal s (breakpoint_at place)) (without_set (breakpoint_at place) s) s t answer
+Reply (Unbreak location) values s t answer =
+    ChangesUnless (unset_refusal s location) (without_set location s) s t answer
 -- list hhhh n: the words' listing, or 8, 9 or 4, and nothing changes
-Reply (commands.List address count) values s t answer = (t ≡ s) × (answer ≡ says_or_ends (listed s.calculator.nut.pages address count))
+Reply (commands.List address count) values s t answer =
+    (t ≡ s) × (answer ≡ says_or_ends (listing_at s.calculator.nut.pages address count))
 -- show WHAT: the view's text, or why it is refused, and nothing changes
-Reply (Show view) values s t answer = (t ≡ s) × (made : Result (List ℕ) Refusal) × Shows view s made × (answer ≡ says_or_ends made)
+Reply (Show view) values s t answer =
+    (t ≡ s) × (made : Result (List ℕ) Refusal) × Shows view s made × (answer ≡ says_or_ends made)
 
 -- what the lines of a command do; those that are refused are answered by their refusal
 abbrev pub ItemReply : Spelled → BenchState → BenchState → Answer → Type 0
@@ -137,7 +166,7 @@ takes_memory (Key keys) = false
 takes_memory (Step count) = false
 takes_memory (Run limit) = false
 takes_memory (Trace count) = false
-takes_memory (Break place) = false
-takes_memory (Unbreak place) = false
+takes_memory (Break location) = false
+takes_memory (Unbreak location) = false
 takes_memory (commands.List address count) = true
 takes_memory (Show view) = true

@@ -1,20 +1,11 @@
 -- What `run` prints, and where the breakpoints of a deck stand. The form is this project's choice.
 use Rattle.std.specs.Prelude.{ℕ, List, ◌++◌, codes, Option, Some, None}
 use Rattle.std.specs.Fmt.{decimal}
-use Rattle.h41_commands.specs.declared.commands.BreakPlace.{BreakPlace}
-use Rattle.h41_commands.specs.declared.commands.BreakPlace.TheVariants as places
-use Rattle.h41_debug.specs.declared.breakpoint.Breakpoint.{Breakpoint}
-use Rattle.h41_debug.specs.declared.breakpoint.Breakpoint.TheVariants.{Line, Word}
 use Rattle.h41_debug.specs.declared.run.Stop.{Stop}
 use Rattle.h41_debug.specs.declared.run.Stop.TheVariants.{Break, Idle, Limit, Refused}
 use Rattle.h41_deck.specs.declared.refusal.Refusal.{Refusal}
 use Rattle.h41_deck.specs.declared.refusal.Refusal.TheVariants.{Calculator}
 use Rattle.h41_deck.specs.Answers.{Answer, says_and_ends}
-
--- the breakpoint that a command names
-abbrev pub breakpoint_at : BreakPlace → Breakpoint
-breakpoint_at (places.Word address) = Word address
-breakpoint_at (places.Line position) = Line position
 
 -- why a run stopped, in a word, and the refusal where that is why
 abbrev pub stop_name : Stop → List ℕ
@@ -33,5 +24,5 @@ stop_refusal (Refused refusal) = Some (Calculator refusal)
 abbrev pub ran_text : ℕ → Stop → List ℕ
 ran_text made why = codes "ran " ++ decimal made ++ codes " " ++ stop_name why ++ codes "\n"
 
-abbrev pub ran : ℕ → Stop → Answer
-ran made why = says_and_ends (ran_text made why) (stop_refusal why)
+abbrev pub run_answer : ℕ → Stop → Answer
+run_answer made why = says_and_ends (ran_text made why) (stop_refusal why)

@@ -1,5 +1,6 @@
 -- What `show` prints, view by view. The form is this project's choice.
-use Rattle.std.specs.Prelude.{◌≡◌, ℕ, Bool, List, ◌++◌, map, filter, slice_index, if◌then◌else◌, Result, Ok, codes}
+use Rattle.std.specs.Prelude.{◌≡◌, ℕ, Bool, List, ◌++◌, map, filter, slice_index, if◌then◌else◌}
+use Rattle.std.specs.Prelude.{Result, Ok, codes}
 use Rattle.std.specs.List.{join_with_byte, range_with_len}
 use Rattle.h41_digits.specs.Register.{text, hexadecimal_text}
 use Rattle.h41_fields.specs.declared.field.Pointer.{Pointer}
@@ -11,7 +12,9 @@ use Rattle.h41_pages.specs.FunctionTables.{functions}
 use Rattle.h41_ram.specs.RegisterMap.{RegisterMap, flag_of, register_at}
 use Rattle.h41_nut.specs.Processor.{Processor}
 use Rattle.h41_commands.specs.declared.commands.View.{View}
-use Rattle.h41_commands.specs.declared.commands.View.TheVariants.{Cpu, Register, Stack, Flags, Alpha, Display, Position, Lines, Image, Functions}
+use Rattle.h41_commands.specs.declared.commands.View.TheVariants.{Cpu, Register, Stack, Flags}
+use Rattle.h41_commands.specs.declared.commands.View.TheVariants.{Alpha, Display, Position, Lines}
+use Rattle.h41_commands.specs.declared.commands.View.TheVariants.{Image, Functions}
 use Rattle.h41_pages.specs.PageMap.{PageMap}
 use Rattle.h41_deck.specs.declared.refusal.Refusal.{Refusal}
 use Rattle.h41_debug.specs.Bench.{BenchState}
@@ -35,32 +38,44 @@ abbrev pub base_text : Base → List ℕ
 base_text Hexadecimal = codes "HEX"
 base_text Decimal = codes "DEC"
 
--- the processor's five lines: registers with the highest place first, the other numbers in hexadecimal, the return
--- addresses with the newest first
+-- the processor's five lines: registers with the highest place first, the other numbers in
+-- hexadecimal, the return addresses with the newest first
 unfoldable pub registers_line : Processor → List ℕ
-registers_line s = codes "A=" ++ text s.a ++ codes " B=" ++ text s.b ++ codes " C=" ++ text s.c ++ codes "\n"
+registers_line s =
+    codes "A=" ++ text s.a ++ codes " B=" ++ text s.b ++ codes " C=" ++ text s.c ++ codes "\n"
 
 unfoldable pub memories_line : Processor → List ℕ
 memories_line s = codes "M=" ++ text s.m ++ codes " N=" ++ text s.n ++ codes "\n"
 
 unfoldable pub pointers_line : Processor → List ℕ
-pointers_line s = codes "G=" ++ hexadecimal_text 2 s.g ++ codes " T=" ++ hexadecimal_text 2 s.t ++ codes " ST=" ++ hexadecimal_text 4 s.status
-    ++ codes " P=" ++ hexadecimal_text 1 s.p ++ codes " Q=" ++ hexadecimal_text 1 s.q ++ codes " PT=" ++ pointer_text s.active ++ codes "\n"
+pointers_line s =
+    codes "G=" ++ hexadecimal_text 2 s.g ++ codes " T=" ++ hexadecimal_text 2 s.t ++ codes " ST="
+    ++ hexadecimal_text 4 s.status
+    ++ codes " P=" ++ hexadecimal_text 1 s.p ++ codes " Q=" ++ hexadecimal_text 1 s.q
+    ++ codes " PT=" ++ pointer_text s.active ++ codes "\n"
 
 unfoldable pub modes_line : Processor → Keys → List ℕ
-modes_line s keys = codes "PC=" ++ hexadecimal_text 4 s.pc ++ codes " CY=" ++ bit_text s.carry ++ codes " MODE=" ++ base_text s.base
-    ++ codes " RAM=" ++ hexadecimal_text 3 s.selected ++ codes " KY=" ++ hexadecimal_text 2 keys.ky ++ codes " KF=" ++ bit_text keys.flag ++ codes "\n"
+modes_line s keys =
+    codes "PC=" ++ hexadecimal_text 4 s.pc ++ codes " CY=" ++ bit_text s.carry ++ codes " MODE="
+    ++ base_text s.base
+    ++ codes " RAM=" ++ hexadecimal_text 3 s.selected ++ codes " KY=" ++ hexadecimal_text 2 keys.ky
+    ++ codes " KF=" ++ bit_text keys.flag ++ codes "\n"
 
 unfoldable pub returns_line : Processor → List ℕ
-returns_line s = codes "RTN=" ++ hexadecimal_text 4 (slice_index s.returns 0) ++ codes " " ++ hexadecimal_text 4 (slice_index s.returns 1)
-    ++ codes " " ++ hexadecimal_text 4 (slice_index s.returns 2) ++ codes " " ++ hexadecimal_text 4 (slice_index s.returns 3) ++ codes "\n"
+returns_line s =
+    codes "RTN=" ++ hexadecimal_text 4 (slice_index s.returns 0) ++ codes " "
+    ++ hexadecimal_text 4 (slice_index s.returns 1)
+    ++ codes " " ++ hexadecimal_text 4 (slice_index s.returns 2) ++ codes " "
+    ++ hexadecimal_text 4 (slice_index s.returns 3) ++ codes "\n"
 
 unfoldable pub processor_text : Processor → Keys → List ℕ
-processor_text s keys = registers_line s ++ memories_line s ++ pointers_line s ++ modes_line s keys ++ returns_line s
+processor_text s keys =
+    registers_line s ++ memories_line s ++ pointers_line s ++ modes_line s keys ++ returns_line s
 
 -- a register by its address
 unfoldable pub register_line : RegisterMap → ℕ → List ℕ
-register_line ram address = hexadecimal_text 3 address ++ codes "=" ++ text (register_at ram address) ++ codes "\n"
+register_line ram address =
+    hexadecimal_text 3 address ++ codes "=" ++ text (register_at ram address) ++ codes "\n"
 
 -- a level of the stack, or L, by its name
 unfoldable pub level_line : List ℕ → List ℕ → List ℕ
@@ -69,12 +84,14 @@ level_line name register = name ++ codes "=" ++ text register ++ codes "\n"
 -- the stack from the top, and L: the status registers 0 to 4
 unfoldable pub stack_text : RegisterMap → List ℕ
 stack_text ram =
-    level_line (codes "T") (register_at ram 0) ++ level_line (codes "Z") (register_at ram 1) ++ level_line (codes "Y") (register_at ram 2)
+    level_line (codes "T") (register_at ram 0) ++ level_line (codes "Z") (register_at ram 1)
+    ++ level_line (codes "Y") (register_at ram 2)
     ++ level_line (codes "X") (register_at ram 3) ++ level_line (codes "L") (register_at ram 4)
 
 -- the flags that are set among so many, from flag 0 on, by their numbers, which blanks (32) part
 abbrev pub flags_below : ℕ → RegisterMap → List ℕ
-flags_below count ram = join_with_byte 32 (map two_digits (filter (flag_of ram) (range_with_len 0 count)))
+flags_below count ram =
+    join_with_byte 32 (map two_digits (filter (flag_of ram) (range_with_len 0 count)))
 
 unfoldable pub flags_line : RegisterMap → List ℕ
 flags_line ram = flags_below 56 ram ++ codes "\n"
@@ -94,8 +111,10 @@ Shows (Register address) s made = made ≡ Ok (register_line s.calculator.nut.ra
 Shows Stack s made = made ≡ Ok (stack_text s.calculator.nut.ram)
 Shows Flags s made = made ≡ Ok (flags_line s.calculator.nut.ram)
 Shows Alpha s made = made ≡ Ok (line_of (alpha_text s.calculator.nut.ram))
-Shows Display s made = (shown : List ℕ) × ShowsDisplay s.calculator shown × (made ≡ Ok (line_of shown))
+Shows Display s made =
+    (shown : List ℕ) × ShowsDisplay s.calculator shown × (made ≡ Ok (line_of shown))
 Shows Position s made = made ≡ Ok (line_of (position_text s))
-Shows Lines s made = (listing : List ℕ) × ListsProgram s.calculator.nut.ram listing × (made ≡ Ok listing)
+Shows Lines s made =
+    (listing : List ℕ) × ListsProgram s.calculator.nut.ram listing × (made ≡ Ok listing)
 Shows (Image page) s made = made ≡ image_view s.calculator.nut.pages page
 Shows Functions s made = made ≡ Ok (functions_text (functions s.calculator.nut.pages))

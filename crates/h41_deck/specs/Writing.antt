@@ -1,5 +1,6 @@
--- What is written of an answer, and what the code's results say of it. It connects the code with the other definitions; of it the
--- contract of `apply` cites `Acts`, by what it writes: `Replies`, or a front of it, `RepliesInPart`.
+-- What is written of an answer, and what the code's results say of it. It connects the code with
+-- the other definitions; of it the contract of `apply` cites `Acts`, by what it writes: `Replies`,
+-- or a front of it, `RepliesInPart`.
 use Rattle.std.specs.Global.{Global}
 use Rattle.std.specs.Prelude.{◌≡◌, ℕ, Vec, List, [], Option, Some, None, Result, Ok, Err}
 use Rattle.std.specs.Io.KnownBytes.{Appends, Keeps}
@@ -19,8 +20,8 @@ use Rattle.h41_deck.specs.declared.fault.CommandFault.TheVariants.{OutOfMemory, 
 use Rattle.h41_deck.specs.declared.replies.Outcome.{Outcome}
 use Rattle.h41_deck.specs.declared.replies.Outcome.TheVariants.{Accepted, Refused}
 use Rattle.h41_deck.specs.declared.refusal.Refusal.{Refusal}
-use Rattle.h41_deck.specs.Answers.{Answer, ending_line, printed}
-use Rattle.h41_deck.specs.Listings.{listed}
+use Rattle.h41_deck.specs.Answers.{Answer, ending_line, printed_text}
+use Rattle.h41_deck.specs.Listings.{listing_at}
 use Rattle.h41_deck.specs.Replies.{ItemReply}
 use Rattle.h41_deck.specs.Views.{Shows, image_view}
 
@@ -32,69 +33,95 @@ outcome_in (Some refusal) = Refused
 abbrev pub EndsAs : Option Refusal → Outcome → Type 0
 EndsAs refusal outcome = outcome ≡ outcome_in refusal
 
--- the lines of a command are answered: their reply is written, and the outcome tells whether it is a refusal
-pub record Replies (item : Spelled) (s t : BenchState) (old new : Option (List ℕ)) (outcome : Outcome) : Type 0 where
+-- the lines of a command are answered: their reply is written, and the outcome tells whether it is
+-- a refusal
+pub record Replies (item : Spelled) (s t : BenchState)
+    (old new : Option (List ℕ)) (outcome : Outcome) : Type 0 where
   pub answer : Answer
   pub reply : ItemReply item s t answer
-  pub written : Appends old new (printed answer)
+  pub written : Appends old new (printed_text answer)
   pub outcome_is : outcome ≡ outcome_in answer.refusal
 
--- what is printed of a command that leaves the bench so: what a command does to the bench does not hang on its writer
+-- what is printed of a command that leaves the bench so: what a command does to the bench does not
+-- hang on its writer
 abbrev pub PrintsUntil : Spelled → BenchState → BenchState → List ℕ → Type 0
-PrintsUntil item s t text = (answer : Answer) × ItemReply item s t answer × (text ≡ printed answer)
+PrintsUntil item s t text =
+    (answer : Answer) × ItemReply item s t answer × (text ≡ printed_text answer)
 
 -- a front of that is written, and not all of it
-pub record RepliesInPart (item : Spelled) (s t : BenchState) (old new : Option (List ℕ)) : Type 0 where
+pub record RepliesInPart (item : Spelled) (s t : BenchState)
+    (old new : Option (List ℕ)) : Type 0 where
   pub text : List ℕ
   pub printed_until : PrintsUntil item s t text
   pub written : AppendsPart old new text
 
--- what a command and its block leave, by its answer: their reply, a front of it, or where memory was refused nothing
-abbrev pub Leaves : {W : Type 0} → Result Outcome CommandFault → Spelled → BenchState → BenchState → (W → Option (List ℕ)) → W → W → Type 0
-Leaves (Ok outcome) item s t contents old new = Replies item s t (contents old) (contents new) outcome
-Leaves (Err WriteFault) item s t contents old new = RepliesInPart item s t (contents old) (contents new)
+-- what a command and its block leave, by its answer: their reply, a front of it, or where memory
+-- was refused nothing
+abbrev pub Leaves : {W : Type 0} → Result Outcome CommandFault → Spelled → BenchState → BenchState
+    → (W → Option (List ℕ)) → W → W → Type 0
+Leaves (Ok outcome) item s t contents old new =
+    Replies item s t (contents old) (contents new) outcome
+Leaves (Err WriteFault) item s t contents old new =
+    RepliesInPart item s t (contents old) (contents new)
 Leaves (Err OutOfMemory) item s t contents old new = Keeps (contents old) (contents new)
 
 -- the command that a block makes whole
 abbrev pub item_of : Command → TakenBlock → Spelled
 item_of command block = with_values (judgement block) command
 
-abbrev pub Acts : {W : Type 0} → Result Outcome CommandFault → Command → TakenBlock → BenchState → BenchState → (W → Option (List ℕ)) → W → W → Type 0
-Acts result command block s t contents old new = Leaves result (item_of command block) s t contents old new
+abbrev pub Acts : {W : Type 0} → Result Outcome CommandFault → Command → TakenBlock → BenchState
+    → BenchState → (W → Option (List ℕ)) → W → W → Type 0
+Acts result command block s t contents old new =
+    Leaves result (item_of command block) s t contents old new
 
 -- the text of an answer is written, and its refusal is still to be told
-pub record SaysText (item : Spelled) (s t : BenchState) (old new : Option (List ℕ)) (refusal : Option Refusal) : Type 0 where
+pub record SaysText (item : Spelled) (s t : BenchState)
+    (old new : Option (List ℕ)) (refusal : Option Refusal) : Type 0 where
   pub text : List ℕ
   pub reply : ItemReply item s t (record { text = text; refusal = refusal })
   pub written : Appends old new text
 
-abbrev pub LeavesText : {W : Type 0} → Result (Option Refusal) CommandFault → Spelled → BenchState → BenchState → (W → Option (List ℕ)) → W → W → Type 0
-LeavesText (Ok refusal) item s t contents old new = SaysText item s t (contents old) (contents new) refusal
-LeavesText (Err WriteFault) item s t contents old new = RepliesInPart item s t (contents old) (contents new)
+abbrev pub LeavesText : {W : Type 0} → Result (Option Refusal) CommandFault → Spelled → BenchState
+    → BenchState → (W → Option (List ℕ)) → W → W → Type 0
+LeavesText (Ok refusal) item s t contents old new =
+    SaysText item s t (contents old) (contents new) refusal
+LeavesText (Err WriteFault) item s t contents old new =
+    RepliesInPart item s t (contents old) (contents new)
 LeavesText (Err OutOfMemory) item s t contents old new = Keeps (contents old) (contents new)
 
-abbrev pub Says : {W : Type 0} → Result (Option Refusal) CommandFault → Command → TakenBlock → BenchState → BenchState → (W → Option (List ℕ)) → W → W → Type 0
-Says result command block s t contents old new = LeavesText result (item_of command block) s t contents old new
+abbrev pub Says : {W : Type 0} → Result (Option Refusal) CommandFault → Command → TakenBlock
+    → BenchState → BenchState → (W → Option (List ℕ)) → W → W → Type 0
+Says result command block s t contents old new =
+    LeavesText result (item_of command block) s t contents old new
 
 -- a command without a block does so whatever values a block would have
-abbrev pub SaysAlone : {W : Type 0} → Result (Option Refusal) CommandFault → Command → BenchState → BenchState → (W → Option (List ℕ)) → W → W → Type 0
-SaysAlone result command s t contents old new = (values : List ℕ) → LeavesText result (Ok (command, values)) s t contents old new
+abbrev pub SaysAlone : {W : Type 0} → Result (Option Refusal) CommandFault → Command → BenchState
+    → BenchState → (W → Option (List ℕ)) → W → W → Type 0
+SaysAlone result command s t contents old new =
+    (values : List ℕ) → LeavesText result (Ok (command, values)) s t contents old new
 
 -- the same of a command that writes without memory
-abbrev pub WritesAlone : {W : Type 0} → Result (Option Refusal) fault.WriteFault → Command → BenchState → BenchState → (W → Option (List ℕ)) → W → W → Type 0
-WritesAlone (Ok refusal) command s t contents old new = (values : List ℕ) → SaysText (Ok (command, values)) s t (contents old) (contents new) refusal
-WritesAlone (Err failed) command s t contents old new = (values : List ℕ) → RepliesInPart (Ok (command, values)) s t (contents old) (contents new)
+abbrev pub WritesAlone : {W : Type 0} → Result (Option Refusal) fault.WriteFault → Command
+    → BenchState → BenchState → (W → Option (List ℕ)) → W → W → Type 0
+WritesAlone (Ok refusal) command s t contents old new =
+    (values : List ℕ) → SaysText (Ok (command, values)) s t (contents old) (contents new) refusal
+WritesAlone (Err failed) command s t contents old new =
+    (values : List ℕ) → RepliesInPart (Ok (command, values)) s t (contents old) (contents new)
 
 -- a run and a trace are such commands
-abbrev pub RunsAlone : {W : Type 0} → Result (Option Refusal) fault.WriteFault → ℕ → BenchState → BenchState → (W → Option (List ℕ)) → W → W → Type 0
-RunsAlone result limit s t contents old new = WritesAlone result (commands.Run limit) s t contents old new
+abbrev pub RunsAlone : {W : Type 0} → Result (Option Refusal) fault.WriteFault → ℕ → BenchState
+    → BenchState → (W → Option (List ℕ)) → W → W → Type 0
+RunsAlone result limit s t contents old new =
+    WritesAlone result (commands.Run limit) s t contents old new
 
-abbrev pub TracesAlone : {W : Type 0} → Result (Option Refusal) fault.WriteFault → ℕ → BenchState → BenchState → (W → Option (List ℕ)) → W → W → Type 0
-TracesAlone result count s t contents old new = WritesAlone result (commands.Trace count) s t contents old new
+abbrev pub TracesAlone : {W : Type 0} → Result (Option Refusal) fault.WriteFault → ℕ → BenchState
+    → BenchState → (W → Option (List ℕ)) → W → W → Type 0
+TracesAlone result count s t contents old new =
+    WritesAlone result (commands.Trace count) s t contents old new
 
 -- the line of a trace that tells of the next step
-abbrev pub TellsLine : BenchState → List ℕ → Type 0
-TellsLine s line = (text : List ℕ) × TellsStep s text × (line ≡ traced_line text)
+abbrev pub IsTraceLine : BenchState → List ℕ → Type 0
+IsTraceLine s line = (text : List ℕ) × TellsStep s text × (line ≡ traced_line text)
 
 -- what was made: a text or its refusal, and the text alone
 abbrev pub text_in : Result (Vec ℕ Global) Refusal → Result (List ℕ) Refusal
@@ -116,4 +143,4 @@ abbrev pub IsImageShown : PageMap → ℕ → Result (Vec ℕ Global) Refusal �
 IsImageShown pages page made = text_in made ≡ image_view pages page
 
 abbrev pub IsListed : PageMap → ℕ → ℕ → Result (Vec ℕ Global) Refusal → Type 0
-IsListed pages address count made = text_in made ≡ listed pages address count
+IsListed pages address count made = text_in made ≡ listing_at pages address count

@@ -1,6 +1,7 @@
 //! Laws of decks: each is the contract of a function with nothing to do but to call the laws it rests on.
 
-ghost use Rattle.h41_deck.specs.Deck.{DeckDeterminesOutcome, DeckDeterminesText, FirstTextIsFront, LongDeckDeterminesText};
+ghost use Rattle.h41_deck.specs.Deck.{DeckDeterminesOutcome, DeckDeterminesText, FirstTextIsFront};
+ghost use Rattle.h41_deck.specs.Deck.{LongDeckDeterminesText};
 
 use h41_commands::laws::blocks_are_determined;
 use h41_debug::laws::{

@@ -9,10 +9,11 @@ mod replies;
 
 pub use deck::run_deck;
 pub use fault::{CommandFault, Fault};
+pub use h41_breakpoints::{BreakFull, Location, NoBreak};
 pub use h41_commands::{
-    Block, BlockKind, BreakPlace, Command, Keys, LineRefusal, PageKind, ProgramKind, View, parse,
+    Block, BlockKind, Command, Keys, LineRefusal, PageKind, ProgramKind, View, parse,
 };
-pub use h41_debug::{Bench, BreakFull, Breakpoint, NoBreak, Stop};
+pub use h41_debug::{Bench, Stop};
 pub use h41_ends::{
     FromRead, Input, InputFault, Sink, Source, ToWrite, WriteFault, flush, read_whole, write_whole,
 };

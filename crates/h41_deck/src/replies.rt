@@ -1,6 +1,7 @@
 //! The replies to commands: what each does to the bench, and what it prints.
 
-ghost use Rattle.std.specs.Prelude.{◌≡◌, ◌≢◌, true, false, Err, IfOk, None, Ok, OnOk, OnErr, vec_len, ◌≤◌, []};
+ghost use Rattle.std.specs.Prelude.{◌≡◌, ◌≢◌, true, false, Err, IfOk, None, Ok, OnOk, OnErr};
+ghost use Rattle.std.specs.Prelude.{vec_len, ◌≤◌, []};
 ghost use Rattle.std.specs.Result.{result_err};
 ghost use Rattle.h41_commands.specs.Blocks.{judgement};
 ghost use Rattle.h41_commands.specs.Commands.{kind_of};
@@ -142,8 +143,8 @@ fn say_alone<W: Sink>(
         Command::Step(count) => Ok(step(bench, count)),
         Command::Run(limit) => Ok(run(bench, limit, writer)?),
         Command::Trace(count) => Ok(trace(bench, count, writer)?),
-        Command::Break(place) => Ok(set_break(bench, place)),
-        Command::Unbreak(place) => Ok(unbreak(bench, place)),
+        Command::Break(location) => Ok(set_break(bench, location)),
+        Command::Unbreak(location) => Ok(unbreak(bench, location)),
         Command::List { address, count } => {
             let listing = listed(alloc, bench.calculator().pages(), address, count)?;
             Ok(say_made(listing, writer)?)

@@ -1,7 +1,7 @@
 //! The command that a line's words spell.
 
 ghost use Rattle.std.specs.Prelude.{◌≡◌, ◌≤◌, ◌+◌, ◌*◌, length};
-ghost use Rattle.h41_commands.specs.Commands.{break_place, call_command, place_by, placed_command, read_plain, key_command, load_command, reset_command, size_command, unplug_command, is_opening, opening_command, parsed, plain_command, counted_command, plug_at, plug_command, show_command, step_command, view_named, view_of, list_command};
+ghost use Rattle.h41_commands.specs.Commands.{break_location, call_command, location_by, placed_command, read_plain, key_command, load_command, reset_command, size_command, unplug_command, is_opening, opening_command, parsed, plain_command, counted_command, plug_at, plug_command, show_command, step_command, view_named, view_of, list_command};
 ghost use Rattle.h41_lines.specs.Words.{words_of};
 ghost use Rattle.h41_commands.specs.DeckLines.{longest_line, most_keys};
 ghost use Rattle.h41_commands.specs.Numbers as spec;
@@ -9,8 +9,9 @@ ghost use Rattle.h41_commands.specs.declared.commands.Command.TheVariants as com
 
 use crate::commands::keys::Keys;
 use crate::commands::number::{count_up_to, hexadecimal, number_up_to};
-use crate::commands::{BlockKind, BreakPlace, Command, PageKind, PlainKind, ProgramKind, View};
+use crate::commands::{BlockKind, Command, PageKind, PlainKind, ProgramKind, View};
 use crate::refusal::LineRefusal;
+use h41_breakpoints::Location;
 use h41_keys::Key;
 use h41_lines::words::LineWords;
 
@@ -212,35 +213,35 @@ fn trace(mut operands: LineWords<'_>) -> Result<Command, LineRefusal>
 fn set_break(operands: LineWords<'_>) -> Result<Command, LineRefusal>
     ensures { result ≡ placed_command commands.Break (words_of operands.entry.rest.now) }
 {
-    Ok(Command::Break(break_place(operands)?))
+    Ok(Command::Break(break_location(operands)?))
 }
 
 /// `unbreak w hhhh` and `unbreak l n`.
 fn unbreak(operands: LineWords<'_>) -> Result<Command, LineRefusal>
     ensures { result ≡ placed_command commands.Unbreak (words_of operands.entry.rest.now) }
 {
-    Ok(Command::Unbreak(break_place(operands)?))
+    Ok(Command::Unbreak(break_location(operands)?))
 }
 
-/// The place of a breakpoint.
-fn break_place(mut operands: LineWords<'_>) -> Result<BreakPlace, LineRefusal>
-    ensures { result ≡ break_place (words_of operands.entry.rest.now) }
+/// The location of a breakpoint.
+fn break_location(mut operands: LineWords<'_>) -> Result<Location, LineRefusal>
+    ensures { result ≡ break_location (words_of operands.entry.rest.now) }
 {
     match (operands.next(), operands.next(), operands.next()) {
-        (Some(kind), Some(number), None) => place_by(kind, number),
+        (Some(kind), Some(number), None) => location_by(kind, number),
         _ => Err(LineRefusal::BadCommand),
     }
 }
 
-/// The place of a breakpoint, by the word for its kind and its number.
-fn place_by(kind: &[u8], number: &[u8]) -> Result<BreakPlace, LineRefusal>
-    ensures { result ≡ place_by kind.now number.now }
+/// The location of a breakpoint, by the word for its kind and its number.
+fn location_by(kind: &[u8], number: &[u8]) -> Result<Location, LineRefusal>
+    ensures { result ≡ location_by kind.now number.now }
 {
     match kind {
-        b"w" => Ok(BreakPlace::Word(hexadecimal(4, 4, number)?)),
+        b"w" => Ok(Location::Word(hexadecimal(4, 4, number)?)),
         b"l" => {
             let position = number_up_to(MOST_POSITION, 10, number)? as u16;
-            Ok(BreakPlace::Line(position))
+            Ok(Location::Line(position))
         }
         _ => Err(LineRefusal::BadCommand),
     }

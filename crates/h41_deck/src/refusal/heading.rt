@@ -36,7 +36,7 @@ impl Refusal {
 
 /// Of a refusal of the calculator.
 fn calculator_heading(refusal: CalculatorRefusal) -> &'static str
-    ensures text { result.now ≡ spec.headed (spec.calculator_name refusal) }
+    ensures text { result.now ≡ spec.heading_of (spec.calculator_name refusal) }
     ensures short { length result.now ≤ 22 }
 {
     match refusal {
@@ -51,7 +51,7 @@ fn calculator_heading(refusal: CalculatorRefusal) -> &'static str
 
 /// Of a refusal of a word.
 fn word_heading(refusal: WordRefusal) -> &'static str
-    ensures text { result.now ≡ spec.headed (spec.word_name refusal) }
+    ensures text { result.now ≡ spec.heading_of (spec.word_name refusal) }
     ensures short { length result.now ≤ 22 }
 {
     match refusal {
@@ -67,7 +67,7 @@ fn word_heading(refusal: WordRefusal) -> &'static str
 
 /// Of a refusal of program memory.
 fn program_heading(refusal: ProgramRefusal) -> &'static str
-    ensures text { result.now ≡ spec.headed (spec.program_name refusal) }
+    ensures text { result.now ≡ spec.heading_of (spec.program_name refusal) }
     ensures short { length result.now ≤ 22 }
 {
     match refusal {
@@ -79,7 +79,7 @@ fn program_heading(refusal: ProgramRefusal) -> &'static str
 
 /// Of a refusal of lines.
 fn line_heading(refusal: LineRefusal) -> &'static str
-    ensures text { result.now ≡ spec.headed (spec.line_name refusal) }
+    ensures text { result.now ≡ spec.heading_of (spec.line_name refusal) }
     ensures short { length result.now ≤ 22 }
 {
     match refusal {
@@ -95,7 +95,7 @@ fn line_heading(refusal: LineRefusal) -> &'static str
 
 /// Of a fault of a source.
 fn source_heading(fault: SourceFault) -> &'static str
-    ensures text { result.now ≡ spec.headed (spec.source_name fault) }
+    ensures text { result.now ≡ spec.heading_of (spec.source_name fault) }
     ensures short { length result.now ≤ 22 }
 {
     match fault {

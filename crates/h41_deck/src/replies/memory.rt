@@ -3,7 +3,8 @@
 ghost use Rattle.std.specs.Prelude.{◌≡◌, ◌+◌, ◌*◌, ◌<◌, ◌≤◌, ◌++◌, Some};
 ghost use Rattle.std.specs.Fmt.{WritesOnOk};
 ghost use Rattle.arrayvec.specs.ArrayString.{array_string_len};
-ghost use Rattle.h41_deck.specs.Views.{flags_below, flags_line, level_line, register_line, stack_text};
+ghost use Rattle.h41_deck.specs.Views.{flags_below, flags_line, level_line, register_line};
+ghost use Rattle.h41_deck.specs.Views.{stack_text};
 ghost use Rattle.h41_lines.specs.Characters.{two_digits};
 
 use arrayvec::ArrayString;

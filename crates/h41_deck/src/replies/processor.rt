@@ -2,7 +2,8 @@
 
 ghost use Rattle.std.specs.Prelude.{◌≡◌, Some};
 ghost use Rattle.std.specs.Fmt.{WritesOnOk};
-ghost use Rattle.h41_deck.specs.Views.{registers_line, memories_line, pointers_line, modes_line, returns_line, pointer_text, base_text, bit_text};
+ghost use Rattle.h41_deck.specs.Views.{registers_line, memories_line, pointers_line, modes_line};
+ghost use Rattle.h41_deck.specs.Views.{returns_line, pointer_text, base_text, bit_text};
 
 use h41_digits::Digits;
 use h41_fields::Pointer;

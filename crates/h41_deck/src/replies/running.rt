@@ -5,13 +5,13 @@ ghost use Rattle.h41_commands.specs.declared.commands.Command.TheVariants as com
 ghost use Rattle.h41_deck.specs.Answers.{ends_by};
 ghost use Rattle.h41_deck.specs.Replies.{Reply};
 ghost use Rattle.h41_deck.specs.Runs as spec;
-ghost use Rattle.h41_deck.specs.Writing.{RunsAlone, TellsLine, TracesAlone};
+ghost use Rattle.h41_deck.specs.Writing.{RunsAlone, IsTraceLine, TracesAlone};
 
 use crate::refusal::Refusal;
 use arrayvec::ArrayString;
-use h41_commands::BreakPlace;
+use h41_breakpoints::Location;
 use h41_debug::laws::steps_are_traced;
-use h41_debug::{Bench, Breakpoint, Stop, TRACE_CAPACITY};
+use h41_debug::{Bench, Stop, TRACE_CAPACITY};
 use h41_ends::{Sink, WriteFault, write_whole};
 use itoa::Buffer;
 
@@ -101,7 +101,7 @@ pub fn trace<W: Sink>(
 
 /// The line that tells of the next step.
 fn traced_line(bench: &Bench) -> ArrayString<TRACED>
-    ensures { TellsLine bench.now result.bytes }
+    ensures { IsTraceLine bench.now result.bytes }
 {
     let mut line = ArrayString::new();
     line.push_str(bench.trace_line().as_str());
@@ -110,31 +110,21 @@ fn traced_line(bench: &Bench) -> ArrayString<TRACED>
 }
 
 /// Sets a breakpoint, or tells why not.
-pub fn set_break(bench: &mut Bench, place: BreakPlace) -> Option<Refusal>
-    ensures { Reply (commands.Break place) [] bench.old bench.new (ends_by result) }
+pub fn set_break(bench: &mut Bench, location: Location) -> Option<Refusal>
+    ensures { Reply (commands.Break location) [] bench.old bench.new (ends_by result) }
 {
-    match bench.break_at(breakpoint_at(place)) {
+    match bench.break_at(location) {
         Ok(()) => None,
         Err(_) => Some(Refusal::BreakFull),
     }
 }
 
 /// Takes a breakpoint away, or tells why not.
-pub fn unbreak(bench: &mut Bench, place: BreakPlace) -> Option<Refusal>
-    ensures { Reply (commands.Unbreak place) [] bench.old bench.new (ends_by result) }
+pub fn unbreak(bench: &mut Bench, location: Location) -> Option<Refusal>
+    ensures { Reply (commands.Unbreak location) [] bench.old bench.new (ends_by result) }
 {
-    match bench.unbreak(breakpoint_at(place)) {
+    match bench.unbreak(location) {
         Ok(()) => None,
         Err(_) => Some(Refusal::NoBreak),
-    }
-}
-
-/// The breakpoint that a command names.
-fn breakpoint_at(place: BreakPlace) -> Breakpoint
-    ensures { result ≡ spec.breakpoint_at place }
-{
-    match place {
-        BreakPlace::Word(address) => Breakpoint::Word(address),
-        BreakPlace::Line(position) => Breakpoint::Line(position),
     }
 }

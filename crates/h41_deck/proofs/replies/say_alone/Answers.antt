@@ -9,7 +9,8 @@ returns-in_err-say_made-in-List-clause-text g c =
     let failed = err_from_is_err_and c.from_residual-in_err-say_made-in-List.result c.from_residual-in_err-say_made-in-List.ensures.1 in
     let pages_are = c.pages.ensures ∙ ap (λ (of : CalculatorState). of.nut.pages) c.calculator.ensures in
     rw (failed.1, failed.2) (λ values. part_alone c.args.command values c.args.bench.now _ _ c.in_ok-listing-in-List.listing
-    (list_said c.args.command values c.in-List.address c.in-List.count c.args.bench.now _ c.in_ok-listing-in-List.listing c.in-List.is pages_are c.in_ok-listing-in-List.ensures)
+    (list_said c.args.command values c.in-List.address c.in-List.count c.args.bench.now _
+    c.in_ok-listing-in-List.listing c.in-List.is pages_are c.in_ok-listing-in-List.ensures)
     c.in_err-say_made-in-List.ensures.written)
 
 pub returns-in_err-say_made-in-Show-clause-text : goal.returns-in_err-say_made-in-Show-clause-text

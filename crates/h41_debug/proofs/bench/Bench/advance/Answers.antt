@@ -8,7 +8,8 @@ use Rattle.h41_debug.proofs.bench.Bench.advance.Goals as goal
 pub returns-in-Some-refused-clause-run : goal.returns-in-Some-refused-clause-run
 returns-in-Some-refused-clause-run c =
     let refused : IsRefused c.args.limit c.go_on-now.result.0 c.go_on-now.new.self c.in-Some-refused.refusal =
-    subst (λ (why : Option CalculatorRefusal). MatchOption why (c.loop-made.made < c.go_on-now.result.0) (IsRefused c.args.limit c.go_on-now.result.0 c.go_on-now.new.self))
+    subst (λ (why : Option CalculatorRefusal).
+    MatchOption why (c.loop-made.made < c.go_on-now.result.0) (IsRefused c.args.limit c.go_on-now.result.0 c.go_on-now.new.self))
     c.in-Some-refused.is c.go_on-now.ensures.ends in
     (ends_at_refusal c.args.limit c.go_on-now.result.0 c.args.self.now c.go_on-now.new.self c.in-Some-refused.refusal
     (c.go_on-now.ensures.goes_on c.args.self.now c.loop-made.invariant.0) refused.1 refused.0 refused.2).1

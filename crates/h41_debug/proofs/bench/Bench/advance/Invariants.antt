@@ -1,11 +1,12 @@
 use Rattle.std.proofs.Common.{◌≡◌, ◌≤◌, ◌-◌, false}
 use Rattle.std.specs.FinSet.{len}
-use Rattle.h41_debug.specs.Advancing.{Made}
+use Rattle.h41_debug.specs.Advancing.{MakesSteps}
 use Rattle.h41_debug.proofs.bench.Bench.advance.Given as goal
 
 -- so many steps were made, and where breakpoints are not asked for none is set
 abbrev pub invariant-loop-made : goal.invariant-loop-made
-invariant-loop-made l = Made l.fn.limit l.made l.fn.self l.self × (l.made ≤ l.fn.limit) × (l.watched ≡ false → len l.self.breakpoints ≡ 0)
+invariant-loop-made l =
+    MakesSteps l.fn.limit l.made l.fn.self l.self × (l.made ≤ l.fn.limit) × (l.watched ≡ false → len l.self.breakpoints ≡ 0)
 
 abbrev pub decreases-loop-made : goal.decreases-loop-made
 decreases-loop-made l = l.fn.limit - l.made

@@ -6,13 +6,19 @@ use Rattle.h41_debug.proofs.bench.Bench.step.Goals as goal
 
 pub returns-in-Refused-clause-refusal : goal.returns-in-Refused-clause-refusal
 returns-in-Refused-clause-refusal c =
-    let ended = refused_for 1 c.advance-made.result.0 c.advance-made.new.self c.advance-made.result.1 c.in-Refused.refusal c.advance-made.ensures.ends c.in-Refused.is in
+    let ended =
+    refused_for 1 c.advance-made.result.0 c.advance-made.new.self c.advance-made.result.1
+    c.in-Refused.refusal c.advance-made.ensures.ends c.in-Refused.is in
     let stays = none_made c.advance-made.result.0 c.args.self.now c.advance-made.new.self ended.0 c.advance-made.ensures.steps in
     subst (λ (at : BenchState). RefusesStep at.calculator (Some c.in-Refused.refusal)) stays ended.1
 
 pub returns : goal.returns
 returns c =
-    let some = some_made 1 c.advance-made.result.0 c.advance-made.new.self c.advance-made.result.1 (omega arith) c.advance-made.ensures.ends c.in_default.not-Refused in
+    let some =
+    some_made 1 c.advance-made.result.0 c.advance-made.new.self c.advance-made.result.1
+    (omega arith) c.advance-made.ensures.ends c.in_default.not-Refused in
     let one : c.advance-made.result.0 ≡ 1 = omega (arith, some, c.advance-made.ensures.most) in
-    let made = one_made c.args.self.now c.advance-made.new.self (subst (λ n. Steps n c.args.self.now c.advance-made.new.self None) one c.advance-made.ensures.steps) in
+    let made =
+    one_made c.args.self.now c.advance-made.new.self
+    (subst (λ n. Steps n c.args.self.now c.advance-made.new.self None) one c.advance-made.ensures.steps) in
     record { refusal = made.0; change = made.1; others = made.2; err = tt }

@@ -11,12 +11,14 @@ returns-in-Refused c =
     let ended = refused_for c.loop-left.left c.advance-made.result.0 c.advance-made.new.self c.advance-made.result.1 c.in-Refused.refusal
     c.advance-made.ensures.ends c.in-Refused.is in
     c.loop-left.invariant c.advance-made.new.self (Some c.in-Refused.refusal)
-    (steps_to_refusal c.loop-left.left c.advance-made.result.0 c.loop-left.self c.advance-made.new.self c.in-Refused.refusal ended.0 c.advance-made.ensures.steps ended.1)
+    (steps_to_refusal c.loop-left.left c.advance-made.result.0 c.loop-left.self
+    c.advance-made.new.self c.in-Refused.refusal ended.0 c.advance-made.ensures.steps ended.1)
 
 pub loop-left-preserved : goal.loop-left-preserved
 loop-left-preserved c t refusal rest =
     c.loop-left.invariant t refusal
-    (steps_left c.loop-left.left c.advance-made.result.0 c.loop-left.self c.advance-made.new.self t refusal c.advance-made.ensures.most c.advance-made.ensures.steps rest)
+    (steps_left c.loop-left.left c.advance-made.result.0 c.loop-left.self c.advance-made.new.self
+    t refusal c.advance-made.ensures.most c.advance-made.ensures.steps rest)
 
 pub returns : goal.returns
 returns c =

@@ -1,6 +1,6 @@
 use Rattle.std.proofs.Common.{◌≡◌, None, nat_lt}
 use Rattle.h41_xrom.specs.declared.calculator.Mode.TheVariants.{Micro}
-use Rattle.h41_debug.specs.Advancing.{Made}
+use Rattle.h41_debug.specs.Advancing.{MakesSteps}
 use Rattle.h41_debug.specs.Bench.{BenchState}
 use Rattle.h41_debug.specs.Running.{stop_behind}
 use Rattle.h41_debug.proofs.bench.Bench.words.Given as goal
@@ -8,5 +8,7 @@ use Rattle.h41_debug.proofs.bench.Bench.words.Given as goal
 -- so many steps were made, the function runs, and there is no reason to stop
 abbrev pub invariant-loop-made : goal.invariant-loop-made
 invariant-loop-made l =
-    ((start : BenchState) → Made l.fn.limit l.fn.from start l.fn.self → Made l.fn.limit l.made start l.self)
-    × (stop_behind (nat_lt 0 l.made) l.self ≡ None) × (l.self.calculator.mode ≡ Micro l.fn.caller) × (l.self.breakpoints ≡ l.fn.self.breakpoints)
+    ((start : BenchState) → MakesSteps l.fn.limit l.fn.from start l.fn.self → MakesSteps l.fn.limit l.made start l.self)
+    × (stop_behind (nat_lt 0 l.made) l.self ≡ None)
+    × (l.self.calculator.mode ≡ Micro l.fn.caller)
+    × (l.self.breakpoints ≡ l.fn.self.breakpoints)

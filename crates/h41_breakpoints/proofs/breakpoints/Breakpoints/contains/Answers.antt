@@ -1,0 +1,11 @@
+use Rattle.std.proofs.Common.{ap, ◌∙◌}
+use Rattle.std.specs.List.{list_any}
+use Rattle.h41_breakpoints.specs.Breakpoints.{BreakpointSet, is_set}
+use Rattle.h41_breakpoints.specs.Members.{is_same}
+use Rattle.h41_breakpoints.proofs.Members.{set_has}
+use Rattle.h41_breakpoints.proofs.breakpoints.Breakpoints.contains.Goals as goal
+
+pub returns-then-may_contain : goal.returns-then-may_contain
+returns-then-may_contain c =
+    c.is_among.ensures ∙ ap (list_any (is_same c.args.location)) c.as_slice.ensures.value
+    ∙ set_has c.self.inside.items.items c.args.location ∙ ap (λ (set : BreakpointSet). is_set set c.args.location) c.self.view_is

@@ -1,0 +1,47 @@
+-- Breakpoints: a finite set of locations. How many there are at most, and the refusals, are this
+-- project's choice.
+use Rattle.std.specs.Prelude.{ℕ, Bool, not, ◌&&◌, nat_le}
+use Rattle.std.specs.Ordering.{nat_cmp}
+use Rattle.std.specs.FinSet.{FinSet, contains, empty, insert, len, remove}
+use Rattle.std.specs.declared.cmp.Ordering.{Ordering}
+use Rattle.std.specs.declared.cmp.Ordering.TheVariants.{Greater, Less}
+use Rattle.h41_breakpoints.specs.declared.location.Location.{Location}
+use Rattle.h41_breakpoints.specs.declared.location.Location.TheVariants.{Line, Word}
+
+-- the order of locations, which only the same one shares a place in: words before lines, and each
+-- by their numbers
+abbrev pub location_cmp : Location → Location → Ordering
+location_cmp (Word address) (Word other) = nat_cmp address other
+location_cmp (Word address) (Line position) = Less
+location_cmp (Line position) (Word address) = Greater
+location_cmp (Line position) (Line other) = nat_cmp position other
+
+abbrev pub BreakpointSet : Type 0
+BreakpointSet = FinSet location_cmp
+
+abbrev pub no_breakpoints : BreakpointSet
+no_breakpoints = empty
+
+-- whether one is in a set
+abbrev pub is_set : BreakpointSet → Location → Bool
+is_set set location = contains set location
+
+-- a set with one more
+abbrev pub with_breakpoint : Location → BreakpointSet → BreakpointSet
+with_breakpoint location set = insert set location
+
+-- a set without one
+abbrev pub without_breakpoint : Location → BreakpointSet → BreakpointSet
+without_breakpoint location set = remove set location
+
+-- the most that a set has
+abbrev pub most_breakpoints : ℕ
+most_breakpoints = 16
+
+-- one more is refused as 19 where so many others are set; one that is set is not
+abbrev pub refuses_breakpoint : BreakpointSet → Location → Bool
+refuses_breakpoint set location = not (is_set set location) && nat_le most_breakpoints (len set)
+
+-- one that is not set can't be taken away: 20
+abbrev pub lacks_breakpoint : BreakpointSet → Location → Bool
+lacks_breakpoint set location = not (is_set set location)

@@ -1,0 +1,2 @@
+pub mod Breakpoints
+pub mod Members

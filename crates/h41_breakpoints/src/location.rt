@@ -1,0 +1,45 @@
+//! Where the calculator can be, and a run can stop.
+
+ghost use Rattle.std.specs.Prelude.{◌≡◌, ◌<◌};
+ghost use Rattle.h41_breakpoints.specs.Members.{is_same, low_byte};
+ghost use Rattle.h41_breakpoints.specs.declared.location.Location.TheVariants.{Word};
+
+/// Where the calculator can be. A breakpoint is such a place, and has a run stop there.
+#[derive(Clone, Copy, Debug, PartialEq, Eq)]
+pub enum Location {
+    /// While a function runs: before the word at this address.
+    Word(u16),
+    /// While no function runs: before the line at this position in program memory.
+    Line(u16),
+}
+
+impl Default for Location {
+    ghost is_default = { λ location. location ≡ Word 0 };
+
+    fn default() -> Self {
+        Location::Word(0)
+    }
+}
+
+impl Location {
+    /// Whether the other is the same.
+    pub(crate) fn is(self, other: Self) -> bool
+        ensures { result ≡ is_same self other }
+    {
+        match (self, other) {
+            (Location::Word(address), Location::Word(other)) => address == other,
+            (Location::Line(position), Location::Line(other)) => position == other,
+            _ => false,
+        }
+    }
+
+    /// The low byte of its number.
+    pub(crate) fn low_byte(self) -> usize
+        ensures value { result ≡ low_byte self }
+        ensures bound { result < 256 }
+    {
+        match self {
+            Location::Word(number) | Location::Line(number) => usize::from(number % 256),
+        }
+    }
+}

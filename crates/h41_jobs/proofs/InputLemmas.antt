@@ -11,10 +11,8 @@ use Rattle.h41_commands.specs.declared.refusal.LineRefusal.{LineRefusal}
 use Rattle.h41_commands.specs.declared.refusal.LineRefusal.TheVariants.{Source}
 use Rattle.h41_ends.specs.Ends.{most_bytes}
 use Rattle.h41_commands.specs.PageBlocks.{SourceMakes}
-use Rattle.h41_jobs.specs.declared.arguments.Task.TheVariants as tasks
-use Rattle.h41_jobs.specs.declared.ended.Ended.{Ended}
 use Rattle.h41_jobs.specs.Inputs.{IsWhole}
-use Rattle.h41_jobs.specs.Tasks.{AssemblyText, HasText, IsTooLong, ListingText, ReadsAs, SourceAssemblesTo, TaskEnds, ListReadsAs, WritesFrontOf, WritesTextOf, given_text, ended_of_source, ended_of_list, list_text}
+use Rattle.h41_jobs.specs.Tasks.{IsTooLong, WritesFrontOf, WritesTextOf}
 
 -- the bytes are the whole input
 pub whole_input : (known : Option (List ℕ)) (bytes : List ℕ) (whole : Bool) → IfSome known (λ input. bytes ≡ take most_bytes input)
@@ -24,59 +22,23 @@ whole_input (Some input) bytes whole front says is =
     let short : length input ≤ most_bytes = leb-true _ _ (sym says ∙ is) in
     record { all = front ∙ take_all most_bytes input short; bound = short }
 
-module _ (known old new : Option (List ℕ)) (bytes : List ℕ) where
-  -- what a source gives
-  source_assembles_to : (origin : ℕ) (given : Result (List ℕ) LineRefusal) (input : List ℕ) → IsWhole bytes input → SourceMakes bytes origin given → SourceAssemblesTo origin input given
-  source_assembles_to origin given input whole gives =
-      record { bound = whole.bound; gives = subst (λ (source : List ℕ). SourceMakes source origin given) whole.all gives }
+-- what holds of bytes within the bound holds of the input that they are
+pub whole_holds : (known : Option (List ℕ)) (bytes : List ℕ) (P : List ℕ → Type 0) → IfSome known (IsWhole bytes)
+    → (length bytes ≤ most_bytes → P bytes) → IfSome known P
+whole_holds None bytes P read holds = tt
+whole_holds (Some input) bytes P read holds =
+    subst P read.all (holds (subst (λ (input : List ℕ). length input ≤ most_bytes) (sym read.all) read.bound))
 
-  -- its text is written, and it ends so
-  pub assembly_text : (origin : ℕ) (given : Result (List ℕ) LineRefusal) (text : List ℕ) → IfSome known (IsWhole bytes) → SourceMakes bytes origin given
-      → text ≡ given_text given → Appends old new text → IfSome known (WritesTextOf (AssemblyText origin) old new)
-  assembly_text origin given text read gives is written = elim known as (λ known. IfSome known (IsWhole bytes) → IfSome known (WritesTextOf (AssemblyText origin) old new)) [
-    | None ↦ λ read. tt
-    | Some input ↦ λ read. (text, (given, source_assembles_to origin given input read gives, is), written)
-  ] read
+module _ (text_of : List ℕ → List ℕ → Type 0) (known old new : Option (List ℕ)) (bytes text : List ℕ) where
+  -- their text is written, or a front of it
+  pub whole_text : IfSome known (IsWhole bytes) → (length bytes ≤ most_bytes → text_of bytes text) → Appends old new text
+      → IfSome known (WritesTextOf text_of old new)
+  whole_text read has written = whole_holds known bytes (WritesTextOf text_of old new) read (λ bound. (text, has bound, written))
 
-  pub assembly_ends : (origin : ℕ) (given : Result (List ℕ) LineRefusal) (ended : Ended) → IfSome known (IsWhole bytes) → SourceMakes bytes origin given
-      → ended ≡ ended_of_source given → IfSome known (TaskEnds (tasks.Assemble origin) ended)
-  assembly_ends origin given ended read gives is = elim known as (λ known. IfSome known (IsWhole bytes) → IfSome known (TaskEnds (tasks.Assemble origin) ended)) [
-    | None ↦ λ read. tt
-    | Some input ↦ λ read. (given, source_assembles_to origin given input read gives, is)
-  ] read
-
-  -- what a text of words says
-  list_reads_as : (said : Result (List ℕ) ℕ) (input : List ℕ) → IsWhole bytes input → ReadsAs bytes said → ListReadsAs input said
-  list_reads_as said input whole says = record { bound = whole.bound; says = subst (λ (text : List ℕ). ReadsAs text said) whole.all says }
-
-  pub listing_text : (origin : ℕ) (said : Result (List ℕ) ℕ) (text : List ℕ) → IfSome known (IsWhole bytes) → ReadsAs bytes said
-      → text ≡ list_text said → Appends old new text → IfSome known (WritesTextOf (HasText (tasks.List origin)) old new)
-  listing_text origin said text read says is written = elim known as (λ known. IfSome known (IsWhole bytes) → IfSome known (WritesTextOf (HasText (tasks.List origin)) old new)) [
-    | None ↦ λ read. tt
-    | Some input ↦ λ read. (text, (said, list_reads_as said input read says, is), written)
-  ] read
-
-  pub listing_ends : (origin : ℕ) (said : Result (List ℕ) ℕ) (ended : Ended) → IfSome known (IsWhole bytes) → ReadsAs bytes said
-      → ended ≡ ended_of_list said → IfSome known (TaskEnds (tasks.List origin) ended)
-  listing_ends origin said ended read says is = elim known as (λ known. IfSome known (IsWhole bytes) → IfSome known (TaskEnds (tasks.List origin) ended)) [
-    | None ↦ λ read. tt
-    | Some input ↦ λ read. (said, list_reads_as said input read says, is)
-  ] read
-
-  -- a front of the text is written
-  pub assembly_front : (origin : ℕ) (given : Result (List ℕ) LineRefusal) (text : List ℕ) → IfSome known (IsWhole bytes) → SourceMakes bytes origin given
-      → text ≡ given_text given → (count : ℕ) × Appends old new (take count text) → IfSome known (WritesFrontOf (AssemblyText origin) old new)
-  assembly_front origin given text read gives is front = elim known as (λ known. IfSome known (IsWhole bytes) → IfSome known (WritesFrontOf (AssemblyText origin) old new)) [
-    | None ↦ λ read. tt
-    | Some input ↦ λ read. (text, (given, source_assembles_to origin given input read gives, is), front.0, front.1)
-  ] read
-
-  pub listing_front : (said : Result (List ℕ) ℕ) (text : List ℕ) → IfSome known (IsWhole bytes) → ReadsAs bytes said
-      → text ≡ list_text said → (count : ℕ) × Appends old new (take count text) → IfSome known (WritesFrontOf ListingText old new)
-  listing_front said text read says is front = elim known as (λ known. IfSome known (IsWhole bytes) → IfSome known (WritesFrontOf ListingText old new)) [
-    | None ↦ λ read. tt
-    | Some input ↦ λ read. (text, (said, list_reads_as said input read says, is), front.0, front.1)
-  ] read
+  pub whole_front : IfSome known (IsWhole bytes) → (length bytes ≤ most_bytes → text_of bytes text)
+      → (count : ℕ) × Appends old new (take count text) → IfSome known (WritesFrontOf text_of old new)
+  whole_front read has front =
+      whole_holds known bytes (WritesFrontOf text_of old new) read (λ bound. (text, has bound, front.0, front.1))
 
 -- a source with a fault
 pub source_refused : (source bytes : List ℕ) (origin line : ℕ) (fault : asm.SourceFault) (why : LineRefusal) → source ≡ bytes → assembly_fault source origin ≡ Some (fault, line)

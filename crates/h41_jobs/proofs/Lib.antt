@@ -1,3 +1,5 @@
 pub mod CommandLemmas
+pub mod CommandWalks
 pub mod InputLemmas
 pub mod WordLemmas
+pub mod WordTurns

@@ -20,18 +20,15 @@ only_file (a ∷ b ∷ []) = if is_last_flag a then Some b
     else (if is_last_flag b && not (is_flag a) then Some a else None)
 only_file (a ∷ b ∷ c ∷ rest) = None
 
--- the FILE that the words ask to run, where they do
-abbrev pub file_to_run : List (List ℕ) → Option (List ℕ)
-file_to_run [] = None
-file_to_run (name ∷ []) = None
-file_to_run (name ∷ command ∷ rest) =
-    if bytes_eq (codes "run") command then only_file rest else None
-
 -- the FILE that the words hand to a command, with nothing beside it, where they do
 abbrev pub file_for : List ℕ → List (List ℕ) → Option (List ℕ)
 file_for command [] = None
 file_for command (name ∷ []) = None
 file_for command (name ∷ word ∷ rest) = if bytes_eq command word then only_file rest else None
+
+-- the FILE that the words ask to run, where they do
+abbrev pub file_to_run : List (List ℕ) → Option (List ℕ)
+file_to_run = file_for (codes "run")
 
 -- the names of the commands
 abbrev pub is_command : List ℕ → Bool

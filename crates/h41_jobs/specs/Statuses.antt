@@ -1,6 +1,5 @@
 -- The statuses that the program ends with, and what they tell.
-use Rattle.std.specs.Prelude.{◌≡◌, ◌≢◌, ◌⊎◌, ℕ, true, false, List, [], MatchOption}
-use Rattle.std.specs.Io.KnownBytes.{Appends}
+use Rattle.std.specs.Prelude.{◌≡◌, ◌≢◌, ◌⊎◌, ℕ, Bool, true, false, List, [], MatchOption}
 use Rattle.h41_ends.specs.declared.sink.Sink as sinks
 use Rattle.h41_ends.specs.declared.source.Source as sources
 use Rattle.h41_deck.specs.declared.fault.Fault.{Fault}
@@ -13,7 +12,7 @@ use Rattle.h41_jobs.specs.declared.ended.Ended.{Ended}
 use Rattle.h41_jobs.specs.declared.ended.Ended.TheVariants.{Accepted, Refused, WrongWord}
 use Rattle.clap.specs.Words.{fault_of}
 use Rattle.h41_jobs.specs.BenchCommand.{bench_app, job_asked}
-use Rattle.h41_jobs.specs.Tasks.{FailedOrTooLong, TaskEnds}
+use Rattle.h41_jobs.specs.Tasks.{FailedOrTooLong, TaskEnds, Tells}
 
 -- the status of a deck or a source that was begun: 0, 1 or 3
 abbrev pub IsStatus : ℕ → Type 0
@@ -55,18 +54,28 @@ EndsJob job status input = EndsTask job.task status input
 abbrev pub fault_line : Fault → List ℕ
 fault_line fault = refusal_line (of_fault fault)
 
--- A fault's line is told. It is a read's where reading failed or the input was too long, a write's where writing failed, and
--- any other where neither did.
-pub record IsTold {R W E : Type 0} (task : Task) (source : sources.Ghosts R) (sink : sinks.Ghosts W) (told : sinks.Ghosts E)
-    (before after : R) (old new : W) (told_old told_new : E) : Type 0 where
-  pub fault : Fault
-  pub line : Appends (told.contents told_old) (told.contents told_new) (fault_line fault)
+-- where a mark is set at the end, something failed, and this is the status of that
+abbrev pub TellsMark : ℕ → Bool → Type 0
+TellsMark status mark = mark ≡ true → status ≡ 3
+
+-- what a fault says of the ends: a read's that reading failed or the input was too long, a write's that
+-- writing failed, and any other that neither did
+pub record IsCause {R W : Type 0} (fault : Fault) (task : Task) (source : sources.Ghosts R)
+    (sink : sinks.Ghosts W) (before after : R) (old new : W) : Type 0 where
   pub read : fault ≡ ReadFault → FailedOrTooLong task source sink before after old new
   pub write : fault ≡ WriteFault → sink.failed new ≡ true
   pub not_read : fault ≢ ReadFault → source.failed after ≡ false
   pub not_write : fault ≢ WriteFault → sink.failed new ≡ false
 
--- where something failed, and the end for faults did not, its line is told
-abbrev pub TellsFault : {R W E : Type 0} → ℕ → Task → sources.Ghosts R → sinks.Ghosts W → sinks.Ghosts E → R → R → W → W → E → E → Type 0
+-- a fault that came for its cause, and that is told, as far as the end for faults takes its line
+pub record IsTold {R W E : Type 0} (task : Task) (source : sources.Ghosts R) (sink : sinks.Ghosts W)
+    (told : sinks.Ghosts E) (before after : R) (old new : W) (told_old told_new : E) : Type 0 where
+  pub fault : Fault
+  pub cause : IsCause fault task source sink before after old new
+  pub line : Tells told told_old told_new (fault_line fault)
+
+-- where a job has the status of a fault
+abbrev pub TellsFault : {R W E : Type 0} → ℕ → Task → sources.Ghosts R → sinks.Ghosts W
+    → sinks.Ghosts E → R → R → W → W → E → E → Type 0
 TellsFault status task source sink told before after old new told_old told_new =
-    status ≡ 3 → told.failed told_new ≡ false → IsTold task source sink told before after old new told_old told_new
+    status ≡ 3 → IsTold task source sink told before after old new told_old told_new

@@ -3,7 +3,7 @@
 ghost use Rattle.std.specs.Prelude.{◌≡◌, ◌≢◌, ◌≤◌, true, false, Err, OnOk, OnErr, IfOk, IfSome};
 ghost use Rattle.std.specs.Io.KnownBytes.{Keeps};
 ghost use Rattle.h41_ends.specs.Ends.{Appended};
-ghost use Rattle.h41_jobs.specs.Statuses.{EndsJob, IsTaskStatus, TellsFault, fault_line};
+ghost use Rattle.h41_jobs.specs.Statuses.{EndsJob, IsTaskStatus, TellsFault, TellsMark, fault_line};
 ghost use Rattle.h41_jobs.specs.Tasks.{Ends, ErrLeavesBegun, ErrLeavesFront, JobBegun, JobLeavesFront, JobLeavesUnread, JobWritesText, LeavesUnread, MayEnd, OkWritesText, Tells, TellsWord, NotRead, mistake_line};
 
 use crate::arguments::{Job, Task};
@@ -51,8 +51,12 @@ pub fn serve<R: Source, W: Sink, E: Sink>(
     ensures silent { result ≤ 1 → Keeps (E.contents faults.old) (E.contents faults.new) }
     ensures mistake { TellsWord result job.entry R.Source E.Sink reader.old faults.old faults.new }
 
+    // A read or a write that failed gives status 3.
+    ensures reader { TellsMark result (R.failed reader.new) }
+    ensures writer { TellsMark result (W.failed writer.new) }
+
     // Where something failed, the replies to some first commands of a deck are written, and nothing of a source or of a list; or
-    // where writing failed a front of these replies or of its text. The fault's line is told, if it can be.
+    // where writing failed a front of these replies or of its text. The fault came for its cause, and its line is told, if it can be.
     ensures begun { JobBegun result job.entry R.Source W.Sink reader.old writer.old writer.new }
     ensures unread { JobLeavesUnread R.Source W.Sink reader.new writer.old writer.new }
     ensures cut { JobLeavesFront result job.entry R.Source W.Sink reader.old writer.old writer.new }

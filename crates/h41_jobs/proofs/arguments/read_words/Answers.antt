@@ -1,37 +1,42 @@
 use Rattle.std.proofs.Common.{inl, inr, codes, map, List, ℕ}
+use Rattle.clap.specs.declared.error.kind.ErrorKind.TheVariants as kind
 use Rattle.h41_jobs.specs.declared.arguments.Task.TheVariants as tasks
 use Rattle.h41_jobs.specs.CommandLine.{file_for, file_to_run}
 use Rattle.h41_jobs.specs.Ending.{GivesJob}
 use Rattle.h41_jobs.specs.BenchCommand.{job_asked}
-use Rattle.h41_jobs.proofs.CommandLemmas.{asked_of, asm_meets, dis_meets, gives_these, failed_help, failed_memory, failed_mistake, failed_run, failed_version, if_none, if_some, no_help_run, no_mistaken_run, no_version_run, run_asked, runs_file, runs_none, runs_out}
+use Rattle.h41_jobs.proofs.CommandWalks.{asm_name, dis_name, file_meets, run_name}
+use Rattle.h41_jobs.proofs.CommandLemmas.{asked_of, failed_by, failed_memory, failed_mistake, gives_these, helps, if_none}
+use Rattle.h41_jobs.proofs.CommandLemmas.{if_some, mistakes, not_taken, runs_file, runs_none, runs_out, versions}
 use Rattle.h41_jobs.proofs.arguments.read_words.Goals as goal
 
 pub returns-in-Ok-clause-run : goal.returns-in-Ok-clause-run
 returns-in-Ok-clause-run c =
     let words : List (List ℕ) = map (λ w. w.now) c.args.words.now in
-    let gives : GivesJob (job_asked words) c.job_or_mistake.result = rw (asked_of words c.in-Ok.matches c.in-Ok.ensures.matches) at c.job_or_mistake.ensures in
-    if_some (file_to_run words) _ (λ file is. runs_file (job_asked words) c.job_or_mistake.result file (run_asked words file is) gives)
+    let gives : GivesJob (job_asked words) c.job_or_mistake.result =
+    rw (asked_of words c.in-Ok.matches c.in-Ok.ensures.matches) at c.job_or_mistake.ensures in
+    if_some (file_to_run words) _ (λ file is. runs_file (job_asked words) c.job_or_mistake.result file (file_meets run_name words file is).asked gives)
 
 pub returns-in-Ok-clause-no_run : goal.returns-in-Ok-clause-no_run
 returns-in-Ok-clause-no_run c =
     let words : List (List ℕ) = map (λ w. w.now) c.args.words.now in
-    let gives : GivesJob (job_asked words) c.job_or_mistake.result = rw (asked_of words c.in-Ok.matches c.in-Ok.ensures.matches) at c.job_or_mistake.ensures in
+    let gives : GivesJob (job_asked words) c.job_or_mistake.result =
+    rw (asked_of words c.in-Ok.matches c.in-Ok.ensures.matches) at c.job_or_mistake.ensures in
     if_none (file_to_run words) _ (λ none. runs_none words c.job_or_mistake.result none c.in-Ok.ensures.kinds gives)
 
 pub returns-in-Ok-clause-help : goal.returns-in-Ok-clause-help
 returns-in-Ok-clause-help c = λ is.
     let words : List (List ℕ) = map (λ w. w.now) c.args.words.now in
-    absurd (no_help_run words is c.in-Ok.ensures.kinds)
+    absurd (not_taken kind.DisplayHelp words (helps words is) c.in-Ok.ensures.kinds)
 
 pub returns-in-Ok-clause-version : goal.returns-in-Ok-clause-version
 returns-in-Ok-clause-version c = λ is.
     let words : List (List ℕ) = map (λ w. w.now) c.args.words.now in
-    absurd (no_version_run words is c.in-Ok.ensures.kinds)
+    absurd (not_taken kind.DisplayVersion words (versions words is) c.in-Ok.ensures.kinds)
 
 pub returns-in-Ok-clause-mistake : goal.returns-in-Ok-clause-mistake
 returns-in-Ok-clause-mistake c = λ is.
     let words : List (List ℕ) = map (λ w. w.now) c.args.words.now in
-    absurd (no_mistaken_run words is c.in-Ok.ensures.kinds)
+    absurd ((mistakes words is).some c.in-Ok.ensures.kinds)
 
 pub returns-in-Ok-clause-job : goal.returns-in-Ok-clause-job
 returns-in-Ok-clause-job c = λ passed.
@@ -41,12 +46,13 @@ returns-in-Ok-clause-job c = λ passed.
 pub returns-in-Err-clause-run : goal.returns-in-Err-clause-run
 returns-in-Err-clause-run c =
     let words : List (List ℕ) = map (λ w. w.now) c.args.words.now in
-    if_some (file_to_run words) _ (λ file is. c.make_ending.ensures.memory (failed_run words file c.in-Err.error c.in-Err.ensures.kinds is))
+    if_some (file_to_run words) _
+    (λ file is. c.make_ending.ensures.memory (failed_memory words c.in-Err.error c.in-Err.ensures.kinds (file_meets run_name words file is).no_fault))
 
 pub returns-in-Err-clause-help : goal.returns-in-Err-clause-help
 returns-in-Err-clause-help c = λ is.
     let words : List (List ℕ) = map (λ w. w.now) c.args.words.now in
-    elim (failed_help words c.in-Err.error c.in-Err.ensures.kinds is) [
+    elim (failed_by kind.DisplayHelp words c.in-Err.error c.in-Err.ensures.kinds (helps words is)) [
       | inl memory ↦ inr (c.make_ending.ensures.memory memory)
       | inr help ↦ c.make_ending.ensures.help help
     ]
@@ -54,7 +60,7 @@ returns-in-Err-clause-help c = λ is.
 pub returns-in-Err-clause-version : goal.returns-in-Err-clause-version
 returns-in-Err-clause-version c = λ is.
     let words : List (List ℕ) = map (λ w. w.now) c.args.words.now in
-    elim (failed_version words c.in-Err.error c.in-Err.ensures.kinds is) [
+    elim (failed_by kind.DisplayVersion words c.in-Err.error c.in-Err.ensures.kinds (versions words is)) [
       | inl memory ↦ inr (c.make_ending.ensures.memory memory)
       | inr version ↦ c.make_ending.ensures.version version
     ]
@@ -73,21 +79,27 @@ returns-in-Err-clause-job c = λ passed.
 pub returns-in-Ok-clause-asm : goal.returns-in-Ok-clause-asm
 returns-in-Ok-clause-asm c =
     let words : List (List ℕ) = map (λ w. w.now) c.args.words.now in
-    let gives : GivesJob (job_asked words) c.job_or_mistake.result = rw (asked_of words c.in-Ok.matches c.in-Ok.ensures.matches) at c.job_or_mistake.ensures in
-    if_some (file_for (codes "asm") words) _ (λ file is. gives_these (job_asked words) c.job_or_mistake.result (tasks.Assemble 0x8000) file (asm_meets words file is).asked gives)
+    let gives : GivesJob (job_asked words) c.job_or_mistake.result =
+    rw (asked_of words c.in-Ok.matches c.in-Ok.ensures.matches) at c.job_or_mistake.ensures in
+    if_some (file_for (codes "asm") words) _
+    (λ file is. gives_these (job_asked words) c.job_or_mistake.result (tasks.Assemble 0x8000) file (file_meets asm_name words file is).asked gives)
 
 pub returns-in-Err-clause-asm : goal.returns-in-Err-clause-asm
 returns-in-Err-clause-asm c =
     let words : List (List ℕ) = map (λ w. w.now) c.args.words.now in
-    if_some (file_for (codes "asm") words) _ (λ file is. c.make_ending.ensures.memory (failed_memory words c.in-Err.error c.in-Err.ensures.kinds (asm_meets words file is).no_fault))
+    if_some (file_for (codes "asm") words) _
+    (λ file is. c.make_ending.ensures.memory (failed_memory words c.in-Err.error c.in-Err.ensures.kinds (file_meets asm_name words file is).no_fault))
 
 pub returns-in-Ok-clause-dis : goal.returns-in-Ok-clause-dis
 returns-in-Ok-clause-dis c =
     let words : List (List ℕ) = map (λ w. w.now) c.args.words.now in
-    let gives : GivesJob (job_asked words) c.job_or_mistake.result = rw (asked_of words c.in-Ok.matches c.in-Ok.ensures.matches) at c.job_or_mistake.ensures in
-    if_some (file_for (codes "dis") words) _ (λ file is. gives_these (job_asked words) c.job_or_mistake.result (tasks.List 0x8000) file (dis_meets words file is).asked gives)
+    let gives : GivesJob (job_asked words) c.job_or_mistake.result =
+    rw (asked_of words c.in-Ok.matches c.in-Ok.ensures.matches) at c.job_or_mistake.ensures in
+    if_some (file_for (codes "dis") words) _
+    (λ file is. gives_these (job_asked words) c.job_or_mistake.result (tasks.List 0x8000) file (file_meets dis_name words file is).asked gives)
 
 pub returns-in-Err-clause-dis : goal.returns-in-Err-clause-dis
 returns-in-Err-clause-dis c =
     let words : List (List ℕ) = map (λ w. w.now) c.args.words.now in
-    if_some (file_for (codes "dis") words) _ (λ file is. c.make_ending.ensures.memory (failed_memory words c.in-Err.error c.in-Err.ensures.kinds (dis_meets words file is).no_fault))
+    if_some (file_for (codes "dis") words) _
+    (λ file is. c.make_ending.ensures.memory (failed_memory words c.in-Err.error c.in-Err.ensures.kinds (file_meets dis_name words file is).no_fault))

@@ -101,7 +101,7 @@ pub fn work_of(function: Function) -> Option<Work>
         Function::SquareRoot => Work::OfX(OfOne::Root),
         Function::ChangeSign => Work::ChangeSign,
         Function::Reciprocal => Work::OfX(OfOne::Inverse),
-        Function::AbsoluteValue => Work::OfX(OfOne::Size),
+        Function::AbsoluteValue => Work::OfX(OfOne::AbsoluteValue),
         Function::IntegerPart => Work::OfX(OfOne::IntegerPart),
         Function::FractionPart => Work::OfX(OfOne::Fraction),
         Function::Round => Work::OfX(OfOne::Displayed),

@@ -6,7 +6,8 @@ use Rattle.h41_codes.specs.declared.line.Line.TheVariants as lines
 use Rattle.h41_focal.specs.Courses.{Arrives, Course, Halts, HasNoLabel, HasNoLine, How, Runs, Seeks, Stays, Stepped, Tells, Typed}
 use Rattle.h41_focal.specs.Carrying.{TakesAs, how_of}
 use Rattle.h41_focal.specs.MachineCalls.{KeepsElsewhere}
-use Rattle.h41_focal.specs.LineStep.{AppliesTo, AppliesWith, CarriesOut, Ends, Fails, FailsIn, Left, Machine, TakesLine, answered, caught, done, failed, named_by, placed}
+use Rattle.h41_focal.specs.LineStep.{AppliesTo, AppliesWith, CarriesOut, Ends, Fails, FailsIn, Left, Machine, TakesLine, answered, caught}
+use Rattle.h41_focal.specs.LineStep.{done, failed, named_by, placed}
 use Rattle.h41_focal.specs.Outcomes.{Answer, answer_of, is_elsewhere}
 use Rattle.h41_focal.specs.declared.origin.Origin.{Origin}
 use Rattle.h41_focal.specs.declared.outcome.LineOutcome.{LineOutcome}
@@ -21,7 +22,8 @@ use Rattle.h41_rows.specs.Rows as rows
 use Rattle.h41_rows.specs.declared.fault.LineFault.{LineFault}
 
 -- what a row answers is done here
-own_answer : (memory : RegisterMap) (named : ℕ) (shows : rows.Showing) (ends : rows.Ending) → is_elsewhere (answered memory named shows ends) ≡ false
+own_answer : (memory : RegisterMap) (named : ℕ) (shows : rows.Showing) (ends : rows.Ending)
+    → is_elsewhere (answered memory named shows ends) ≡ false
 own_answer memory named rows.AsBefore rows.GoesOn = refl
 own_answer memory named rows.AsBefore rows.Stops = refl
 own_answer memory named rows.AsBefore rows.TurnsOff = refl
@@ -34,19 +36,21 @@ own_answer memory named rows.AlphaText rows.Stops = refl
 own_answer memory named rows.AlphaText rows.TurnsOff = refl
 
 -- an answer that isn't looked up, but is
-never : (left : Left) (answer : Answer) (old : Machine) → left.answer ≡ answer → is_elsewhere answer ≡ false → is_elsewhere left.answer ≡ true → left.machine ≡ old
+never : (left : Left) (answer : Answer) (old : Machine) → left.answer ≡ answer → is_elsewhere answer ≡ false
+    → is_elsewhere left.answer ≡ true → left.machine ≡ old
 never left answer old is own elsewhere = absurd (true≢false (sym elsewhere ∙ (ap is_elsewhere is ∙ own)))
 
 -- a line that fails
 stepped_fails : (flag : Bool) (machine : Machine) (fault : LineFault) (left : Left)
-    → MatchBool flag ((next : ℕ) × AnswersNext machine.memory machine.focal.position (Ok next) × (left ≡ done (placed next (caught machine))))
+    → MatchBool flag
+    ((next : ℕ) × AnswersNext machine.memory machine.focal.position (Ok next) × (left ≡ done (placed next (caught machine))))
     (left ≡ failed (placed machine.focal.position machine) fault)
     → is_elsewhere left.answer ≡ false
 stepped_fails true machine fault left (next, answers, is) = ap (λ (of : Left). is_elsewhere of.answer) is
 stepped_fails false machine fault left is = ap (λ (of : Left). is_elsewhere of.answer) is
 
-typed_fails : (flag : Bool) (machine : Machine) (fault : LineFault) (left : Left) → left ≡ (if flag then done (caught machine) else failed machine fault)
-    → is_elsewhere left.answer ≡ false
+typed_fails : (flag : Bool) (machine : Machine) (fault : LineFault) (left : Left)
+    → left ≡ (if flag then done (caught machine) else failed machine fault) → is_elsewhere left.answer ≡ false
 typed_fails true machine fault left is = ap (λ (of : Left). is_elsewhere of.answer) is
 typed_fails false machine fault left is = ap (λ (of : Left). is_elsewhere of.answer) is
 
@@ -57,8 +61,8 @@ fails Typed machine fault left failing = typed_fails (flag_of machine.memory 25)
 same_left : (left other : Left) → ◌≡◌ {A = Result Left FocalRefusal} (Ok left) (Ok other) → left ≡ other
 same_left left other is = cc
 
-fails_in : (how : How) (machine old : Machine) (fault : LineFault) (left : Left) → FailsIn how machine fault (Ok left) → is_elsewhere left.answer ≡ true
-    → left.machine ≡ old
+fails_in : (how : How) (machine old : Machine) (fault : LineFault) (left : Left) → FailsIn how machine fault (Ok left)
+    → is_elsewhere left.answer ≡ true → left.machine ≡ old
 fails_in how machine old fault left (own, failing, is) elsewhere =
     never left own.answer old (ap (λ (of : Left). of.answer) (same_left left own is)) (fails how machine fault own failing) elsewhere
 
@@ -90,26 +94,41 @@ applies_with how row named machine (Ok result) left (course, goes, ends) elsewhe
 applies_to : (how : How) (line : Line) (machine : Machine) (meant : Result Meant LineFault) (left : Left)
     → AppliesTo how line machine meant (Ok left) → is_elsewhere left.answer ≡ true → left.machine ≡ machine
 applies_to how line machine (Err fault) left failing elsewhere = fails_in how machine machine fault left failing elsewhere
-applies_to how line machine (Ok meant) left (result, works, applies) elsewhere = applies_with how (row_of line meant) (named_by meant) machine result left applies elsewhere
+applies_to how line machine (Ok meant) left (result, works, applies) elsewhere =
+    applies_with how (row_of line meant) (named_by meant) machine result left applies elsewhere
 
 -- a line
-carries_out : (how : How) (line : Line) (machine : Machine) (left : Left) → CarriesOut how line machine (Ok left) → is_elsewhere left.answer ≡ true
-    → left.machine ≡ machine
+carries_out : (how : How) (line : Line) (machine : Machine) (left : Left) → CarriesOut how line machine (Ok left)
+    → is_elsewhere left.answer ≡ true → left.machine ≡ machine
 carries_out how (lines.Module number entry) machine left is elsewhere = ap (λ (of : Left). of.machine) (same_left left _ is)
-carries_out how lines.Null machine left is elsewhere = applies_to how lines.Null machine (meant_of machine.memory lines.Null) left is elsewhere
-carries_out how (lines.LocalLabel a) machine left is elsewhere = applies_to how (lines.LocalLabel a) machine (meant_of machine.memory (lines.LocalLabel a)) left is elsewhere
-carries_out how (lines.GlobalLabel a b c) machine left is elsewhere = applies_to how (lines.GlobalLabel a b c) machine (meant_of machine.memory (lines.GlobalLabel a b c)) left is elsewhere
-carries_out how (lines.Number a) machine left is elsewhere = applies_to how (lines.Number a) machine (meant_of machine.memory (lines.Number a)) left is elsewhere
-carries_out how (lines.Named a b) machine left is elsewhere = applies_to how (lines.Named a b) machine (meant_of machine.memory (lines.Named a b)) left is elsewhere
-carries_out how (lines.Register a b) machine left is elsewhere = applies_to how (lines.Register a b) machine (meant_of machine.memory (lines.Register a b)) left is elsewhere
-carries_out how (lines.Plain a) machine left is elsewhere = applies_to how (lines.Plain a) machine (meant_of machine.memory (lines.Plain a)) left is elsewhere
-carries_out how (lines.WithOperand a b) machine left is elsewhere = applies_to how (lines.WithOperand a b) machine (meant_of machine.memory (lines.WithOperand a b)) left is elsewhere
-carries_out how (lines.BranchIndirect a b) machine left is elsewhere = applies_to how (lines.BranchIndirect a b) machine (meant_of machine.memory (lines.BranchIndirect a b)) left is elsewhere
-carries_out how (lines.ShortGoTo a b) machine left is elsewhere = applies_to how (lines.ShortGoTo a b) machine (meant_of machine.memory (lines.ShortGoTo a b)) left is elsewhere
-carries_out how (lines.End a b) machine left is elsewhere = applies_to how (lines.End a b) machine (meant_of machine.memory (lines.End a b)) left is elsewhere
-carries_out how (lines.FinalEnd a b) machine left is elsewhere = applies_to how (lines.FinalEnd a b) machine (meant_of machine.memory (lines.FinalEnd a b)) left is elsewhere
-carries_out how (lines.BranchTo a b c d) machine left is elsewhere = applies_to how (lines.BranchTo a b c d) machine (meant_of machine.memory (lines.BranchTo a b c d)) left is elsewhere
-carries_out how (lines.Text a) machine left is elsewhere = applies_to how (lines.Text a) machine (meant_of machine.memory (lines.Text a)) left is elsewhere
+carries_out how lines.Null machine left is elsewhere =
+    applies_to how lines.Null machine (meant_of machine.memory lines.Null) left is elsewhere
+carries_out how (lines.LocalLabel a) machine left is elsewhere =
+    applies_to how (lines.LocalLabel a) machine (meant_of machine.memory (lines.LocalLabel a)) left is elsewhere
+carries_out how (lines.GlobalLabel a b c) machine left is elsewhere =
+    applies_to how (lines.GlobalLabel a b c) machine (meant_of machine.memory (lines.GlobalLabel a b c)) left is elsewhere
+carries_out how (lines.Number a) machine left is elsewhere =
+    applies_to how (lines.Number a) machine (meant_of machine.memory (lines.Number a)) left is elsewhere
+carries_out how (lines.Named a b) machine left is elsewhere =
+    applies_to how (lines.Named a b) machine (meant_of machine.memory (lines.Named a b)) left is elsewhere
+carries_out how (lines.Register a b) machine left is elsewhere =
+    applies_to how (lines.Register a b) machine (meant_of machine.memory (lines.Register a b)) left is elsewhere
+carries_out how (lines.Plain a) machine left is elsewhere =
+    applies_to how (lines.Plain a) machine (meant_of machine.memory (lines.Plain a)) left is elsewhere
+carries_out how (lines.WithOperand a b) machine left is elsewhere =
+    applies_to how (lines.WithOperand a b) machine (meant_of machine.memory (lines.WithOperand a b)) left is elsewhere
+carries_out how (lines.BranchIndirect a b) machine left is elsewhere =
+    applies_to how (lines.BranchIndirect a b) machine (meant_of machine.memory (lines.BranchIndirect a b)) left is elsewhere
+carries_out how (lines.ShortGoTo a b) machine left is elsewhere =
+    applies_to how (lines.ShortGoTo a b) machine (meant_of machine.memory (lines.ShortGoTo a b)) left is elsewhere
+carries_out how (lines.End a b) machine left is elsewhere =
+    applies_to how (lines.End a b) machine (meant_of machine.memory (lines.End a b)) left is elsewhere
+carries_out how (lines.FinalEnd a b) machine left is elsewhere =
+    applies_to how (lines.FinalEnd a b) machine (meant_of machine.memory (lines.FinalEnd a b)) left is elsewhere
+carries_out how (lines.BranchTo a b c d) machine left is elsewhere =
+    applies_to how (lines.BranchTo a b c d) machine (meant_of machine.memory (lines.BranchTo a b c d)) left is elsewhere
+carries_out how (lines.Text a) machine left is elsewhere =
+    applies_to how (lines.Text a) machine (meant_of machine.memory (lines.Text a)) left is elsewhere
 
 takes_by : (out : Bool) (how : How) (line : Line) (machine : Machine) (left : Left)
     → MatchBool out (◌≡◌ {A = Result Left FocalRefusal} (Ok left) (Err NotInProfile)) (CarriesOut how line machine (Ok left))
@@ -117,8 +136,8 @@ takes_by : (out : Bool) (how : How) (line : Line) (machine : Machine) (left : Le
 takes_by true how line machine left is elsewhere = cc
 takes_by false how line machine left carries elsewhere = carries_out how line machine left carries elsewhere
 
-elsewhere_keeps : (how : How) (line : Line) (machine : Machine) (left : Left) → TakesLine how line machine (Ok left) → is_elsewhere left.answer ≡ true
-    → left.machine ≡ machine
+elsewhere_keeps : (how : How) (line : Line) (machine : Machine) (left : Left) → TakesLine how line machine (Ok left)
+    → is_elsewhere left.answer ≡ true → left.machine ≡ machine
 elsewhere_keeps how line machine left takes elsewhere = takes_by (is_left_out line) how line machine left takes elsewhere
 
 -- what a call leaves where its answer has to be looked up

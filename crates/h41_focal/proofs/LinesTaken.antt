@@ -8,7 +8,8 @@ use Rattle.h41_codes.specs.declared.line.Line.TheVariants as lines
 use Rattle.h41_codes.specs.declared.line.Operand.{Operand}
 use Rattle.h41_focal.specs.Carrying.{CarriesFound, CarriesRow, FailsAs, Stands, TakesAs, UsesDigits, UsesFlag, UsesAddress}
 use Rattle.h41_focal.specs.MachineCalls.{carried_as, left_of}
-use Rattle.h41_focal.specs.LineStep.{FailsLine, FailsWith, Left, Machine, PassesLine, PassesWith, StepsAs, StepsLine, lift_behind, line_as, passed}
+use Rattle.h41_focal.specs.LineStep.{FailsLine, FailsWith, Left, Machine, PassesLine, PassesWith, StepsAs, StepsLine, lift_behind, line_as}
+use Rattle.h41_focal.specs.LineStep.{passed}
 use Rattle.h41_focal.specs.Works.{digits_use_row, flag_use_row, highest_of, register_use_row, row_of_work}
 use Rattle.h41_focal.specs.declared.origin.Origin.{Origin}
 use Rattle.h41_focal.specs.declared.origin.Origin.TheVariants.{Program}
@@ -54,38 +55,30 @@ pub operand_left_out :
 operand_left_out origin function operand machine out = rw out refl
 
 -- with a register
-pub register_taken :
-    (origin : Origin) (function : ParameterFunction) (operand : Operand) (taken : RegisterUse) (old new : Machine) (result : Result LineOutcome FocalRefusal)
-    → is_use_left_out function operand ≡ false
-    → kind_of function ≡ RegisterKind
-    → register_row function ≡ register_use_row taken
-    → UsesAddress origin taken operand old new result
-    → TakesAs origin (lines.WithOperand function operand) old new result
+pub register_taken : (origin : Origin) (function : ParameterFunction) (operand : Operand)
+    (taken : RegisterUse) (old new : Machine) (result : Result LineOutcome FocalRefusal)
+    → is_use_left_out function operand ≡ false → kind_of function ≡ RegisterKind → register_row function ≡ register_use_row taken
+    → UsesAddress origin taken operand old new result → TakesAs origin (lines.WithOperand function operand) old new result
 register_taken origin function operand taken old new result held kind row (Ok address, meant, carries) =
     rw (held, kind, ← meant, row) carries
 register_taken origin function operand taken old new result held kind row (Err fault, meant, fails) =
     rw (held, kind, ← meant) fails
 
 -- with a number of digits
-pub digits_taken :
-    (origin : Origin) (function : ParameterFunction) (operand : Operand) (taken : DigitsUse) (old new : Machine) (result : Result LineOutcome FocalRefusal)
-    → is_use_left_out function operand ≡ false
-    → kind_of function ≡ DigitKind
-    → ((n : ℕ) → count_row function n ≡ digits_use_row taken n)
-    → UsesDigits origin taken operand old new result
-    → TakesAs origin (lines.WithOperand function operand) old new result
+pub digits_taken : (origin : Origin) (function : ParameterFunction) (operand : Operand)
+    (taken : DigitsUse) (old new : Machine) (result : Result LineOutcome FocalRefusal)
+    → is_use_left_out function operand ≡ false → kind_of function ≡ DigitKind → ((n : ℕ) → count_row function n ≡ digits_use_row taken n)
+    → UsesDigits origin taken operand old new result → TakesAs origin (lines.WithOperand function operand) old new result
 digits_taken origin function operand taken old new result held kind row (Ok digits, meant, carries) =
     rw (held, kind, ← meant, row digits) carries
 digits_taken origin function operand taken old new result held kind row (Err fault, meant, fails) =
     rw (held, kind, ← meant) fails
 
 -- with a flag
-pub flag_taken :
-    (origin : Origin) (function : ParameterFunction) (operand : Operand) (taken : FlagUse) (old new : Machine) (result : Result LineOutcome FocalRefusal)
-    → is_use_left_out function operand ≡ false
-    → kind_of function ≡ FlagKind (highest_of taken)
-    → ((n : ℕ) → count_row function n ≡ flag_use_row taken n)
-    → UsesFlag origin taken operand old new result
+pub flag_taken : (origin : Origin) (function : ParameterFunction) (operand : Operand)
+    (taken : FlagUse) (old new : Machine) (result : Result LineOutcome FocalRefusal)
+    → is_use_left_out function operand ≡ false → kind_of function ≡ FlagKind (highest_of taken)
+    → ((n : ℕ) → count_row function n ≡ flag_use_row taken n) → UsesFlag origin taken operand old new result
     → TakesAs origin (lines.WithOperand function operand) old new result
 flag_taken origin function operand taken old new result held kind row (Ok flag, meant, carries) =
     rw (held, kind, ← meant, row flag) carries
@@ -103,8 +96,8 @@ pub label_taken :
 label_taken origin function operand old new result held kind row carries = rw (held, kind, row) carries
 
 -- RCL and STO of the first registers
-pub short_taken :
-    (origin : Origin) (function : RegisterFunction) (register : ℕ) (found : Result ℕ LineFault) (old new : Machine) (result : Result LineOutcome FocalRefusal)
+pub short_taken : (origin : Origin) (function : RegisterFunction) (register : ℕ)
+    (found : Result ℕ LineFault) (old new : Machine) (result : Result LineOutcome FocalRefusal)
     → found ≡ data_register old.memory register
     → CarriesFound origin (λ address. short_row function) (λ address. address) found old new result
     → TakesAs origin (lines.Register function register) old new result
@@ -121,12 +114,13 @@ step_taken function old new line next result (sound, (first, answers, is), knows
     rw sound (Ok first, answers, rw is takes)
 
 -- or refused
-refused_by :
-    (sound : Bool) (function : Option Function) (machine : Machine) (refusal : FocalRefusal) (carried : Result Left FocalRefusal)
+refused_by : (sound : Bool) (function : Option Function) (machine : Machine) (refusal : FocalRefusal) (carried : Result Left FocalRefusal)
     → carried ≡ Err refusal
-    → MatchBool sound ((refusal ≡ BrokenProgram) × AnswersFirst machine.memory machine.focal.position (Err program.BrokenProgram)) (refusal ≡ MemoryLost)
-    → MatchBool sound
-    ((first : Result ListedLine refusals.ProgramRefusal) × AnswersFirst machine.memory machine.focal.position first × StepsAs function machine first carried)
+    → MatchBool sound ((refusal ≡ BrokenProgram) × AnswersFirst machine.memory machine.focal.position (Err program.BrokenProgram))
+    (refusal ≡ MemoryLost)
+    → MatchBool sound ((first : Result ListedLine refusals.ProgramRefusal)
+    × AnswersFirst machine.memory machine.focal.position first
+    × StepsAs function machine first carried)
     (carried ≡ Err MemoryLost)
 refused_by true function machine refusal carried refused (is, none) = (Err program.BrokenProgram, none, rw (refused, is) refl)
 refused_by false function machine refusal carried refused is = rw (refused, is) refl
@@ -146,12 +140,13 @@ pub line_fails :
 line_fails fault old new line next outcome (sound, (first, answers, is), knows) fails =
     rw sound (Ok first, answers, (left_of new outcome, fails, refl))
 
-fail_refused_by :
-    (sound : Bool) (fault : LineFault) (machine : Machine) (refusal : FocalRefusal) (carried : Result Left FocalRefusal)
+fail_refused_by : (sound : Bool) (fault : LineFault) (machine : Machine) (refusal : FocalRefusal) (carried : Result Left FocalRefusal)
     → carried ≡ Err refusal
-    → MatchBool sound ((refusal ≡ BrokenProgram) × AnswersFirst machine.memory machine.focal.position (Err program.BrokenProgram)) (refusal ≡ MemoryLost)
-    → MatchBool sound
-    ((first : Result ListedLine refusals.ProgramRefusal) × AnswersFirst machine.memory machine.focal.position first × FailsWith fault machine first carried)
+    → MatchBool sound ((refusal ≡ BrokenProgram) × AnswersFirst machine.memory machine.focal.position (Err program.BrokenProgram))
+    (refusal ≡ MemoryLost)
+    → MatchBool sound ((first : Result ListedLine refusals.ProgramRefusal)
+    × AnswersFirst machine.memory machine.focal.position first
+    × FailsWith fault machine first carried)
     (carried ≡ Err MemoryLost)
 fail_refused_by true fault machine refusal carried refused (is, none) = (Err program.BrokenProgram, none, rw (refused, is) refl)
 fail_refused_by false fault machine refusal carried refused is = rw (refused, is) refl
@@ -171,12 +166,12 @@ pub line_passed :
 line_passed old new line next (sound, (first, answers, is), knows) goes =
     rw sound (Ok first, answers, (next, knows, rw (goes, is) refl))
 
-pass_refused_by :
-    (sound : Bool) (machine : Machine) (refusal : FocalRefusal) (after : Result Machine FocalRefusal)
-    → after ≡ Err refusal
-    → MatchBool sound ((refusal ≡ BrokenProgram) × AnswersFirst machine.memory machine.focal.position (Err program.BrokenProgram)) (refusal ≡ MemoryLost)
-    → MatchBool sound
-    ((first : Result ListedLine refusals.ProgramRefusal) × AnswersFirst machine.memory machine.focal.position first × PassesWith machine first after)
+pass_refused_by : (sound : Bool) (machine : Machine) (refusal : FocalRefusal) (after : Result Machine FocalRefusal) → after ≡ Err refusal
+    → MatchBool sound ((refusal ≡ BrokenProgram) × AnswersFirst machine.memory machine.focal.position (Err program.BrokenProgram))
+    (refusal ≡ MemoryLost)
+    → MatchBool sound ((first : Result ListedLine refusals.ProgramRefusal)
+    × AnswersFirst machine.memory machine.focal.position first
+    × PassesWith machine first after)
     (after ≡ Err MemoryLost)
 pass_refused_by true machine refusal after refused (is, none) = (Err program.BrokenProgram, none, rw (refused, is) refl)
 pass_refused_by false machine refusal after refused is = rw (refused, is) refl

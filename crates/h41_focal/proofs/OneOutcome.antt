@@ -1,12 +1,17 @@
 -- Why a line has one outcome.
-use Rattle.std.proofs.Common.{◌≡◌, ℕ, Bool, true, false, List, [], ◌∷◌, reverse, Option, Some, None, Result, Ok, Err, sym, ap, ◌∙◌, subst, inl, inr}
+use Rattle.std.proofs.Common.{◌≡◌, ℕ, Bool, true, false, List, [], ◌∷◌, reverse, Option, Some, None, Result, Ok, Err, sym, ap, ◌∙◌, subst}
+use Rattle.std.proofs.Common.{inl, inr}
 use Rattle.std.specs.Prelude.{MatchBool}
 use Rattle.h41_codes.specs.declared.functions.Function.{Function}
 use Rattle.h41_codes.specs.declared.line.Line.{Line}
 use Rattle.h41_codes.specs.declared.line.Line.TheVariants.{Module}
-use Rattle.h41_focal.specs.Courses.{Arrives, Asks, Course, Goes, GoesBack, Halts, HasNoLabel, HasNoLine, How, Passes, Runs, Seeks, Stays, Stepped, StepsFrom, Tells, Typed, TypedFrom, found_at, lost_name, typed_at}
+use Rattle.h41_focal.specs.Courses.{Arrives, Asks, Course, Goes, GoesBack, Halts, HasNoLabel, HasNoLine, How, Passes, Runs, Seeks, Stays}
+use Rattle.h41_focal.specs.Courses.{Stepped, StepsFrom, Tells, Typed, TypedFrom, found_at, lost_name, typed_at}
 use Rattle.h41_focal.specs.LineLaws.{FailureIsDetermined, PassingIsDetermined, StepIsDetermined, TypedIsDetermined}
-use Rattle.h41_focal.specs.LineStep.{Applies, AppliesTo, AppliesWith, CarriesOut, ComputesIn, Ends, Fails, FailsIn, FailsWith, Left, Machine, PassesWith, StepsAs, TakesLine, Works, answered, caught, done, error_flag, failed, line_as, named_by, passed, placed, worked}
+use Rattle.h41_focal.specs.LineLaws.{TypedFailureIsDetermined}
+use Rattle.h41_focal.specs.LineStep.{Applies, AppliesTo, AppliesWith, CarriesOut, ComputesIn, Ends, Fails, FailsIn, FailsWith, Left}
+use Rattle.h41_focal.specs.LineStep.{Machine, PassesWith, StepsAs, TakesLine, Works, answered, caught, done, error_flag, failed, line_as}
+use Rattle.h41_focal.specs.LineStep.{named_by, passed, placed, worked}
 use Rattle.h41_focal.specs.Outcomes.{Answer}
 use Rattle.h41_focal.specs.declared.refusal.FocalRefusal.{FocalRefusal}
 use Rattle.h41_focal.specs.declared.refusal.FocalRefusal.TheVariants.{MemoryLost, NotInProfile}
@@ -32,16 +37,19 @@ use Rattle.h41_rows.specs.declared.fault.LineFault.TheVariants.{AlphaData, Nonex
 
 -- a fault that is caught
 abbrev GoesOn : Machine → Left → Type 0
-GoesOn machine left = (next : ℕ) × AnswersNext machine.memory machine.focal.position (Ok next) × (left ≡ done (placed next (caught machine)))
+GoesOn machine left =
+    (next : ℕ) × AnswersNext machine.memory machine.focal.position (Ok next) × (left ≡ done (placed next (caught machine)))
 
 -- what holds of the line at the position, or of there being none
 abbrev ByFirst : Machine → (Result ListedLine program.ProgramRefusal → Type 0) → Type 0
-ByFirst machine holds = (first : Result ListedLine program.ProgramRefusal) × AnswersFirst machine.memory machine.focal.position first × holds first
+ByFirst machine holds =
+    (first : Result ListedLine program.ProgramRefusal) × AnswersFirst machine.memory machine.focal.position first × holds first
 
 -- lines and positions in program memory, and what a fault leaves, where no bytes have two first lines
 module _ (same_first : FirstIsDetermined) where
   -- the line at a position
-  pub same_line : (memory : RegisterMap) (at : ℕ) (a b : Result ListedLine program.ProgramRefusal) → AnswersFirst memory at a → AnswersFirst memory at b → a ≡ b
+  pub same_line : (memory : RegisterMap) (at : ℕ) (a b : Result ListedLine program.ProgramRefusal) → AnswersFirst memory at a
+      → AnswersFirst memory at b → a ≡ b
   same_line memory at (Ok first) (Ok other) p q =
       ap (λ (line : ListedLine). Ok line) (same_first (program_bytes memory) (final_position memory) at first other p q)
   same_line memory at (Ok first) (Err refusal) p q = absurd (q.1 first p)
@@ -83,7 +91,8 @@ module _ (same_first : FirstIsDetermined) where
       p.2 ∙ ap (λ (next : ℕ). done (placed next (caught machine))) same ∙ sym q.2
   same_stop false machine fault a b p q = p ∙ sym q
 
-  same_fault : (how : How) (machine : Machine) (fault : LineFault) (a b : Left) → Fails how machine fault a → Fails how machine fault b → a ≡ b
+  same_fault : (how : How) (machine : Machine) (fault : LineFault) (a b : Left) → Fails how machine fault a → Fails how machine fault b
+      → a ≡ b
   same_fault Stepped machine fault a b p q = same_stop (flag_of machine.memory error_flag) machine fault a b p q
   same_fault Typed machine fault a b p q = p ∙ sym q
 
@@ -103,11 +112,22 @@ module _ (same_first : FirstIsDetermined) where
       → MatchBool sound (ByFirst machine (λ first. FailsWith fault machine first b)) (b ≡ Err MemoryLost) → a ≡ b
   same_failed true fault machine a b p q =
       let same = same_line machine.memory machine.focal.position p.0 q.0 p.1 q.1 in
-      same_outside fault machine q.0 a b (subst (λ (first : Result ListedLine program.ProgramRefusal). FailsWith fault machine first a) same p.2) q.2
+      same_outside fault machine q.0 a b
+      (subst (λ (first : Result ListedLine program.ProgramRefusal). FailsWith fault machine first a) same p.2) q.2
   same_failed false fault machine a b p q = p ∙ sym q
 
   pub failure_determined : FailureIsDetermined
   failure_determined fault machine a b p q = same_failed (is_sound machine.memory) fault machine a b p q
+
+  -- a typed line that fails so
+  same_typed_failure : (sound : Bool) (fault : LineFault) (machine : Machine) (a b : Result Left FocalRefusal)
+      → MatchBool sound (FailsIn Typed machine fault a) (a ≡ Err MemoryLost)
+      → MatchBool sound (FailsIn Typed machine fault b) (b ≡ Err MemoryLost) → a ≡ b
+  same_typed_failure true fault machine a b p q = same_failure Typed machine fault a b p q
+  same_typed_failure false fault machine a b p q = p ∙ sym q
+
+  pub typed_failure_determined : TypedFailureIsDetermined
+  typed_failure_determined fault machine a b p q = same_typed_failure (is_sound machine.memory) fault machine a b p q
 
   -- a line that is passed
   same_beyond : (machine : Machine) (first : Result ListedLine program.ProgramRefusal) (a b : Result Machine FocalRefusal)
@@ -151,10 +171,13 @@ module _
     (same_start : AnswersAreDetermined ℕ)
     (same_local : LocalIsDetermined)
     (same_global : AnswersAreDetermined (Option ℕ)) where
-  same_pass : (memory : RegisterMap) (next : ℕ) (returns : List ℕ) (a b : Course) → Passes memory next returns a → Passes memory next returns b → a ≡ b
+  same_pass : (memory : RegisterMap) (next : ℕ) (returns : List ℕ) (a b : Course) → Passes memory next returns a
+      → Passes memory next returns b → a ≡ b
   same_pass memory next returns a b p q = elim p [
     | inl past ↦ elim q [
-      | inl again ↦ past.2 ∙ ap (λ (position : ℕ). Arrives position returns) (same_next same_first memory next past.0 again.0 past.1 again.1) ∙ sym again.2
+      | inl again ↦
+          past.2 ∙ ap (λ (position : ℕ). Arrives position returns) (same_next same_first memory next past.0 again.0 past.1 again.1)
+          ∙ sym again.2
       | inr none ↦ absurd (none.0.1 past.1.0 past.1.1)
     ]
     | inr none ↦ elim q [
@@ -177,12 +200,16 @@ module _
   same_from_next : (going : rows.Going) (memory : RegisterMap) (named at next : ℕ) (returns : List ℕ) (a b : Course)
       → StepsFrom going memory named at next returns a → StepsFrom going memory named at next returns b → a ≡ b
   same_from_next rows.Next memory named at next returns a b p q = p ∙ sym q
-  same_from_next (rows.Tests condition) memory named at next returns a b p q = same_asked (holds_in memory named condition) memory next returns a b p q
-  same_from_next (rows.Counts condition) memory named at next returns a b p q = same_asked (holds_in memory named condition) memory next returns a b p q
+  same_from_next (rows.Tests condition) memory named at next returns a b p q =
+      same_asked (holds_in memory named condition) memory next returns a b p q
+  same_from_next (rows.Counts condition) memory named at next returns a b p q =
+      same_asked (holds_in memory named condition) memory next returns a b p q
   same_from_next (rows.ToLabel branch label) memory named at next returns a b p q =
       p.2 ∙ ap (found_at branch next returns HasNoLabel) (same_local memory next label p.0 q.0 p.1 q.1) ∙ sym q.2
   same_from_next (rows.ToName branch name) memory named at next returns a b p q =
-      p.2 ∙ ap (found_at branch next returns (lost_name branch name)) (same_global memory (λ lines. position_of (named_in name lines)) 0 p.0 q.0 p.1 q.1)
+      p.2
+      ∙ ap (found_at branch next returns (lost_name branch name))
+      (same_global memory (λ lines. position_of (named_in name lines)) 0 p.0 q.0 p.1 q.1)
       ∙ sym q.2
   same_from_next rows.Returns memory named at next returns a b p q = same_back memory at (reverse returns) a b p q
 
@@ -194,7 +221,9 @@ module _
   same_from_here (rows.ToLabel branch label) memory named at returns a b p q =
       p.2 ∙ ap (typed_at branch returns HasNoLabel) (same_local memory at label p.0 q.0 p.1 q.1) ∙ sym q.2
   same_from_here (rows.ToName branch name) memory named at returns a b p q =
-      p.2 ∙ ap (typed_at branch returns (lost_name branch name)) (same_global memory (λ lines. position_of (named_in name lines)) 0 p.0 q.0 p.1 q.1)
+      p.2
+      ∙ ap (typed_at branch returns (lost_name branch name))
+      (same_global memory (λ lines. position_of (named_in name lines)) 0 p.0 q.0 p.1 q.1)
       ∙ sym q.2
   same_from_here rows.Returns memory named at returns a b p q =
       p.2 ∙ ap (λ (start : ℕ). Halts start) (same_start memory (start_in at) 0 p.0 q.0 p.1 q.1) ∙ sym q.2
@@ -203,7 +232,8 @@ module _
       → Goes how going memory named at returns a → Goes how going memory named at returns b → a ≡ b
   same_course Stepped going memory named at returns a b p q =
       let same = same_next same_first memory at p.0 q.0 p.1 q.1 in
-      same_from_next going memory named at q.0 returns a b (subst (λ (next : ℕ). StepsFrom going memory named at next returns a) same p.2) q.2
+      same_from_next going memory named at q.0 returns a b
+      (subst (λ (next : ℕ). StepsFrom going memory named at next returns a) same p.2) q.2
   same_course Typed going memory named at returns a b p q = same_from_here going memory named at returns a b p q
 
 -- what a course leaves
@@ -226,21 +256,24 @@ module _
     (same_start : AnswersAreDetermined ℕ)
     (same_local : LocalIsDetermined)
     (same_global : AnswersAreDetermined (Option ℕ)) where
-  same_with : (how : How) (row : rows.Row) (named : ℕ) (machine : Machine) (result : Result (List ℕ) LineFault) (a b : Result Left FocalRefusal)
+  same_with : (how : How) (row : rows.Row) (named : ℕ) (machine : Machine)
+      (result : Result (List ℕ) LineFault) (a b : Result Left FocalRefusal)
       → AppliesWith how row named machine result a → AppliesWith how row named machine result b → a ≡ b
   same_with how row named machine (Err fault) a b p q = same_failure same_first how machine fault a b p q
   same_with how row named machine (Ok result) a b p q =
       let new = worked row named result machine in
       let answer = answered machine.memory named row.shows row.ends in
       let same =
-      same_course same_first same_start same_local same_global how row.goes machine.memory named machine.focal.position machine.focal.returns p.0 q.0 p.1 q.1 in
+      same_course same_first same_start same_local same_global how row.goes machine.memory
+      named machine.focal.position machine.focal.returns p.0 q.0 p.1 q.1 in
       same_end same_first how machine new answer q.0 a b (subst (λ (course : Course). Ends how machine new answer course a) same p.2) q.2
 
   same_row : (how : How) (row : rows.Row) (named : ℕ) (machine : Machine) (a b : Result Left FocalRefusal)
       → Applies how row named machine a → Applies how row named machine b → a ≡ b
   same_row how row named machine a b p q =
       let same = same_work same_value machine.memory named row p.0 q.0 p.1 q.1 in
-      same_with how row named machine q.0 a b (subst (λ (result : Result (List ℕ) LineFault). AppliesWith how row named machine result a) same p.2) q.2
+      same_with how row named machine q.0 a b
+      (subst (λ (result : Result (List ℕ) LineFault). AppliesWith how row named machine result a) same p.2) q.2
 
   same_meant : (how : How) (line : Line) (machine : Machine) (meant : Result Meant LineFault) (a b : Result Left FocalRefusal)
       → AppliesTo how line machine meant a → AppliesTo how line machine meant b → a ≡ b
@@ -273,7 +306,8 @@ module _
   typed_determined line machine a b p q = same_typed (is_sound machine.memory) line machine a b p q
 
   -- a stepped one
-  same_standing : (function : Option Function) (machine : Machine) (first : Result ListedLine program.ProgramRefusal) (a b : Result Left FocalRefusal)
+  same_standing : (function : Option Function) (machine : Machine)
+      (first : Result ListedLine program.ProgramRefusal) (a b : Result Left FocalRefusal)
       → StepsAs function machine first a → StepsAs function machine first b → a ≡ b
   same_standing function machine (Ok first) a b p q = same_taken Stepped (line_as function first.line) machine a b p q
   same_standing function machine (Err refusal) a b p q = p ∙ sym q
@@ -283,7 +317,8 @@ module _
       → MatchBool sound (ByFirst machine (λ first. StepsAs function machine first b)) (b ≡ Err MemoryLost) → a ≡ b
   same_stepped true function machine a b p q =
       let same = same_line same_first machine.memory machine.focal.position p.0 q.0 p.1 q.1 in
-      same_standing function machine q.0 a b (subst (λ (first : Result ListedLine program.ProgramRefusal). StepsAs function machine first a) same p.2) q.2
+      same_standing function machine q.0 a b
+      (subst (λ (first : Result ListedLine program.ProgramRefusal). StepsAs function machine first a) same p.2) q.2
   same_stepped false function machine a b p q = p ∙ sym q
 
   pub step_determined : StepIsDetermined

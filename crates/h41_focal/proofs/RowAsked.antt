@@ -1,5 +1,6 @@
 -- A row whose line asks is applied: by what it computes, what it makes of memory, whether its condition holds, and where the line then is.
-use Rattle.std.proofs.Common.{◌≡◌, ℕ, Bool, true, false, ◌&&◌, is_some, MatchBool, List, Ok, Err, Result, refl, ap, sym, subst, ◌∙◌, inl, inr}
+use Rattle.std.proofs.Common.{◌≡◌, ℕ, Bool, true, false, ◌&&◌, is_some, MatchBool, List, Ok, Err, Result, refl, ap, sym, subst, ◌∙◌, inl}
+use Rattle.std.proofs.Common.{inr}
 use Rattle.h41_decimal.specs.Holding.{number_in}
 use Rattle.h41_focal.proofs.RowApplied.{applied_to}
 use Rattle.h41_focal.specs.Carrying.{CarriesRow, KnowsNext, Leads, how_of, told}
@@ -43,114 +44,101 @@ has_no_line :
 has_no_line holds memory next returns fails broken = rw fails (inr (broken, refl))
 
 -- the program goes on from a line that asks, where its row goes by a condition
-program_leads :
-    (next : ℕ) (lead : Origin) (row : Row) (condition : Condition) (holds : Bool) (named : ℕ) (machine : Machine) (register : List ℕ) (outcome : LineOutcome)
+program_leads : (next : ℕ) (lead : Origin) (row : Row) (condition : Condition) (holds : Bool)
+    (named : ℕ) (machine : Machine) (register : List ℕ) (outcome : LineOutcome)
     → KnowsNext (Program next) machine
-    → ((course : Course) → Asks (holds_in machine.memory named condition) machine.memory next machine.focal.returns course → StepsFrom row.goes machine.memory named machine.focal.position next machine.focal.returns course)
-    → row.shows ≡ rows.AsBefore
-    → row.ends ≡ rows.GoesOn
-    → Works machine.memory named row (Ok register)
-    → holds ≡ holds_in machine.memory named condition
-    → Leads (Program next) machine.memory holds (Ok lead)
+    → ((course : Course) → Asks (holds_in machine.memory named condition) machine.memory next machine.focal.returns course
+    → StepsFrom row.goes machine.memory named machine.focal.position next machine.focal.returns course)
+    → row.shows ≡ rows.AsBefore → row.ends ≡ rows.GoesOn → Works machine.memory named row (Ok register)
+    → holds ≡ holds_in machine.memory named condition → Leads (Program next) machine.memory holds (Ok lead)
     → answer_of outcome ≡ answers.Done
     → CarriesRow (Program next) row named machine (applied_to lead row named register machine) (Ok outcome)
 program_leads next (Program position) row condition holds named machine register outcome knows goes shows ends works is leads answers =
-    let asks : Asks (holds_in machine.memory named condition) machine.memory next machine.focal.returns (Arrives leads.0 machine.focal.returns) =
-    subst (λ (b : Bool). Asks b machine.memory next machine.focal.returns (Arrives leads.0 machine.focal.returns)) is (arrives holds machine.memory next leads.0 machine.focal.returns leads.2) in
+    let asks : Asks (holds_in machine.memory named condition) machine.memory
+    next machine.focal.returns (Arrives leads.0 machine.focal.returns) =
+    subst (λ (b : Bool). Asks b machine.memory next machine.focal.returns (Arrives leads.0 machine.focal.returns))
+    is (arrives holds machine.memory next leads.0 machine.focal.returns leads.2) in
     let same : position ≡ leads.0 = cc leads.1 in
     (Ok register, works, (Arrives leads.0 machine.focal.returns, (next, knows, goes _ asks), rw (answers, shows, ends, same) refl))
 program_leads next Typed row condition holds named machine register outcome knows goes shows ends works is leads answers =
     absurd (cc leads.1)
 
 -- a test is done
-pub test_leads :
-    (origin lead : Origin) (row : Row) (condition : Condition) (holds : Bool) (named : ℕ) (machine : Machine) (register : List ℕ) (outcome : LineOutcome)
-    → KnowsNext origin machine
-    → row.goes ≡ rows.Tests condition
-    → row.shows ≡ rows.AsBefore
-    → row.ends ≡ rows.GoesOn
-    → Works machine.memory named row (Ok register)
-    → holds ≡ holds_in machine.memory named condition
-    → Leads origin machine.memory holds (Ok lead)
-    → answer_of outcome ≡ told origin holds
+pub test_leads : (origin lead : Origin) (row : Row) (condition : Condition) (holds : Bool)
+    (named : ℕ) (machine : Machine) (register : List ℕ) (outcome : LineOutcome)
+    → KnowsNext origin machine → row.goes ≡ rows.Tests condition → row.shows ≡ rows.AsBefore → row.ends ≡ rows.GoesOn
+    → Works machine.memory named row (Ok register) → holds ≡ holds_in machine.memory named condition
+    → Leads origin machine.memory holds (Ok lead) → answer_of outcome ≡ told origin holds
     → CarriesRow origin row named machine (applied_to lead row named register machine) (Ok outcome)
 test_leads (Program next) lead row condition holds named machine register outcome knows goes shows ends works is leads answers =
-    program_leads next lead row condition holds named machine register outcome knows (λ course asks. rw goes asks) shows ends works is leads answers
+    program_leads next lead row condition holds named machine register outcome
+    knows (λ course asks. rw goes asks) shows ends works is leads answers
 test_leads Typed (Program position) row condition holds named machine register outcome knows goes shows ends works is leads answers =
     absurd (cc leads)
 test_leads Typed Typed row condition holds named machine register outcome knows goes shows ends works is leads answers =
     (Ok register, works, (Tells holds, rw goes (ap (λ (b : Bool). Tells b) is), rw answers refl))
 
 -- a loop counted
-pub loop_leads :
-    (origin lead : Origin) (row : Row) (condition : Condition) (holds : Bool) (named : ℕ) (machine : Machine) (register : List ℕ) (outcome : LineOutcome)
-    → KnowsNext origin machine
-    → row.goes ≡ rows.Counts condition
-    → row.shows ≡ rows.AsBefore
-    → row.ends ≡ rows.GoesOn
-    → Works machine.memory named row (Ok register)
-    → holds ≡ holds_in machine.memory named condition
-    → Leads origin machine.memory holds (Ok lead)
-    → answer_of outcome ≡ answers.Done
+pub loop_leads : (origin lead : Origin) (row : Row) (condition : Condition) (holds : Bool)
+    (named : ℕ) (machine : Machine) (register : List ℕ) (outcome : LineOutcome)
+    → KnowsNext origin machine → row.goes ≡ rows.Counts condition → row.shows ≡ rows.AsBefore → row.ends ≡ rows.GoesOn
+    → Works machine.memory named row (Ok register) → holds ≡ holds_in machine.memory named condition
+    → Leads origin machine.memory holds (Ok lead) → answer_of outcome ≡ answers.Done
     → CarriesRow origin row named machine (applied_to lead row named register machine) (Ok outcome)
 loop_leads (Program next) lead row condition holds named machine register outcome knows goes shows ends works is leads answers =
-    program_leads next lead row condition holds named machine register outcome knows (λ course asks. rw goes asks) shows ends works is leads answers
+    program_leads next lead row condition holds named machine register outcome
+    knows (λ course asks. rw goes asks) shows ends works is leads answers
 loop_leads Typed (Program position) row condition holds named machine register outcome knows goes shows ends works is leads answers =
     absurd (cc leads)
 loop_leads Typed Typed row condition holds named machine register outcome knows goes shows ends works is leads answers =
     (Ok register, works, (Stays, rw goes refl, rw (answers, shows, ends) refl))
 
 -- the line that would be passed over is none
-program_refused :
-    (next : ℕ) (row : Row) (condition : Condition) (holds : Bool) (named : ℕ) (old : Machine) (register : List ℕ) (refusal : FocalRefusal)
+program_refused : (next : ℕ) (row : Row) (condition : Condition) (holds : Bool)
+    (named : ℕ) (old : Machine) (register : List ℕ) (refusal : FocalRefusal)
     → KnowsNext (Program next) old
-    → ((course : Course) → Asks (holds_in old.memory named condition) old.memory next old.focal.returns course → StepsFrom row.goes old.memory named old.focal.position next old.focal.returns course)
-    → Works old.memory named row (Ok register)
-    → holds ≡ holds_in old.memory named condition
-    → Leads (Program next) old.memory holds (Err refusal)
-    → Applies courses.Stepped row named old (Err refusal)
+    → ((course : Course) → Asks (holds_in old.memory named condition) old.memory next old.focal.returns course
+    → StepsFrom row.goes old.memory named old.focal.position next old.focal.returns course)
+    → Works old.memory named row (Ok register) → holds ≡ holds_in old.memory named condition
+    → Leads (Program next) old.memory holds (Err refusal) → Applies courses.Stepped row named old (Err refusal)
 program_refused next row condition holds named old register refusal knows goes works is leads =
     let asks = has_no_line (holds_in old.memory named condition) old.memory next old.focal.returns (sym is ∙ leads.1) leads.2 in
     (Ok register, works, (HasNoLine, (next, knows, goes _ asks), rw leads.0 refl))
 
 -- a test is refused
-pub test_refused :
-    (origin : Origin) (row : Row) (condition : Condition) (holds : Bool) (named : ℕ) (old : Machine) (register : List ℕ) (refusal : FocalRefusal)
-    → KnowsNext origin old
-    → row.goes ≡ rows.Tests condition
-    → Works old.memory named row (Ok register)
-    → holds ≡ holds_in old.memory named condition
-    → Leads origin old.memory holds (Err refusal)
+pub test_refused : (origin : Origin) (row : Row) (condition : Condition) (holds : Bool)
+    (named : ℕ) (old : Machine) (register : List ℕ) (refusal : FocalRefusal)
+    → KnowsNext origin old → row.goes ≡ rows.Tests condition → Works old.memory named row (Ok register)
+    → holds ≡ holds_in old.memory named condition → Leads origin old.memory holds (Err refusal)
     → Applies (how_of origin) row named old (Err refusal)
 test_refused (Program next) row condition holds named old register refusal knows goes works is leads =
     program_refused next row condition holds named old register refusal knows (λ course asks. rw goes asks) works is leads
 test_refused Typed row condition holds named old register refusal knows goes works is leads = absurd (cc leads)
 
 -- a loop is refused
-pub loop_refused :
-    (origin : Origin) (row : Row) (condition : Condition) (holds : Bool) (named : ℕ) (old : Machine) (register : List ℕ) (refusal : FocalRefusal)
-    → KnowsNext origin old
-    → row.goes ≡ rows.Counts condition
-    → Works old.memory named row (Ok register)
-    → holds ≡ holds_in old.memory named condition
-    → Leads origin old.memory holds (Err refusal)
+pub loop_refused : (origin : Origin) (row : Row) (condition : Condition) (holds : Bool)
+    (named : ℕ) (old : Machine) (register : List ℕ) (refusal : FocalRefusal)
+    → KnowsNext origin old → row.goes ≡ rows.Counts condition → Works old.memory named row (Ok register)
+    → holds ≡ holds_in old.memory named condition → Leads origin old.memory holds (Err refusal)
     → Applies (how_of origin) row named old (Err refusal)
 loop_refused (Program next) row condition holds named old register refusal knows goes works is leads =
     program_refused next row condition holds named old register refusal knows (λ course asks. rw goes asks) works is leads
 loop_refused Typed row condition holds named old register refusal knows goes works is leads = absurd (cc leads)
 
 -- a test computes nothing, and its condition is told where its places hold numbers
-asked :
-    (numbers holds other : Bool)
+asked : (numbers holds other : Bool)
     → MatchBool numbers (◌≡◌ {A = Result Bool LineFault} (Ok holds) (Ok other)) (◌≡◌ {A = Result Bool LineFault} (Ok holds) (Err AlphaData))
-    → MatchBool numbers (◌≡◌ {A = Result (List ℕ) LineFault} (Ok zeros) (Ok zeros)) (◌≡◌ {A = Result (List ℕ) LineFault} (Ok zeros) (Err AlphaData)) × (holds ≡ other)
+    → MatchBool numbers (◌≡◌ {A = Result (List ℕ) LineFault} (Ok zeros) (Ok zeros))
+    (◌≡◌ {A = Result (List ℕ) LineFault} (Ok zeros) (Err AlphaData))
+    × (holds ≡ other)
 asked true holds other told = (refl, cc told)
 asked false holds other told = absurd (cc told)
 
-faulted :
-    (numbers other : Bool) (fault : LineFault)
-    → MatchBool numbers (◌≡◌ {A = Result Bool LineFault} (Err fault) (Ok other)) (◌≡◌ {A = Result Bool LineFault} (Err fault) (Err AlphaData))
-    → MatchBool numbers (◌≡◌ {A = Result (List ℕ) LineFault} (Err fault) (Ok zeros)) (◌≡◌ {A = Result (List ℕ) LineFault} (Err fault) (Err AlphaData))
+faulted : (numbers other : Bool) (fault : LineFault)
+    → MatchBool numbers (◌≡◌ {A = Result Bool LineFault} (Err fault) (Ok other))
+    (◌≡◌ {A = Result Bool LineFault} (Err fault) (Err AlphaData))
+    → MatchBool numbers (◌≡◌ {A = Result (List ℕ) LineFault} (Err fault) (Ok zeros))
+    (◌≡◌ {A = Result (List ℕ) LineFault} (Err fault) (Err AlphaData))
 faulted true other fault told = absurd (cc told)
 faulted false other fault told = cc told
 
@@ -160,7 +148,8 @@ pub test_asked :
     → result ≡ Ok holds
     → Works memory named (rows.test condition) (Ok zeros) × (holds ≡ holds_in memory named condition)
 test_asked memory named condition result holds tells is =
-    asked (are_numbers memory named (rows.places_in_condition condition)) holds (holds_in memory named condition) (let told = tells named in rw is at told)
+    asked (are_numbers memory named (rows.places_in_condition condition)) holds
+    (holds_in memory named condition) (let told = tells named in rw is at told)
 
 pub test_faulted :
     (memory : RegisterMap) (named : ℕ) (condition : Condition) (result : Result Bool LineFault) (fault : LineFault)
@@ -168,7 +157,8 @@ pub test_faulted :
     → result ≡ Err fault
     → Works memory named (rows.test condition) (Err fault)
 test_faulted memory named condition result fault tells is =
-    faulted (are_numbers memory named (rows.places_in_condition condition)) (holds_in memory named condition) fault (let told = tells named in rw is at told)
+    faulted (are_numbers memory named (rows.places_in_condition condition))
+    (holds_in memory named condition) fault (let told = tells named in rw is at told)
 
 -- a loop's counter is asked for twice, once for the value and once for the condition
 twice : (number : Bool) (A B : Type 0) → MatchBool (number && true) A B → MatchBool (number && (number && true)) A B
@@ -180,4 +170,5 @@ pub loop_works :
     → WorksOn memory address (Counted way Named) result
     → Works memory address (loop way) result
 loop_works way memory address result works =
-    twice (is_some (number_in (register_in memory address Named))) (Computes (Counted way Named) memory address result) (result ≡ Err AlphaData) works
+    twice (is_some (number_in (register_in memory address Named)))
+    (Computes (Counted way Named) memory address result) (result ≡ Err AlphaData) works

@@ -6,8 +6,11 @@ use Rattle.h41_codes.specs.declared.line.Line.{Line}
 use Rattle.h41_codes.specs.declared.line.Line.TheVariants.{Module}
 use Rattle.h41_focal.proofs.OneOutcome.{same_line, typed_determined}
 use Rattle.h41_focal.specs.Courses.{Arrives, Course, Stays, StepsFrom, Stepped, Typed, TypedFrom}
-use Rattle.h41_focal.specs.LineLaws.{AreAlike, GoesToNext, IsAt, NextIsHere, StepsInTurn, SteppedCanBeTyped, TypedAsStepped, TypedIsDetermined, TypesInTurn}
-use Rattle.h41_focal.specs.LineStep.{Applies, AppliesTo, AppliesWith, CarriesOut, Ends, FailsIn, FocalState, Left, Machine, StepsAs, StepsLine, TakesLine, TypesLine, answered, caught, done, ended, error_flag, failed, named_by, placed, shown_text, worked}
+use Rattle.h41_focal.specs.LineLaws.{AreAlike, GoesToNext, IsAt, NextIsHere, StepsInTurn, SteppedCanBeTyped, TypedAsStepped}
+use Rattle.h41_focal.specs.LineLaws.{TypedIsDetermined, TypesInTurn}
+use Rattle.h41_focal.specs.LineStep.{Applies, AppliesTo, AppliesWith, CarriesOut, Ends, FailsIn, FocalState, Left, Machine, StepsAs}
+use Rattle.h41_focal.specs.LineStep.{StepsLine, TakesLine, TypesLine, answered, caught, done, ended, error_flag, failed, named_by, placed}
+use Rattle.h41_focal.specs.LineStep.{shown_text, worked}
 use Rattle.h41_focal.specs.Outcomes.{is_elsewhere}
 use Rattle.h41_focal.specs.declared.refusal.FocalRefusal.{FocalRefusal}
 use Rattle.h41_focal.specs.declared.refusal.FocalRefusal.TheVariants.{MemoryLost, NotInProfile}
@@ -63,7 +66,8 @@ ended_here rows.GoesOn = refl
 ended_here rows.Stops = refl
 ended_here rows.TurnsOff = refl
 
-answered_here : (memory : RegisterMap) (named : ℕ) (showing : rows.Showing) (ending : rows.Ending) → is_elsewhere (answered memory named showing ending) ≡ false
+answered_here : (memory : RegisterMap) (named : ℕ) (showing : rows.Showing) (ending : rows.Ending)
+    → is_elsewhere (answered memory named showing ending) ≡ false
 answered_here memory named rows.AsBefore ending = ended_here ending
 answered_here memory named rows.NoText ending = refl
 answered_here memory named rows.NamedText ending = shown_here (register_text (format_of memory) (register_at memory named)) ending
@@ -74,10 +78,12 @@ abbrev typed_fault : Bool → Machine → LineFault → Left
 typed_fault flag_25 machine fault = if flag_25 then done (caught machine) else failed machine fault
 
 fails_alike : (flag_25 : Bool) (machine : Machine) (focal : FocalState) (fault : LineFault) (left : Left)
-    → MatchBool flag_25 ((next : ℕ) × AnswersNext machine.memory machine.focal.position (Ok next) × (left ≡ done (placed next (caught machine))))
+    → MatchBool flag_25
+    ((next : ℕ) × AnswersNext machine.memory machine.focal.position (Ok next) × (left ≡ done (placed next (caught machine))))
     (left ≡ failed (placed machine.focal.position machine) fault)
     → AreAlike left.machine (typed_fault flag_25 (beside machine focal) fault).machine × (is_elsewhere left.answer ≡ false)
-fails_alike true machine focal fault left (next, answers, is) = (as_same left _ is (caught (beside machine focal)) (refl, refl), here left _ is refl)
+fails_alike true machine focal fault left (next, answers, is) =
+    (as_same left _ is (caught (beside machine focal)) (refl, refl), here left _ is refl)
 fails_alike false machine focal fault left is = (as_same left _ is (beside machine focal) (refl, refl), here left _ is refl)
 
 failure_alike : (machine : Machine) (focal : FocalState) (fault : LineFault) (left : Left)
@@ -99,12 +105,18 @@ with_alike row named machine focal (Ok result) left goes_on (course, (next, answ
     let other = beside machine focal in
     let answer = answered machine.memory named row.shows row.ends in
     let arrives : course ≡ Arrives next machine.focal.returns =
-    subst (λ (going : rows.Going). StepsFrom going machine.memory named machine.focal.position next machine.focal.returns course) goes_on goes in
+    subst (λ (going : rows.Going). StepsFrom going machine.memory named machine.focal.position next machine.focal.returns course)
+    goes_on goes in
     let is = subst (λ (course : Course). Ends Stepped machine new answer course (Ok left)) arrives ends in
-    let stays = subst (λ (going : rows.Going). TypedFrom going other.memory named other.focal.position other.focal.returns Stays) (sym goes_on) refl in
+    let stays =
+    subst (λ (going : rows.Going). TypedFrom going other.memory named other.focal.position other.focal.returns Stays) (sym goes_on) refl in
     let typed : Left = record { machine = worked row named result other; answer = answer } in
-    let same = same_left left _ is in
-    (typed, (Stays, stays, refl), as_same left _ same typed.machine (refl, refl), here left _ same (answered_here machine.memory named row.shows row.ends))
+    let same = same_left left _ is in (
+      typed,
+      (Stays, stays, refl),
+      as_same left _ same typed.machine (refl, refl),
+      here left _ same (answered_here machine.memory named row.shows row.ends),
+    )
 
 row_alike : (row : rows.Row) (named : ℕ) (machine : Machine) (focal : FocalState) (left : Left) → row.goes ≡ rows.Next
     → Applies Stepped row named machine (Ok left) → LeavesLike (Applies Typed row named (beside machine focal)) left
@@ -117,12 +129,14 @@ meant_alike : (line : Line) (machine : Machine) (focal : FocalState) (meant : Re
     → IfOk meant (λ meant. (row_of line meant).goes ≡ rows.Next) → AppliesTo Stepped line machine meant (Ok left)
     → LeavesLike (AppliesTo Typed line (beside machine focal) meant) left
 meant_alike line machine focal (Err fault) left goes_on applies = failure_alike machine focal fault left applies
-meant_alike line machine focal (Ok meant) left goes_on applies = row_alike (row_of line meant) (named_by meant) machine focal left goes_on applies
+meant_alike line machine focal (Ok meant) left goes_on applies =
+    row_alike (row_of line meant) (named_by meant) machine focal left goes_on applies
 
 carried_alike : (line : Line) (machine : Machine) (focal : FocalState) (left : Left)
     → GoesToNext line → CarriesOut Stepped line machine (Ok left) → LeavesLike (CarriesOut Typed line (beside machine focal)) left
 carried_alike (Module number entry) machine focal left goes_on carries = absurd goes_on
-carried_alike line machine focal left goes_on carries = meant_alike line machine focal (meant_of machine.memory line) left (goes_on machine.memory) carries
+carried_alike line machine focal left goes_on carries =
+    meant_alike line machine focal (meant_of machine.memory line) left (goes_on machine.memory) carries
 
 profile_alike : (left_out : Bool) (line : Line) (machine : Machine) (focal : FocalState) (left : Left) → GoesToNext line
     → MatchBool left_out (◌≡◌ {A = Result Left FocalRefusal} (Ok left) (Err NotInProfile)) (CarriesOut Stepped line machine (Ok left))
@@ -137,8 +151,9 @@ taken_alike line machine focal left goes_on takes = profile_alike (is_left_out l
 -- the line at the position, where no bytes have two first lines
 module _ (same_first : FirstIsDetermined) where
   sound_alike : (sound : Bool) (line : Line) (machine : Machine) (focal : FocalState) (left : Left) → GoesToNext line → IsAt line machine
-      → MatchBool sound
-      ((first : Result ListedLine program.ProgramRefusal) × AnswersFirst machine.memory machine.focal.position first × StepsAs None machine first (Ok left))
+      → MatchBool sound ((first : Result ListedLine program.ProgramRefusal)
+      × AnswersFirst machine.memory machine.focal.position first
+      × StepsAs None machine first (Ok left))
       (◌≡◌ {A = Result Left FocalRefusal} (Ok left) (Err MemoryLost))
       → LeavesLike (λ carried. MatchBool sound (TakesLine Typed line (beside machine focal) carried) (carried ≡ Err MemoryLost)) left
   sound_alike true line machine focal left goes_on (own, stands, is) (first, answers, steps) =
@@ -156,11 +171,13 @@ module _ (same_first : FirstIsDetermined) where
 
   pub next_is_here : NextIsHere
   next_is_here line machine left goes_on stands steps =
-      let found : LeavesLike (TypesLine line machine) left = line_alike line machine machine left goes_on (refl, refl) stands steps in found.3
+      let found : LeavesLike (TypesLine line machine) left =
+      line_alike line machine machine left goes_on (refl, refl) stands steps in
+      found.3
 
   -- lines in turn
-  turn_alike : (lines : List Line) (machine other left : Machine) → All GoesToNext lines → AreAlike machine other → StepsInTurn lines machine left
-      → (typed : Machine) × TypesInTurn lines other typed × AreAlike left typed
+  turn_alike : (lines : List Line) (machine other left : Machine) → All GoesToNext lines → AreAlike machine other
+      → StepsInTurn lines machine left → (typed : Machine) × TypesInTurn lines other typed × AreAlike left typed
   turn_alike [] machine other left go_on alike is = (other, refl, subst (λ (left : Machine). AreAlike left other) (sym is) alike)
   turn_alike (line ∷ lines) machine other left go_on alike (stands, after, steps, others) =
       let one = line_alike line machine other after (All-head GoesToNext line lines go_on) alike stands steps in
@@ -190,5 +207,6 @@ module _
   pub typed_alike : TypedAsStepped
   typed_alike lines machine other left typed go_on alike steps types =
       let found = turn_alike same_first lines machine other left go_on alike steps in
-      let same = same_turn (typed_determined same_value same_first same_start same_local same_global) lines other found.0 typed found.1 types in
+      let same =
+      same_turn (typed_determined same_value same_first same_start same_local same_global) lines other found.0 typed found.1 types in
       subst (λ (typed : Machine). AreAlike left typed) same found.2

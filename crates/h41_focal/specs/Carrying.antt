@@ -1,5 +1,6 @@
 -- What private functions promise one another.
-use Rattle.std.specs.Prelude.{◌≡◌, ◌≤◌, ℕ, length, Some, Bool, false, IsTrue, List, MatchBool, Result, Ok, Err, ⊤}
+use Rattle.std.specs.Prelude.{◌≡◌, ◌≤◌, ℕ, length, Some, Bool, false, IsTrue, List, MatchBool}
+use Rattle.std.specs.Prelude.{Result, Ok, Err, ⊤}
 use Rattle.h41_codes.specs.declared.functions.Branch.{Branch}
 use Rattle.h41_codes.specs.declared.functions.NameFunction.{NameFunction}
 use Rattle.h41_codes.specs.declared.functions.ParameterFunction.{ParameterFunction}
@@ -11,14 +12,17 @@ use Rattle.h41_rows.specs.Results.{result_map}
 use Rattle.h41_focal.specs.Courses.{How}
 use Rattle.h41_focal.specs.Courses as courses
 use Rattle.h41_focal.specs.MachineCalls.{Call, carried_as, left_of}
-use Rattle.h41_focal.specs.LineStep.{Applies, Fails, FailsIn, FocalState, Machine, TakesLine, at_position}
-use Rattle.h41_rows.specs.Operands.{Address, Count, DigitKind, FlagKind, NoOperand, RegisterKind, meant_as}
+use Rattle.h41_focal.specs.LineStep.{Applies, Fails, FailsIn, FocalState, Machine, TakesLine}
+use Rattle.h41_focal.specs.LineStep.{at_position}
+use Rattle.h41_rows.specs.Operands.{Address, Count, DigitKind, FlagKind, NoOperand, RegisterKind}
+use Rattle.h41_rows.specs.Operands.{meant_as}
 use Rattle.h41_focal.specs.Outcomes.{Answer, answer_of}
 use Rattle.h41_focal.specs.Outcomes as answers
 use Rattle.h41_rows.specs.Computing.{meant_by}
 use Rattle.h41_rows.specs.RowEffects.{lift_after, with_alpha_change}
 use Rattle.h41_rows.specs.Rows.{Appends, Becomes, Lift, Row}
-use Rattle.h41_focal.specs.Works.{digits_use_row, flag_use_row, highest_of, register_use_row, row_of_work}
+use Rattle.h41_focal.specs.Works.{digits_use_row, flag_use_row, highest_of, register_use_row}
+use Rattle.h41_focal.specs.Works.{row_of_work}
 use Rattle.h41_focal.specs.declared.works.Work.{Work}
 use Rattle.h41_rows.specs.LineRows.{row_of, text_row, to_label, to_meant, to_name}
 use Rattle.h41_rows.specs.declared.operands.BranchTarget.{BranchTarget}
@@ -53,7 +57,8 @@ pub record IsReady (origin : Origin) (machine : Machine) : Type 0 where
 
 -- on to the next line; a typed line stays
 abbrev pub advanced : Origin → Lift → FocalState → FocalState
-advanced (Program next) lift focal = record (at_position next focal) { lift = lift_after lift focal.lift }
+advanced (Program next) lift focal =
+    record (at_position next focal) { lift = lift_after lift focal.lift }
 advanced Typed lift focal = record focal { lift = lift_after lift focal.lift }
 
 -- a row was applied to a machine
@@ -62,16 +67,22 @@ Leaves origin row named old new outcome =
     Applies (how_of origin) row named old (Ok (left_of new outcome))
 
 -- a row was applied to a machine, or the line refused
-abbrev pub CarriesRow : Origin → Row → ℕ → (old new : Machine) → Result LineOutcome FocalRefusal → Type 0
+abbrev pub CarriesRow : Origin → Row → ℕ → (old new : Machine) → Result LineOutcome FocalRefusal
+    → Type 0
 CarriesRow origin row named old new result =
     Applies (how_of origin) row named old (carried_as new result)
 
--- where a line that asks goes on: the next line where the answer is yes, else the one behind it; a typed line stays
+-- where a line that asks goes on: the next line where the answer is yes, else the one behind it; a
+-- typed line stays
 abbrev pub Leads : Origin → RegisterMap → Bool → Result Origin FocalRefusal → Type 0
 Leads (Program next) memory holds (Ok lead) =
-    (position : ℕ) × (lead ≡ Program position) × MatchBool holds (position ≡ next) (AnswersNext memory next (Ok position))
+    (position : ℕ)
+    × (lead ≡ Program position)
+    × MatchBool holds (position ≡ next) (AnswersNext memory next (Ok position))
 Leads (Program next) memory holds (Err refusal) =
-    (refusal ≡ BrokenProgram) × (holds ≡ false) × AnswersNext memory next (Err program.BrokenProgram)
+    (refusal ≡ BrokenProgram)
+    × (holds ≡ false)
+    × AnswersNext memory next (Err program.BrokenProgram)
 Leads Typed memory holds lead = lead ≡ Ok Typed
 
 -- what a test answers: where it was typed, whether it holds
@@ -85,24 +96,33 @@ TakesAs origin line old new result =
     TakesLine (how_of origin) line old (carried_as new result)
 
 -- a row was applied to what an operand means, of which this was found, or its fault
-abbrev pub CarriesFound : {A : Type 0} → Origin → (A → Row) → (A → ℕ) → Result A LineFault → (old new : Machine) → Result LineOutcome FocalRefusal → Type 0
-CarriesFound origin row named (Ok found) old new result = CarriesRow origin (row found) (named found) old new result
-CarriesFound origin row named (Err fault) old new result = FailsIn (how_of origin) old fault (carried_as new result)
+abbrev pub CarriesFound : {A : Type 0} → Origin → (A → Row) → (A → ℕ) → Result A LineFault
+    → (old new : Machine) → Result LineOutcome FocalRefusal → Type 0
+CarriesFound origin row named (Ok found) old new result =
+    CarriesRow origin (row found) (named found) old new result
+CarriesFound origin row named (Err fault) old new result =
+    FailsIn (how_of origin) old fault (carried_as new result)
 
 -- with a register, a number of digits, a flag
-abbrev pub UsesAddress : Origin → RegisterUse → Operand → (old new : Machine) → Result LineOutcome FocalRefusal → Type 0
+abbrev pub UsesAddress : Origin → RegisterUse → Operand → (old new : Machine)
+    → Result LineOutcome FocalRefusal → Type 0
 UsesAddress origin taken operand old new result =
-    (found : Result ℕ LineFault) × (result_map Address found ≡ meant_as RegisterKind old.memory operand)
-    × CarriesFound origin (λ address. register_use_row taken) (λ address. address) found old new result
+    (found : Result ℕ LineFault)
+    × (result_map Address found ≡ meant_as RegisterKind old.memory operand)
+    × CarriesFound origin (λ address. register_use_row taken)
+    (λ address. address) found old new result
 
-abbrev pub UsesDigits : Origin → DigitsUse → Operand → (old new : Machine) → Result LineOutcome FocalRefusal → Type 0
+abbrev pub UsesDigits : Origin → DigitsUse → Operand → (old new : Machine)
+    → Result LineOutcome FocalRefusal → Type 0
 UsesDigits origin taken operand old new result =
     (found : Result ℕ LineFault) × (result_map Count found ≡ meant_as DigitKind old.memory operand)
     × CarriesFound origin (digits_use_row taken) (λ digits. 0) found old new result
 
-abbrev pub UsesFlag : Origin → FlagUse → Operand → (old new : Machine) → Result LineOutcome FocalRefusal → Type 0
+abbrev pub UsesFlag : Origin → FlagUse → Operand → (old new : Machine)
+    → Result LineOutcome FocalRefusal → Type 0
 UsesFlag origin taken operand old new result =
-    (found : Result ℕ LineFault) × (result_map Count found ≡ meant_as (FlagKind (highest_of taken)) old.memory operand)
+    (found : Result ℕ LineFault)
+    × (result_map Count found ≡ meant_as (FlagKind (highest_of taken)) old.memory operand)
     × CarriesFound origin (flag_use_row taken) (λ flag. 0) found old new result
 
 -- the line that stands at a position, and where the next one stands; or why there is none
@@ -119,7 +139,8 @@ StandsAt memory at (Err refusal) =
 abbrev pub Stands : Machine → Result (Line × ℕ) FocalRefusal → Type 0
 Stands machine result = StandsAt machine.memory machine.focal.position result
 
--- the same of a row that names no register, of a line without an operand, of the work of a function, of the use of a register or a flag
+-- the same of a row that names no register, of a line without an operand, of the work of a
+-- function, of the use of a register or a flag
 abbrev pub LeavesRow : Origin → Row → (old new : Machine) → LineOutcome → Type 0
 LeavesRow origin row old new outcome = (named : ℕ) → Leaves origin row named old new outcome
 
@@ -129,7 +150,8 @@ DoesLine origin line old new outcome = LeavesRow origin (row_of line NoOperand) 
 abbrev pub DoesWork : Origin → Work → (old new : Machine) → LineOutcome → Type 0
 DoesWork origin work old new outcome = LeavesRow origin (row_of_work work) old new outcome
 
-abbrev pub CarriesWork : Origin → Work → (old new : Machine) → Result LineOutcome FocalRefusal → Type 0
+abbrev pub CarriesWork : Origin → Work → (old new : Machine) → Result LineOutcome FocalRefusal
+    → Type 0
 CarriesWork origin work old new result =
     (named : ℕ) → CarriesRow origin (row_of_work work) named old new result
 
@@ -137,16 +159,19 @@ abbrev pub UsesAt : Origin → RegisterUse → ℕ → (old new : Machine) → L
 UsesAt origin taken address old new outcome =
     Leaves origin (register_use_row taken) address old new outcome
 
-abbrev pub DoesUse : Origin → RegisterUse → ℕ → (old new : Machine) → Result LineOutcome FocalRefusal → Type 0
+abbrev pub DoesUse : Origin → RegisterUse → ℕ → (old new : Machine)
+    → Result LineOutcome FocalRefusal → Type 0
 DoesUse origin taken address old new result =
     CarriesRow origin (register_use_row taken) address old new result
 
-abbrev pub CarriesFlag : Origin → FlagUse → ℕ → (old new : Machine) → Result LineOutcome FocalRefusal → Type 0
+abbrev pub CarriesFlag : Origin → FlagUse → ℕ → (old new : Machine)
+    → Result LineOutcome FocalRefusal → Type 0
 CarriesFlag origin taken flag old new result =
     (named : ℕ) → CarriesRow origin (flag_use_row taken flag) named old new result
 
 abbrev pub LeavesFlag : Origin → FlagUse → ℕ → (old new : Machine) → LineOutcome → Type 0
-LeavesFlag origin taken flag old new outcome = LeavesRow origin (flag_use_row taken flag) old new outcome
+LeavesFlag origin taken flag old new outcome =
+    LeavesRow origin (flag_use_row taken flag) old new outcome
 
 abbrev pub LeavesDigits : Origin → DigitsUse → ℕ → (old new : Machine) → LineOutcome → Type 0
 LeavesDigits origin taken digits old new outcome =
@@ -154,10 +179,12 @@ LeavesDigits origin taken digits old new outcome =
 
 -- of a branch to a label, or to a name
 abbrev pub GoesToLabel : Origin → Branch → ℕ → (old new : Machine) → LineOutcome → Type 0
-GoesToLabel origin branch label old new outcome = LeavesRow origin (to_label branch label) old new outcome
+GoesToLabel origin branch label old new outcome =
+    LeavesRow origin (to_label branch label) old new outcome
 
 abbrev pub GoesToName : Origin → Branch → List ℕ → (old new : Machine) → LineOutcome → Type 0
-GoesToName origin branch name old new outcome = LeavesRow origin (to_name branch name) old new outcome
+GoesToName origin branch name old new outcome =
+    LeavesRow origin (to_name branch name) old new outcome
 
 -- of a fault
 abbrev pub FailsAs : Origin → LineFault → (old new : Machine) → LineOutcome → Type 0
@@ -165,23 +192,28 @@ FailsAs origin fault old new outcome = Fails (how_of origin) old fault (left_of 
 
 -- lines of each kind are taken
 abbrev pub TakesNamed : Origin → NameFunction → List ℕ → Call
-TakesNamed origin function name old new result = TakesAs origin (lines.Named function name) old new result
+TakesNamed origin function name old new result =
+    TakesAs origin (lines.Named function name) old new result
 
 abbrev pub TakesShort : Origin → RegisterFunction → ℕ → Call
-TakesShort origin function register old new result = TakesAs origin (lines.Register function register) old new result
+TakesShort origin function register old new result =
+    TakesAs origin (lines.Register function register) old new result
 
 abbrev pub TakenBy : Origin → ParameterFunction → Operand → Call
-TakenBy origin function operand old new result = TakesAs origin (lines.WithOperand function operand) old new result
+TakenBy origin function operand old new result =
+    TakesAs origin (lines.WithOperand function operand) old new result
 
 abbrev pub TakesBranch : Origin → Branch → ℕ → Call
-TakesBranch origin branch register old new result = TakesAs origin (lines.BranchIndirect branch register) old new result
+TakesBranch origin branch register old new result =
+    TakesAs origin (lines.BranchIndirect branch register) old new result
 
 -- a flag is asked, and cleared
 abbrev pub ClearsFlag : Origin → Bool → ℕ → Call
 ClearsFlag origin on flag old new result = CarriesFlag origin (AskAndClear on) flag old new result
 
 -- of a branch to what a register holds
-abbrev pub GoesToTarget : Origin → Branch → BranchTarget → (old new : Machine) → LineOutcome → Type 0
+abbrev pub GoesToTarget : Origin → Branch → BranchTarget → (old new : Machine) → LineOutcome
+    → Type 0
 GoesToTarget origin branch target old new outcome =
     LeavesRow origin (to_meant branch (meant_by target)) old new outcome
 

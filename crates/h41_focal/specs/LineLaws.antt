@@ -1,9 +1,11 @@
--- What holds of lines, whatever the code does: each has one outcome; those that go on to the next leave the same, stepped or typed.
+-- What holds of lines, whatever the code does: each has one outcome; those that go on to the next
+-- leave the same, stepped or typed.
 use Rattle.std.specs.Prelude.{◌≡◌, false, All, IfOk, List, [], ◌∷◌, None, Ok, Option, Result}
 use Rattle.h41_codes.specs.declared.functions.Function.{Function}
 use Rattle.h41_codes.specs.declared.line.Line.{Line}
 use Rattle.h41_codes.specs.declared.line.Line.TheVariants.{Module}
-use Rattle.h41_focal.specs.LineStep.{FailsLine, Left, Machine, PassesLine, StepsLine, TypesLine}
+use Rattle.h41_focal.specs.LineStep.{FailsLine, FailsTyped, Left, Machine, PassesLine, StepsLine}
+use Rattle.h41_focal.specs.LineStep.{TypesLine}
 use Rattle.h41_focal.specs.Outcomes.{is_elsewhere}
 use Rattle.h41_focal.specs.declared.refusal.FocalRefusal.{FocalRefusal}
 use Rattle.h41_program.specs.ProgramLines.{AnswersFirst}
@@ -32,14 +34,22 @@ FailureIsDetermined =
     (fault : LineFault) (machine : Machine) (carried other : Result Left FocalRefusal)
     → FailsLine fault machine carried → FailsLine fault machine other → carried ≡ other
 
+-- and a typed one that fails so
+abbrev pub TypedFailureIsDetermined : Type 0
+TypedFailureIsDetermined =
+    (fault : LineFault) (machine : Machine) (carried other : Result Left FocalRefusal)
+    → FailsTyped fault machine carried → FailsTyped fault machine other → carried ≡ other
+
 -- and one that is passed
 abbrev pub PassingIsDetermined : Type 0
 PassingIsDetermined =
-    (machine : Machine) (after other : Result Machine FocalRefusal) → PassesLine machine after → PassesLine machine other → after ≡ other
+    (machine : Machine) (after other : Result Machine FocalRefusal) → PassesLine machine after
+    → PassesLine machine other → after ≡ other
 
--- a line whose row goes on to the next one, whatever its operand means in whatever memory. Tests, loops, GTO, XEQ, RTN and END do
--- not; PROMPT, STOP and OFF do, since only memory and lift are looked at; a line whose operand means nothing in any memory does, since
--- it always fails. A function of a module does not: the calculator calls it.
+-- a line whose row goes on to the next one, whatever its operand means in whatever memory. Tests,
+-- loops, GTO, XEQ, RTN and END do not; PROMPT, STOP and OFF do, since only memory and lift are
+-- looked at; a line whose operand means nothing in any memory does, since it always fails. A
+-- function of a module does not: the calculator calls it.
 abbrev pub GoesToNext : Line → Type 0
 GoesToNext (Module number entry) = ⊥
 GoesToNext line =
@@ -64,12 +74,14 @@ TypesInTurn [] machine left = left ≡ machine
 TypesInTurn (line ∷ lines) machine left =
     (after : Left) × TypesLine line machine (Ok after) × TypesInTurn lines after.machine left
 
--- the same memory, in which are the stack, the data registers, ALPHA and the flags, and the same lift; positions may differ
+-- the same memory, in which are the stack, the data registers, ALPHA and the flags, and the same
+-- lift; positions may differ
 abbrev pub AreAlike : Machine → Machine → Type 0
 AreAlike machine other =
     (machine.memory ≡ other.memory) × (machine.focal.lift ≡ other.focal.lift)
 
--- lines that go on leave the same where they are typed in turn as where they are stepped, faults and flag 25 included
+-- lines that go on leave the same where they are typed in turn as where they are stepped, faults
+-- and flag 25 included
 abbrev pub TypedAsStepped : Type 0
 TypedAsStepped =
     (lines : List Line) (machine other left typed : Machine)
@@ -83,8 +95,10 @@ SteppedCanBeTyped =
     → All GoesToNext lines → AreAlike machine other
     → StepsInTurn lines machine left → (typed : Machine) × TypesInTurn lines other typed
 
--- a line that goes on is done there: it calls no function of a module, and no name has to be looked up elsewhere
+-- a line that goes on is done there: it calls no function of a module, and no name has to be looked
+-- up elsewhere
 abbrev pub NextIsHere : Type 0
 NextIsHere =
-    (line : Line) (machine : Machine) (left : Left) → GoesToNext line → IsAt line machine → StepsLine None machine (Ok left)
+    (line : Line) (machine : Machine) (left : Left) → GoesToNext line → IsAt line machine
+    → StepsLine None machine (Ok left)
     → is_elsewhere left.answer ≡ false

@@ -1,10 +1,13 @@
--- One line is carried out: one rule for all rows. The Owner's Handbook's are flag 25 and what faults do; the refusals and
--- their order, what becomes of line 00 and what a typed line does at a fault are this project's choices.
-use Rattle.std.specs.Prelude.{◌≡◌, ℕ, Bool, true, false, List, [], MatchBool, if◌then◌else◌, Option, Some, None, Result, Ok, Err}
+-- One line is carried out: one rule for all rows. The Owner's Handbook's are flag 25 and what
+-- faults do; the refusals and their order, what becomes of line 00 and what a typed line does at a
+-- fault are this project's choices.
+use Rattle.std.specs.Prelude.{◌≡◌, ℕ, Bool, true, false, List, [], MatchBool, if◌then◌else◌, Option}
+use Rattle.std.specs.Prelude.{Some, None, Result, Ok, Err}
 use Rattle.h41_codes.specs.declared.functions.Function.{Function}
 use Rattle.h41_codes.specs.declared.line.Line.{Line}
 use Rattle.h41_codes.specs.declared.line.Line.TheVariants.{Module, Plain}
-use Rattle.h41_focal.specs.Courses.{Course, Arrives, Halts, Stays, Tells, Runs, Seeks, HasNoLabel, HasNoLine, Goes, How, Stepped, Typed}
+use Rattle.h41_focal.specs.Courses.{Course, Arrives, Halts, Stays, Tells, Runs, Seeks, HasNoLabel}
+use Rattle.h41_focal.specs.Courses.{HasNoLine, Goes, How, Stepped, Typed}
 use Rattle.h41_rows.specs.LineRows.{row_of}
 use Rattle.h41_rows.specs.Operands.{Meant, Address, meant_of}
 use Rattle.h41_focal.specs.Outcomes.{Answer}
@@ -17,7 +20,8 @@ use Rattle.h41_rows.specs.Values.{Value, Computes}
 use Rattle.h41_rows.specs.declared.fault.LineFault.{LineFault}
 use Rattle.h41_rows.specs.declared.fault.LineFault.TheVariants.{AlphaData, Nonexistent}
 use Rattle.h41_focal.specs.declared.refusal.FocalRefusal.{FocalRefusal}
-use Rattle.h41_focal.specs.declared.refusal.FocalRefusal.TheVariants.{MemoryLost, BrokenProgram, NotInProfile}
+use Rattle.h41_focal.specs.declared.refusal.FocalRefusal.TheVariants.{MemoryLost, BrokenProgram}
+use Rattle.h41_focal.specs.declared.refusal.FocalRefusal.TheVariants.{NotInProfile}
 use Rattle.h41_program.specs.ProgramLines.{AnswersFirst, AnswersNext}
 use Rattle.h41_program.specs.declared.listed_line.ListedLine.{ListedLine}
 use Rattle.h41_program.specs.declared.refusal.ProgramRefusal as program
@@ -27,7 +31,8 @@ use Rattle.h41_show.specs.RegisterText.{alpha_text, register_text}
 
 -- what lines work on, beside memory
 pub record FocalState : Type 0 where
-  -- where the next line stands in program memory, and whether that is line 00, the place before its program's first line
+  -- where the next line stands in program memory, and whether that is line 00, the place before its
+  -- program's first line
   pub position : ℕ
   pub at_line_00 : Bool
   -- the positions to return to, the latest last
@@ -60,7 +65,8 @@ ComputesIn memory named (Some value) result = Computes value memory named result
 -- numbers are asked for before anything is computed
 abbrev pub Works : RegisterMap → ℕ → rows.Row → Result (List ℕ) LineFault → Type 0
 Works memory named row result =
-    MatchBool (are_numbers memory named (rows.numbers_of row)) (ComputesIn memory named row.value result) (result ≡ Err AlphaData)
+    MatchBool (are_numbers memory named (rows.numbers_of row))
+    (ComputesIn memory named row.value result) (result ≡ Err AlphaData)
 
 -- what stands in the display, and whether the program goes on
 abbrev pub shown_text : List ℕ → rows.Ending → Answer
@@ -75,10 +81,12 @@ ended rows.TurnsOff = answers.TurnedOff
 abbrev pub answered : RegisterMap → ℕ → rows.Showing → rows.Ending → Answer
 answered memory named rows.AsBefore ending = ended ending
 answered memory named rows.NoText ending = answers.Cleared
-answered memory named rows.NamedText ending = shown_text (register_text (format_of memory) (register_at memory named)) ending
+answered memory named rows.NamedText ending =
+    shown_text (register_text (format_of memory) (register_at memory named)) ending
 answered memory named rows.AlphaText ending = shown_text (alpha_text memory) ending
 
--- where lines go on: at a line, at line 00 of the program that begins at a position, and there with nowhere to return to
+-- where lines go on: at a line, at line 00 of the program that begins at a position, and there with
+-- nowhere to return to
 abbrev pub at_position : ℕ → FocalState → FocalState
 at_position position focal = record focal { position = position; at_line_00 = false }
 
@@ -100,8 +108,9 @@ returning returns machine = record machine { focal = record machine.focal { retu
 abbrev pub halted : ℕ → Machine → Machine
 halted start machine = record machine { focal = halted_at start machine.focal }
 
--- a fault is shown and the program stops there, at a line that is not line 00. With flag 25 that flag is cleared, and the
--- program goes on with the next line. Where the line was typed, the position stays.
+-- a fault is shown and the program stops there, at a line that is not line 00. With flag 25 that
+-- flag is cleared, and the program goes on with the next line. Where the line was typed, the
+-- position stays.
 abbrev pub error_flag : ℕ
 error_flag = 25
 
@@ -117,27 +126,35 @@ done machine = record { machine = machine; answer = answers.Done }
 abbrev pub Fails : How → Machine → LineFault → Left → Type 0
 Fails Stepped machine fault left =
     MatchBool (flag_of machine.memory error_flag)
-    ((next : ℕ) × AnswersNext machine.memory machine.focal.position (Ok next) × (left ≡ done (placed next (caught machine))))
+    ((next : ℕ)
+    × AnswersNext machine.memory machine.focal.position (Ok next)
+    × (left ≡ done (placed next (caught machine))))
     (left ≡ failed (placed machine.focal.position machine) fault)
 Fails Typed machine fault left =
-    left ≡ (if flag_of machine.memory error_flag then done (caught machine) else failed machine fault)
+    left
+    ≡ (if flag_of machine.memory error_flag then done (caught machine) else failed machine fault)
 
 -- a line is carried out, or refused
 abbrev pub FailsIn : How → Machine → LineFault → Result Left FocalRefusal → Type 0
-FailsIn how machine fault carried = (left : Left) × Fails how machine fault left × (carried ≡ Ok left)
+FailsIn how machine fault carried =
+    (left : Left) × Fails how machine fault left × (carried ≡ Ok left)
 
 -- what is left of a machine with a row's changes, by where the line goes
 abbrev pub Ends : How → Machine → Machine → Answer → Course → Result Left FocalRefusal → Type 0
 Ends how old new answer (Arrives position returns) carried =
     carried ≡ Ok (record { machine = placed position (returning returns new); answer = answer })
-Ends Stepped old new answer (Halts start) carried = carried ≡ Ok (record { machine = halted start new; answer = answers.Stopped })
+Ends Stepped old new answer (Halts start) carried =
+    carried ≡ Ok (record { machine = halted start new; answer = answers.Stopped })
 Ends Typed old new answer (Halts start) carried = carried ≡ Ok (done (halted start new))
 Ends how old new answer Stays carried = carried ≡ Ok (record { machine = new; answer = answer })
-Ends how old new answer (Tells holds) carried = carried ≡ Ok (record { machine = new; answer = answers.Answered holds })
+Ends how old new answer (Tells holds) carried =
+    carried ≡ Ok (record { machine = new; answer = answers.Answered holds })
 Ends how old new answer (Runs position) carried =
     carried ≡ Ok (record { machine = placed position (returning [] new); answer = answers.Runs })
--- nothing is changed where the calculator looks elsewhere, and where the line that is to be passed over is none
-Ends how old new answer (Seeks name) carried = carried ≡ Ok (record { machine = old; answer = answers.Seeks name })
+-- nothing is changed where the calculator looks elsewhere, and where the line that is to be passed
+-- over is none
+Ends how old new answer (Seeks name) carried =
+    carried ≡ Ok (record { machine = old; answer = answers.Seeks name })
 Ends how old new answer HasNoLabel carried = FailsIn how old Nonexistent carried
 Ends how old new answer HasNoLine carried = carried ≡ Err BrokenProgram
 
@@ -149,15 +166,20 @@ worked row named result machine = record {
 }
 
 -- a row is applied, where the register that its line names and what is computed are known
-abbrev pub AppliesWith : How → rows.Row → ℕ → Machine → Result (List ℕ) LineFault → Result Left FocalRefusal → Type 0
+abbrev pub AppliesWith : How → rows.Row → ℕ → Machine → Result (List ℕ) LineFault
+    → Result Left FocalRefusal → Type 0
 AppliesWith how row named machine (Err fault) carried = FailsIn how machine fault carried
 AppliesWith how row named machine (Ok result) carried =
-    (course : Course) × Goes how row.goes machine.memory named machine.focal.position machine.focal.returns course
-    × Ends how machine (worked row named result machine) (answered machine.memory named row.shows row.ends) course carried
+    (course : Course)
+    × Goes how row.goes machine.memory named machine.focal.position machine.focal.returns course
+    × Ends how machine (worked row named result machine)
+    (answered machine.memory named row.shows row.ends) course carried
 
 abbrev pub Applies : How → rows.Row → ℕ → Machine → Result Left FocalRefusal → Type 0
 Applies how row named machine carried =
-    (result : Result (List ℕ) LineFault) × Works machine.memory named row result × AppliesWith how row named machine result carried
+    (result : Result (List ℕ) LineFault)
+    × Works machine.memory named row result
+    × AppliesWith how row named machine result carried
 
 -- the address of the register that a line names; a line that names none has no use for it
 abbrev pub named_by : Meant → ℕ
@@ -165,15 +187,19 @@ named_by (Address address) = address
 named_by meant = 0
 
 -- a line whose operand means this
-abbrev pub AppliesTo : How → Line → Machine → Result Meant LineFault → Result Left FocalRefusal → Type 0
+abbrev pub AppliesTo : How → Line → Machine → Result Meant LineFault → Result Left FocalRefusal
+    → Type 0
 AppliesTo how line machine (Err fault) carried = FailsIn how machine fault carried
-AppliesTo how line machine (Ok meant) carried = Applies how (row_of line meant) (named_by meant) machine carried
+AppliesTo how line machine (Ok meant) carried =
+    Applies how (row_of line meant) (named_by meant) machine carried
 
--- a line that this bench carries out; for a function of a module nothing is changed, since the calculator calls it
+-- a line that this bench carries out; for a function of a module nothing is changed, since the
+-- calculator calls it
 abbrev pub CarriesOut : How → Line → Machine → Result Left FocalRefusal → Type 0
 CarriesOut how (Module number entry) machine carried =
     carried ≡ Ok (record { machine = machine; answer = answers.Calls number entry })
-CarriesOut how line machine carried = AppliesTo how line machine (meant_of machine.memory line) carried
+CarriesOut how line machine carried =
+    AppliesTo how line machine (meant_of machine.memory line) carried
 
 -- 13: a line that it does not carry out
 abbrev pub TakesLine : How → Line → Machine → Result Left FocalRefusal → Type 0
@@ -183,7 +209,8 @@ TakesLine how line machine carried =
 -- a line is typed; 15 where memory is not sound
 abbrev pub TypesLine : Line → Machine → Result Left FocalRefusal → Type 0
 TypesLine line machine carried =
-    MatchBool (is_sound machine.memory) (TakesLine Typed line machine carried) (carried ≡ Err MemoryLost)
+    MatchBool (is_sound machine.memory)
+    (TakesLine Typed line machine carried) (carried ≡ Err MemoryLost)
 
 -- the line that stands there, or in its place the function that XEQ names there
 abbrev pub line_as : Option Function → Line → Line
@@ -191,49 +218,65 @@ line_as None line = line
 line_as (Some function) line = Plain function
 
 -- a line stands at the position, or none: 14
-abbrev pub StepsAs : Option Function → Machine → Result ListedLine program.ProgramRefusal → Result Left FocalRefusal → Type 0
-StepsAs function machine (Ok first) carried = TakesLine Stepped (line_as function first.line) machine carried
+abbrev pub StepsAs : Option Function → Machine → Result ListedLine program.ProgramRefusal
+    → Result Left FocalRefusal → Type 0
+StepsAs function machine (Ok first) carried =
+    TakesLine Stepped (line_as function first.line) machine carried
 StepsAs function machine (Err refusal) carried = carried ≡ Err BrokenProgram
 
 -- the line at the position is carried out, or a function in its place; 15 where memory is not sound
 abbrev pub StepsLine : Option Function → Machine → Result Left FocalRefusal → Type 0
 StepsLine function machine carried =
     MatchBool (is_sound machine.memory)
-    ((first : Result ListedLine program.ProgramRefusal) × AnswersFirst machine.memory machine.focal.position first × StepsAs function machine first carried)
+    ((first : Result ListedLine program.ProgramRefusal)
+    × AnswersFirst machine.memory machine.focal.position first
+    × StepsAs function machine first carried)
     (carried ≡ Err MemoryLost)
 
 -- the line at the position fails, as where what it calls is nowhere: 15 and 14 as above
-abbrev pub FailsWith : LineFault → Machine → Result ListedLine program.ProgramRefusal → Result Left FocalRefusal → Type 0
+abbrev pub FailsWith : LineFault → Machine → Result ListedLine program.ProgramRefusal
+    → Result Left FocalRefusal → Type 0
 FailsWith fault machine (Ok first) carried = FailsIn Stepped machine fault carried
 FailsWith fault machine (Err refusal) carried = carried ≡ Err BrokenProgram
 
 abbrev pub FailsLine : LineFault → Machine → Result Left FocalRefusal → Type 0
 FailsLine fault machine carried =
     MatchBool (is_sound machine.memory)
-    ((first : Result ListedLine program.ProgramRefusal) × AnswersFirst machine.memory machine.focal.position first × FailsWith fault machine first carried)
+    ((first : Result ListedLine program.ProgramRefusal)
+    × AnswersFirst machine.memory machine.focal.position first
+    × FailsWith fault machine first carried)
     (carried ≡ Err MemoryLost)
 
 -- a typed line fails, as where what it calls is nowhere: 15 as above
 abbrev pub FailsTyped : LineFault → Machine → Result Left FocalRefusal → Type 0
 FailsTyped fault machine carried =
-    MatchBool (is_sound machine.memory) (FailsIn Typed machine fault carried) (carried ≡ Err MemoryLost)
+    MatchBool (is_sound machine.memory)
+    (FailsIn Typed machine fault carried) (carried ≡ Err MemoryLost)
 
--- the line at the position calls a function of a module, which the calculator carries out: the program goes on behind the line. An
--- XROM line turns lift on, XEQ of a name leaves it (this project's choice); 15 and 14 as above
+-- the line at the position calls a function of a module, which the calculator carries out: the
+-- program goes on behind the line. An XROM line turns lift on, XEQ of a name leaves it (this
+-- project's choice); 15 and 14 as above
 abbrev pub lift_behind : Line → Bool → Bool
 lift_behind (Module number entry) lift = true
 lift_behind line lift = lift
 
 abbrev pub passed : Line → ℕ → Machine → Machine
-passed line next machine = placed next (record machine { focal = record machine.focal { lift = lift_behind line machine.focal.lift } })
+passed line next machine =
+    placed next
+    (record machine { focal = record machine.focal { lift = lift_behind line machine.focal.lift } })
 
-abbrev pub PassesWith : Machine → Result ListedLine program.ProgramRefusal → Result Machine FocalRefusal → Type 0
+abbrev pub PassesWith : Machine → Result ListedLine program.ProgramRefusal
+    → Result Machine FocalRefusal → Type 0
 PassesWith machine (Ok first) after =
-    (next : ℕ) × AnswersNext machine.memory machine.focal.position (Ok next) × (after ≡ Ok (passed first.line next machine))
+    (next : ℕ)
+    × AnswersNext machine.memory machine.focal.position (Ok next)
+    × (after ≡ Ok (passed first.line next machine))
 PassesWith machine (Err refusal) after = after ≡ Err BrokenProgram
 
 abbrev pub PassesLine : Machine → Result Machine FocalRefusal → Type 0
 PassesLine machine after =
     MatchBool (is_sound machine.memory)
-    ((first : Result ListedLine program.ProgramRefusal) × AnswersFirst machine.memory machine.focal.position first × PassesWith machine first after)
+    ((first : Result ListedLine program.ProgramRefusal)
+    × AnswersFirst machine.memory machine.focal.position first
+    × PassesWith machine first after)
     (after ≡ Err MemoryLost)

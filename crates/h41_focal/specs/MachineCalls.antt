@@ -1,4 +1,5 @@
--- How the clauses of a machine's calls see what they leave: the machine, and an answer whose texts are their bytes.
+-- How the clauses of a machine's calls see what they leave: the machine, and an answer whose texts
+-- are their bytes.
 use Rattle.std.specs.Prelude.{◌≡◌, IfOk, IsTrue, Option, Result, Ok, Err}
 use Rattle.h41_codes.specs.declared.functions.Function.{Function}
 use Rattle.h41_codes.specs.declared.line.Line.{Line}

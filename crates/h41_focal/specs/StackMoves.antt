@@ -9,4 +9,7 @@ use Rattle.h41_ram.specs.RegisterMap.{RegisterMap}
 -- memory is what the movement's row makes of it, by the register that the row computes
 abbrev pub Moves : Movement → (old new : RegisterMap) → Bool → Type 0
 Moves movement old new lift =
-    (named : ℕ) → (register : List ℕ) × Works old named (move_row movement) (Ok register) × (new ≡ memory_after (move_row movement) named register lift old)
+    (named : ℕ)
+    → (register : List ℕ)
+    × Works old named (move_row movement) (Ok register)
+    × (new ≡ memory_after (move_row movement) named register lift old)

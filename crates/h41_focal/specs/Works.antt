@@ -1,13 +1,17 @@
--- What private functions promise one another of the tables: functions, and functions with an operand, by what is done for them.
+-- What private functions promise one another of the tables: functions, and functions with an
+-- operand, by what is done for them.
 use Rattle.std.specs.Prelude.{◌≡◌, ℕ, true, false, [], ◌∷◌, Some, pos}
 use Rattle.h41_codes.specs.declared.functions.ParameterFunction.{ParameterFunction}
 use Rattle.h41_rows.specs.Computing.{condition_of, value_of_one, value_of_two}
 use Rattle.h41_rows.specs.Counters.{Up, Down}
 use Rattle.h41_rows.specs.FunctionRows.{angles, pi}
-use Rattle.h41_rows.specs.LineRows.{change, count_row, format, into_register, loop, recall, register_row, store}
+use Rattle.h41_rows.specs.LineRows.{change, count_row, format, into_register, loop, recall}
+use Rattle.h41_rows.specs.LineRows.{register_row, store}
 use Rattle.h41_rows.specs.Operands.{DigitKind, FlagKind, LabelKind, RegisterKind, kind_of}
 use Rattle.h41_rows.specs.Places.{T, Z, Y, X, LastX, Named}
-use Rattle.h41_rows.specs.Rows.{Row, AlphaText, AppendsNamed, Becomes, Flag, LosesSix, NamedText, NoText, Off, Returns, SixCharacters, Stops, TurnsOff, nothing, silent, copy, compute, of_x, of_y_and_x, coming_in, test}
+use Rattle.h41_rows.specs.Rows.{Row, AlphaText, AppendsNamed, Becomes, Flag, LosesSix, NamedText}
+use Rattle.h41_rows.specs.Rows.{NoText, Off, Returns, SixCharacters, Stops, TurnsOff, nothing}
+use Rattle.h41_rows.specs.Rows.{silent, copy, compute, of_x, of_y_and_x, coming_in, test}
 use Rattle.h41_rows.specs.Values as values
 use Rattle.h41_focal.specs.declared.works.Movement.{Movement}
 use Rattle.h41_focal.specs.declared.works.Movement.TheVariants as moves
@@ -35,8 +39,12 @@ move_row moves.LastX = coming_in (copy X LastX)
 move_row moves.Enter = record nothing { takes = copy T Z ∷ copy Z Y ∷ copy Y X ∷ []; lift = Off }
 move_row moves.Pi = record (coming_in (compute X)) { value = Some (values.Given (pos pi)) }
 move_row moves.ClearStack =
-    record nothing { value = Some (values.Given (pos 0)); takes = compute T ∷ compute Z ∷ compute Y ∷ compute X ∷ [] }
-move_row moves.ClearX = record nothing { value = Some (values.Given (pos 0)); takes = compute X ∷ []; lift = Off }
+    record nothing {
+      value = Some (values.Given (pos 0));
+      takes = compute T ∷ compute Z ∷ compute Y ∷ compute X ∷ [];
+    }
+move_row moves.ClearX =
+    record nothing { value = Some (values.Given (pos 0)); takes = compute X ∷ []; lift = Off }
 
 -- what becomes of ALPHA, and of its mode
 abbrev pub alpha_row : AlphaWork → Row
@@ -57,13 +65,16 @@ abbrev pub row_of_work : Work → Row
 row_of_work (works.OfYAndX value) = of_y_and_x (value_of_two value Y X)
 row_of_work (works.OfX value) = of_x (value_of_one value X)
 row_of_work works.Square = of_x (values.Product X X)
-row_of_work works.Percent = record nothing { value = Some (values.Percentage Y X); takes = compute X ∷ copy LastX X ∷ [] }
-row_of_work works.ChangeSign = record nothing { value = Some (values.Negative X); takes = compute X ∷ [] }
+row_of_work works.Percent =
+    record nothing { value = Some (values.Percentage Y X); takes = compute X ∷ copy LastX X ∷ [] }
+row_of_work works.ChangeSign =
+    record nothing { value = Some (values.Negative X); takes = compute X ∷ [] }
 row_of_work (works.Ask asked) = test (condition_of asked)
 row_of_work (works.Move movement) = move_row movement
 row_of_work (works.Alpha work) = alpha_row work
 row_of_work (works.Display work) = display_row work
-row_of_work (works.Angles grads radians) = angles (record { flag = 42; on = grads }) (record { flag = 43; on = radians })
+row_of_work (works.Angles grads radians) =
+    angles (record { flag = 42; on = grads }) (record { flag = 43; on = radians })
 row_of_work works.ClearRegisters = record nothing { clears_data = true }
 row_of_work works.Return = record silent { goes = Returns }
 row_of_work works.Nothing = nothing
@@ -76,7 +87,8 @@ register_use_row (registers.Combine value) = into_register (value_of_two value N
 register_use_row registers.CountUp = loop Up
 register_use_row registers.CountDown = loop Down
 register_use_row registers.View = record nothing { shows = NamedText }
-register_use_row registers.StoreAlpha = record nothing { takes = record { place = Named; source = SixCharacters } ∷ [] }
+register_use_row registers.StoreAlpha =
+    record nothing { takes = record { place = Named; source = SixCharacters } ∷ [] }
 register_use_row registers.RecallAlpha = record nothing { alpha = Some AppendsNamed }
 register_use_row registers.Exchange = record nothing { takes = copy X Named ∷ copy Named X ∷ [] }
 
@@ -98,7 +110,11 @@ highest_of (flags.AskAndClear on) = 29
 
 -- what a function with an operand does
 abbrev pub IsUse : ParameterFunction → Use → Type 0
-IsUse function (uses.Register taken) = (kind_of function ≡ RegisterKind) × (register_row function ≡ register_use_row taken)
-IsUse function (uses.Digits taken) = (kind_of function ≡ DigitKind) × ((n : ℕ) → count_row function n ≡ digits_use_row taken n)
-IsUse function (uses.Flag taken) = (kind_of function ≡ FlagKind (highest_of taken)) × ((n : ℕ) → count_row function n ≡ flag_use_row taken n)
+IsUse function (uses.Register taken) =
+    (kind_of function ≡ RegisterKind) × (register_row function ≡ register_use_row taken)
+IsUse function (uses.Digits taken) =
+    (kind_of function ≡ DigitKind) × ((n : ℕ) → count_row function n ≡ digits_use_row taken n)
+IsUse function (uses.Flag taken) =
+    (kind_of function ≡ FlagKind (highest_of taken))
+    × ((n : ℕ) → count_row function n ≡ flag_use_row taken n)
 IsUse function uses.Label = (kind_of function ≡ LabelKind) × (register_row function ≡ silent)

@@ -2,7 +2,8 @@
 
 ghost use Rattle.std.specs.Prelude.{◌≡◌, ◌≤◌, ℕ, IfNone, IfSome, length};
 ghost use Rattle.h41_codes.specs.declared.line.Line.TheVariants as lines;
-ghost use Rattle.h41_focal.specs.Carrying.{DoesLine, DoesWork, IsBehind, IsWhole, IsReady, PutsText};
+ghost use Rattle.h41_focal.specs.Carrying.{DoesLine, DoesWork, IsBehind, IsWhole, IsReady};
+ghost use Rattle.h41_focal.specs.Carrying.{PutsText};
 ghost use Rattle.h41_focal.specs.declared.works.Work.TheVariants.{Alpha};
 
 use crate::course::go_on_lifting;
@@ -12,10 +13,8 @@ use crate::outcome::LineOutcome;
 use crate::works::AlphaWork;
 use h41_codes::Text;
 use h41_ram::Ram;
+use h41_ram::flags::ALPHA_MODE;
 use h41_rows::{append_text, replace_text, shift_six};
-
-/// The flag that brings ALPHA into the display.
-const ALPHA_MODE: usize = 48;
 
 /// The first character of a text that comes behind what ALPHA holds.
 const APPEND: u8 = 0x7F;

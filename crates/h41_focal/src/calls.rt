@@ -20,7 +20,8 @@ pub fn step_line<const REGS: usize>(
 ) -> Result<LineOutcome, FocalRefusal>
     ensures line { Steps None (joined ram.old focal.old) (joined ram.new focal.new) result }
     ensures unchanged { OnErr result (joined ram.new focal.new ≡ joined ram.old focal.old) }
-    ensures elsewhere { KeepsElsewhere (joined ram.old focal.old) (joined ram.new focal.new) result }
+    ensures elsewhere { KeepsElsewhere (joined ram.old focal.old)
+        (joined ram.new focal.new) result }
 {
     let mut machine = Machine {
         ram: ram.take(),
@@ -37,7 +38,8 @@ pub fn step_as<const REGS: usize>(
     focal: &mut Focal,
     function: Function,
 ) -> Result<LineOutcome, FocalRefusal>
-    ensures line { Steps (Some function) (joined ram.old focal.old) (joined ram.new focal.new) result }
+    ensures line { Steps (Some function) (joined ram.old focal.old)
+        (joined ram.new focal.new) result }
     ensures unchanged { OnErr result (joined ram.new focal.new ≡ joined ram.old focal.old) }
 {
     let mut machine = Machine {
@@ -57,7 +59,8 @@ pub fn key_line<const REGS: usize>(
 ) -> Result<LineOutcome, FocalRefusal>
     ensures line { Types line.now (joined ram.old focal.old) (joined ram.new focal.new) result }
     ensures unchanged { OnErr result (joined ram.new focal.new ≡ joined ram.old focal.old) }
-    ensures elsewhere { KeepsElsewhere (joined ram.old focal.old) (joined ram.new focal.new) result }
+    ensures elsewhere { KeepsElsewhere (joined ram.old focal.old)
+        (joined ram.new focal.new) result }
 {
     let mut machine = Machine {
         ram: ram.take(),

@@ -8,10 +8,8 @@ use crate::focal::Focal;
 use crate::machine::Machine;
 use crate::origin::Origin;
 use crate::outcome::LineOutcome;
+use h41_ram::flags::ERROR_IGNORE;
 use h41_rows::LineFault;
-
-/// The flag that has the program go on where a line cannot be done.
-const ERROR_FLAG: usize = 25;
 
 /// On to the next line; a typed line stays. Lift stays.
 pub fn go_on(focal: &mut Focal, origin: Origin)
@@ -48,8 +46,8 @@ pub fn fail<const REGS: usize>(
     requires { IsReady origin machine.old }
     ensures { FailsAs origin fault machine.old machine.new result }
 {
-    if machine.ram.flag(ERROR_FLAG) {
-        machine.ram.set_flag(ERROR_FLAG, false);
+    if machine.ram.flag(ERROR_IGNORE) {
+        machine.ram.set_flag(ERROR_IGNORE, false);
         go_on(&mut machine.focal, origin);
         return LineOutcome::Done;
     }

@@ -1,7 +1,9 @@
 //! Laws of lines: each is the contract of a function with nothing to do but to call the laws it rests on.
 
 ghost use Rattle.std.specs.Prelude.{◌≡◌, ◌≤◌, length};
-ghost use Rattle.h41_focal.specs.LineLaws.{FailureIsDetermined, NextIsHere, PassingIsDetermined, StepIsDetermined, SteppedCanBeTyped, TypedAsStepped, TypedIsDetermined};
+ghost use Rattle.h41_focal.specs.LineLaws.{FailureIsDetermined, NextIsHere, PassingIsDetermined};
+ghost use Rattle.h41_focal.specs.LineLaws.{StepIsDetermined, SteppedCanBeTyped, TypedAsStepped};
+ghost use Rattle.h41_focal.specs.LineLaws.{TypedFailureIsDetermined, TypedIsDetermined};
 
 use crate::focal::Focal;
 use h41_program::laws::{lists_are_determined, searches_are_determined};
@@ -15,11 +17,12 @@ pub fn six_returns_at_most(focal: &Focal) -> usize
     focal.returns.len()
 }
 
-/// A line has one outcome: stepped, typed, failed from outside, or passed.
+/// A line has one outcome: stepped, typed, failed from outside, stepped or typed, or passed.
 pub fn line_is_determined()
     ensures step { StepIsDetermined }
     ensures typed { TypedIsDetermined }
     ensures failure { FailureIsDetermined }
+    ensures typed_failure { TypedFailureIsDetermined }
     ensures passing { PassingIsDetermined }
 {
     values_are_determined();

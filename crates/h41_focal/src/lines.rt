@@ -1,7 +1,8 @@
 //! A line is read where it stands, and carried out by what it is.
 
 ghost use Rattle.std.specs.Prelude.{◌≡◌, ℕ, IsTrue, OnErr};
-ghost use Rattle.h41_focal.specs.Carrying.{GoesToTarget, IsReady, Stands, StandsAt, TakesAs, TakesBranch, TakesNamed, TakesShort};
+ghost use Rattle.h41_focal.specs.Carrying.{GoesToTarget, IsReady, Stands, StandsAt, TakesAs};
+ghost use Rattle.h41_focal.specs.Carrying.{TakesBranch, TakesNamed, TakesShort};
 ghost use Rattle.h41_program.specs.ProgramLines as program_lines;
 ghost use Rattle.h41_program.specs.ProgramLines.{PositionBehind};
 ghost use Rattle.h41_ram.specs.RegisterMap.{is_sound};

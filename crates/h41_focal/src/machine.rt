@@ -1,7 +1,8 @@
 //! Memory and what lines work on beside it, as one value: what lines, edits and keys change.
 
 ghost use Rattle.std.specs.Prelude.{◌≡◌, ◌≤◌, ℕ, None, Some, OnErr};
-ghost use Rattle.h41_focal.specs.MachineCalls.{Fails, FailsTyped, KeepsElsewhere, Passes, Steps, Types};
+ghost use Rattle.h41_focal.specs.MachineCalls.{Fails, FailsTyped, KeepsElsewhere, Passes, Steps};
+ghost use Rattle.h41_focal.specs.MachineCalls.{Types};
 ghost use Rattle.h41_focal.specs.LineStep.{joined, start};
 ghost use Rattle.h41_ram.specs.RegisterMap as registers;
 

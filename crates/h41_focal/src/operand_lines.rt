@@ -2,7 +2,8 @@
 
 ghost use Rattle.std.specs.Prelude.{◌≡◌, false, OnErr};
 ghost use Rattle.h41_focal.specs.Carrying.{IsReady, TakenBy, UsesDigits, UsesFlag, UsesAddress};
-ghost use Rattle.h41_rows.specs.Profile.{is_operand_left_out, is_parameter_left_out, is_use_left_out};
+ghost use Rattle.h41_rows.specs.Profile.{is_operand_left_out, is_parameter_left_out};
+ghost use Rattle.h41_rows.specs.Profile.{is_use_left_out};
 
 use crate::course::fail;
 use crate::flag_lines::use_flag;

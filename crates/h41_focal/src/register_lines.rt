@@ -1,7 +1,9 @@
 //! Lines that work on a register.
 
 ghost use Rattle.h41_focal.specs.Carrying.{IsReady, UsesAt};
-ghost use Rattle.h41_focal.specs.declared.uses.RegisterUse.TheVariants.{Combine, Exchange, Recall, RecallAlpha, Store, StoreAlpha, View};
+ghost use Rattle.h41_focal.specs.declared.uses.RegisterUse.TheVariants.{Combine, Exchange, Recall};
+ghost use Rattle.h41_focal.specs.declared.uses.RegisterUse.TheVariants.{RecallAlpha, Store};
+ghost use Rattle.h41_focal.specs.declared.uses.RegisterUse.TheVariants.{StoreAlpha, View};
 
 use crate::course::{fail, go_on_lifting};
 use crate::machine::Machine;

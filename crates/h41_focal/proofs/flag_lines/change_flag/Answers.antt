@@ -8,5 +8,6 @@ use Rattle.h41_focal.proofs.flag_lines.change_flag.Goals as goal
 
 pub returns : goal.returns
 returns g c = λ named.
-    row_done _ (flag_use_row (flags.Change c.args.on) c.args.flag) named _ _ _ zeros outcomes.Done _ _ c.machine.view_is c.requires.ready.next refl refl
+    row_done _ (flag_use_row (flags.Change c.args.on) c.args.flag) named _ _ _
+    zeros outcomes.Done _ _ c.machine.view_is c.requires.ready.next refl refl
     refl (rw (c.set_flag.ensures, c.from.ensures) refl) c.go_on_lifting.ensures

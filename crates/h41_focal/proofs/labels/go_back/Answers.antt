@@ -7,7 +7,8 @@ use Rattle.h41_focal.proofs.labels.go_back.Goals as goal
 pub returns-in-Program : goal.returns-in-Program
 returns-in-Program g c = λ named.
     rw c.in-Program.is
-    (goes_back c.args.machine.now c.return_from.new.machine c.return_from.result c.in-Program.field-0 named (let knows = c.requires.next in rw c.in-Program.is at knows) c.return_from.ensures)
+    (goes_back c.args.machine.now c.return_from.new.machine c.return_from.result c.in-Program.field-0
+    named (let knows = c.requires.next in rw c.in-Program.is at knows) c.return_from.ensures)
 
 pub returns-in-Typed : goal.returns-in-Typed
 returns-in-Typed g c = λ named.

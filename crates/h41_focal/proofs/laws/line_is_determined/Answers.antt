@@ -1,4 +1,4 @@
-use Rattle.h41_focal.proofs.OneOutcome.{failure_determined, passing_determined, step_determined, typed_determined}
+use Rattle.h41_focal.proofs.OneOutcome.{failure_determined, passing_determined, step_determined, typed_determined, typed_failure_determined}
 use Rattle.h41_focal.proofs.laws.line_is_determined.Goals as goal
 
 pub returns-clause-step : goal.returns-clause-step
@@ -13,6 +13,9 @@ returns-clause-typed c =
 
 pub returns-clause-failure : goal.returns-clause-failure
 returns-clause-failure c = failure_determined c.lists_are_determined.ensures.first
+
+pub returns-clause-typed_failure : goal.returns-clause-typed_failure
+returns-clause-typed_failure c = typed_failure_determined c.lists_are_determined.ensures.first
 
 pub returns-clause-passing : goal.returns-clause-passing
 returns-clause-passing c = passing_determined c.lists_are_determined.ensures.first

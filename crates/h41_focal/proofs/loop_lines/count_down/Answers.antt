@@ -15,7 +15,8 @@ returns-in_err-lead-in-Ok-clause-carried g c =
     let refused = err_from_is_err_and c.from_residual.result c.from_residual.ensures.1 in
     rw (refused.1, refused.2)
     (opened_row _ (loop Down) c.args.address _ _ _ _ c.machine.view_is c.requires.next
-    (λ knows. loop_refused _ (loop Down) (Loops Down Named) c.goes_on_down.result c.args.address _ c.in-Ok.register c.in_err-lead-in-Ok.field-0.0
+    (λ knows.
+    loop_refused _ (loop Down) (Loops Down Named) c.goes_on_down.result c.args.address _ c.in-Ok.register c.in_err-lead-in-Ok.field-0.0
     knows refl (rw c.in-Ok.is at works) c.goes_on_down.ensures c.in_err-lead-in-Ok.ensures))
 
 pub returns-in_ok-lead-in-Ok-clause-carried : goal.returns-in_ok-lead-in-Ok-clause-carried
@@ -23,7 +24,8 @@ returns-in_ok-lead-in-Ok-clause-carried g c =
     let works = loop_works Down _ c.args.address _ (c.compute_of_one.ensures c.args.address Named refl) in
     rw (c.go_on_lifting.ensures, c.write.ensures)
     (opened_row _ (loop Down) c.args.address _ _ _ _ c.machine.view_is c.requires.next
-    (λ knows. loop_leads _ c.in_ok-lead-in-Ok.lead (loop Down) (Loops Down Named) c.goes_on_down.result c.args.address _ c.in-Ok.register outcomes.Done
+    (λ knows. loop_leads _ c.in_ok-lead-in-Ok.lead (loop Down) (Loops Down Named)
+    c.goes_on_down.result c.args.address _ c.in-Ok.register outcomes.Done
     knows refl refl refl (rw c.in-Ok.is at works) c.goes_on_down.ensures c.in_ok-lead-in-Ok.ensures refl))
 
 pub returns-in-Err-clause-carried : goal.returns-in-Err-clause-carried

@@ -23,7 +23,8 @@ returns-in_ok-lead-in-Ok-clause-carried g c =
     let works = loop_works Up _ c.args.address _ (c.compute_of_one.ensures c.args.address Named refl) in
     rw (c.go_on_lifting.ensures, c.write.ensures)
     (opened_row _ (loop Up) c.args.address _ _ _ _ c.machine.view_is c.requires.next
-    (λ knows. loop_leads _ c.in_ok-lead-in-Ok.lead (loop Up) (Loops Up Named) c.goes_on_up.result c.args.address _ c.in-Ok.register outcomes.Done
+    (λ knows.
+    loop_leads _ c.in_ok-lead-in-Ok.lead (loop Up) (Loops Up Named) c.goes_on_up.result c.args.address _ c.in-Ok.register outcomes.Done
     knows refl refl refl (rw c.in-Ok.is at works) c.goes_on_up.ensures c.in_ok-lead-in-Ok.ensures refl))
 
 pub returns-in-Err-clause-carried : goal.returns-in-Err-clause-carried

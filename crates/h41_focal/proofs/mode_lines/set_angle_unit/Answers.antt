@@ -8,5 +8,6 @@ use Rattle.h41_focal.proofs.mode_lines.set_angle_unit.Goals as goal
 
 pub returns : goal.returns
 returns g c = λ named.
-    row_done _ (row_of_work (works.Angles c.args.grads c.args.radians)) named _ _ _ zeros outcomes.Done _ _ c.machine.view_is c.requires.next refl refl refl
+    row_done _ (row_of_work (works.Angles c.args.grads c.args.radians)) named _ _ _
+    zeros outcomes.Done _ _ c.machine.view_is c.requires.next refl refl refl
     c.set_angles.ensures c.go_on_lifting.ensures

@@ -9,7 +9,8 @@ use Rattle.h41_focal.proofs.register_lines.combine.Goals as goal
 
 pub returns-in-Ok : goal.returns-in-Ok
 returns-in-Ok g c =
-    row_done _ (register_use_row (registers.Combine c.args.value)) c.args.address _ _ _ c.in-Ok.register outcomes.Done _ _ c.machine.view_is c.requires.next refl
+    row_done _ (register_use_row (registers.Combine c.args.value)) c.args.address _
+    _ _ c.in-Ok.register outcomes.Done _ _ c.machine.view_is c.requires.next refl
     (let worked = c.compute_of_two.ensures c.machine.inside.ram c.args.address Named X refl refl refl in
     works_in_register c.args.value _ c.args.address _ (rw c.in-Ok.is at worked))
     refl c.write.ensures c.go_on_lifting.ensures

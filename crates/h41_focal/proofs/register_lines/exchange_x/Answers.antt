@@ -9,5 +9,6 @@ use Rattle.h41_focal.proofs.register_lines.exchange_x.Goals as goal
 
 pub returns : goal.returns
 returns g c =
-    row_done _ (register_use_row registers.Exchange) c.args.address _ _ _ zeros outcomes.Done _ _ c.machine.view_is c.requires.next refl refl refl
+    row_done _ (register_use_row registers.Exchange) c.args.address _ _ _
+    zeros outcomes.Done _ _ c.machine.view_is c.requires.next refl refl refl
     (c.exchange.ensures c.args.address Named zeros refl) c.go_on_lifting.ensures

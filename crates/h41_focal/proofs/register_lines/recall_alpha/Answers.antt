@@ -8,5 +8,6 @@ use Rattle.h41_focal.proofs.register_lines.recall_alpha.Goals as goal
 
 pub returns : goal.returns
 returns g c =
-    row_done _ (register_use_row registers.RecallAlpha) c.args.address _ _ _ zeros outcomes.Done _ _ c.machine.view_is c.requires.next refl refl refl
+    row_done _ (register_use_row registers.RecallAlpha) c.args.address _ _ _
+    zeros outcomes.Done _ _ c.machine.view_is c.requires.next refl refl refl
     c.append_register.ensures c.go_on_lifting.ensures

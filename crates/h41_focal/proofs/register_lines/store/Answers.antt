@@ -9,5 +9,6 @@ use Rattle.h41_focal.proofs.register_lines.store.Goals as goal
 
 pub returns : goal.returns
 returns g c =
-    row_done _ (register_use_row registers.Store) c.args.address _ _ _ zeros outcomes.Done _ _ c.machine.view_is c.requires.next refl refl refl
+    row_done _ (register_use_row registers.Store) c.args.address _ _ _ zeros
+    outcomes.Done _ _ c.machine.view_is c.requires.next refl refl refl
     (c.store_x.ensures c.args.address Named zeros refl) c.go_on_lifting.ensures

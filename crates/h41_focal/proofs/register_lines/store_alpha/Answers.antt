@@ -8,5 +8,6 @@ use Rattle.h41_focal.proofs.register_lines.store_alpha.Goals as goal
 
 pub returns : goal.returns
 returns g c =
-    row_done _ (register_use_row registers.StoreAlpha) c.args.address _ _ _ zeros outcomes.Done _ _ c.machine.view_is c.requires.next refl refl refl
+    row_done _ (register_use_row registers.StoreAlpha) c.args.address _ _ _
+    zeros outcomes.Done _ _ c.machine.view_is c.requires.next refl refl refl
     (rw (c.write.ensures, c.first_six-characters.ensures) refl) c.go_on_lifting.ensures

@@ -8,6 +8,7 @@ use Rattle.h41_focal.proofs.register_lines.view.Goals as goal
 
 pub returns : goal.returns
 returns g c =
-    row_done _ (register_use_row registers.View) c.args.address _ _ _ zeros (outcomes.Viewed c.register_text.result) _ _ c.machine.view_is c.requires.next refl refl
+    row_done _ (register_use_row registers.View) c.args.address _ _ _ zeros
+    (outcomes.Viewed c.register_text.result) _ _ c.machine.view_is c.requires.next refl refl
     (rw (c.register_text.ensures, c.read.ensures, c.from_flags.ensures) refl)
     refl c.go_on_lifting.ensures

@@ -25,4 +25,5 @@ pub returns-in-ClearStack : goal.returns-in-ClearStack
 returns-in-ClearStack g c = λ named. rw c.in-ClearStack.is (c.zero.result, c.zero.ensures _ named, c.clear_stack.ensures named)
 
 pub returns-in-ClearX : goal.returns-in-ClearX
-returns-in-ClearX g c = λ named. rw c.in-ClearX.is (c.zero-in-ClearX.result, c.zero-in-ClearX.ensures _ named, c.set_status_register.ensures)
+returns-in-ClearX g c =
+    λ named. rw c.in-ClearX.is (c.zero-in-ClearX.result, c.zero-in-ClearX.ensures _ named, c.set_status_register.ensures)

@@ -23,7 +23,8 @@ goes_on moves.ClearStack = refl
 goes_on moves.ClearX = refl
 
 -- and answers nothing
-answers_done : (memory : RegisterMap) (movement : Movement) (named : ℕ) → answers.Done ≡ answered memory named (move_row movement).shows (move_row movement).ends
+answers_done : (memory : RegisterMap) (movement : Movement) (named : ℕ)
+    → answers.Done ≡ answered memory named (move_row movement).shows (move_row movement).ends
 answers_done memory moves.Exchange named = refl
 answers_done memory moves.RollUp named = refl
 answers_done memory moves.RollDown named = refl

@@ -8,4 +8,6 @@ returns-in_err-next-clause-line g c =
     rw (refused.1, refused.2) (fail_refused c.args.fault c.args.self.now c.in_err-next.field-0.0 c.in_err-next.ensures)
 
 pub returns-clause-line : goal.returns-clause-line
-returns-clause-line g c = line_fails c.args.fault c.args.self.now c.fail.new.machine c.in_ok-next.field-0-0 c.in_ok-next.next c.fail.result c.in_ok-next.ensures c.fail.ensures
+returns-clause-line g c =
+    line_fails c.args.fault c.args.self.now c.fail.new.machine c.in_ok-next.field-0-0
+    c.in_ok-next.next c.fail.result c.in_ok-next.ensures c.fail.ensures

@@ -1,7 +1,8 @@
 -- A span's mask takes the digits of its places out of a word, and puts those of another in their place.
 use Rattle.std.proofs.Common.{◌≡◌, ℕ, zero, suc, refl, inl, inr, ◌+◌, ◌-◌, ◌*◌, ◌/◌, ◌%◌, ◌^◌, ◌<◌, ◌≤◌, List, sym, ap, arith, ◌∙◌}
 use Rattle.std.proofs.lemmas.Bool.{cases_lt}
-use Rattle.std.proofs.Math.Nat.{mod-eq_of_lt, pow-le-pow_right, pow-succ', mul-div_cancel, mul-add-mod_self_right, mul-le-mul_right, mul_assoc}
+use Rattle.std.proofs.Math.Nat.{mod-eq_of_lt, pow-le-pow_right, pow-succ', mul-div_cancel, mul-add-mod_self_right, mul-le-mul_right}
+use Rattle.std.proofs.Math.Nat.{mul_assoc}
 use Rattle.std.proofs.lemmas.Nat.{and_comm, and_assoc, and_le_l, and_block, pow_pos, and-not, or_disjoint, one_shl, pow-add}
 use Rattle.std.specs.Int.Bits.{and_self}
 use Rattle.std.proofs.lemmas.Nat.Bits.{and_high}
@@ -25,8 +26,8 @@ masked word lo hi mask ordered is_mask =
     ∙ ap (λ weight. word / weight % 2 ^ (4 * (hi + 1 - lo)) * 2 ^ (4 * lo)) (bits_of_places lo)
     ∙ ap (λ weight. word / 16 ^ lo % weight * 2 ^ (4 * lo)) (bits_of_places (hi + 1 - lo))
 
-pub span_read : (places word lo hi mask : ℕ) (digits : List ℕ) → digits_of places word ≡ digits → lo ≤ hi → hi < places → mask + 16 ^ lo ≡ 16 ^ (hi + 1)
-    → bit_and word mask ≡ value_between digits lo hi * 16 ^ lo
+pub span_read : (places word lo hi mask : ℕ) (digits : List ℕ) → digits_of places word ≡ digits → lo ≤ hi → hi < places
+    → mask + 16 ^ lo ≡ 16 ^ (hi + 1) → bit_and word mask ≡ value_between digits lo hi * 16 ^ lo
 span_read places word lo hi mask digits seen ordered inside is_mask =
     masked word lo hi mask ordered is_mask ∙ ap (λ weight. in_places word lo hi * weight) (bits_of_places lo)
     ∙ ap (λ n. n * 16 ^ lo) (sym (part_read places word lo (hi + 1 - lo) digits seen (omega arith)))
@@ -36,7 +37,8 @@ in_places-lt word lo hi = omega (arith, weight_positive (hi + 1 - lo))
 
 -- the digits of a word put in
 replaced_bits : (word bits lo hi mask : ℕ) → word < 2 ^ 64 → lo ≤ hi → hi < 14 → mask + 16 ^ lo ≡ 16 ^ (hi + 1)
-    → bit_or (bit_and word (2 ^ 64 - 1 - mask)) (bit_and bits mask) + word / 2 ^ (4 * lo) % 2 ^ (4 * (hi + 1 - lo)) * 2 ^ (4 * lo) ≡ word + in_places bits lo hi * 2 ^ (4 * lo)
+    → bit_or (bit_and word (2 ^ 64 - 1 - mask)) (bit_and bits mask) + word / 2 ^ (4 * lo) % 2 ^ (4 * (hi + 1 - lo)) * 2 ^ (4 * lo)
+    ≡ word + in_places bits lo hi * 2 ^ (4 * lo)
 replaced_bits word bits lo hi mask fits ordered inside is_mask =
     let width = 4 * (hi + 1 - lo) in
     let at = 4 * lo in
@@ -48,17 +50,21 @@ replaced_bits word bits lo hi mask fits ordered inside is_mask =
     let sum : bit_or kept moved ≡ kept + moved = or_disjoint kept moved (apart_from_mask word mask moved small own) in
     let covered : bit_and word mask ≡ word / 2 ^ at % 2 ^ width * 2 ^ at = ap (bit_and word) is ∙ and_high word width at in
     let parts : bit_and (2 ^ 64 - 1 - mask) word + bit_and mask word ≡ word = and-not 64 mask word small fits in
-    let all : kept + word / 2 ^ at % 2 ^ width * 2 ^ at ≡ word = omega (arith, parts, covered, and_comm (2 ^ 64 - 1 - mask) word, and_comm mask word) in
+    let all : kept + word / 2 ^ at % 2 ^ width * 2 ^ at ≡ word =
+    omega (arith, parts, covered, and_comm (2 ^ 64 - 1 - mask) word, and_comm mask word) in
     three_parts _ kept moved _ word sum all ∙ ap (λ n. word + n) (masked bits lo hi mask ordered is_mask)
   where
     masked_twice : (bits mask : ℕ) → bit_and (bit_and bits mask) mask ≡ bit_and bits mask
     masked_twice bits mask = and_assoc mask bits mask ∙ ap (bit_and bits) (and_self mask)
 
-pub put_span : (places word bits lo hi mask : ℕ) (digits : List ℕ) → digits_of places word ≡ digits → word < 16 ^ places → places ≤ 14 → lo ≤ hi → hi < places → mask + 16 ^ lo ≡ 16 ^ (hi + 1)
-    → (digits_of places (bit_or (bit_and word (2 ^ 64 - 1 - mask)) (bit_and bits mask)) ≡ spliced digits lo hi (in_places bits lo hi)) × (bit_or (bit_and word (2 ^ 64 - 1 - mask)) (bit_and bits mask) < 16 ^ places)
+pub put_span : (places word bits lo hi mask : ℕ) (digits : List ℕ) → digits_of places word ≡ digits → word < 16 ^ places → places ≤ 14
+    → lo ≤ hi → hi < places → mask + 16 ^ lo ≡ 16 ^ (hi + 1)
+    → (digits_of places (bit_or (bit_and word (2 ^ 64 - 1 - mask)) (bit_and bits mask)) ≡ spliced digits lo hi (in_places bits lo hi))
+    × (bit_or (bit_and word (2 ^ 64 - 1 - mask)) (bit_and bits mask) < 16 ^ places)
 put_span places word bits lo hi mask digits seen fits few ordered inside is_mask =
     put_number places word _ lo hi (in_places bits lo hi) digits seen fits ordered inside (in_places-lt bits lo hi)
-    (replaced_bits word bits lo hi mask (omega (arith, fits, pow-le-pow_right {n = 16} (omega arith) {i = places} {j = 14} few)) ordered (omega arith) is_mask)
+    (replaced_bits word bits lo hi mask (omega (arith, fits, pow-le-pow_right {n = 16} (omega arith) {i = places} {j = 14} few))
+    ordered (omega arith) is_mask)
 
 -- the words of a new span: the first place's weight, and that of the place behind the last
 pub shifted_places : (places : ℕ) → places < 16 → 1 * 2 ^ (4 * places) % 2 ^ 64 ≡ 16 ^ places
@@ -70,15 +76,18 @@ places-le lo hi ordered = pow-le-pow_right {n = 16} (omega arith) {i = lo} {j = 
 -- the lowest bit of a mask
 lowest : (t a b : ℕ) → 1 < a → 0 < b → (t * a + 1) * b / b % a * b ≡ b
 lowest t a b more positive =
-    ap (λ n. n % a * b) (mul-div_cancel (t * a + 1) positive) ∙ ap (λ n. n * b) (mul-add-mod_self_right t a 1 ∙ mod-eq_of_lt more) ∙ omega arith
+    ap (λ n. n % a * b) (mul-div_cancel (t * a + 1) positive) ∙ ap (λ n. n * b) (mul-add-mod_self_right t a 1 ∙ mod-eq_of_lt more)
+    ∙ omega arith
 
-negated : (t a b mask negative whole : ℕ) → mask + b ≡ a * b → whole ≡ (t + 1) * (a * b) → negative + mask ≡ whole → negative ≡ (t * a + 1) * b
+negated : (t a b mask negative whole : ℕ) → mask + b ≡ a * b → whole ≡ (t + 1) * (a * b) → negative + mask ≡ whole
+    → negative ≡ (t * a + 1) * b
 negated t a b mask negative whole is_mask is_whole is = omega (arith, is_mask, is_whole, opened t (a * b), mul_assoc t a b)
   where
     opened : (t n : ℕ) → (t + 1) * n ≡ t * n + n
     opened t n = omega arith
 
-low_bit : (j k mask negative : ℕ) → 0 < j → j + k ≤ 64 → mask ≡ 2 ^ (j + k) - 2 ^ k → negative + mask ≡ 2 ^ 64 → bit_and mask negative ≡ 2 ^ k
+low_bit : (j k mask negative : ℕ) → 0 < j → j + k ≤ 64 → mask ≡ 2 ^ (j + k) - 2 ^ k → negative + mask ≡ 2 ^ 64
+    → bit_and mask negative ≡ 2 ^ k
 low_bit j k mask negative some inside is is_negative =
     let a = 2 ^ j in
     let b = 2 ^ k in
@@ -86,21 +95,26 @@ low_bit j k mask negative some inside is is_negative =
     let above = 2 ^ (64 - (j + k)) in
     let split : 64 ≡ 64 - (j + k) + (j + k) = omega arith in
     let one : above ≡ above - 1 + 1 = omega (arith, pow_pos (64 - (j + k))) in
-    let whole : 2 ^ 64 ≡ (above - 1 + 1) * (a * b) = ap (λ n. 2 ^ n) split ∙ pow-add 2 (64 - (j + k)) (j + k) ∙ ap (λ n. above * n) top ∙ ap (λ n. n * (a * b)) one in
+    let whole : 2 ^ 64 ≡ (above - 1 + 1) * (a * b) =
+    ap (λ n. 2 ^ n) split ∙ pow-add 2 (64 - (j + k)) (j + k) ∙ ap (λ n. above * n) top ∙ ap (λ n. n * (a * b)) one in
     let next : j ≡ suc (j - 1) = omega arith in
     let two : 1 < a = omega (arith, ap (λ n. 2 ^ n) next ∙ pow-succ' 2 (j - 1), pow_pos (j - 1)) in
     let twice : 2 * b ≤ a * b = mul-le-mul_right {m = 2} {n = a} b (omega arith) in
     let is_mask : mask + b ≡ a * b = omega (arith, is, top, twice) in
     and_comm mask negative ∙ ap (bit_and negative) is ∙ and_high negative j k
-    ∙ ap (λ n. n / b % a * b) (negated (above - 1) a b mask negative (2 ^ 64) is_mask whole is_negative) ∙ lowest (above - 1) a b two (pow_pos k)
+    ∙ ap (λ n. n / b % a * b) (negated (above - 1) a b mask negative (2 ^ 64) is_mask whole is_negative)
+    ∙ lowest (above - 1) a b two (pow_pos k)
 
 pub sixteen_le : (lo hi : ℕ) → lo ≤ hi → 16 * 16 ^ lo ≤ 16 ^ (hi + 1)
 sixteen_le lo hi ordered = omega (arith, pow-succ' 16 lo, pow-le-pow_right {n = 16} (omega arith) {i = suc lo} {j = hi + 1} (omega arith))
 
-pub first_one : (lo hi mask negative : ℕ) → lo ≤ hi → hi < 14 → mask + 16 ^ lo ≡ 16 ^ (hi + 1) → mask < 2 ^ 56 → negative < 2 ^ 64 → (negative + mask) % 2 ^ 64 ≡ 0 → bit_and mask negative ≡ 16 ^ lo
+pub first_one : (lo hi mask negative : ℕ) → lo ≤ hi → hi < 14 → mask + 16 ^ lo ≡ 16 ^ (hi + 1) → mask < 2 ^ 56 → negative < 2 ^ 64
+    → (negative + mask) % 2 ^ 64 ≡ 0 → bit_and mask negative ≡ 16 ^ lo
 first_one lo hi mask negative ordered inside is fits in_word sum =
     let more = sixteen_le lo hi ordered in
-    low_bit (4 * (hi + 1 - lo)) (4 * lo) mask negative (omega arith) (omega arith) (mask_bits lo hi mask ordered is) (omega (arith, sum, more, is, weight_positive lo)) ∙ bits_of_places lo
+    low_bit (4 * (hi + 1 - lo)) (4 * lo) mask negative (omega arith) (omega arith)
+    (mask_bits lo hi mask ordered is) (omega (arith, sum, more, is, weight_positive lo))
+    ∙ bits_of_places lo
 
 -- a one at each of so many places
 abbrev pub repunit : ℕ → ℕ
@@ -117,7 +131,8 @@ repunit_sum high zero =
     ap repunit none ∙ omega arith
 repunit_sum high (suc low) =
     let more : high + suc low ≡ suc (high + low) = omega arith in
-    ap repunit more ∙ ap (λ n. 1 + 16 * n) (repunit_sum high low) ∙ next (repunit high) (16 ^ low) (repunit low) (16 ^ suc low) (pow-succ' 16 low)
+    ap repunit more ∙ ap (λ n. 1 + 16 * n) (repunit_sum high low)
+    ∙ next (repunit high) (16 ^ low) (repunit low) (16 ^ suc low) (pow-succ' 16 low)
   where
     next : (high weight low more : ℕ) → more ≡ 16 * weight → 1 + 16 * (high * weight + low) ≡ high * more + (1 + 16 * low)
     next high weight low more is = rw is (omega arith)
@@ -139,21 +154,27 @@ sixes_of_fifteens (suc few) zero less = absurd (omega (arith, less))
 sixes_of_fifteens (suc few) (suc more) less =
     let first : 15 * repunit (suc few) ≡ 15 * repunit few * 2 ^ 4 + 15 = omega arith in
     let second : 6 * repunit (suc more) ≡ 6 * repunit more * 2 ^ 4 + 6 = omega arith in
-    ap (λ n. bit_and n (6 * repunit (suc more))) first ∙ ap (bit_and (15 * repunit few * 2 ^ 4 + 15)) second ∙ and_block 4 (15 * repunit few) (6 * repunit more) 15 6 (omega arith) (omega arith)
+    ap (λ n. bit_and n (6 * repunit (suc more))) first ∙ ap (bit_and (15 * repunit few * 2 ^ 4 + 15)) second
+    ∙ and_block 4 (15 * repunit few) (6 * repunit more) 15 6 (omega arith) (omega arith)
     ∙ omega (arith, sixes_of_fifteens few more (omega (arith, less)))
 
-pub mask_sixes : (lo hi mask : ℕ) → lo ≤ hi → hi < 14 → mask + 16 ^ lo ≡ 16 ^ (hi + 1) → bit_and mask (6 * repunit 14) ≡ 6 * (repunit (hi + 1 - lo) * 16 ^ lo)
+pub mask_sixes : (lo hi mask : ℕ) → lo ≤ hi → hi < 14 → mask + 16 ^ lo ≡ 16 ^ (hi + 1)
+    → bit_and mask (6 * repunit 14) ≡ 6 * (repunit (hi + 1 - lo) * 16 ^ lo)
 mask_sixes lo hi mask ordered inside is =
     let count = hi + 1 - lo in
     let k = 4 * lo in
     let weight = bits_of_places lo in
-    let first : mask ≡ 15 * repunit count * 2 ^ k + 0 = omega (arith, fifteen_times lo hi mask ordered is, ap (λ n. 15 * repunit count * n) weight) in
+    let first : mask ≡ 15 * repunit count * 2 ^ k + 0 =
+    omega (arith, fifteen_times lo hi mask ordered is, ap (λ n. 15 * repunit count * n) weight) in
     let split : 14 ≡ 14 - lo + lo = omega arith in
     let all : repunit 14 ≡ repunit (14 - lo) * 16 ^ lo + repunit lo = ap repunit split ∙ repunit_sum (14 - lo) lo in
-    let second : 6 * repunit 14 ≡ 6 * repunit (14 - lo) * 2 ^ k + 6 * repunit lo = omega (arith, all, ap (λ n. repunit (14 - lo) * n) weight) in
+    let second : 6 * repunit 14 ≡ 6 * repunit (14 - lo) * 2 ^ k + 6 * repunit lo =
+    omega (arith, all, ap (λ n. repunit (14 - lo) * n) weight) in
     let small : 6 * repunit lo < 2 ^ k = omega (arith, weight, repunit_fifteen lo) in
-    ap (λ n. bit_and n (6 * repunit 14)) first ∙ ap (bit_and (15 * repunit count * 2 ^ k + 0)) second ∙ and_block k (15 * repunit count) (6 * repunit (14 - lo)) 0 (6 * repunit lo) (pow_pos k) small
-    ∙ ap (λ n. n * 2 ^ k + bit_and 0 (6 * repunit lo)) (sixes_of_fifteens count (14 - lo) (omega arith)) ∙ omega (arith, and_le_l 0 (6 * repunit lo), ap (λ n. repunit count * n) weight)
+    ap (λ n. bit_and n (6 * repunit 14)) first ∙ ap (bit_and (15 * repunit count * 2 ^ k + 0)) second
+    ∙ and_block k (15 * repunit count) (6 * repunit (14 - lo)) 0 (6 * repunit lo) (pow_pos k) small
+    ∙ ap (λ n. n * 2 ^ k + bit_and 0 (6 * repunit lo)) (sixes_of_fifteens count (14 - lo) (omega arith))
+    ∙ omega (arith, and_le_l 0 (6 * repunit lo), ap (λ n. repunit count * n) weight)
 
 pub some_sixes : (lo hi : ℕ) → lo ≤ hi → 16 ^ lo ≤ 6 * (repunit (hi + 1 - lo) * 16 ^ lo)
 some_sixes lo hi ordered =
@@ -166,7 +187,8 @@ next-le hi inside = pow-le-pow_right {n = 16} (omega arith) {i = hi + 1} {j = 14
 
 -- a weight is that of one place
 heavier : (a b : ℕ) → a < b → 16 ^ a < 16 ^ b
-heavier a b less = omega (arith, pow-succ' 16 a, weight_positive a, pow-le-pow_right {n = 16} (omega arith) {i = suc a} {j = b} (omega arith))
+heavier a b less =
+    omega (arith, pow-succ' 16 a, weight_positive a, pow-le-pow_right {n = 16} (omega arith) {i = suc a} {j = b} (omega arith))
 
 pub same_place : (a b : ℕ) → 16 ^ a ≡ 16 ^ b → a ≡ b
 same_place a b same = elim (cases_lt a b) [

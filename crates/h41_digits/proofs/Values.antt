@@ -1,5 +1,6 @@
 -- What the number of a register is, digit by digit.
-use Rattle.std.proofs.Common.{◌≡◌, ℕ, zero, suc, ◌+◌, ◌*◌, ◌/◌, ◌%◌, ◌^◌, ◌<◌, ◌≢◌, List, true, map, reverse, [], ◌∷◌, ◌++◌, length, set, All, length-set, get_or-set_other, get_or-set_same, refl, sym, ap, subst, arith, lit<, ◌∙◌}
+use Rattle.std.proofs.Common.{◌≡◌, ℕ, zero, suc, ◌+◌, ◌*◌, ◌/◌, ◌%◌, ◌^◌, ◌<◌, ◌≢◌, List, true, map, reverse, [], ◌∷◌, ◌++◌, length, set}
+use Rattle.std.proofs.Common.{All, length-set, get_or-set_other, get_or-set_same, refl, sym, ap, subst, arith, lit<, ◌∙◌}
 use Rattle.std.proofs.Math.Nat.{pow-succ'}
 use Rattle.std.proofs.lemmas.List.{reverse-append, map-append}
 use Rattle.std.specs.Fmt.{digit_glyph}
@@ -22,9 +23,11 @@ value-below digits each = value-lt digits (recursion_from_All _ digits each)
 
 -- a digit stands behind those above it
 pub text-snoc : (digit : ℕ) (above : List ℕ) → text (digit ∷ above) ≡ text above ++ digit_glyph true digit ∷ []
-text-snoc digit above = ap (map (digit_glyph true)) (reverse-append (digit ∷ []) above) ∙ map-append (digit_glyph true) (reverse above) (digit ∷ [])
+text-snoc digit above =
+    ap (map (digit_glyph true)) (reverse-append (digit ∷ []) above) ∙ map-append (digit_glyph true) (reverse above) (digit ∷ [])
 
-same_digits : (x y : List ℕ) → length x ≡ length y → AllByRecursion (λ digit. digit < 16) x → AllByRecursion (λ digit. digit < 16) y → value x ≡ value y → x ≡ y
+same_digits : (x y : List ℕ) → length x ≡ length y → AllByRecursion (λ digit. digit < 16) x → AllByRecursion (λ digit. digit < 16) y
+    → value x ≡ value y → x ≡ y
 same_digits [] [] size p q same = refl
 same_digits [] (b ∷ y) size p q same = absurd (omega (arith, size))
 same_digits (a ∷ x) [] size p q same = absurd (omega (arith, size))
@@ -36,7 +39,8 @@ same_digits (a ∷ x) (b ∷ y) size p q same =
     cc
 
 pub same_register : ValueIsInjective
-same_register places x y p q same = same_digits x y (p.size ∙ sym q.size) (recursion_from_All _ x p.each) (recursion_from_All _ y q.each) same
+same_register places x y p q same =
+    same_digits x y (p.size ∙ sym q.size) (recursion_from_All _ x p.each) (recursion_from_All _ y q.each) same
 
 -- a register is printed as its number
 text-value : (digits : List ℕ) → AllByRecursion (λ digit. digit < 16) digits → text digits ≡ hexadecimal_text (length digits) (value digits)
@@ -57,7 +61,12 @@ byte_at-set_byte digits k byte inside =
     let low = set digits (2 * k) (byte % 16) in
     let inside_low : 2 * k + 1 < length low = omega (arith, length-set digits (2 * k) (byte % 16)) in
     let other : 2 * k ≢ 2 * k + 1 = omega arith in
-    omega (arith, get_or-set_same low (2 * k + 1) (byte / 16) 0 inside_low, get_or-set_other low (2 * k + 1) (2 * k) (byte / 16) 0 other, get_or-set_same digits (2 * k) (byte % 16) 0 (omega arith))
+    omega (
+      arith,
+      get_or-set_same low (2 * k + 1) (byte / 16) 0 inside_low,
+      get_or-set_other low (2 * k + 1) (2 * k) (byte / 16) 0 other,
+      get_or-set_same digits (2 * k) (byte % 16) 0 (omega arith),
+    )
 
 -- a register is printed in ASCII
 glyph-lt : (digit : ℕ) → digit < 16 → digit_glyph true digit < 128
@@ -70,7 +79,8 @@ ascii_one glyph small (suc i) = lit< tt
 ascii_text_each : (digits : List ℕ) → AllByRecursion (λ digit. digit < 16) digits → IsAscii (text digits)
 ascii_text_each [] each = λ i. lit< tt
 ascii_text_each (digit ∷ digits) each =
-    subst IsAscii (sym (text-snoc digit digits)) (IsAscii-append (text digits) _ (ascii_text_each digits each.1) (ascii_one (digit_glyph true digit) (glyph-lt digit each.0)))
+    subst IsAscii (sym (text-snoc digit digits))
+    (IsAscii-append (text digits) _ (ascii_text_each digits each.1) (ascii_one (digit_glyph true digit) (glyph-lt digit each.0)))
 
 pub ascii_text : (places : ℕ) (digits : List ℕ) → IsRegister places digits → IsAscii (text digits)
 ascii_text places digits register = ascii_text_each digits (recursion_from_All _ digits register.each)

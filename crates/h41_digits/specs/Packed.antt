@@ -16,18 +16,28 @@ pub pow-next : (place : ℕ) → 16 ^ (place + 1) ≡ 16 * 16 ^ place
 pow-next place = ap (λ n. 16 ^ n) (add-one place) ∙ pow-succ' 16 place
 
 -- one place higher, a digit counts sixteen times as much
-pub value_from-next : (place : ℕ) (digits : List ℕ) → value_from (place + 1) digits ≡ 16 * value_from place digits
+pub value_from-next : (place : ℕ) (digits : List ℕ)
+    → value_from (place + 1) digits ≡ 16 * value_from place digits
 value_from-next place [] = refl
 value_from-next place (digit ∷ digits) =
-    ap (λ weight. digit * weight + value_from (place + 1 + 1) digits) (pow-next place) ∙ ap (λ n. n + value_from (place + 1 + 1) digits) (mul_left_comm digit 16 (16 ^ place))
-    ∙ ap (λ n. 16 * (digit * 16 ^ place) + n) (value_from-next (place + 1) digits) ∙ sym (mul-add 16 (digit * 16 ^ place) (value_from (place + 1) digits))
+    ap (λ weight. digit * weight + value_from (place + 1 + 1) digits) (pow-next place)
+    ∙ ap (λ n. n + value_from (place + 1 + 1) digits) (mul_left_comm digit 16 (16 ^ place))
+    ∙ ap (λ n. 16 * (digit * 16 ^ place) + n) (value_from-next (place + 1) digits)
+    ∙ sym (mul-add 16 (digit * 16 ^ place) (value_from (place + 1) digits))
 
 pub value-cons : (digit : ℕ) (digits : List ℕ) → value (digit ∷ digits) ≡ digit + 16 * value digits
-value-cons digit digits = ap (λ n. n + value_from (0 + 1) digits) (mul-one digit) ∙ ap (λ n. digit + n) (value_from-next 0 digits)
+value-cons digit digits =
+    ap (λ n. n + value_from (0 + 1) digits) (mul-one digit)
+    ∙ ap (λ n. digit + n) (value_from-next 0 digits)
 
 -- the digits of a number that fits hold it
-pub value-digits_of : (places number : ℕ) → number < 16 ^ places → value (digits_of places number) ≡ number
+pub value-digits_of : (places number : ℕ) → number < 16 ^ places
+    → value (digits_of places number) ≡ number
 value-digits_of zero number small = sym (lt-one small)
 value-digits_of (suc places) number small =
-    let less : number / 16 < 16 ^ places = div_below number 16 (16 ^ places) (lit< tt) (subst (λ limit. number < limit) (pow-suc 16 places) small) in
-    value-cons (number % 16) (digits_of places (number / 16)) ∙ ap (λ n. number % 16 + 16 * n) (value-digits_of places (number / 16) less) ∙ mod-add-div number 16
+    let less : number / 16 < 16 ^ places =
+    div_below number 16 (16 ^ places) (lit< tt)
+    (subst (λ limit. number < limit) (pow-suc 16 places) small) in
+    value-cons (number % 16) (digits_of places (number / 16))
+    ∙ ap (λ n. number % 16 + 16 * n) (value-digits_of places (number / 16) less)
+    ∙ mod-add-div number 16

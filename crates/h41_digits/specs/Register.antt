@@ -1,5 +1,8 @@
--- A register: a list of hexadecimal digits, the digit of place 0 (the rightmost) first. The Nut processor's have 14.
-use Rattle.std.specs.Prelude.{◌≡◌, ℕ, zero, suc, ◌+◌, ◌-◌, ◌*◌, ◌/◌, ◌%◌, ◌^◌, ◌<◌, List, [], ◌∷◌, ◌++◌, take, drop, map, reverse, length, slice_index, slice_set, All, true}
+-- A register: a list of hexadecimal digits, the digit of place 0 (the rightmost) first. The Nut
+-- processor's have 14.
+use Rattle.std.specs.Prelude.{◌≡◌, ℕ, zero, suc, ◌+◌, ◌-◌, ◌*◌, ◌/◌, ◌%◌, ◌^◌, ◌<◌, List, [], ◌∷◌}
+use Rattle.std.specs.Prelude.{◌++◌, take, drop, map, reverse, length, slice_index, slice_set, All}
+use Rattle.std.specs.Prelude.{true}
 use Rattle.std.specs.Fmt.{digit_glyph}
 
 -- what a register of so many places is: one digit for each place, each from 0 to 15
@@ -7,7 +10,8 @@ pub record IsRegister (places : ℕ) (digits : List ℕ) : Type 0 where
   pub size : length digits ≡ places
   pub each : All (λ digit. digit < 16) digits
 
--- each digit times 16 to the power of its place, added up, where the first digit stands at this place
+-- each digit times 16 to the power of its place, added up, where the first digit stands at this
+-- place
 abbrev pub value_from : ℕ → List ℕ → ℕ
 value_from place [] = 0
 value_from place (digit ∷ digits) = digit * 16 ^ place + value_from (place + 1) digits
@@ -27,9 +31,11 @@ text digits = map (digit_glyph true) (reverse digits)
 -- so many hexadecimal digits of a number, in upper case, the lowest last
 abbrev pub hexadecimal_text : ℕ → ℕ → List ℕ
 hexadecimal_text zero number = []
-hexadecimal_text (suc count) number = hexadecimal_text count (number / 16) ++ digit_glyph true (number % 16) ∷ []
+hexadecimal_text (suc count) number =
+    hexadecimal_text count (number / 16) ++ digit_glyph true (number % 16) ∷ []
 
--- the byte k of a register: the digit of place 2k + 1 is its higher half, that of place 2k its lower half
+-- the byte k of a register: the digit of place 2k + 1 is its higher half, that of place 2k its
+-- lower half
 abbrev pub byte_at : List ℕ → ℕ → ℕ
 byte_at digits k = slice_index digits (2 * k + 1) * 16 + slice_index digits (2 * k)
 

@@ -4,12 +4,18 @@ use Rattle.h41_digits.specs.Register.{IsRegister, value, text, hexadecimal_text,
 
 -- two registers of as many places that hold the same number are the same
 abbrev pub ValueIsInjective : Type 0
-ValueIsInjective = (places : ℕ) (x y : List ℕ) → IsRegister places x → IsRegister places y → value x ≡ value y → x ≡ y
+ValueIsInjective =
+    (places : ℕ) (x y : List ℕ) → IsRegister places x → IsRegister places y → value x ≡ value y
+    → x ≡ y
 
 -- the text of a register is that of its number, with a digit for each place
 abbrev pub TextTellsValue : Type 0
-TextTellsValue = (places : ℕ) (digits : List ℕ) → IsRegister places digits → text digits ≡ hexadecimal_text places (value digits)
+TextTellsValue =
+    (places : ℕ) (digits : List ℕ) → IsRegister places digits
+    → text digits ≡ hexadecimal_text places (value digits)
 
 -- a byte that was set is read again
 abbrev pub SetByteIsRead : Type 0
-SetByteIsRead = (digits : List ℕ) (k byte : ℕ) → 2 * k + 1 < length digits → byte_at (set_byte digits k byte) k ≡ byte
+SetByteIsRead =
+    (digits : List ℕ) (k byte : ℕ) → 2 * k + 1 < length digits
+    → byte_at (set_byte digits k byte) k ≡ byte

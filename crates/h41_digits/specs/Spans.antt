@@ -1,7 +1,9 @@
--- The numbers of places in a row. What a register is needs none of this: it is how sums of such places are made.
+-- The numbers of places in a row. What a register is needs none of this: it is how sums of such
+-- places are made.
 use Rattle.std.specs.Prelude.{◌≡◌, ℕ, ◌+◌, ◌-◌, ◌/◌, ◌%◌, ◌^◌, ◌<◌, ◌≤◌}
 
--- the number of the digits that a number has from place lo to place hi, of which the one at lo is the least
+-- the number of the digits that a number has from place lo to place hi, of which the one at lo is
+-- the least
 abbrev pub in_places : ℕ → ℕ → ℕ → ℕ
 in_places number lo hi = number / 16 ^ lo % 16 ^ (hi + 1 - lo)
 

@@ -1,11 +1,14 @@
 //! Registers of the HP-41: fixed rows of hexadecimal digits.
 #![tactic(auto)]
 
-ghost use Rattle.std.specs.Prelude.{◌≡◌, ℕ, true, ◌+◌, ◌-◌, ◌*◌, ◌/◌, ◌%◌, ◌^◌, ◌<◌, ◌≤◌, ◌↔◌, List, length, take, drop, slice_index, slice_set, replicate, IsSome, IfSome, Some};
+ghost use Rattle.std.specs.Prelude.{◌≡◌, ℕ, true, ◌+◌, ◌-◌, ◌*◌, ◌/◌, ◌%◌, ◌^◌, ◌<◌, ◌≤◌, ◌↔◌};
+ghost use Rattle.std.specs.Prelude.{List, length, take, drop, slice_index, slice_set, replicate};
+ghost use Rattle.std.specs.Prelude.{IsSome, IfSome, Some};
 ghost use Rattle.h41_digits.specs.Packed.{digits_of, value-digits_of};
 ghost use Rattle.std.specs.Fmt.{digit_glyph};
 ghost use Rattle.std.proofs.Common.{ap};
-ghost use Rattle.h41_digits.specs.Register.{IsRegister, value, value_between, text, hexadecimal_text, byte_at, set_byte};
+ghost use Rattle.h41_digits.specs.Register.{IsRegister, value, value_between, text};
+ghost use Rattle.h41_digits.specs.Register.{hexadecimal_text, byte_at, set_byte};
 ghost use Rattle.h41_digits.specs.Spans.{in_places};
 
 use std::marker::Model;
@@ -38,7 +41,8 @@ impl<const N: usize> Model for Digits<N> {
 
     ghost inverse = { λ digits. record { word = value digits } };
 
-    ghost inverse_ok = { λ register holds. ap (λ (word : ℕ). record { word = word }) (value-digits_of N register.word holds.1) };
+    ghost inverse_ok = { λ register holds.
+        ap (λ (word : ℕ). record { word = word }) (value-digits_of N register.word holds.1) };
 }
 
 impl<const N: usize> Digits<N> {

@@ -1,9 +1,11 @@
 -- Why the places of a field stand in a row.
-use Rattle.std.proofs.Common.{List, cond, ◌≡◌, ℕ, zero, suc, ◌+◌, ◌-◌, ◌<◌, ◌≤◌, Bool, true, false, ◌∷◌, length, slice_index, filter, refl, ap, arith, inl, inr, ◌∙◌, sym}
+use Rattle.std.proofs.Common.{List, cond, ◌≡◌, ℕ, zero, suc, ◌+◌, ◌-◌, ◌<◌, ◌≤◌, Bool, true, false, ◌∷◌, length, slice_index, filter, refl}
+use Rattle.std.proofs.Common.{ap, arith, inl, inr, ◌∙◌, sym}
 use Rattle.std.specs.List.{range_with_len}
 use Rattle.std.proofs.lemmas.Bool.Decides.{nat_tests}
 use Rattle.std.proofs.lemmas.List.FromFn.{length-range_with_len, get_or-range_with_len}
-use Rattle.h41_fields.specs.declared.field.Field.TheVariants.{AtPointer, SignAndExponent, ToPointer, All, PToQ, ExponentSign, Mantissa, MantissaSign}
+use Rattle.h41_fields.specs.declared.field.Field.TheVariants.{AtPointer, SignAndExponent, ToPointer, All, PToQ, ExponentSign, Mantissa}
+use Rattle.h41_fields.specs.declared.field.Field.TheVariants.{MantissaSign}
 use Rattle.std.proofs.lemmas.Bool.{cases_lt}
 use Rattle.h41_fields.specs.declared.field.Field.{Field}
 use Rattle.h41_fields.specs.declared.field.Pointer.{Pointer}
@@ -26,19 +28,22 @@ filter_from test lo hi first (suc count) passes from past few =
       | inl gone ↦
           let none : hi + 1 - first ≡ 0 = omega arith in
           let next : hi + 1 - (first + 1) ≡ 0 = omega arith in
-          rw (passes.above first gone (omega arith), none) (filter_from test lo hi (first + 1) count passes (omega arith) (omega arith) (omega arith) ∙ ap (range_with_len (first + 1)) next)
+          rw (passes.above first gone (omega arith), none)
+          (filter_from test lo hi (first + 1) count passes (omega arith) (omega arith) (omega arith) ∙ ap (range_with_len (first + 1)) next)
       | inr here ↦
           let some : hi + 1 - first ≡ suc (hi + 1 - (first + 1)) = omega arith in
-          rw (passes.inside first from here, some) (ap (λ rest. first ∷ rest) (filter_from test lo hi (first + 1) count passes (omega arith) (omega arith) (omega arith)))
+          rw (passes.inside first from here, some)
+          (ap (λ rest. first ∷ rest) (filter_from test lo hi (first + 1) count passes (omega arith) (omega arith) (omega arith)))
     ]
 
 -- from a place before it
-filter_to : (test : ℕ → Bool) (lo hi first count : ℕ) → PassesFromTo test lo hi → first ≤ lo → lo ≤ hi → hi < first + count → first + count ≤ 14
-    → filter test (range_with_len first count) ≡ range_with_len lo (hi + 1 - lo)
+filter_to : (test : ℕ → Bool) (lo hi first count : ℕ) → PassesFromTo test lo hi → first ≤ lo → lo ≤ hi → hi < first + count
+    → first + count ≤ 14 → filter test (range_with_len first count) ≡ range_with_len lo (hi + 1 - lo)
 filter_to test lo hi first zero passes before ordered past few = absurd (omega arith)
 filter_to test lo hi first (suc count) passes before ordered past few =
     elim (cases_lt first lo) [
-      | inl less ↦ rw (passes.below first less) (filter_to test lo hi (first + 1) count passes (omega arith) ordered (omega arith) (omega arith))
+      | inl less ↦
+          rw (passes.below first less) (filter_to test lo hi (first + 1) count passes (omega arith) ordered (omega arith) (omega arith))
       | inr here ↦
           let same : first ≡ lo = omega arith in
           rw (sym same) (filter_from test lo hi first (suc count) passes (omega arith) past few)
@@ -50,37 +55,63 @@ pub record IsSpanOf (field : Field) (p q : ℕ) (active : Pointer) (lo hi : ℕ)
   pub last : hi ≡ last_place field p q active
   pub each : places field p q active ≡ from_to lo hi
 
-pub IsSpanOf-from_test : (field : Field) (p q : ℕ) (active : Pointer) (lo hi : ℕ) → PassesFromTo (is_place field p q active) lo hi → lo ≤ hi → hi < 14 → IsSpanOf field p q active lo hi
+pub IsSpanOf-from_test : (field : Field) (p q : ℕ) (active : Pointer) (lo hi : ℕ) → PassesFromTo (is_place field p q active) lo hi → lo ≤ hi
+    → hi < 14 → IsSpanOf field p q active lo hi
 unfolding places register_places from_to first_place last_place
 IsSpanOf-from_test field p q active lo hi passes ordered inside =
-    let all : places field p q active ≡ range_with_len lo (hi + 1 - lo) = filter_to (is_place field p q active) lo hi 0 14 passes (omega arith) ordered (omega arith) (omega arith) in
+    let all : places field p q active ≡ range_with_len lo (hi + 1 - lo) =
+    filter_to (is_place field p q active) lo hi 0 14 passes (omega arith) ordered (omega arith) (omega arith) in
     let size : length (places field p q active) ≡ hi + 1 - lo = ap length all ∙ length-range_with_len lo (hi + 1 - lo) in record {
       first = sym (ap (λ list. slice_index list 0) all ∙ get_or-range_with_len lo (hi + 1 - lo) 0 0 (omega arith) ∙ omega arith);
-      last = sym (ap (λ list. slice_index list (length list - 1)) all ∙ ap (λ count. slice_index (range_with_len lo (hi + 1 - lo)) (count - 1)) (length-range_with_len lo (hi + 1 - lo))
+      last =
+          sym (ap (λ list. slice_index list (length list - 1)) all
+          ∙ ap (λ count. slice_index (range_with_len lo (hi + 1 - lo)) (count - 1)) (length-range_with_len lo (hi + 1 - lo))
           ∙ get_or-range_with_len lo (hi + 1 - lo) (hi + 1 - lo - 1) 0 (omega arith) ∙ omega arith);
       each = all;
     }
 
 -- each field's first and last place
-pub span_at_pointer : (p q : ℕ) (active : Pointer) → active_place p q active < 14 → IsSpanOf AtPointer p q active (active_place p q active) (active_place p q active)
+pub span_at_pointer : (p q : ℕ) (active : Pointer) → active_place p q active < 14
+    → IsSpanOf AtPointer p q active (active_place p q active) (active_place p q active)
 span_at_pointer p q active inside =
     IsSpanOf-from_test AtPointer p q active (active_place p q active) (active_place p q active)
-    (record { below = λ place h. grind (arith, nat_tests); inside = λ place h k. grind (arith, nat_tests); above = λ place h k. grind (arith, nat_tests) }) (omega arith) inside
+    (record {
+      below = λ place h. grind (arith, nat_tests);
+      inside = λ place h k. grind (arith, nat_tests);
+      above = λ place h k. grind (arith, nat_tests);
+    })
+    (omega arith) inside
 
-pub span_to_pointer : (p q : ℕ) (active : Pointer) → active_place p q active < 14 → IsSpanOf ToPointer p q active 0 (active_place p q active)
+pub span_to_pointer : (p q : ℕ) (active : Pointer) → active_place p q active < 14
+    → IsSpanOf ToPointer p q active 0 (active_place p q active)
 span_to_pointer p q active inside =
     IsSpanOf-from_test ToPointer p q active 0 (active_place p q active)
-    (record { below = λ place h. absurd (omega arith); inside = λ place h k. grind (arith, nat_tests); above = λ place h k. grind (arith, nat_tests) }) (omega arith) inside
+    (record {
+      below = λ place h. absurd (omega arith);
+      inside = λ place h k. grind (arith, nat_tests);
+      above = λ place h k. grind (arith, nat_tests);
+    })
+    (omega arith) inside
 
 pub span_p_to_q : (p q : ℕ) (active : Pointer) → p ≤ q → q < 14 → IsSpanOf PToQ p q active p q
 span_p_to_q p q active ordered inside =
     IsSpanOf-from_test PToQ p q active p q
-    (record { below = λ place h. grind (arith, nat_tests); inside = λ place h k. grind (arith, nat_tests); above = λ place h k. grind (arith, nat_tests) }) ordered inside
+    (record {
+      below = λ place h. grind (arith, nat_tests);
+      inside = λ place h k. grind (arith, nat_tests);
+      above = λ place h k. grind (arith, nat_tests);
+    })
+    ordered inside
 
 pub span_p_to_last : (p q : ℕ) (active : Pointer) → q < p → p < 14 → IsSpanOf PToQ p q active p 13
 span_p_to_last p q active above inside =
     IsSpanOf-from_test PToQ p q active p 13
-    (record { below = λ place h. grind (arith, nat_tests); inside = λ place h k. grind (arith, nat_tests); above = λ place h k. absurd (omega arith) }) (omega arith) (omega arith)
+    (record {
+      below = λ place h. grind (arith, nat_tests);
+      inside = λ place h k. grind (arith, nat_tests);
+      above = λ place h k. absurd (omega arith);
+    })
+    (omega arith) (omega arith)
 
 pub span_of_all : (p q : ℕ) (active : Pointer) → IsSpanOf All p q active 0 13
 unfolding places register_places from_to first_place last_place
@@ -103,8 +134,8 @@ unfolding places register_places from_to first_place last_place
 span_mantissa_sign p q active = record { first = refl; last = refl; each = refl }
 
 -- the field of the pointers that is no other
-pub span_of_other : (field : Field) (p q : ℕ) (active : Pointer) → active_place p q active < 14 → is_pointed field ≡ true → (field ≡ AtPointer → ⊥) → (field ≡ PToQ → ⊥)
-    → IsSpanOf field p q active 0 (active_place p q active)
+pub span_of_other : (field : Field) (p q : ℕ) (active : Pointer) → active_place p q active < 14 → is_pointed field ≡ true
+    → (field ≡ AtPointer → ⊥) → (field ≡ PToQ → ⊥) → IsSpanOf field p q active 0 (active_place p q active)
 span_of_other AtPointer p q active inside pointed first second = absurd (first refl)
 span_of_other SignAndExponent p q active inside pointed first second = cc
 span_of_other ToPointer p q active inside pointed first second = span_to_pointer p q active inside
@@ -142,7 +173,9 @@ kept_ordered test first zero = omega arith
 kept_ordered test first (suc count) =
     let rest = filter test (range_with_len (first + 1) count) in
     elim (test first) as (λ passes. FirstIsLow (cond passes (first ∷ rest) rest)) [
-      | true ↦ from_cons first rest (λ index inside. omega (arith, kept_from test (first + 1) count index inside)) (length (first ∷ rest) - 1) (omega arith)
+      | true ↦
+          from_cons first rest (λ index inside. omega (arith, kept_from test (first + 1) count index inside))
+          (length (first ∷ rest) - 1) (omega arith)
       | false ↦ kept_ordered test (first + 1) count
     ]
 

@@ -1,8 +1,12 @@
--- The fields of a register: the places that a word of the Nut processor works on, by the names of this project's table of mnemonics.
-use Rattle.std.specs.Prelude.{ℕ, ◌+◌, ◌-◌, Bool, true, false, ◌&&◌, ◌||◌, List, [], ◌∷◌, length, slice_index, filter, nat_lt, nat_le, ◌==◌}
+-- The fields of a register: the places that a word of the Nut processor works on, by the names of
+-- this project's table of mnemonics.
+use Rattle.std.specs.Prelude.{ℕ, ◌+◌, ◌-◌, Bool, true, false, ◌&&◌, ◌||◌, List, [], ◌∷◌, length}
+use Rattle.std.specs.Prelude.{slice_index, filter, nat_lt, nat_le, ◌==◌}
 use Rattle.std.specs.List.{range_with_len}
 use Rattle.h41_fields.specs.declared.field.Field.{Field}
-use Rattle.h41_fields.specs.declared.field.Field.TheVariants.{AtPointer, SignAndExponent, ToPointer, All, PToQ, ExponentSign, Mantissa, MantissaSign}
+use Rattle.h41_fields.specs.declared.field.Field.TheVariants.{AtPointer, SignAndExponent, ToPointer}
+use Rattle.h41_fields.specs.declared.field.Field.TheVariants.{All, PToQ, ExponentSign, Mantissa}
+use Rattle.h41_fields.specs.declared.field.Field.TheVariants.{MantissaSign}
 use Rattle.h41_fields.specs.declared.field.Pointer.{Pointer}
 use Rattle.h41_fields.specs.declared.field.Pointer.TheVariants.{P, Q}
 
@@ -21,7 +25,8 @@ is_place SignAndExponent p q active place = nat_le place 2
 is_place ToPointer p q active place = nat_le place (active_place p q active)
 -- ALL: each place
 is_place All p q active place = true
--- P-Q: from P's place to Q's, and where P is above Q from P's place to the last (this project's choice)
+-- P-Q: from P's place to Q's, and where P is above Q from P's place to the last (this project's
+-- choice)
 is_place PToQ p q active place = nat_le p place && (nat_le place q || nat_lt q p)
 -- XS: the exponent's sign, place 2
 is_place ExponentSign p q active place = place == 2
@@ -50,7 +55,8 @@ unfoldable pub first_place : Field → ℕ → ℕ → Pointer → ℕ
 first_place field p q active = slice_index (places field p q active) 0
 
 unfoldable pub last_place : Field → ℕ → ℕ → Pointer → ℕ
-last_place field p q active = slice_index (places field p q active) (length (places field p q active) - 1)
+last_place field p q active =
+    slice_index (places field p q active) (length (places field p q active) - 1)
 
 -- all the numbers from lo to hi
 unfoldable pub from_to : ℕ → ℕ → List ℕ

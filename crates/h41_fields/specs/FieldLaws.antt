@@ -4,7 +4,9 @@ use Rattle.h41_fields.specs.Field.{first_place, last_place}
 use Rattle.h41_fields.specs.declared.field.Field.{Field}
 use Rattle.h41_fields.specs.declared.field.Pointer.{Pointer}
 
--- The first place of a field is not above its last, wherever the pointers are. (With a pointer above 13 a field may have no
--- place; both are 0 then.)
+-- The first place of a field is not above its last, wherever the pointers are. (With a pointer
+-- above 13 a field may have no place; both are 0 then.)
 abbrev pub PlacesAreOrdered : Type 0
-PlacesAreOrdered = (field : Field) (p q : ℕ) (active : Pointer) → first_place field p q active ≤ last_place field p q active
+PlacesAreOrdered =
+    (field : Field) (p q : ℕ) (active : Pointer)
+    → first_place field p q active ≤ last_place field p q active

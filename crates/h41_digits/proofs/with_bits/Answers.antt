@@ -4,4 +4,6 @@ use Rattle.h41_digits.proofs.Packed.{put_in}
 use Rattle.h41_digits.proofs.with_bits.Goals as goal
 
 pub returns : goal.returns
-returns c = rw (one_shl c.args.width 64 (omega arith)) (put_in c.args.word c.args.at c.args.width c.args.bits c.ranges.word.fits c.requires.in_word c.requires.fits)
+returns c =
+    rw (one_shl c.args.width 64 (omega arith))
+    (put_in c.args.word c.args.at c.args.width c.args.bits c.ranges.word.fits c.requires.in_word c.requires.fits)

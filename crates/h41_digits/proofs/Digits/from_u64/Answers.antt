@@ -10,7 +10,8 @@ pub returns-then-number-eq0-clause-fits : goal.returns-then-number-eq0-clause-fi
 returns-then-number-eq0-clause-fits g c = (λ _. fits_from_shift g.row.N c.args.number c.if-number-eq0.true, λ _. refl)
 
 pub returns-then-number-eq0-clause-value : goal.returns-then-number-eq0-clause-value
-returns-then-number-eq0-clause-value g c = value-digits_of g.row.N c.args.number (fits_from_shift g.row.N c.args.number c.if-number-eq0.true)
+returns-then-number-eq0-clause-value g c =
+    value-digits_of g.row.N c.args.number (fits_from_shift g.row.N c.args.number c.if-number-eq0.true)
 
 pub returns-then-number-eq0-clause-register : goal.returns-then-number-eq0-clause-register
 returns-then-number-eq0-clause-register g c = register-digits_of g.row.N c.args.number

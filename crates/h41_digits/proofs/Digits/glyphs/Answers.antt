@@ -6,8 +6,11 @@ use Rattle.h41_digits.proofs.Digits.glyphs.Goals as goal
 
 pub loop-i-init : goal.loop-i-init
 loop-i-init g c =
-    let all : g.row.N - 0 ≡ g.row.N = omega arith in
-    (sym (ap (λ place. text (drop place c.args.self.now)) all ∙ text-past g.row.N c.self.inside.word c.args.self.now c.self.view_is c.self.invariant.1), refl)
+    let all : g.row.N - 0 ≡ g.row.N = omega arith in (
+      sym (ap (λ place. text (drop place c.args.self.now)) all
+          ∙ text-past g.row.N c.self.inside.word c.args.self.now c.self.view_is c.self.invariant.1),
+      refl,
+    )
 
 pub loop-i-preserved : goal.loop-i-preserved
 loop-i-preserved g c =

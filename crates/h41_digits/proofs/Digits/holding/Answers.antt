@@ -10,7 +10,8 @@ returns-clause-value g c = value-digits_of g.row.N c.args.number c.requires.fits
 
 pub returns-clause-text : goal.returns-clause-text
 returns-clause-text g c =
-    text-register g.row.N (digits_of g.row.N c.args.number) (register-digits_of g.row.N c.args.number) ∙ ap (hexadecimal_text g.row.N) (value-digits_of g.row.N c.args.number c.requires.fits)
+    text-register g.row.N (digits_of g.row.N c.args.number) (register-digits_of g.row.N c.args.number)
+    ∙ ap (hexadecimal_text g.row.N) (value-digits_of g.row.N c.args.number c.requires.fits)
 
 pub returns-clause-register : goal.returns-clause-register
 returns-clause-register g c = register-digits_of g.row.N c.args.number

@@ -4,14 +4,16 @@ use Rattle.h41_digits.proofs.Digits.number.Goals as goal
 
 pub returns-then-hi-lo-clause-number : goal.returns-then-hi-lo-clause-number
 returns-then-hi-lo-clause-number g c =
-    all_read g.row.N c.self.inside.word c.args.lo c.args.hi c.args.self.now c.self.view_is c.self.invariant.1 (c.requires.ordered, c.requires.in_register, c.if-hi-lo.true)
+    all_read g.row.N c.self.inside.word c.args.lo c.args.hi c.args.self.now c.self.view_is
+    c.self.invariant.1 (c.requires.ordered, c.requires.in_register, c.if-hi-lo.true)
 
 pub returns-then-hi-lo-clause-register : goal.returns-then-hi-lo-clause-register
 returns-then-hi-lo-clause-register g c = (is_register g.row.N c.self.inside.word c.args.self.now c.self.view_is c.self.invariant.1).0
 
 pub returns-clause-number : goal.returns-clause-number
 returns-clause-number g c =
-    number_read g.row.N c.self.inside.word c.args.lo c.args.hi c.args.self.now c.self.view_is c.self.invariant.0 c.requires.ordered c.requires.in_register
+    number_read g.row.N c.self.inside.word c.args.lo c.args.hi c.args.self.now
+    c.self.view_is c.self.invariant.0 c.requires.ordered c.requires.in_register
 
 pub returns-clause-register : goal.returns-clause-register
 returns-clause-register g c = (is_register g.row.N c.self.inside.word c.args.self.now c.self.view_is c.self.invariant.1).0

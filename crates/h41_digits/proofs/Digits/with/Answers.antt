@@ -2,12 +2,16 @@ use Rattle.h41_digits.proofs.Packed.{is_register, register-digits_of, put_digit}
 use Rattle.h41_digits.proofs.Digits.with.Goals as goal
 
 pub invariant_of-result : goal.invariant_of-result
-invariant_of-result g c =
-    (c.self.invariant.0, (put_digit g.row.N c.self.inside.word c.with_bits.result c.args.place c.args.digit c.args.self.now c.self.view_is c.self.invariant.1 c.requires.in_register c.requires.is_digit (rw c.from.ensures at c.with_bits.ensures)).1)
+invariant_of-result g c = (
+  c.self.invariant.0,
+  (put_digit g.row.N c.self.inside.word c.with_bits.result c.args.place c.args.digit c.args.self.now c.self.view_is
+      c.self.invariant.1 c.requires.in_register c.requires.is_digit (rw c.from.ensures at c.with_bits.ensures)).1,
+)
 
 pub returns-clause-changed : goal.returns-clause-changed
 returns-clause-changed g c =
-    (put_digit g.row.N c.self.inside.word c.with_bits.result c.args.place c.args.digit c.args.self.now c.self.view_is c.self.invariant.1 c.requires.in_register c.requires.is_digit (rw c.from.ensures at c.with_bits.ensures)).0
+    (put_digit g.row.N c.self.inside.word c.with_bits.result c.args.place c.args.digit c.args.self.now c.self.view_is
+    c.self.invariant.1 c.requires.in_register c.requires.is_digit (rw c.from.ensures at c.with_bits.ensures)).0
 
 pub returns-clause-from : goal.returns-clause-from
 returns-clause-from g c = (is_register g.row.N c.self.inside.word c.args.self.now c.self.view_is c.self.invariant.1).0

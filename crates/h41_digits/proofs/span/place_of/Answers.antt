@@ -12,5 +12,6 @@ loop-place-preserved c place below is = elim (cases_lt place c.loop-place.place)
   | inl less ↦ c.loop-place.invariant place less is
   | inr here ↦
       let same : place ≡ c.loop-place.place = omega (arith, below) in
-      c.if-place-weight.false (shifted_places c.loop-place.place (omega (arith, c.loop-place-test.true)) ∙ ap (λ n. 16 ^ n) (sym same) ∙ sym is)
+      c.if-place-weight.false
+      (shifted_places c.loop-place.place (omega (arith, c.loop-place-test.true)) ∙ ap (λ n. 16 ^ n) (sym same) ∙ sym is)
 ]

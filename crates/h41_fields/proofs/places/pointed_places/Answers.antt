@@ -10,7 +10,10 @@ pointed : (c : goal.In-AtPointer) → c.match-active.pointer ≡ active_place c.
 pointed c = elim c.match-active.branch [ in-P w ↦ search rules | in-Q w ↦ search rules ]
 
 small : (c : goal.In-AtPointer) → active_place c.args.p c.args.q c.args.active < 14
-small c = elim c.args.active as (λ active. active_place c.args.p c.args.q active < 14) [ P ↦ c.requires.p_in_register | Q ↦ c.requires.q_in_register ]
+small c = elim c.args.active as (λ active. active_place c.args.p c.args.q active < 14) [
+  | P ↦ c.requires.p_in_register
+  | Q ↦ c.requires.q_in_register
+]
 
 at_pointer : (c : goal.In-AtPointer) → IsSpanOf c.args.field c.args.p c.args.q c.args.active c.match-active.pointer c.match-active.pointer
 at_pointer c = rw (c.in-AtPointer.is, pointed c) (span_at_pointer _ _ _ (small c))
@@ -50,9 +53,16 @@ returns-else-p-q-clause-each c = (to_q c).each
 
 pub returns-in_default : goal.returns-in_default
 returns-in_default c =
-    let pointer : c.match-active.pointer ≡ active_place c.args.p c.args.q c.args.active = elim c.match-active.branch [ in-P w ↦ search rules | in-Q w ↦ search rules ] in
-    let inside : active_place c.args.p c.args.q c.args.active < 14 = elim c.args.active as (λ active. active_place c.args.p c.args.q active < 14) [ P ↦ c.requires.p_in_register | Q ↦ c.requires.q_in_register ] in
-    let is = span_of_other c.args.field c.args.p c.args.q c.args.active inside c.requires.pointed c.in_default.not-AtPointer c.in_default.not-PToQ in record {
+    let pointer : c.match-active.pointer ≡ active_place c.args.p c.args.q c.args.active =
+    elim c.match-active.branch [ in-P w ↦ search rules | in-Q w ↦ search rules ] in
+    let inside : active_place c.args.p c.args.q c.args.active < 14 = elim
+    c.args.active as (λ active. active_place c.args.p c.args.q active < 14) [
+      | P ↦ c.requires.p_in_register
+      | Q ↦ c.requires.q_in_register
+    ] in
+    let is =
+    span_of_other c.args.field c.args.p c.args.q c.args.active inside c.requires.pointed c.in_default.not-AtPointer c.in_default.not-PToQ in
+    record {
       first = is.first;
       last = pointer ∙ is.last;
       each = rw pointer is.each;

@@ -4,7 +4,13 @@ use Rattle.h41_digits.proofs.Packed.{weight_positive}
 use Rattle.h41_digits.proofs.span.Span.new.Goals as goal
 
 pub overflow_sub-result : goal.overflow_sub-result
-overflow_sub-result c = omega (arith, shifted_places c.args.lo (omega (arith, c.requires.ordered, c.requires.in_register)), shifted_places (c.args.hi + 1) (omega (arith, c.requires.in_register)), places-le c.args.lo c.args.hi c.requires.ordered)
+overflow_sub-result c =
+    omega (
+      arith,
+      shifted_places c.args.lo (omega (arith, c.requires.ordered, c.requires.in_register)),
+      shifted_places (c.args.hi + 1) (omega (arith, c.requires.in_register)),
+      places-le c.args.lo c.args.hi c.requires.ordered,
+    )
 
 pub invariant_of-result : goal.invariant_of-result
 invariant_of-result c =

@@ -1,5 +1,6 @@
 -- The borrow of a difference tells which of two registers is below the other.
-use Rattle.std.proofs.Common.{◌≡◌, ℕ, zero, suc, ◌+◌, ◌-◌, ◌*◌, ◌^◌, ◌<◌, ◌≤◌, ◌⊎◌, Bool, true, false, nat_lt, List, [], slice_index, refl, sym, ap, subst, arith, inl, inr, ◌∙◌}
+use Rattle.std.proofs.Common.{◌≡◌, ℕ, zero, suc, ◌+◌, ◌-◌, ◌*◌, ◌^◌, ◌<◌, ◌≤◌, ◌⊎◌, Bool, true, false, nat_lt, List, [], slice_index, refl}
+use Rattle.std.proofs.Common.{sym, ap, subst, arith, inl, inr, ◌∙◌}
 use Rattle.std.proofs.Math.Nat.{mul-le-mul_right, pow-succ'}
 use Rattle.std.proofs.lemmas.Bool.Decides.{nat_tests}
 use Rattle.std.proofs.lemmas.List.Sums.{sum_by-cons}
@@ -13,22 +14,31 @@ use Rattle.h41_arith.specs.DigitRule.{DifferenceDigit, HasCarries, Difference, c
 use Rattle.h41_arith.specs.DigitRuleLaws.{BorrowTellsLess, ComplementBorrows}
 
 -- a sum over a row of numbers, with the last of them
-pub sum_more : (f : ℕ → ℕ) (first count : ℕ) → sum_by f (range_with_len first (suc count)) ≡ sum_by f (range_with_len first count) + f (first + count)
+pub sum_more : (f : ℕ → ℕ) (first count : ℕ)
+    → sum_by f (range_with_len first (suc count)) ≡ sum_by f (range_with_len first count) + f (first + count)
 sum_more f first zero =
     let here : first + 0 ≡ first = omega arith in
     rw (sum_by-cons f first [], here) (omega arith)
 sum_more f first (suc count) =
     let here : f (first + 1 + count) ≡ f (first + suc count) = ap f (omega arith) in
-    omega (arith, sum_by-cons f first (range_with_len (first + 1) (suc count)), sum_by-cons f first (range_with_len (first + 1) count), sum_more f (first + 1) count, here)
+    omega (
+      arith,
+      sum_by-cons f first (range_with_len (first + 1) (suc count)),
+      sum_by-cons f first (range_with_len (first + 1) count),
+      sum_more f (first + 1) count,
+      here,
+    )
 
 -- so many digits from a place on, as a number
 abbrev pub digits_value : List ℕ → ℕ → ℕ → ℕ
 digits_value x lo count = sum_by (λ place. slice_index x place * 16 ^ (place - lo)) (range_with_len lo count)
 
-pub value_more : (x : List ℕ) (lo count : ℕ) → digits_value x lo (suc count) ≡ digits_value x lo count + slice_index x (lo + count) * 16 ^ count
+pub value_more : (x : List ℕ) (lo count : ℕ)
+    → digits_value x lo (suc count) ≡ digits_value x lo count + slice_index x (lo + count) * 16 ^ count
 value_more x lo count =
     let power : lo + count - lo ≡ count = omega arith in
-    sum_more (λ place. slice_index x place * 16 ^ (place - lo)) lo count ∙ ap (λ place. digits_value x lo count + slice_index x (lo + count) * 16 ^ place) power
+    sum_more (λ place. slice_index x place * 16 ^ (place - lo)) lo count
+    ∙ ap (λ place. digits_value x lo count + slice_index x (lo + count) * 16 ^ place) power
 
 -- each digit of a register, and what is read past its end, is below 16
 pub digit_lt : (x : List ℕ) (place : ℕ) → IsRegister 14 x → place < 14 → slice_index x place < 16
@@ -38,7 +48,8 @@ value_lt : (x : List ℕ) (lo count : ℕ) → IsRegister 14 x → lo + count �
 value_lt x lo zero register inside = omega arith
 value_lt x lo (suc count) register inside =
     let digit : slice_index x (lo + count) + 1 ≤ 16 = omega (arith, digit_lt x (lo + count) register (omega arith)) in
-    omega (arith, value_more x lo count, value_lt x lo count register (omega arith), pow-succ' 16 count, mul-le-mul_right (16 ^ count) digit)
+    omega
+    (arith, value_more x lo count, value_lt x lo count register (omega arith), pow-succ' 16 count, mul-le-mul_right (16 ^ count) digit)
 
 -- the borrow tells the order of two numbers
 abbrev TellsLess : ℕ → ℕ → ℕ → Type 0
@@ -62,21 +73,29 @@ order_more base a b z borrow out x y weight x_small y_small (inr order) (inr dig
 
 module _ (base lo hi : ℕ) (x y z : List ℕ) (out : ℕ) (p : IsRegister 14 x) (q : IsRegister 14 y) (inside : hi < 14)
     (d : HasCarries (DifferenceDigit base) x y 0 lo hi z out) where
-  borrow_at : (count : ℕ) → lo + count ≤ hi + 1 → TellsLess (slice_index d.carries (lo + count)) (digits_value x lo count) (digits_value y lo count)
+  borrow_at : (count : ℕ) → lo + count ≤ hi + 1
+      → TellsLess (slice_index d.carries (lo + count)) (digits_value x lo count) (digits_value y lo count)
   borrow_at zero within =
       let at : lo + 0 ≡ lo = omega arith in
       inl (ap (slice_index d.carries) at ∙ d.first, omega arith)
   borrow_at (suc count) within =
       let at : lo + count + 1 ≡ lo + suc count = omega arith in
-      let more = order_more base (slice_index x (lo + count)) (slice_index y (lo + count)) (slice_index z (lo + count)) (slice_index d.carries (lo + count)) (slice_index d.carries (lo + count + 1))
-      (digits_value x lo count) (digits_value y lo count) (16 ^ count) (value_lt x lo count p (omega arith)) (value_lt y lo count q (omega arith))
+      let more =
+      order_more base (slice_index x (lo + count)) (slice_index y (lo + count)) (slice_index z (lo + count))
+      (slice_index d.carries (lo + count)) (slice_index d.carries (lo + count + 1))
+      (digits_value x lo count) (digits_value y lo count) (16 ^ count)
+      (value_lt x lo count p (omega arith)) (value_lt y lo count q (omega arith))
       (borrow_at count (omega arith)) (d.places (lo + count) (omega arith) (omega arith)) in
-      rw (value_more x lo count, value_more y lo count) (subst (λ place. TellsLess (slice_index d.carries place) (digits_value x lo count + slice_index x (lo + count) * 16 ^ count) (digits_value y lo count + slice_index y (lo + count) * 16 ^ count)) at more)
+      rw (value_more x lo count, value_more y lo count)
+      (subst (λ place. TellsLess (slice_index d.carries place) (digits_value x lo count + slice_index x (lo + count) * 16 ^ count)
+      (digits_value y lo count + slice_index y (lo + count) * 16 ^ count))
+      at more)
 
   borrow_out : lo ≤ hi → TellsLess out (digits_value x lo (hi + 1 - lo)) (digits_value y lo (hi + 1 - lo))
   borrow_out ordered =
       let at : lo + (hi + 1 - lo) ≡ hi + 1 = omega arith in
-      subst (λ borrow. TellsLess borrow (digits_value x lo (hi + 1 - lo)) (digits_value y lo (hi + 1 - lo))) (ap (slice_index d.carries) at ∙ d.last)
+      subst (λ borrow. TellsLess borrow (digits_value x lo (hi + 1 - lo)) (digits_value y lo (hi + 1 - lo)))
+      (ap (slice_index d.carries) at ∙ d.last)
       (borrow_at (hi + 1 - lo) (omega arith))
 
 told : (borrow : Bool) (x y : ℕ) → TellsLess (carry_digit borrow) x y → borrow ≡ nat_lt x y
@@ -95,7 +114,8 @@ told false x y (inr order) = absurd (omega (arith, order.0))
 pub borrow_is_less : BorrowTellsLess
 unfolding is_less span_value from_to
 borrow_is_less base lo hi into x y z borrow ordered inside p q difference =
-    told borrow (span_value x lo hi) (span_value y lo hi) (borrow_out base lo hi x y z (carry_digit borrow) p q inside difference.digits ordered)
+    told borrow (span_value x lo hi) (span_value y lo hi)
+    (borrow_out base lo hi x y z (carry_digit borrow) p q inside difference.digits ordered)
 
 zero_at : (place : ℕ) → slice_index zeros place ≡ 0
 zero_at place = elim (cases_lt place 14) [
@@ -111,7 +131,9 @@ module _ (base lo hi : ℕ) (x z : List ℕ) (out : ℕ) (d : Difference base ze
       ap (slice_index d.carries) at ∙ d.first
   borrow_goes_on (suc count) within =
       let at : lo + count + 1 ≡ lo + suc count = omega arith in
-      sym (ap (slice_index d.carries) at) ∙ out_of (slice_index zeros (lo + count)) (slice_index x (lo + count)) (slice_index d.carries (lo + count)) _ _ (zero_at (lo + count)) (borrow_goes_on count (omega arith)) (d.places (lo + count) (omega arith) (omega arith))
+      sym (ap (slice_index d.carries) at)
+      ∙ out_of (slice_index zeros (lo + count)) (slice_index x (lo + count)) (slice_index d.carries (lo + count)) _ _
+      (zero_at (lo + count)) (borrow_goes_on count (omega arith)) (d.places (lo + count) (omega arith) (omega arith))
     where
       out_of : (a b borrow digit out : ℕ) → a ≡ 0 → borrow ≡ 1 → DifferenceDigit base a b borrow digit out → out ≡ 1
       out_of a b borrow digit out none one (inl p) = absurd (omega (arith, p.0, none, one))

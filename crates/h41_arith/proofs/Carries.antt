@@ -1,5 +1,6 @@
 -- The carries of the digit rule: they are determined from below, and go on by one place.
-use Rattle.std.proofs.Common.{◌≡◌, ℕ, zero, suc, ◌+◌, ◌-◌, ◌<◌, ◌≤◌, Bool, true, false, List, [], ◌∷◌, ◌++◌, length, slice_index, refl, ap, arith, inl, inr, sym, subst, ◌∙◌}
+use Rattle.std.proofs.Common.{◌≡◌, ℕ, zero, suc, ◌+◌, ◌-◌, ◌<◌, ◌≤◌, Bool, true, false, List, [], ◌∷◌, ◌++◌, length, slice_index, refl, ap}
+use Rattle.std.proofs.Common.{arith, inl, inr, sym, subst, ◌∙◌}
 use Rattle.std.proofs.Common.{replicate, set, length-append, get_or-set_other, get_or-set_same, ◌≢◌}
 use Rattle.std.proofs.lemmas.List.{length-replicate, get_or_append_left, ext_get_or}
 use Rattle.std.proofs.lemmas.Bool.{cases_lt}
@@ -28,11 +29,16 @@ module _ (rule : ℕ → ℕ → ℕ → ℕ → ℕ → Type 0) (determines : D
   -- two lists of carries agree, so many places above lo
   same_carry : (above : ℕ) → lo + above ≤ hi + 1 → slice_index a.carries (lo + above) ≡ slice_index b.carries (lo + above)
   same_carry zero inside =
-      let at : lo ≡ lo + 0 = omega arith in subst (λ index. slice_index a.carries index ≡ slice_index b.carries index) at (a.first ∙ sym b.first)
+      let at : lo ≡ lo + 0 =
+      omega arith in
+      subst (λ index. slice_index a.carries index ≡ slice_index b.carries index) at (a.first ∙ sym b.first)
   same_carry (suc above) inside =
       let below = same_carry above (omega arith) in
       let p = a.places (lo + above) (omega arith) (omega arith) in
-      let q = subst (λ carry. rule (slice_index x (lo + above)) (slice_index y (lo + above)) carry (slice_index w (lo + above)) (slice_index b.carries (lo + above + 1))) (sym below) (b.places (lo + above) (omega arith) (omega arith)) in
+      let q =
+      subst (λ carry. rule (slice_index x (lo + above)) (slice_index y (lo + above))
+      carry (slice_index w (lo + above)) (slice_index b.carries (lo + above + 1)))
+      (sym below) (b.places (lo + above) (omega arith) (omega arith)) in
       let at : lo + above + 1 ≡ lo + suc above = omega arith in
       subst (λ index. slice_index a.carries index ≡ slice_index b.carries index) at (determines _ _ _ _ _ _ _ p q).1
 
@@ -40,13 +46,16 @@ module _ (rule : ℕ → ℕ → ℕ → ℕ → ℕ → Type 0) (determines : D
   same_digit place from to =
       let at : lo + (place - lo) ≡ place = omega arith in
       let below = subst (λ index. slice_index a.carries index ≡ slice_index b.carries index) at (same_carry (place - lo) (omega arith)) in
-      let q = subst (λ carry. rule (slice_index x place) (slice_index y place) carry (slice_index w place) (slice_index b.carries (place + 1))) (sym below) (b.places place from to) in
+      let q =
+      subst (λ carry. rule (slice_index x place) (slice_index y place) carry (slice_index w place) (slice_index b.carries (place + 1)))
+      (sym below) (b.places place from to) in
       (determines _ _ _ _ _ _ _ (a.places place from to) q).0
 
   pub same_out : lo ≤ hi → out ≡ other
   same_out ordered =
       let at : lo + (hi + 1 - lo) ≡ hi + 1 = omega arith in
-      sym a.last ∙ subst (λ index. slice_index a.carries index ≡ slice_index b.carries index) at (same_carry (hi + 1 - lo) (omega arith)) ∙ b.last
+      sym a.last ∙ subst (λ index. slice_index a.carries index ≡ slice_index b.carries index) at (same_carry (hi + 1 - lo) (omega arith))
+      ∙ b.last
 
 -- Over the places from lo to below next, the rule holds, and carry is the one into next.
 pub record CarriedTo (rule : ℕ → ℕ → ℕ → ℕ → ℕ → Type 0) (x y : List ℕ) (carry_in lo next : ℕ) (z : List ℕ) (carry : ℕ) : Type 0 where
@@ -54,10 +63,12 @@ pub record CarriedTo (rule : ℕ → ℕ → ℕ → ℕ → ℕ → Type 0) (x 
   pub size : length carries ≡ next + 1
   pub first : slice_index carries lo ≡ carry_in
   pub last : slice_index carries next ≡ carry
-  pub places : (place : ℕ) → lo ≤ place → place < next → rule (slice_index x place) (slice_index y place) (slice_index carries place) (slice_index z place) (slice_index carries (place + 1))
+  pub places : (place : ℕ) → lo ≤ place → place < next
+      → rule (slice_index x place) (slice_index y place) (slice_index carries place) (slice_index z place) (slice_index carries (place + 1))
 
 -- before the first place, with nothing below it
-pub carried_none : (rule : ℕ → ℕ → ℕ → ℕ → ℕ → Type 0) (x y : List ℕ) (carry_in lo : ℕ) (z : List ℕ) → CarriedTo rule x y carry_in lo lo z carry_in
+pub carried_none : (rule : ℕ → ℕ → ℕ → ℕ → ℕ → Type 0) (x y : List ℕ) (carry_in lo : ℕ) (z : List ℕ)
+    → CarriedTo rule x y carry_in lo lo z carry_in
 carried_none rule x y carry_in lo z = record {
   carries = replicate lo 0 ++ carry_in ∷ [];
   size = length-append (replicate lo 0) (carry_in ∷ []) ∙ ap (λ size. size + 1) (length-replicate lo 0);
@@ -67,7 +78,9 @@ carried_none rule x y carry_in lo z = record {
 }
   where
     at_end : slice_index (replicate lo 0 ++ carry_in ∷ []) lo ≡ carry_in
-    at_end = subst (λ index. slice_index (replicate lo 0 ++ carry_in ∷ []) index ≡ carry_in) (length-replicate lo 0) (get_or-append_seam (replicate lo 0) carry_in [] 0)
+    at_end =
+        subst (λ index. slice_index (replicate lo 0 ++ carry_in ∷ []) index ≡ carry_in)
+        (length-replicate lo 0) (get_or-append_seam (replicate lo 0) carry_in [] 0)
 
 moved : (rule : ℕ → ℕ → ℕ → ℕ → ℕ → Type 0) (p q a b c d e f : ℕ) → d ≡ a → e ≡ b → f ≡ c → rule p q a b c → rule p q d e f
 moved rule p q a b c d e f carry digit out holds = rw (carry, digit, out) holds
@@ -79,9 +92,9 @@ new_last : (carries : List ℕ) (out next : ℕ) → length carries ≡ next + 1
 new_last carries out next size = subst (λ index. slice_index (carries ++ out ∷ []) index ≡ out) size (get_or-append_seam carries out [] 0)
 
 -- one place more
-pub carried_more : (rule : ℕ → ℕ → ℕ → ℕ → ℕ → Type 0) (x y : List ℕ) (carry_in lo next : ℕ) (z : List ℕ) (carry digit out : ℕ) → next < length z → lo ≤ next
-    → CarriedTo rule x y carry_in lo next z carry → rule (slice_index x next) (slice_index y next) carry digit out
-    → CarriedTo rule x y carry_in lo (next + 1) (set z next digit) out
+pub carried_more : (rule : ℕ → ℕ → ℕ → ℕ → ℕ → Type 0) (x y : List ℕ) (carry_in lo next : ℕ) (z : List ℕ) (carry digit out : ℕ)
+    → next < length z → lo ≤ next → CarriedTo rule x y carry_in lo next z carry
+    → rule (slice_index x next) (slice_index y next) carry digit out → CarriedTo rule x y carry_in lo (next + 1) (set z next digit) out
 carried_more rule x y carry_in lo next z carry digit out inside from so_far step = record {
   carries = so_far.carries ++ out ∷ [];
   size = length-append so_far.carries (out ∷ []) ∙ ap (λ size. size + 1) so_far.size;
@@ -90,16 +103,22 @@ carried_more rule x y carry_in lo next z carry digit out inside from so_far step
   places = λ place low below. elim (cases_lt place next) [
     | inl less ↦
         let other : place ≢ next = omega arith in
-        moved rule _ _ _ _ _ _ _ _ (kept so_far.carries out place (omega (arith, so_far.size))) (get_or-set_other z next place digit 0 other) (kept so_far.carries out (place + 1) (omega (arith, so_far.size))) (so_far.places place low less)
+        moved rule _ _ _ _ _ _ _ _ (kept so_far.carries out place (omega (arith, so_far.size)))
+        (get_or-set_other z next place digit 0 other)
+        (kept so_far.carries out (place + 1) (omega (arith, so_far.size))) (so_far.places place low less)
     | inr more ↦
         let same : next ≡ place = omega arith in
-        subst (λ at. rule (slice_index x at) (slice_index y at) (slice_index (so_far.carries ++ out ∷ []) at) (slice_index (set z next digit) at) (slice_index (so_far.carries ++ out ∷ []) (at + 1))) same
-        (moved rule _ _ _ _ _ _ _ _ (kept so_far.carries out next (omega (arith, so_far.size)) ∙ so_far.last) (get_or-set_same z next digit 0 inside) (new_last so_far.carries out next so_far.size) step)
+        subst (λ at. rule (slice_index x at) (slice_index y at) (slice_index (so_far.carries ++ out ∷ []) at)
+        (slice_index (set z next digit) at) (slice_index (so_far.carries ++ out ∷ []) (at + 1)))
+        same
+        (moved rule _ _ _ _ _ _ _ _ (kept so_far.carries out next (omega (arith, so_far.size)) ∙ so_far.last)
+        (get_or-set_same z next digit 0 inside) (new_last so_far.carries out next so_far.size) step)
   ];
 }
 
 -- the last place is behind
-pub carried_all : (rule : ℕ → ℕ → ℕ → ℕ → ℕ → Type 0) (x y : List ℕ) (carry_in lo hi : ℕ) (z : List ℕ) (out : ℕ) → carry_in ≤ 1 → CarriedTo rule x y carry_in lo (hi + 1) z out → HasCarries rule x y carry_in lo hi z out
+pub carried_all : (rule : ℕ → ℕ → ℕ → ℕ → ℕ → Type 0) (x y : List ℕ) (carry_in lo hi : ℕ) (z : List ℕ) (out : ℕ) → carry_in ≤ 1
+    → CarriedTo rule x y carry_in lo (hi + 1) z out → HasCarries rule x y carry_in lo hi z out
 carried_all rule x y carry_in lo hi z out bit done = record {
   bit = bit;
   carries = done.carries;
@@ -125,8 +144,11 @@ result_determined rule determines into x y z w carry_in carry other lo hi ordere
     | inl below ↦ a.outside.below place below ∙ sym (b.outside.below place below)
     | inr from ↦ elim (cases_lt hi place) [
       | inl above ↦ a.outside.above place above ∙ sym (b.outside.above place above)
-      | inr to ↦ same_digit rule determines x y z w (carry_digit carry_in) lo hi (carry_digit carry) (carry_digit other) a.digits b.digits place from to
+      | inr to ↦
+          same_digit rule determines x y z w (carry_digit carry_in) lo hi
+          (carry_digit carry) (carry_digit other) a.digits b.digits place from to
     ]
   ]),
-  same_carry_bit carry other (same_out rule determines x y z w (carry_digit carry_in) lo hi (carry_digit carry) (carry_digit other) a.digits b.digits ordered),
+  same_carry_bit carry other
+      (same_out rule determines x y z w (carry_digit carry_in) lo hi (carry_digit carry) (carry_digit other) a.digits b.digits ordered),
 )

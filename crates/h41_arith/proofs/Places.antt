@@ -1,9 +1,11 @@
 -- Registers whose digits are known place by place.
-use Rattle.std.proofs.Common.{if◌then◌else◌, ◌≡◌, ◌≢◌, ℕ, ◌+◌, ◌-◌, ◌<◌, ◌≤◌, true, false, not, ◌==◌, ◌&&◌, nat_le, List, length, slice_index, ap, sym, arith, inl, inr, ◌∙◌}
+use Rattle.std.proofs.Common.{if◌then◌else◌, ◌≡◌, ◌≢◌, ℕ, ◌+◌, ◌-◌, ◌<◌, ◌≤◌, true, false, not, ◌==◌, ◌&&◌, nat_le, List, length}
+use Rattle.std.proofs.Common.{slice_index, ap, sym, arith, inl, inr, ◌∙◌}
 use Rattle.std.proofs.lemmas.List.{ext_get_or, get_or_past}
 use Rattle.std.specs.List.{range_with_len}
 use Rattle.std.proofs.lemmas.List.Folds.{list_any_none, list_any_at, Any-from_list_any}
-use Rattle.std.proofs.lemmas.List.FromFn.{length-range_with_len, get_or-range_with_len, length-map-range_with_len, get_or-map-range_with_len}
+use Rattle.std.proofs.lemmas.List.FromFn.{length-range_with_len, get_or-range_with_len, length-map-range_with_len}
+use Rattle.std.proofs.lemmas.List.FromFn.{get_or-map-range_with_len}
 use Rattle.std.proofs.lemmas.Bool.{cases_lt}
 use Rattle.std.proofs.lemmas.Bool.Decides.{nat_tests}
 use Rattle.h41_fields.specs.Field.{from_to}
@@ -21,7 +23,8 @@ replaced_at : (into : List ℕ) (lo hi : ℕ) (digit : ℕ → ℕ) (place : ℕ
     → slice_index (replaced into lo hi digit) place ≡ (if nat_le lo place && nat_le place hi then digit place else slice_index into place)
 unfolding replaced from_to
 replaced_at into lo hi digit place within =
-    get_or-map-range_with_len (λ place. if nat_le lo place && nat_le place hi then digit place else slice_index into place) 0 14 place place 0 within (omega arith)
+    get_or-map-range_with_len (λ place. if nat_le lo place && nat_le place hi then digit place else slice_index into place) 0
+    14 place place 0 within (omega arith)
 
 length-replaced : (into : List ℕ) (lo hi : ℕ) (digit : ℕ → ℕ) → length (replaced into lo hi digit) ≡ 14
 unfolding replaced from_to
@@ -38,7 +41,8 @@ above_span : (lo place hi : ℕ) → hi < place → (nat_le lo place && nat_le p
 above_span lo place hi high = grind (arith, nat_tests)
 
 -- a register with the digits of a replaced span is that one
-pub filled_all : (into z : List ℕ) (lo hi : ℕ) (digit : ℕ → ℕ) → length z ≡ 14 → FilledTo into lo (hi + 1) digit z → z ≡ replaced into lo hi digit
+pub filled_all : (into z : List ℕ) (lo hi : ℕ) (digit : ℕ → ℕ) → length z ≡ 14 → FilledTo into lo (hi + 1) digit z
+    → z ≡ replaced into lo hi digit
 filled_all into z lo hi digit size filled =
     ext_get_or 0 z (replaced into lo hi digit) (size ∙ sym (length-replaced into lo hi digit)) (λ place within.
     let small : place < 14 = omega arith in
@@ -52,7 +56,8 @@ filled_all into z lo hi digit size filled =
     ])
 
 -- a replaced span has its digits
-has_digits : (into : List ℕ) (lo hi : ℕ) (digit : ℕ → ℕ) → length into ≡ 14 → hi < 14 → HasDigits into lo hi digit (replaced into lo hi digit)
+has_digits : (into : List ℕ) (lo hi : ℕ) (digit : ℕ → ℕ) → length into ≡ 14 → hi < 14
+    → HasDigits into lo hi digit (replaced into lo hi digit)
 has_digits into lo hi digit size inside = record {
   size = length-replaced into lo hi digit;
   inside = λ place from to. rw (within_span lo place hi from to) at (replaced_at into lo hi digit place (omega arith));
@@ -69,7 +74,9 @@ has_digits into lo hi digit size inside = record {
 }
   where
     past : (place : ℕ) → 14 ≤ place → slice_index (replaced into lo hi digit) place ≡ slice_index into place
-    past place large = get_or_past (replaced into lo hi digit) place 0 (omega (arith, length-replaced into lo hi digit)) ∙ sym (get_or_past into place 0 (omega (arith, size)))
+    past place large =
+        get_or_past (replaced into lo hi digit) place 0 (omega (arith, length-replaced into lo hi digit))
+        ∙ sym (get_or_past into place 0 (omega (arith, size)))
 
 pub replaced_determined : ReplacedIsDetermined
 replaced_determined into z lo hi digit size inside = (
@@ -88,23 +95,27 @@ same : (a b : ℕ) → a ≡ b → not (a == b) ≡ false
 same a b equal = grind (arith, nat_tests)
 
 -- a place where two registers differ
-pub different_at : (x y : List ℕ) (lo hi place : ℕ) → lo ≤ place → place ≤ hi → slice_index x place ≢ slice_index y place → is_different x y lo hi ≡ true
+pub different_at : (x y : List ℕ) (lo hi place : ℕ) → lo ≤ place → place ≤ hi → slice_index x place ≢ slice_index y place
+    → is_different x y lo hi ≡ true
 unfolding is_different from_to
 different_at x y lo hi place from to other =
     let test = λ (place : ℕ). not (slice_index x place == slice_index y place) in
     let index : place - lo < hi + 1 - lo = omega arith in
     let there : lo + (place - lo) ≡ place = omega arith in
     list_any_at test (range_with_len lo (hi + 1 - lo)) (place - lo) 0 (omega (arith, length-range_with_len lo (hi + 1 - lo)))
-    (ap test (get_or-range_with_len lo (hi + 1 - lo) (place - lo) 0 index ∙ there) ∙ not_same (slice_index x place) (slice_index y place) other)
+    (ap test (get_or-range_with_len lo (hi + 1 - lo) (place - lo) 0 index ∙ there)
+    ∙ not_same (slice_index x place) (slice_index y place) other)
 
 -- no place where they differ
-pub same_throughout : (x y : List ℕ) (lo hi : ℕ) → ((place : ℕ) → lo ≤ place → place ≤ hi → slice_index x place ≡ slice_index y place) → is_different x y lo hi ≡ false
+pub same_throughout : (x y : List ℕ) (lo hi : ℕ) → ((place : ℕ) → lo ≤ place → place ≤ hi → slice_index x place ≡ slice_index y place)
+    → is_different x y lo hi ≡ false
 unfolding is_different from_to
 same_throughout x y lo hi equal =
     let test = λ (place : ℕ). not (slice_index x place == slice_index y place) in
     list_any_none test (range_with_len lo (hi + 1 - lo)) (λ index d within.
     let few : index < hi + 1 - lo = omega (arith, length-range_with_len lo (hi + 1 - lo)) in
-    ap test (get_or-range_with_len lo (hi + 1 - lo) index d few) ∙ same (slice_index x (lo + index)) (slice_index y (lo + index)) (equal (lo + index) (omega arith) (omega arith)))
+    ap test (get_or-range_with_len lo (hi + 1 - lo) index d few)
+    ∙ same (slice_index x (lo + index)) (slice_index y (lo + index)) (equal (lo + index) (omega arith) (omega arith)))
 
 pub is_different_tells : DifferentAtAPlace
 unfolding is_different from_to
@@ -113,8 +124,12 @@ is_different_tells x y lo hi = (
       let test = λ (place : ℕ). not (slice_index x place == slice_index y place) in
       let found = Any-from_list_any test (range_with_len lo (hi + 1 - lo)) told in
       let few : found.0 < hi + 1 - lo = omega (arith, found.2, length-range_with_len lo (hi + 1 - lo)) in
-      let there : found.1 ≡ lo + found.0 = sym found.3 ∙ get_or-range_with_len lo (hi + 1 - lo) found.0 found.1 few in
-      (found.1, omega arith, omega arith, λ equal. true_not_false (sym found.4 ∙ same (slice_index x found.1) (slice_index y found.1) equal)),
+      let there : found.1 ≡ lo + found.0 = sym found.3 ∙ get_or-range_with_len lo (hi + 1 - lo) found.0 found.1 few in (
+        found.1,
+        omega arith,
+        omega arith,
+        λ equal. true_not_false (sym found.4 ∙ same (slice_index x found.1) (slice_index y found.1) equal),
+      ),
   λ place. different_at x y lo hi place.0 place.1 place.2 place.3,
 )
   where

@@ -1,5 +1,6 @@
 -- In base 10 a difference is that of the numbers, and six less at each digit that borrows.
-use Rattle.std.proofs.Common.{◌≡◌, ℕ, suc, zero, ◌+◌, ◌-◌, ◌*◌, ◌/◌, ◌%◌, ◌^◌, ◌<◌, ◌≤◌, Bool, List, [], ◌∷◌, length, take, drop, sym, ap, subst, arith, inl, inr, ◌∙◌}
+use Rattle.std.proofs.Common.{◌≡◌, ℕ, suc, zero, ◌+◌, ◌-◌, ◌*◌, ◌/◌, ◌%◌, ◌^◌, ◌<◌, ◌≤◌, Bool, List, [], ◌∷◌, length, take, drop, sym, ap}
+use Rattle.std.proofs.Common.{subst, arith, inl, inr, ◌∙◌}
 use Rattle.std.proofs.Math.Nat.{pow-succ', mul-add-mod_self_right, mod-eq_of_lt, mod-add-div, mul_comm}
 use Rattle.std.proofs.lemmas.Bool.{cases_lt}
 use Rattle.std.proofs.lemmas.List.Elements.{recursion_from_All}
@@ -30,10 +31,12 @@ borrow_bit : (x y left borrow half : ℕ) → borrow ≤ 1 → x + 2 * half ≡ 
 borrow_bit x y left borrow half bit is = omega (arith, last_of_xor (bit_xor x y) left, last_of_xor x y)
 
 pub even_with_borrow : (x y left borrow half : ℕ) → x + 2 * half ≡ left + y + borrow → bit_xor (bit_xor (bit_xor x y) borrow) left % 2 ≡ 0
-even_with_borrow x y left borrow half is = omega (arith, last_of_xor (bit_xor (bit_xor x y) borrow) left, last_of_xor (bit_xor x y) borrow, last_of_xor x y)
+even_with_borrow x y left borrow half is =
+    omega (arith, last_of_xor (bit_xor (bit_xor x y) borrow) left, last_of_xor (bit_xor x y) borrow, last_of_xor x y)
 
 -- one digit of a difference, and what is left of it
-lowest_digit : (a b borrow low up x y above : ℕ) → a < 16 → b < 16 → borrow ≤ 1 → low < 16 → low + 16 * up + (b + 16 * y) + borrow ≡ a + 16 * x + 16 * above
+lowest_digit : (a b borrow low up x y above : ℕ) → a < 16 → b < 16 → borrow ≤ 1 → low < 16
+    → low + 16 * up + (b + 16 * y) + borrow ≡ a + 16 * x + 16 * above
     → (low + b + borrow ≡ a + 16 * borrow_of a b borrow) × (up + y + borrow_of a b borrow ≡ x + above)
 lowest_digit a b borrow low up x y above a_small b_small bit low_small whole = elim (cases_lt a (b + borrow)) [
   | inl less ↦
@@ -47,9 +50,11 @@ lowest_digit a b borrow low up x y above a_small b_small bit low_small whole = e
 -- a number of one digit more, below a limit
 mod_more : (r n weight : ℕ) → r < 16 → 0 < weight → (r + 16 * n) % (16 * weight) ≡ r + 16 * (n % weight)
 mod_more r n weight small positive =
-    let split : r + 16 * n ≡ n / weight * (16 * weight) + (r + 16 * (n % weight)) = omega (arith, mod-add-div n weight, turned (n / weight) weight) in
+    let split : r + 16 * n ≡ n / weight * (16 * weight) + (r + 16 * (n % weight)) =
+    omega (arith, mod-add-div n weight, turned (n / weight) weight) in
     let below : n % weight + 1 ≤ weight = omega (arith, positive) in
-    ap (λ k. k % (16 * weight)) split ∙ mul-add-mod_self_right (n / weight) (16 * weight) (r + 16 * (n % weight)) ∙ mod-eq_of_lt (omega (arith, below, small))
+    ap (λ k. k % (16 * weight)) split ∙ mul-add-mod_self_right (n / weight) (16 * weight) (r + 16 * (n % weight))
+    ∙ mod-eq_of_lt (omega (arith, below, small))
   where
     turned : (q weight : ℕ) → q * (16 * weight) ≡ 16 * (weight * q)
     turned q weight = omega arith
@@ -58,8 +63,10 @@ twice_more : (weight half more : ℕ) → more ≡ 16 * weight → 2 * (more * h
 twice_more weight half more is = rw is (omega arith)
 
 -- the bits of two numbers and what is left tell the borrows, whatever stands above them
-pub borrows_read : (x y : List ℕ) (borrow left half places : ℕ) → AllByRecursion (λ digit. digit < 16) x → AllByRecursion (λ digit. digit < 16) y → length x ≡ length y → length y ≤ places → borrow ≤ 1
-    → left + value y + borrow ≡ value x + 2 * (16 ^ length y * half) → changed (value x) (value y) left places % 16 ^ length y ≡ borrow_word x y borrow
+pub borrows_read : (x y : List ℕ) (borrow left half places : ℕ) → AllByRecursion (λ digit. digit < 16) x
+    → AllByRecursion (λ digit. digit < 16) y → length x ≡ length y → length y ≤ places → borrow ≤ 1
+    → left + value y + borrow ≡ value x + 2 * (16 ^ length y * half)
+    → changed (value x) (value y) left places % 16 ^ length y ≡ borrow_word x y borrow
 borrows_read [] [] borrow left half places p q same few bit whole = omega arith
 borrows_read [] (b ∷ y) borrow left half places p q same few bit whole = absurd (omega (arith, same))
 borrows_read (a ∷ x) [] borrow left half places p q same few bit whole = absurd (omega (arith, same))
@@ -72,14 +79,23 @@ borrows_read (a ∷ x) (b ∷ y) borrow left half (suc places) p q same few bit 
     let is_weight : 16 ^ suc (length y) ≡ 16 * weight = pow-succ' 16 (length y) in
     let above : 2 * (16 ^ suc (length y) * half) ≡ 16 * (2 * (weight * half)) = twice_more weight half _ is_weight in
     let is_left : left ≡ low + 16 * up = omega arith in
-    let opened : low + 16 * up + (b + 16 * value y) + borrow ≡ a + 16 * value x + 16 * (2 * (weight * half)) = omega (arith, whole, above, is_left, value-cons a x, value-cons b y) in
+    let opened : low + 16 * up + (b + 16 * value y) + borrow ≡ a + 16 * value x + 16 * (2 * (weight * half)) =
+    omega (arith, whole, above, is_left, value-cons a x, value-cons b y) in
     let step = lowest_digit a b borrow low up (value x) (value y) (2 * (weight * half)) p.0 q.0 bit (omega arith) opened in
     let next_bit = borrow_bit_of a b borrow p.0 q.0 bit in
-    let parts = ap (λ n. bit_xor n left / 16) (ap (λ n. bit_xor n (value (b ∷ y))) (value-cons a x) ∙ ap (bit_xor (a + 16 * value x)) (value-cons b y)) in
+    let parts =
+    ap (λ n. bit_xor n left / 16)
+    (ap (λ n. bit_xor n (value (b ∷ y))) (value-cons a x) ∙ ap (bit_xor (a + 16 * value x)) (value-cons b y)) in
     let word : bit_xor (bit_xor (value (a ∷ x)) (value (b ∷ y))) left / 16 ≡ bit_xor (bit_xor (value x) (value y)) up =
-    parts ∙ ap (λ n. bit_xor (bit_xor (a + 16 * value x) (b + 16 * value y)) n / 16) is_left ∙ shifted_xor a b low (value x) (value y) up p.0 q.0 (omega arith) in
-    let masked = ap (λ n. bit_and n (ones (suc places))) word ∙ ap (bit_and (bit_xor (bit_xor (value x) (value y)) up)) (ones_more places) ∙ masked_more (bit_xor (bit_xor (value x) (value y)) up) (ones places) in
-    let told = masked ∙ ap (λ n. n + 16 * changed (value x) (value y) up places) (borrow_bit (value x) (value y) up next (weight * half) next_bit (sym step.1)) in
+    parts ∙ ap (λ n. bit_xor (bit_xor (a + 16 * value x) (b + 16 * value y)) n / 16) is_left
+    ∙ shifted_xor a b low (value x) (value y) up p.0 q.0 (omega arith) in
+    let masked =
+    ap (λ n. bit_and n (ones (suc places))) word ∙ ap (bit_and (bit_xor (bit_xor (value x) (value y)) up)) (ones_more places)
+    ∙ masked_more (bit_xor (bit_xor (value x) (value y)) up) (ones places) in
+    let told =
+    masked
+    ∙ ap (λ n. n + 16 * changed (value x) (value y) up places)
+    (borrow_bit (value x) (value y) up next (weight * half) next_bit (sym step.1)) in
     ap (λ n. n % 16 ^ suc (length y)) told ∙ ap (λ n. (next + 16 * changed (value x) (value y) up places) % n) is_weight
     ∙ mod_more next (changed (value x) (value y) up places) weight (omega (arith, next_bit)) (pow_pos16 (length y))
     ∙ ap (λ n. next + 16 * n) (borrows_read x y next up half places p.1 q.1 (omega (arith, same)) (omega (arith, few)) next_bit step.1)
@@ -89,8 +105,8 @@ borrows_read (a ∷ x) (b ∷ y) borrow left half (suc places) p q same few bit 
     pow_pos16 (suc n) = omega (arith, pow-succ' 16 n, pow_pos16 n)
 
 -- there are six at each digit that borrows
-pub six_left : (x y : List ℕ) (borrow left out : ℕ) → AllByRecursion (λ digit. digit < 16) x → AllByRecursion (λ digit. digit < 10) y → length x ≡ length y → borrow ≤ 1
-    → left + value y + borrow ≡ value x + 16 ^ length y * out → 6 * borrow_word x y borrow ≤ left
+pub six_left : (x y : List ℕ) (borrow left out : ℕ) → AllByRecursion (λ digit. digit < 16) x → AllByRecursion (λ digit. digit < 10) y
+    → length x ≡ length y → borrow ≤ 1 → left + value y + borrow ≡ value x + 16 ^ length y * out → 6 * borrow_word x y borrow ≤ left
 six_left [] [] borrow left out p q same bit whole = omega arith
 six_left [] (b ∷ y) borrow left out p q same bit whole = absurd (omega (arith, same))
 six_left (a ∷ x) [] borrow left out p q same bit whole = absurd (omega (arith, same))
@@ -101,7 +117,8 @@ six_left (a ∷ x) (b ∷ y) borrow left out p q same bit whole =
     let small : b < 16 = omega (arith, q.0) in
     let is_left : left ≡ low + 16 * up = omega arith in
     let above : 16 ^ suc (length y) * out ≡ 16 * (16 ^ length y * out) = weighted (16 ^ length y) out _ (pow-succ' 16 (length y)) in
-    let opened : low + 16 * up + (b + 16 * value y) + borrow ≡ a + 16 * value x + 16 * (16 ^ length y * out) = omega (arith, whole, above, is_left, value-cons a x, value-cons b y) in
+    let opened : low + 16 * up + (b + 16 * value y) + borrow ≡ a + 16 * value x + 16 * (16 ^ length y * out) =
+    omega (arith, whole, above, is_left, value-cons a x, value-cons b y) in
     let step = lowest_digit a b borrow low up (value x) (value y) (16 ^ length y * out) p.0 small bit (omega arith) opened in
     let next_bit = borrow_bit_of a b borrow p.0 small bit in
     let rest = six_left x y next up out p.1 q.1 (omega (arith, same)) next_bit step.1 in
@@ -124,8 +141,9 @@ remainder_step a b borrow d x y z words above a_small b_small bit d_small whole 
       (inl (more, omega arith, none), omega arith)
 ]
 
-pub remainder_steps : (x y z : List ℕ) (borrow out : ℕ) → AllByRecursion (λ digit. digit < 16) x → AllByRecursion (λ digit. digit < 10) y → AllByRecursion (λ digit. digit < 16) z
-    → length x ≡ length z → length y ≡ length z → borrow ≤ 1 → value z + 6 * borrow_word x y borrow + value y + borrow ≡ value x + 16 ^ length z * out
+pub remainder_steps : (x y z : List ℕ) (borrow out : ℕ) → AllByRecursion (λ digit. digit < 16) x → AllByRecursion (λ digit. digit < 10) y
+    → AllByRecursion (λ digit. digit < 16) z → length x ≡ length z → length y ≡ length z → borrow ≤ 1
+    → value z + 6 * borrow_word x y borrow + value y + borrow ≡ value x + 16 ^ length z * out
     → Steps (DifferenceDigit 10) x y borrow z (length z) out
 remainder_steps [] [] [] borrow out p q r same_x same_y bit whole = steps_none _ _ _ _ borrow out (omega (arith, whole))
 remainder_steps [] (b ∷ y) [] borrow out p q r same_x same_y bit whole = absurd (omega (arith, same_y))
@@ -136,10 +154,12 @@ remainder_steps (a ∷ x) (b ∷ y) (d ∷ z) borrow out p q r same_x same_y bit
     let next = borrow_of a b borrow in
     let words = borrow_word x y next in
     let above : 16 ^ suc (length z) * out ≡ 16 * (16 ^ length z * out) = weighted (16 ^ length z) out _ (pow-succ' 16 (length z)) in
-    let opened : d + 16 * value z + 6 * (next + 16 * words) + (b + 16 * value y) + borrow ≡ a + 16 * value x + 16 * (16 ^ length z * out) = omega (arith, whole, above, value-cons d z, value-cons a x, value-cons b y) in
+    let opened : d + 16 * value z + 6 * (next + 16 * words) + (b + 16 * value y) + borrow ≡ a + 16 * value x + 16 * (16 ^ length z * out) =
+    omega (arith, whole, above, value-cons d z, value-cons a x, value-cons b y) in
     let step = remainder_step a b borrow d (value x) (value y) (value z) words (16 ^ length z * out) p.0 q.0 bit r.0 opened in
     let next_bit = borrow_bit_of a b borrow p.0 (omega (arith, q.0)) bit in
-    steps_more _ a b d x y z borrow next (length z) out step.0 (remainder_steps x y z next out p.1 q.1 r.1 (omega (arith, same_x)) (omega (arith, same_y)) next_bit step.1)
+    steps_more _ a b d x y z borrow next (length z) out step.0
+    (remainder_steps x y z next out p.1 q.1 r.1 (omega (arith, same_x)) (omega (arith, same_y)) next_bit step.1)
   where
     weighted : (weight out more : ℕ) → more ≡ 16 * weight → more * out ≡ 16 * (weight * out)
     weighted weight out more is = rw is (omega arith)
@@ -147,11 +167,14 @@ remainder_steps (a ∷ x) (b ∷ y) (d ∷ z) borrow out p q r same_x same_y bit
 -- numbers below a limit that differ by a multiple of it are the same
 same_below : (a b limit p q : ℕ) → a < limit → b < limit → a + p * limit ≡ b + q * limit → a ≡ b
 same_below a b limit p q a_small b_small whole =
-    sym (mul-add-mod_self_right p limit a ∙ mod-eq_of_lt a_small) ∙ ap (λ n. n % limit) (omega (arith, whole)) ∙ mul-add-mod_self_right q limit b ∙ mod-eq_of_lt b_small
+    sym (mul-add-mod_self_right p limit a ∙ mod-eq_of_lt a_small) ∙ ap (λ n. n % limit) (omega (arith, whole))
+    ∙ mul-add-mod_self_right q limit b ∙ mod-eq_of_lt b_small
 
 -- what is left of a difference, with six less at each digit that borrows, below a limit
-pub remainder_left : (x y : List ℕ) (borrow out_of left left' bits limit more over number : ℕ) → AllByRecursion (λ digit. digit < 16) x → AllByRecursion (λ digit. digit < 10) y → length x ≡ length y → borrow ≤ 1 → limit ≡ 16 ^ length y
-    → left % limit + value y + borrow ≡ value x + limit * out_of → bits % limit ≡ borrow_word x y borrow → left' + 6 * bits ≡ left + limit * more * over → number ≡ left' % limit → 0 < limit
+pub remainder_left : (x y : List ℕ) (borrow out_of left left' bits limit more over number : ℕ) → AllByRecursion (λ digit. digit < 16) x
+    → AllByRecursion (λ digit. digit < 10) y → length x ≡ length y → borrow ≤ 1 → limit ≡ 16 ^ length y
+    → left % limit + value y + borrow ≡ value x + limit * out_of → bits % limit ≡ borrow_word x y borrow
+    → left' + 6 * bits ≡ left + limit * more * over → number ≡ left' % limit → 0 < limit
     → number + 6 * borrow_word x y borrow + value y + borrow ≡ value x + limit * out_of
 remainder_left x y borrow out_of left left' bits limit more over number p q same bit is_limit whole is_bits taken is positive =
     let words = borrow_word x y borrow in
@@ -162,27 +185,42 @@ remainder_left x y borrow out_of left left' bits limit more over number p q same
     let is_left' : left' ≡ number + left' / limit * limit = omega (arith, mod-add-div left' limit, mul_comm limit (left' / limit), is) in
     let is_left : left ≡ t + left / limit * limit = omega (arith, mod-add-div left limit, mul_comm limit (left / limit)) in
     let all_bits : bits ≡ words + bits / limit * limit = omega (arith, mod-add-div bits limit, mul_comm limit (bits / limit), is_bits) in
-    let same_number : number ≡ t - 6 * words = same_below number (t - 6 * words) limit (left' / limit + 6 * (bits / limit)) (left / limit + more * over) n_small (omega (arith, t_small))
-    (put_together number (left' / limit) (bits / limit) (left / limit) more over limit t words left left' bits is_left' is_left all_bits taken six) in
+    let same_number : number ≡ t - 6 * words =
+    same_below number (t - 6 * words) limit (left' / limit + 6 * (bits / limit))
+    (left / limit + more * over) n_small (omega (arith, t_small))
+    (put_together number (left' / limit) (bits / limit) (left / limit) more over
+    limit t words left left' bits is_left' is_left all_bits taken six) in
     omega (arith, same_number, six, whole)
   where
-    put_together : (number a b c more over limit t words left left' bits : ℕ) → left' ≡ number + a * limit → left ≡ t + c * limit → bits ≡ words + b * limit → left' + 6 * bits ≡ left + limit * more * over → 6 * words ≤ t
+    put_together : (number a b c more over limit t words left left' bits : ℕ) → left' ≡ number + a * limit → left ≡ t + c * limit
+        → bits ≡ words + b * limit → left' + 6 * bits ≡ left + limit * more * over → 6 * words ≤ t
         → number + (a + 6 * b) * limit ≡ t - 6 * words + (c + more * over) * limit
-    put_together number a b c more over limit t words left left' bits is_left' is_left is_bits taken six = omega (arith, is_left', is_left, is_bits, taken, six)
+    put_together number a b c more over limit t words left left' bits is_left' is_left is_bits taken six =
+        omega (arith, is_left', is_left, is_bits, taken, six)
 
 -- a difference in base 10 put into a span
-pub remainder_result : (into x y z : List ℕ) (borrow_in borrow : Bool) (lo hi : ℕ) → IsRegister 14 x → IsRegister 14 y → IsRegister 14 z → lo ≤ hi → hi < 14 → AllByRecursion (λ digit. digit < 10) (part y lo hi)
-    → value (part z lo hi) + 6 * borrow_word (part x lo hi) (part y lo hi) (carry_digit borrow_in) + value (part y lo hi) + carry_digit borrow_in ≡ value (part x lo hi) + 16 ^ (hi + 1 - lo) * carry_digit borrow
+pub remainder_result : (into x y z : List ℕ) (borrow_in borrow : Bool) (lo hi : ℕ) → IsRegister 14 x → IsRegister 14 y → IsRegister 14 z
+    → lo ≤ hi → hi < 14 → AllByRecursion (λ digit. digit < 10) (part y lo hi)
+    → value (part z lo hi) + 6 * borrow_word (part x lo hi) (part y lo hi) (carry_digit borrow_in) + value (part y lo hi)
+    + carry_digit borrow_in
+    ≡ value (part x lo hi) + 16 ^ (hi + 1 - lo) * carry_digit borrow
     → take lo z ≡ take lo into → drop (hi + 1) z ≡ drop (hi + 1) into → DifferenceInto 10 into x y borrow_in lo hi z borrow
 remainder_result into x y z borrow_in borrow lo hi p q r ordered inside each whole below above =
     let a = part-register x lo hi p ordered inside in
     let b = part-register y lo hi q ordered inside in
     let d = part-register z lo hi r ordered inside in
-    let sized : value (part z lo hi) + 6 * borrow_word (part x lo hi) (part y lo hi) (carry_digit borrow_in) + value (part y lo hi) + carry_digit borrow_in ≡ value (part x lo hi) + 16 ^ length (part z lo hi) * carry_digit borrow = rw d.size whole in
-    let steps = remainder_steps (part x lo hi) (part y lo hi) (part z lo hi) (carry_digit borrow_in) (carry_digit borrow) (recursion_from_All _ _ a.each) each (recursion_from_All _ _ d.each)
+    let sized : value (part z lo hi) + 6 * borrow_word (part x lo hi) (part y lo hi) (carry_digit borrow_in) + value (part y lo hi)
+    + carry_digit borrow_in
+    ≡ value (part x lo hi) + 16 ^ length (part z lo hi) * carry_digit borrow =
+    rw d.size whole in
+    let steps =
+    remainder_steps (part x lo hi) (part y lo hi) (part z lo hi) (carry_digit borrow_in)
+    (carry_digit borrow) (recursion_from_All _ _ a.each) each (recursion_from_All _ _ d.each)
     (a.size ∙ sym d.size) (b.size ∙ sym d.size) (carry_le borrow_in) sized in record {
       register = r;
       digits = has_carries (DifferenceDigit 10) x y z lo hi (carry_digit borrow_in) (carry_digit borrow) (carry_le borrow_in) ordered
-          (subst (λ count. Steps (DifferenceDigit 10) (part x lo hi) (part y lo hi) (carry_digit borrow_in) (part z lo hi) count (carry_digit borrow)) d.size steps);
+          (subst (λ count.
+          Steps (DifferenceDigit 10) (part x lo hi) (part y lo hi) (carry_digit borrow_in) (part z lo hi) count (carry_digit borrow))
+          d.size steps);
       outside = keeps_outside into z lo hi below above;
     }

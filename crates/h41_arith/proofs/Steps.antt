@@ -10,7 +10,8 @@ pub record Steps (rule : ℕ → ℕ → ℕ → ℕ → ℕ → Type 0) (x y : 
   pub carries : ℕ → ℕ
   pub first : carries 0 ≡ carry
   pub last : carries count ≡ out
-  pub places : (index : ℕ) → index < count → rule (slice_index x index) (slice_index y index) (carries index) (slice_index z index) (carries (suc index))
+  pub places : (index : ℕ) → index < count
+      → rule (slice_index x index) (slice_index y index) (carries index) (slice_index z index) (carries (suc index))
 
 pub steps_none : (rule : ℕ → ℕ → ℕ → ℕ → ℕ → Type 0) (x y z : List ℕ) (carry out : ℕ) → carry ≡ out → Steps rule x y carry z 0 out
 steps_none rule x y z carry out same = record {
@@ -35,7 +36,8 @@ steps_more rule a b c x y z carry next count out here rest = record {
 }
   where
     at : (index : ℕ) → index < suc count
-        → rule (slice_index (a ∷ x) index) (slice_index (b ∷ y) index) (before carry rest.carries index) (slice_index (c ∷ z) index) (before carry rest.carries (suc index))
+        → rule (slice_index (a ∷ x) index) (slice_index (b ∷ y) index) (before carry rest.carries index)
+        (slice_index (c ∷ z) index) (before carry rest.carries (suc index))
     at zero few = subst (λ n. rule a b carry c n) (sym rest.first) here
     at (suc index) few = rest.places index (omega (arith, few))
 
@@ -50,7 +52,8 @@ carry_read : (carries : ℕ → ℕ) (lo hi place : ℕ) → place < hi + 2 → 
 unfolding carries_list
 carry_read carries lo hi place few = get_or-map-range_with_len (carry_at carries lo) 0 (hi + 2) place place 0 few (omega arith)
 
-moved : (rule : ℕ → ℕ → ℕ → ℕ → ℕ → Type 0) (a b c d e f g h i j : ℕ) → a ≡ f → b ≡ g → c ≡ h → d ≡ i → e ≡ j → rule f g h i j → rule a b c d e
+moved : (rule : ℕ → ℕ → ℕ → ℕ → ℕ → Type 0) (a b c d e f g h i j : ℕ) → a ≡ f → b ≡ g → c ≡ h → d ≡ i → e ≡ j → rule f g h i j
+    → rule a b c d e
 moved rule a b c d e f g h i j p q r s t holds = rw (p, q, r, s, t) holds
 
 -- the same at the places of a span
@@ -62,6 +65,7 @@ has_carries rule x y z lo hi carry out bit ordered steps = record {
   first = carry_read steps.carries lo hi lo (omega arith) ∙ ap steps.carries (omega arith) ∙ steps.first;
   last = carry_read steps.carries lo hi (hi + 1) (omega arith) ∙ steps.last;
   places = λ place from to.
-      moved rule _ _ _ _ _ _ _ _ _ _ (part_at x lo hi place from to) (part_at y lo hi place from to) (carry_read steps.carries lo hi place (omega arith)) (part_at z lo hi place from to)
+      moved rule _ _ _ _ _ _ _ _ _ _ (part_at x lo hi place from to) (part_at y lo hi place from to)
+      (carry_read steps.carries lo hi place (omega arith)) (part_at z lo hi place from to)
       (carry_read steps.carries lo hi (place + 1) (omega arith) ∙ ap steps.carries (omega arith)) (steps.places (place - lo) (omega arith));
 }

@@ -1,13 +1,17 @@
 -- What follows from the digit rule alone.
-use Rattle.std.specs.Prelude.{◌≡◌, ◌≢◌, ℕ, ◌+◌, ◌-◌, ◌*◌, ◌^◌, ◌<◌, ◌≤◌, ◌⊎◌, ◌↔◌, Bool, true, false, IsTrue, List, length, slice_index, sum_by}
+use Rattle.std.specs.Prelude.{◌≡◌, ◌≢◌, ℕ, ◌+◌, ◌-◌, ◌*◌, ◌^◌, ◌<◌, ◌≤◌, ◌⊎◌, ◌↔◌, Bool, true}
+use Rattle.std.specs.Prelude.{false, IsTrue, List, length, slice_index, sum_by}
 use Rattle.h41_digits.specs.Register.{IsRegister}
 use Rattle.h41_fields.specs.Field.{from_to}
-use Rattle.h41_arith.specs.DigitRule.{Sum, Difference, HasResult, SumInto, DifferenceInto, KeepsOutside, carry_digit, replaced, zeros, is_less, is_different}
+use Rattle.h41_arith.specs.DigitRule.{Sum, Difference, HasResult, SumInto, DifferenceInto}
+use Rattle.h41_arith.specs.DigitRule.{KeepsOutside, carry_digit, replaced, zeros, is_less}
+use Rattle.h41_arith.specs.DigitRule.{is_different}
 
 -- a rule gives one register and one carry
 abbrev pub IsDetermined : (List ℕ → List ℕ → ℕ → ℕ → ℕ → List ℕ → ℕ → Type 0) → Type 0
 IsDetermined rule = (into x y z w : List ℕ) (carry_in carry other : Bool) (lo hi : ℕ) → lo ≤ hi
-    → HasResult rule into x y carry_in lo hi z carry → HasResult rule into x y carry_in lo hi w other → (z ≡ w) × (carry ≡ other)
+    → HasResult rule into x y carry_in lo hi z carry
+    → HasResult rule into x y carry_in lo hi w other → (z ≡ w) × (carry ≡ other)
 
 -- a sum is determined, with its carry
 abbrev pub SumIsDetermined : Type 0
@@ -19,12 +23,16 @@ DifferenceIsDetermined = (base : ℕ) → IsDetermined (Difference base)
 
 -- in any base, the borrow of x - y tells whether x is below y
 abbrev pub BorrowTellsLess : Type 0
-BorrowTellsLess = (base lo hi : ℕ) (into x y z : List ℕ) (borrow : Bool) → lo ≤ hi → hi < 14 → IsRegister 14 x → IsRegister 14 y
+BorrowTellsLess =
+    (base lo hi : ℕ) (into x y z : List ℕ) (borrow : Bool) → lo ≤ hi → hi < 14 → IsRegister 14 x
+    → IsRegister 14 y
     → DifferenceInto base into x y false lo hi z borrow → borrow ≡ is_less x y lo hi
 
 -- 0 - x - 1 always borrows
 abbrev pub ComplementBorrows : Type 0
-ComplementBorrows = (base lo hi : ℕ) (into x z : List ℕ) (borrow : Bool) → lo ≤ hi → DifferenceInto base into zeros x true lo hi z borrow
+ComplementBorrows =
+    (base lo hi : ℕ) (into x z : List ℕ) (borrow : Bool) → lo ≤ hi
+    → DifferenceInto base into zeros x true lo hi z borrow
     → borrow ≡ true
 
 -- z has these digits at the places from lo to hi, and elsewhere those of `into`
@@ -41,26 +49,36 @@ ReplacedIsDetermined = (into z : List ℕ) (lo hi : ℕ) (digit : ℕ → ℕ) �
 -- two registers are told to be different exactly where they are so at a place of the span
 abbrev pub DifferentAtAPlace : Type 0
 DifferentAtAPlace = (x y : List ℕ) (lo hi : ℕ)
-    → IsTrue (is_different x y lo hi) ↔ ((place : ℕ) × (lo ≤ place) × (place ≤ hi) × (slice_index x place ≢ slice_index y place))
+    → IsTrue (is_different x y lo hi)
+    ↔ ((place : ℕ) × (lo ≤ place) × (place ≤ hi) × (slice_index x place ≢ slice_index y place))
 
 -- the digits from lo to hi as a number in a base, of which the digit at lo is the last
 abbrev pub number_of : ℕ → List ℕ → ℕ → ℕ → ℕ
 number_of base x lo hi = sum_by (λ place. slice_index x place * base ^ (place - lo)) (from_to lo hi)
 
--- x is a number in a base: in base 16 with all digits of a register, in base 10 with those from 0 to 9
+-- x is a number in a base: in base 16 with all digits of a register, in base 10 with those from 0
+-- to 9
 abbrev pub IsNumberIn : ℕ → List ℕ → ℕ → ℕ → Type 0
 IsNumberIn base x lo hi =
     ((base ≡ 16) × IsRegister 14 x)
     ⊎ ((base ≡ 10) × ((place : ℕ) → lo ≤ place → place ≤ hi → slice_index x place ≤ 9))
 
--- the sum of two numbers is that of whole numbers: x + y + carry in, less the base to the power of the width where it carries
+-- the sum of two numbers is that of whole numbers: x + y + carry in, less the base to the power of
+-- the width where it carries
 abbrev pub SumIsOfNumbers : Type 0
-SumIsOfNumbers = (base lo hi : ℕ) (into x y z : List ℕ) (carry_in carry : Bool) → lo ≤ hi → hi < 14 → IsNumberIn base x lo hi → IsNumberIn base y lo hi
+SumIsOfNumbers =
+    (base lo hi : ℕ) (into x y z : List ℕ) (carry_in carry : Bool) → lo ≤ hi → hi < 14
+    → IsNumberIn base x lo hi → IsNumberIn base y lo hi
     → SumInto base into x y carry_in lo hi z carry
-    → number_of base x lo hi + number_of base y lo hi + carry_digit carry_in ≡ number_of base z lo hi + carry_digit carry * base ^ (hi + 1 - lo)
+    → number_of base x lo hi + number_of base y lo hi + carry_digit carry_in
+    ≡ number_of base z lo hi + carry_digit carry * base ^ (hi + 1 - lo)
 
--- and their difference: x - y - borrow in, and more by the base to the power of the width where it borrows
+-- and their difference: x - y - borrow in, and more by the base to the power of the width where it
+-- borrows
 abbrev pub DifferenceIsOfNumbers : Type 0
-DifferenceIsOfNumbers = (base lo hi : ℕ) (into x y z : List ℕ) (borrow_in borrow : Bool) → lo ≤ hi → hi < 14 → IsNumberIn base x lo hi → IsNumberIn base y lo hi
+DifferenceIsOfNumbers =
+    (base lo hi : ℕ) (into x y z : List ℕ) (borrow_in borrow : Bool) → lo ≤ hi → hi < 14
+    → IsNumberIn base x lo hi → IsNumberIn base y lo hi
     → DifferenceInto base into x y borrow_in lo hi z borrow
-    → number_of base x lo hi + carry_digit borrow * base ^ (hi + 1 - lo) ≡ number_of base z lo hi + number_of base y lo hi + carry_digit borrow_in
+    → number_of base x lo hi + carry_digit borrow * base ^ (hi + 1 - lo)
+    ≡ number_of base z lo hi + number_of base y lo hi + carry_digit borrow_in

@@ -1,6 +1,9 @@
 //! Laws of the digit rule: each is the contract of a function with nothing to do.
 
-ghost use Rattle.h41_arith.specs.DigitRuleLaws.{SumIsDetermined, DifferenceIsDetermined, BorrowTellsLess, ComplementBorrows, ReplacedIsDetermined, DifferentAtAPlace, SumIsOfNumbers, DifferenceIsOfNumbers};
+ghost use Rattle.h41_arith.specs.DigitRuleLaws.{SumIsDetermined, DifferenceIsDetermined};
+ghost use Rattle.h41_arith.specs.DigitRuleLaws.{BorrowTellsLess, ComplementBorrows};
+ghost use Rattle.h41_arith.specs.DigitRuleLaws.{ReplacedIsDetermined, DifferentAtAPlace};
+ghost use Rattle.h41_arith.specs.DigitRuleLaws.{SumIsOfNumbers, DifferenceIsOfNumbers};
 
 /// The register and the carry of a sum are determined.
 pub fn sum_is_determined()

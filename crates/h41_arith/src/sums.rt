@@ -3,8 +3,11 @@
 ghost use Rattle.std.specs.Prelude.{◌≡◌, ℕ, ◌+◌, ◌*◌, ◌^◌, ◌<◌, ◌≤◌, ◌⊎◌, ◌==◌, not, true, false};
 ghost use Rattle.h41_digits.specs.Register.{IsRegister};
 ghost use Rattle.h41_digits.specs.Spans.{IsFilled};
-ghost use Rattle.h41_arith.specs.DigitRule.{SumDigit, DifferenceDigit, SumInto, DifferenceInto, base_of, carry_digit, zeros};
-ghost use Rattle.h41_arith.specs.DigitOperations.{HasDigit, IsRuleTotal, RuleInto, all_ones, carried_of, decimal_remainder_of, decimal_total_of, rule_of};
+ghost use Rattle.h41_arith.specs.DigitRule.{SumDigit, DifferenceDigit, SumInto, DifferenceInto};
+ghost use Rattle.h41_arith.specs.DigitRule.{base_of, carry_digit, zeros};
+ghost use Rattle.h41_arith.specs.DigitOperations.{HasDigit, IsRuleTotal, RuleInto, all_ones};
+ghost use Rattle.h41_arith.specs.DigitOperations.{carried_of, decimal_remainder_of};
+ghost use Rattle.h41_arith.specs.DigitOperations.{decimal_total_of, rule_of};
 
 use crate::spans::{carry_in_span, put};
 use h41_digits::{Reg, Span};

@@ -1,5 +1,6 @@
 -- The addresses of labels: which names have one, and that lines without a fault of their own are ready to be spelled.
-use Rattle.std.proofs.Common.{◌≡◌, ℕ, ◌+◌, ◌<◌, if◌then◌else◌, List, [], ◌∷◌, ◌++◌, refl, ap, ◌∙◌, IfSome, Some, None, Option, inl, inr, is_some, bytes_eq}
+use Rattle.std.proofs.Common.{◌≡◌, ℕ, ◌+◌, ◌<◌, if◌then◌else◌, List, [], ◌∷◌, ◌++◌, refl, ap, ◌∙◌, IfSome, Some, None, Option, inl, inr}
+use Rattle.std.proofs.Common.{is_some, bytes_eq}
 use Rattle.std.specs.List.{cons_option, list_any}
 use Rattle.std.specs.Cmp.Lexicographic.{nat_list_eq_equiv}
 use Rattle.std.proofs.lemmas.Bool.{cases_Bool}
@@ -12,16 +13,19 @@ use Rattle.h41_asm.proofs.Faultless.{AreFaultless, IsNew, new_before}
 use Rattle.h41_asm.proofs.Walks.{address_from}
 
 -- the names with an address are those that label a line
-with_name : (name : List ℕ) (label : Option (List ℕ)) (found : Option ℕ) (names : List (List ℕ)) (address : ℕ) → is_some found ≡ list_any (bytes_eq name) names
+with_name : (name : List ℕ) (label : Option (List ℕ)) (found : Option ℕ) (names : List (List ℕ)) (address : ℕ)
+    → is_some found ≡ list_any (bytes_eq name) names
     → is_some (if has_label name label then Some address else found) ≡ list_any (bytes_eq name) (cons_option label names)
 with_name name None found names address same = same
 with_name name (Some own) found names address same =
     elim (cases_Bool (bytes_eq name own)) [ inl here ↦ rw here refl | inr other ↦ rw other same ]
 
-pub named : (rest : List SourceLine) (address : ℕ) (name : List ℕ) → is_some (address_from address rest name) ≡ list_any (bytes_eq name) (labels_of rest)
+pub named : (rest : List SourceLine) (address : ℕ) (name : List ℕ)
+    → is_some (address_from address rest name) ≡ list_any (bytes_eq name) (labels_of rest)
 named [] address name = refl
 named (line ∷ rest) address name =
-    with_name name line.label (address_from (address + line_length line) rest name) (labels_of rest) address (named rest (address + line_length line) name)
+    with_name name line.label (address_from (address + line_length line) rest name)
+    (labels_of rest) address (named rest (address + line_length line) name)
 
 -- no label of faultless lines is past the addresses
 low_with : (name : List ℕ) (label : Option (List ℕ)) (found : Option ℕ) (address : ℕ) → IfSome label (λ own. address < address_count)
@@ -42,7 +46,8 @@ label_here : (labels others : Labels) (earlier : List SourceLine) (address : ℕ
     → ((name : List ℕ) → IsNew earlier name → labels name ≡ (if has_label name label then Some address else others name))
     → IfSome label (λ name. labels name ≡ Some address)
 label_here labels others earlier address None new same = tt
-label_here labels others earlier address (Some own) new same = same own new ∙ ap (λ here. if here then Some address else others own) (nat_list_eq_equiv.refl own)
+label_here labels others earlier address (Some own) new same =
+    same own new ∙ ap (λ here. if here then Some address else others own) (nat_list_eq_equiv.refl own)
 
 -- faultless lines are ready where their new names have the addresses of their lines
 pub ready : (labels : Labels) (rest earlier : List SourceLine) (address : ℕ) → AreFaultless earlier address rest

@@ -1,5 +1,6 @@
 -- The first word of a line, and the words after it.
-use Rattle.std.proofs.Common.{inl, inr, not, suc, length-take, ◌≡◌, ℕ, ◌<◌, ◌≤◌, ◌||◌, ◌&&◌, Bool, true, false, nat_lt, List, [], ◌∷◌, length, take, drop, get_or, Some, None, refl, sym, ◌∙◌, ap, arith, filter, if◌then◌else◌, ◌==◌}
+use Rattle.std.proofs.Common.{inl, inr, not, suc, length-take, ◌≡◌, ℕ, ◌<◌, ◌≤◌, ◌||◌, ◌&&◌, Bool, true, false, nat_lt, List, [], ◌∷◌}
+use Rattle.std.proofs.Common.{length, take, drop, get_or, Some, None, refl, sym, ◌∙◌, ap, arith, filter, if◌then◌else◌, ◌==◌}
 use Rattle.std.specs.List.{position, position_or_len, onto_first}
 use Rattle.std.proofs.lemmas.Bool.{cases_Bool, lt-ltb, cond-true, or_cases, eqb-true}
 use Rattle.std.proofs.lemmas.List.{drop_more, drop_all}
@@ -48,7 +49,8 @@ abbrev parts_behind : List ℕ → List (List ℕ)
 parts_behind [] = []
 parts_behind (byte ∷ rest) = if byte == 59 then [] else parts_from false rest
 
-parts_end : (byte : ℕ) (rest : List ℕ) → (is_blank byte || byte == 59) ≡ true → parts_from false (byte ∷ rest) ≡ [] ∷ parts_behind (byte ∷ rest)
+parts_end : (byte : ℕ) (rest : List ℕ) → (is_blank byte || byte == 59) ≡ true
+    → parts_from false (byte ∷ rest) ≡ [] ∷ parts_behind (byte ∷ rest)
 parts_end byte rest stop = elim (or_cases (is_blank byte) (byte == 59) stop) [
   | inl blank ↦ elim (or_cases (byte == 32) (byte == 9) blank) [
     | inl space ↦ rw (eqb-true byte 32 space) refl
@@ -58,7 +60,8 @@ parts_end byte rest stop = elim (or_cases (is_blank byte) (byte == 59) stop) [
 ]
 
 -- the first part is as long as it says
-parts_from-first : (quoted : Bool) (line : List ℕ) → parts_from quoted line ≡ take (part_length quoted line) line ∷ parts_behind (drop (part_length quoted line) line)
+parts_from-first : (quoted : Bool) (line : List ℕ)
+    → parts_from quoted line ≡ take (part_length quoted line) line ∷ parts_behind (drop (part_length quoted line) line)
 parts_from-first quoted [] = refl
 parts_from-first true (byte ∷ rest) = ap (onto_first byte) (parts_from-first (quoted_after true byte) rest)
 parts_from-first false (byte ∷ rest) = elim (cases_Bool (is_blank byte || byte == 59)) [
@@ -86,17 +89,21 @@ words_behind (byte ∷ rest) none = elim (cases_Bool (is_blank byte || byte == 5
 ]
 
 -- a line that begins with a word
-words_of-front : (line : List ℕ) (n : ℕ) → n ≡ part_length false line → n ≤ length line → 0 < n → words_of line ≡ take n line ∷ words_of (drop n line)
+words_of-front : (line : List ℕ) (n : ℕ) → n ≡ part_length false line → n ≤ length line → 0 < n
+    → words_of line ≡ take n line ∷ words_of (drop n line)
 words_of-front line n here within some =
     let word : is_word (take n line) ≡ true = lt-ltb 0 (length (take n line)) (omega (arith, length-take {A = ℕ})) in
     let parts : parts_from false line ≡ take n line ∷ parts_behind (drop n line) = rw here (parts_from-first false line) in
     let none : part_length false (drop n line) ≡ 0 = rw here (part_length-behind false line) in
-    ap words_of_parts parts ∙ cond-true (is_word (take n line)) (take n line ∷ words_of_parts (parts_behind (drop n line))) (words_of_parts (parts_behind (drop n line))) word
+    ap words_of_parts parts
+    ∙ cond-true (is_word (take n line)) (take n line ∷ words_of_parts (parts_behind (drop n line)))
+    (words_of_parts (parts_behind (drop n line))) word
     ∙ ap (λ words. take n line ∷ words) (words_behind (drop n line) none)
 
 -- the first word, and the words after it
-pub words_of-first : (line : List ℕ) (start n : ℕ) → Some start ≡ position (λ byte. not (is_blank byte)) line → n ≡ part_length false (drop start line)
-    → n ≤ length (drop start line) → 0 < n → words_of line ≡ take n (drop start line) ∷ words_of (drop n (drop start line))
+pub words_of-first : (line : List ℕ) (start n : ℕ) → Some start ≡ position (λ byte. not (is_blank byte)) line
+    → n ≡ part_length false (drop start line) → n ≤ length (drop start line) → 0 < n
+    → words_of line ≡ take n (drop start line) ∷ words_of (drop n (drop start line))
 words_of-first line start n e here within some =
     let at = position_some (λ byte. not (is_blank byte)) line start e in
     words_of-from_start line ∙ ap (λ (k : ℕ). words_of (drop k line)) (sym at.0) ∙ words_of-front (drop start line) n here within some
@@ -112,10 +119,12 @@ only_comment (byte ∷ rest) some first none = elim (cases_Bool (is_blank byte |
   | inr goes ↦ let one : suc (part_length (quoted_after false byte) rest) ≡ 0 = rw goes at none in absurd (omega (arith, one))
 ]
 
-pub words_of-comment_alone : (line : List ℕ) (start : ℕ) → Some start ≡ position (λ byte. not (is_blank byte)) line → part_length false (drop start line) ≡ 0 → words_of line ≡ []
+pub words_of-comment_alone : (line : List ℕ) (start : ℕ) → Some start ≡ position (λ byte. not (is_blank byte)) line
+    → part_length false (drop start line) ≡ 0 → words_of line ≡ []
 words_of-comment_alone line start e none =
     let at = position_some (λ byte. not (is_blank byte)) line start e in
-    let first : not (is_blank (get_or line start 0)) ≡ true = rw at.0 (passes_at_first (λ byte. not (is_blank byte)) line 0 (omega (arith, at.0, at.1))) in
+    let first : not (is_blank (get_or line start 0)) ≡ true =
+    rw at.0 (passes_at_first (λ byte. not (is_blank byte)) line 0 (omega (arith, at.0, at.1))) in
     let here : not (is_blank (get_or (drop start line) 0 0)) ≡ true = rw (drop_more line start 0 at.1) first in
     words_of-from_start line ∙ ap (λ (k : ℕ). words_of (drop k line)) (sym at.0)
     ∙ only_comment (drop start line) (rw (drop_more line start 0 at.1) (omega arith)) here none

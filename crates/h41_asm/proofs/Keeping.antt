@@ -1,5 +1,6 @@
 -- What is kept of the lines that have words: the faults and the words of these are those of all lines.
-use Rattle.std.proofs.Common.{◌≡◌, ℕ, suc, ◌+◌, ◌≤◌, true, false, ◌==◌, List, [], ◌∷◌, ◌++◌, length, drop, map, refl, sym, ap, ◌∙◌, subst, append_assoc, arith, add-one, IsOk, None, Option, Ok, Err, Result, inl, inr}
+use Rattle.std.proofs.Common.{◌≡◌, ℕ, suc, ◌+◌, ◌≤◌, true, false, ◌==◌, List, [], ◌∷◌, ◌++◌, length, drop, map, refl, sym, ap, ◌∙◌, subst}
+use Rattle.std.proofs.Common.{append_assoc, arith, add-one, IsOk, None, Option, Ok, Err, Result, inl, inr}
 use Rattle.std.specs.Option.{option_or}
 use Rattle.std.proofs.lemmas.Bool.{cases_Bool, eqb-true}
 use Rattle.std.proofs.lemmas.List.{map-append}
@@ -41,7 +42,8 @@ SaidSpell labels address (said ∷ rest) words =
     × SaidSpell labels (address + read_length said.1) rest others
 
 -- what has no words has no fault of a reference, and spells nothing
-no_words-no_fault : (labels : Labels) (address : ℕ) (said : Result Statement SourceFault) → read_length said ≡ 0 → read_fault labels address said ≡ None
+no_words-no_fault : (labels : Labels) (address : ℕ) (said : Result Statement SourceFault) → read_length said ≡ 0
+    → read_fault labels address said ≡ None
 no_words-no_fault labels address (Ok (Words words)) none = refl
 no_words-no_fault labels address (Ok OutOfReach) none = absurd (omega (arith, none))
 no_words-no_fault labels address (Ok (LongJumpTo condition kind name)) none = absurd (omega (arith, none))
@@ -53,7 +55,8 @@ is_empty : (words : List ℕ) → length words ≡ 0 → [] ≡ words
 is_empty [] none = refl
 is_empty (word ∷ words) none = absurd (omega (arith, none))
 
-no_words-spells_none : (labels : Labels) (address : ℕ) (said : Result Statement SourceFault) → IsOk said → read_length said ≡ 0 → SpellsRead labels address said []
+no_words-spells_none : (labels : Labels) (address : ℕ) (said : Result Statement SourceFault) → IsOk said → read_length said ≡ 0
+    → SpellsRead labels address said []
 no_words-spells_none labels address (Ok (Words words)) ok none = is_empty words none
 no_words-spells_none labels address (Ok OutOfReach) ok none = absurd (omega (arith, none))
 no_words-spells_none labels address (Ok (LongJumpTo condition kind name)) ok none = absurd (omega (arith, none))
@@ -74,7 +77,8 @@ faults_with labels number address said rest =
       | inr some ↦ rw some refl
     ]
 
-pub faults_said : (labels : Labels) (number address : ℕ) (lines : List SourceLine) → reference_faults labels number address lines ≡ said_faults labels address (said_from number lines)
+pub faults_said : (labels : Labels) (number address : ℕ) (lines : List SourceLine)
+    → reference_faults labels number address lines ≡ said_faults labels address (said_from number lines)
 faults_said labels number address [] = refl
 faults_said labels number address (line ∷ rest) =
     let said = reading line.code in
@@ -82,8 +86,9 @@ faults_said labels number address (line ∷ rest) =
     ∙ sym (faults_with labels number address said (said_from (suc number) rest))
 
 -- whether they are ready
-ready_with : (number address : ℕ) (said : Result Statement SourceFault) (rest : List Said) → IsOk said → address + read_length said ≤ address_count
-    → AreReady (address + read_length said) rest → AreReady address (with_words number said ++ rest)
+ready_with : (number address : ℕ) (said : Result Statement SourceFault) (rest : List Said) → IsOk said
+    → address + read_length said ≤ address_count → AreReady (address + read_length said) rest
+    → AreReady address (with_words number said ++ rest)
 ready_with number address said rest ok within ready =
     elim (cases_Bool (read_length said == 0)) [
       | inl none ↦
@@ -93,11 +98,13 @@ ready_with number address said rest ok within ready =
       | inr some ↦ rw some (ok, within, ready)
     ]
 
-pub ready_said : (labels : Labels) (number address : ℕ) (lines : List SourceLine) → IsReady labels address lines → AreReady address (said_from number lines)
+pub ready_said : (labels : Labels) (number address : ℕ) (lines : List SourceLine) → IsReady labels address lines
+    → AreReady address (said_from number lines)
 ready_said labels number address [] ready = tt
 ready_said labels number address (line ∷ rest) ready =
     let said = reading line.code in
-    ready_with number address said (said_from (suc number) rest) ready.0 ready.1 (ready_said labels (suc number) (address + read_length said) rest ready.3)
+    ready_with number address said (said_from (suc number) rest) ready.0 ready.1
+    (ready_said labels (suc number) (address + read_length said) rest ready.3)
 
 -- and the words
 spelled_with : (labels : Labels) (number address : ℕ) (said : Result Statement SourceFault) (rest : List Said) (words : List ℕ) → IsOk said
@@ -128,8 +135,8 @@ spelled_said labels number address (line ∷ rest) words ready spelled =
     )
 
 -- the words with those of one more
-pub spelled_next : (labels : Labels) (address : ℕ) (said : Said) (statement : Statement) (rest : List Said) (before after others : List ℕ) → Ok statement ≡ said.1
-    → SpellsNext labels address statement before after → SaidSpell labels (address + read_length said.1) rest others
+pub spelled_next : (labels : Labels) (address : ℕ) (said : Said) (statement : Statement) (rest : List Said) (before after others : List ℕ)
+    → Ok statement ≡ said.1 → SpellsNext labels address statement before after → SaidSpell labels (address + read_length said.1) rest others
     → (more : List ℕ) × (after ++ others ≡ before ++ more) × SaidSpell labels address (said ∷ rest) more
 spelled_next labels address said statement rest before after others read next spelled =
     let own = next.own in (
@@ -147,7 +154,8 @@ faults_next labels address said statement rest read none =
     sym (ap (λ fault. option_or (at_line said.0 fault) (said_faults labels (address + read_length said.1) rest)) own)
 
 -- what is kept of a line is what it says
-kept_words-reading : (text : List ℕ) (start : ℕ) (statement : code.Statement) → Ok (in_code statement) ≡ first_reading (source_lines (drop start text))
+kept_words-reading : (text : List ℕ) (start : ℕ) (statement : code.Statement)
+    → Ok (in_code statement) ≡ first_reading (source_lines (drop start text))
     → kept_reading text (kept_words start statement) ≡ Ok (in_code statement)
 kept_words-reading text start codes_of.Nothing read = sym read
 kept_words-reading text start (codes_of.One word) read = refl
@@ -158,7 +166,8 @@ kept_words-reading text start (codes_of.LongJumpTo condition kind name) read = s
 kept_words-reading text start (codes_of.ShortJumpTo condition name) read = sym read
 kept_words-reading text start (codes_of.EntryAt kind name) read = sym read
 
-kept_of-said : (text : List ℕ) (number start : ℕ) (statement : code.Statement) → Ok (in_code statement) ≡ first_reading (source_lines (drop start text))
+kept_of-said : (text : List ℕ) (number start : ℕ) (statement : code.Statement)
+    → Ok (in_code statement) ≡ first_reading (source_lines (drop start text))
     → map (kept_said text) (kept_of number start statement) ≡ with_words number (Ok (in_code statement))
 kept_of-said text number start statement read =
     elim (cases_Bool (statement_length (in_code statement) == 0)) [
@@ -167,14 +176,17 @@ kept_of-said text number start statement read =
     ]
 
 -- what is kept with one more line
-pub kept_next : (text : List ℕ) (number start : ℕ) (statement : code.Statement) (line : SourceLine) (rest : List SourceLine) (before after : List KeptLine) → Ok (in_code statement) ≡ reading line.code
-    → source_lines (drop start text) ≡ line ∷ rest → after ≡ before ++ kept_of number start statement
+pub kept_next : (text : List ℕ) (number start : ℕ) (statement : code.Statement)
+    (line : SourceLine) (rest : List SourceLine) (before after : List KeptLine)
+    → Ok (in_code statement) ≡ reading line.code → source_lines (drop start text) ≡ line ∷ rest
+    → after ≡ before ++ kept_of number start statement
     → map (kept_said text) after ++ said_from (number + 1) rest ≡ map (kept_said text) before ++ said_from number (line ∷ rest)
 kept_next text number start statement line rest before after read left added =
     let again : Ok (in_code statement) ≡ first_reading (source_lines (drop start text)) = read ∙ ap first_reading (sym left) in
     let own = kept_of-said text number start statement again ∙ ap (with_words number) read in
     let more : map (kept_said text) after ≡ map (kept_said text) before ++ with_words number (reading line.code) =
-    ap (map (kept_said text)) added ∙ map-append (kept_said text) before (kept_of number start statement) ∙ ap (λ others. map (kept_said text) before ++ others) own in
+    ap (map (kept_said text)) added ∙ map-append (kept_said text) before (kept_of number start statement)
+    ∙ ap (λ others. map (kept_said text) before ++ others) own in
     ap (λ others. others ++ said_from (number + 1) rest) more
     ∙ append_assoc (map (kept_said text) before) (with_words number (reading line.code)) (said_from (number + 1) rest)
     ∙ rw add-one refl

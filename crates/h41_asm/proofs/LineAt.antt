@@ -10,7 +10,8 @@ use Rattle.h41_asm.specs.SourceLines.{lines}
 pub line_ended : (text : List ℕ) (start end : ℕ) → Some end ≡ position (λ byte. byte == 10) (drop start text)
     → lines (drop start text) ≡ strip_carriage_return (take end (drop start text)) ∷ lines (drop (start + end + 1) text)
 line_ended text start end e =
-    let behind : drop (end + 1) (drop start text) ≡ drop (start + end + 1) text = drop-drop (end + 1) start text ∙ ap (λ (n : ℕ). drop n text) (omega arith) in
+    let behind : drop (end + 1) (drop start text) ≡ drop (start + end + 1) text =
+    drop-drop (end + 1) start text ∙ ap (λ (n : ℕ). drop n text) (omega arith) in
     lines_at (drop start text) end e ∙ ap (λ rest. strip_carriage_return (take end (drop start text)) ∷ lines rest) behind
 
 pub last_line : (text : List ℕ) (start : ℕ) → start < length text → None ≡ position (λ byte. byte == 10) (drop start text)

@@ -5,11 +5,21 @@ use Rattle.std.proofs.lemmas.Bool.{and_parts, ltb-true}
 use Rattle.std.specs.List.{AllByRecursion, list_all}
 use Rattle.std.proofs.lemmas.List.Elements.{All-from_recursion}
 use Rattle.h41_words.specs.declared.operation.Operation.{Operation}
-use Rattle.h41_words.specs.declared.operation.Operation.TheVariants.{AToB, AddAToC, AddBToA, AddCToA, BToC, CToA, ClearA, ClearB, ClearC, ComplementC, DecrementA, DecrementC, DoubleC, ExchangeAB, ExchangeAC, ExchangeBC, IncrementA, IncrementC, NegateC, ShiftLeftA, ShiftRightA, ShiftRightB, ShiftRightC, SubtractBFromA, SubtractCFromA, SubtractCFromAToC, TestADiffersFromC, TestALessThanB, TestALessThanC, TestANonzero, TestBNonzero, TestCNonzero}
+use Rattle.h41_words.specs.declared.operation.Operation.TheVariants.{AToB, AddAToC, AddBToA, AddCToA, BToC, CToA, ClearA, ClearB, ClearC}
+use Rattle.h41_words.specs.declared.operation.Operation.TheVariants.{ComplementC, DecrementA, DecrementC, DoubleC, ExchangeAB, ExchangeAC}
+use Rattle.h41_words.specs.declared.operation.Operation.TheVariants.{ExchangeBC, IncrementA, IncrementC, NegateC, ShiftLeftA, ShiftRightA}
+use Rattle.h41_words.specs.declared.operation.Operation.TheVariants.{ShiftRightB, ShiftRightC, SubtractBFromA, SubtractCFromA}
+use Rattle.h41_words.specs.declared.operation.Operation.TheVariants.{SubtractCFromAToC, TestADiffersFromC, TestALessThanB, TestALessThanC}
+use Rattle.h41_words.specs.declared.operation.Operation.TheVariants.{TestANonzero, TestBNonzero, TestCNonzero}
 use Rattle.h41_words.specs.declared.rows.Bank.TheVariants.{First, Second, Third, Fourth}
 use Rattle.h41_words.specs.declared.rows.RegisterTransfer.{RegisterTransfer}
-use Rattle.h41_words.specs.declared.rows.RegisterTransfer.TheVariants.{CToG, CToM, CToN, CToStatus, ExchangeCG, ExchangeCM, ExchangeCN, ExchangeCStatus, ExchangeStatusT, GToC, MToC, NToC, StatusToC, StatusToT, TToStatus}
-use Rattle.h41_words.specs.declared.rows.Row.TheVariants.{ClearKeyFlag, ClearRegisters, ClearStatusByte, DecrementPointer, DisplayOff, DropReturn, EnableBank, IncrementPointer, Nop, PowerOff, ReadKey, Return, SetDecimal, SetHexadecimal, TestKeyFlag, TestLowBattery, TestPointersEqual, ToggleDisplay, Transfer, WriteRom}
+use Rattle.h41_words.specs.declared.rows.RegisterTransfer.TheVariants.{CToG, CToM, CToN, CToStatus, ExchangeCG, ExchangeCM, ExchangeCN}
+use Rattle.h41_words.specs.declared.rows.RegisterTransfer.TheVariants.{ExchangeCStatus, ExchangeStatusT, GToC, MToC, NToC, StatusToC}
+use Rattle.h41_words.specs.declared.rows.RegisterTransfer.TheVariants.{StatusToT, TToStatus}
+use Rattle.h41_words.specs.declared.rows.Row.TheVariants.{ClearKeyFlag, ClearRegisters, ClearStatusByte, DecrementPointer, DisplayOff}
+use Rattle.h41_words.specs.declared.rows.Row.TheVariants.{DropReturn, EnableBank, IncrementPointer, Nop, PowerOff, ReadKey, Return}
+use Rattle.h41_words.specs.declared.rows.Row.TheVariants.{SetDecimal, SetHexadecimal, TestKeyFlag, TestLowBattery, TestPointersEqual}
+use Rattle.h41_words.specs.declared.rows.Row.TheVariants.{ToggleDisplay, Transfer, WriteRom}
 use Rattle.h41_words.specs.Mnemonics.{operation_text, transfer_text}
 use Rattle.h41_words.specs.Counts.{word_count}
 use Rattle.h41_words.specs.WordTable.{number_of}
@@ -19,7 +29,8 @@ use Rattle.h41_asm.specs.declared.table.Taking.TheVariants.{Field}
 use Rattle.h41_asm.specs.declared.table.TheConstants.{OPENINGS, PLACES}
 use Rattle.h41_asm.specs.Statements.{singles, takers}
 use Rattle.h41_asm.specs.Openings.{Entry, IsTable, OpensAs, TellsWords}
-use Rattle.h41_asm.proofs.OpeningTable.{carry_sound, fetch_sound, goto_sound, logic_sound, no_carry_sound, peripheral_sound, pop_sound, push_sound, ram_sound, read_sound, select_sound, single, write_sound}
+use Rattle.h41_asm.proofs.OpeningTable.{carry_sound, fetch_sound, goto_sound, logic_sound, no_carry_sound, peripheral_sound, pop_sound}
+use Rattle.h41_asm.proofs.OpeningTable.{push_sound, ram_sound, read_sound, select_sound, single, write_sound}
 use Rattle.h41_asm.proofs.Openings.{begins_nothing}
 
 field_sound : (operation : Operation) → OpensAs (operation_text operation) (Some (Taker (Field operation)))
@@ -29,298 +40,120 @@ field_sound operation others = refl
 
 transfer_sound : (transfer : RegisterTransfer) → OpensAs (transfer_text transfer) (Some (Single (number_of (Transfer transfer))))
 unfolding singles takers
-transfer_sound CToG = single (transfer_text CToG) (Transfer CToG) (number_of (Transfer CToG)) (λ others. refl) (λ others. refl) (λ others. refl) refl
-transfer_sound transfer = single (transfer_text transfer) (Transfer transfer) (number_of (Transfer transfer)) (λ others. refl) (λ others. refl) (λ others. refl) refl
+transfer_sound CToG =
+    single (transfer_text CToG) (Transfer CToG) (number_of (Transfer CToG)) (λ others. refl) (λ others. refl) (λ others. refl) refl
+transfer_sound transfer =
+    single (transfer_text transfer) (Transfer transfer) (number_of (Transfer transfer))
+    (λ others. refl) (λ others. refl) (λ others. refl) refl
 
 -- the code's tables
 abbrev pub entries : List Entry
 entries = map (λ opening. (opening.0.now, opening.1)) OPENINGS
 
+-- what holds of a first one and of the others
+infixr 20 ◌&◌
+◌&◌ : {A B : Type 0} → A → B → A × B
+first & others = (first, others)
+
 entries_sound : AllByRecursion (λ entry. OpensAs entry.0 (Some entry.1)) entries
 unfolding singles takers number_of
-entries_sound = (
-  single (codes "NOP") Nop 0x000 (λ others. refl) (λ others. refl) (λ others. refl) refl,
-  (
-    single (codes "WROM") WriteRom 0x040 (λ others. refl) (λ others. refl) (λ others. refl) refl,
-    (
-      single (codes "ENBANK1") (EnableBank First) 0x100 (λ others. refl) (λ others. refl) (λ others. refl) refl,
-      (
-        single (codes "ENBANK2") (EnableBank Second) 0x180 (λ others. refl) (λ others. refl) (λ others. refl) refl,
-        (
-          single (codes "ENBANK3") (EnableBank Third) 0x140 (λ others. refl) (λ others. refl) (λ others. refl) refl,
-          (
-            single (codes "ENBANK4") (EnableBank Fourth) 0x1C0 (λ others. refl) (λ others. refl) (λ others. refl) refl,
-            (
-              single (codes "ST=0") ClearStatusByte 0x3C4 (λ others. refl) (λ others. refl) (λ others. refl) refl,
-              (
-                single (codes "CLRKEY") ClearKeyFlag 0x3C8 (λ others. refl) (λ others. refl) (λ others. refl) refl,
-                (
-                  single (codes "?KEY") TestKeyFlag 0x3CC (λ others. refl) (λ others. refl) (λ others. refl) refl,
-                  (
-                    single (codes "R=R-1") DecrementPointer 0x3D4 (λ others. refl) (λ others. refl) (λ others. refl) refl,
-                    (
-                      single (codes "R=R+1") IncrementPointer 0x3DC (λ others. refl) (λ others. refl) (λ others. refl) refl,
-                      (
-                        read_sound,
-                        (
-                          transfer_sound CToG,
-                          (
-                            transfer_sound GToC,
-                            (
-                              transfer_sound ExchangeCG,
-                              (
-                                transfer_sound CToM,
-                                (
-                                  transfer_sound MToC,
-                                  (
-                                    transfer_sound ExchangeCM,
-                                    (
-                                      transfer_sound StatusToT,
-                                      (
-                                        transfer_sound TToStatus,
-                                        (
-                                          transfer_sound ExchangeStatusT,
-                                          (
-                                            transfer_sound CToStatus,
-                                            (
-                                              transfer_sound StatusToC,
-                                              (
-                                                transfer_sound ExchangeCStatus,
-                                                (
-                                                  single (codes "XQ->GO") DropReturn 0x020 (λ others. refl) (λ others. refl) (λ others. refl) refl,
-                                                  (
-                                                    single (codes "POWOFF") PowerOff 0x060 (λ others. refl) (λ others. refl) (λ others. refl) refl,
-                                                    (
-                                                      select_sound,
-                                                      (
-                                                        single (codes "?P=Q") TestPointersEqual 0x120 (λ others. refl) (λ others. refl) (λ others. refl) refl,
-                                                        (
-                                                          single (codes "?LLD") TestLowBattery 0x160 (λ others. refl) (λ others. refl) (λ others. refl) refl,
-                                                          (
-                                                            single (codes "CLRABC") ClearRegisters 0x1A0 (λ others. refl) (λ others. refl) (λ others. refl) refl,
-                                                            (
-                                                              goto_sound,
-                                                              (
-                                                                single (codes "C=KEY") ReadKey 0x220 (λ others. refl) (λ others. refl) (λ others. refl) refl,
-                                                                (
-                                                                  single (codes "SETHEX") SetHexadecimal 0x260 (λ others. refl) (λ others. refl) (λ others. refl) refl,
-                                                                  (
-                                                                    single (codes "SETDEC") SetDecimal 0x2A0 (λ others. refl) (λ others. refl) (λ others. refl) refl,
-                                                                    (
-                                                                      single (codes "DISOFF") DisplayOff 0x2E0 (λ others. refl) (λ others. refl) (λ others. refl) refl,
-                                                                      (
-                                                                        single (codes "DISTOG") ToggleDisplay 0x320 (λ others. refl) (λ others. refl) (λ others. refl) refl,
-                                                                        (
-                                                                          carry_sound,
-                                                                          (
-                                                                            no_carry_sound,
-                                                                            (
-                                                                              single (codes "RTN") Return 0x3E0 (λ others. refl) (λ others. refl) (λ others. refl) refl,
-                                                                              (
-                                                                                transfer_sound CToN,
-                                                                                (
-                                                                                  transfer_sound NToC,
-                                                                                  (
-                                                                                    transfer_sound ExchangeCN,
-                                                                                    (
-                                                                                      push_sound,
-                                                                                      (
-                                                                                        pop_sound,
-                                                                                        (
-                                                                                          ram_sound,
-                                                                                          (
-                                                                                            write_sound,
-                                                                                            (
-                                                                                              fetch_sound,
-                                                                                              (
-                                                                                                logic_sound,
-                                                                                                (
-                                                                                                  peripheral_sound,
-                                                                                                  (
-                                                                                                    field_sound ClearA,
-                                                                                                    (
-                                                                                                      field_sound ClearB,
-                                                                                                      (
-                                                                                                        field_sound ClearC,
-                                                                                                        (
-                                                                                                          field_sound ExchangeAB,
-                                                                                                          (
-                                                                                                            field_sound AToB,
-                                                                                                            (
-                                                                                                              field_sound ExchangeAC,
-                                                                                                              (
-                                                                                                                field_sound BToC,
-                                                                                                                (
-                                                                                                                  field_sound ExchangeBC,
-                                                                                                                  (
-                                                                                                                    field_sound CToA,
-                                                                                                                    (
-                                                                                                                      field_sound AddBToA,
-                                                                                                                      (
-                                                                                                                        field_sound AddCToA,
-                                                                                                                        (
-                                                                                                                          field_sound IncrementA,
-                                                                                                                          (
-                                                                                                                            field_sound SubtractBFromA,
-                                                                                                                            (
-                                                                                                                              field_sound DecrementA,
-                                                                                                                              (
-                                                                                                                                field_sound SubtractCFromA,
-                                                                                                                                (
-                                                                                                                                  field_sound DoubleC,
-                                                                                                                                  (
-                                                                                                                                    field_sound AddAToC,
-                                                                                                                                    (
-                                                                                                                                      field_sound IncrementC,
-                                                                                                                                      (
-                                                                                                                                        field_sound SubtractCFromAToC,
-                                                                                                                                        (
-                                                                                                                                          field_sound DecrementC,
-                                                                                                                                          (
-                                                                                                                                            field_sound NegateC,
-                                                                                                                                            (
-                                                                                                                                              field_sound ComplementC,
-                                                                                                                                              (
-                                                                                                                                                field_sound TestBNonzero,
-                                                                                                                                                (
-                                                                                                                                                  field_sound TestCNonzero,
-                                                                                                                                                  (
-                                                                                                                                                    field_sound TestALessThanC,
-                                                                                                                                                    (
-                                                                                                                                                      field_sound TestALessThanB,
-                                                                                                                                                      (
-                                                                                                                                                        field_sound TestANonzero,
-                                                                                                                                                        (
-                                                                                                                                                          field_sound TestADiffersFromC,
-                                                                                                                                                          (
-                                                                                                                                                            field_sound ShiftRightA,
-                                                                                                                                                            (
-                                                                                                                                                              field_sound ShiftRightB,
-                                                                                                                                                              (
-                                                                                                                                                                field_sound ShiftRightC,
-                                                                                                                                                                (
-                                                                                                                                                                  field_sound ShiftLeftA,
-                                                                                                                                                                  (
-                                                                                                                                                                    λ others. refl,
-                                                                                                                                                                    (
-                                                                                                                                                                      λ others. refl,
-                                                                                                                                                                      (
-                                                                                                                                                                        λ others. refl,
-                                                                                                                                                                        (
-                                                                                                                                                                          λ others. refl,
-                                                                                                                                                                          (
-                                                                                                                                                                            λ others. refl,
-                                                                                                                                                                            (
-                                                                                                                                                                              λ others. refl,
-                                                                                                                                                                              (
-                                                                                                                                                                                λ others. refl,
-                                                                                                                                                                                (
-                                                                                                                                                                                  λ others. refl,
-                                                                                                                                                                                  (
-                                                                                                                                                                                    λ others. refl,
-                                                                                                                                                                                    (
-                                                                                                                                                                                      λ others. refl,
-                                                                                                                                                                                      (
-                                                                                                                                                                                        λ others. refl,
-                                                                                                                                                                                        (
-                                                                                                                                                                                          λ others. refl,
-                                                                                                                                                                                          (
-                                                                                                                                                                                            λ others. refl,
-                                                                                                                                                                                            (λ others. refl, tt),
-                                                                                                                                                                                          ),
-                                                                                                                                                                                        ),
-                                                                                                                                                                                      ),
-                                                                                                                                                                                    ),
-                                                                                                                                                                                  ),
-                                                                                                                                                                                ),
-                                                                                                                                                                              ),
-                                                                                                                                                                            ),
-                                                                                                                                                                          ),
-                                                                                                                                                                        ),
-                                                                                                                                                                      ),
-                                                                                                                                                                    ),
-                                                                                                                                                                  ),
-                                                                                                                                                                ),
-                                                                                                                                                              ),
-                                                                                                                                                            ),
-                                                                                                                                                          ),
-                                                                                                                                                        ),
-                                                                                                                                                      ),
-                                                                                                                                                    ),
-                                                                                                                                                  ),
-                                                                                                                                                ),
-                                                                                                                                              ),
-                                                                                                                                            ),
-                                                                                                                                          ),
-                                                                                                                                        ),
-                                                                                                                                      ),
-                                                                                                                                    ),
-                                                                                                                                  ),
-                                                                                                                                ),
-                                                                                                                              ),
-                                                                                                                            ),
-                                                                                                                          ),
-                                                                                                                        ),
-                                                                                                                      ),
-                                                                                                                    ),
-                                                                                                                  ),
-                                                                                                                ),
-                                                                                                              ),
-                                                                                                            ),
-                                                                                                          ),
-                                                                                                        ),
-                                                                                                      ),
-                                                                                                    ),
-                                                                                                  ),
-                                                                                                ),
-                                                                                              ),
-                                                                                            ),
-                                                                                          ),
-                                                                                        ),
-                                                                                      ),
-                                                                                    ),
-                                                                                  ),
-                                                                                ),
-                                                                              ),
-                                                                            ),
-                                                                          ),
-                                                                        ),
-                                                                      ),
-                                                                    ),
-                                                                  ),
-                                                                ),
-                                                              ),
-                                                            ),
-                                                          ),
-                                                        ),
-                                                      ),
-                                                    ),
-                                                  ),
-                                                ),
-                                              ),
-                                            ),
-                                          ),
-                                        ),
-                                      ),
-                                    ),
-                                  ),
-                                ),
-                              ),
-                            ),
-                          ),
-                        ),
-                      ),
-                    ),
-                  ),
-                ),
-              ),
-            ),
-          ),
-        ),
-      ),
-    ),
-  ),
-)
+entries_sound =
+    single (codes "NOP") Nop 0x000 (λ others. refl) (λ others. refl) (λ others. refl) refl
+    & single (codes "WROM") WriteRom 0x040 (λ others. refl) (λ others. refl) (λ others. refl) refl
+    & single (codes "ENBANK1") (EnableBank First) 0x100 (λ others. refl) (λ others. refl) (λ others. refl) refl
+    & single (codes "ENBANK2") (EnableBank Second) 0x180 (λ others. refl) (λ others. refl) (λ others. refl) refl
+    & single (codes "ENBANK3") (EnableBank Third) 0x140 (λ others. refl) (λ others. refl) (λ others. refl) refl
+    & single (codes "ENBANK4") (EnableBank Fourth) 0x1C0 (λ others. refl) (λ others. refl) (λ others. refl) refl
+    & single (codes "ST=0") ClearStatusByte 0x3C4 (λ others. refl) (λ others. refl) (λ others. refl) refl
+    & single (codes "CLRKEY") ClearKeyFlag 0x3C8 (λ others. refl) (λ others. refl) (λ others. refl) refl
+    & single (codes "?KEY") TestKeyFlag 0x3CC (λ others. refl) (λ others. refl) (λ others. refl) refl
+    & single (codes "R=R-1") DecrementPointer 0x3D4 (λ others. refl) (λ others. refl) (λ others. refl) refl
+    & single (codes "R=R+1") IncrementPointer 0x3DC (λ others. refl) (λ others. refl) (λ others. refl) refl
+    & read_sound
+    & transfer_sound CToG
+    & transfer_sound GToC
+    & transfer_sound ExchangeCG
+    & transfer_sound CToM
+    & transfer_sound MToC
+    & transfer_sound ExchangeCM
+    & transfer_sound StatusToT
+    & transfer_sound TToStatus
+    & transfer_sound ExchangeStatusT
+    & transfer_sound CToStatus
+    & transfer_sound StatusToC
+    & transfer_sound ExchangeCStatus
+    & single (codes "XQ->GO") DropReturn 0x020 (λ others. refl) (λ others. refl) (λ others. refl) refl
+    & single (codes "POWOFF") PowerOff 0x060 (λ others. refl) (λ others. refl) (λ others. refl) refl
+    & select_sound
+    & single (codes "?P=Q") TestPointersEqual 0x120 (λ others. refl) (λ others. refl) (λ others. refl) refl
+    & single (codes "?LLD") TestLowBattery 0x160 (λ others. refl) (λ others. refl) (λ others. refl) refl
+    & single (codes "CLRABC") ClearRegisters 0x1A0 (λ others. refl) (λ others. refl) (λ others. refl) refl
+    & goto_sound
+    & single (codes "C=KEY") ReadKey 0x220 (λ others. refl) (λ others. refl) (λ others. refl) refl
+    & single (codes "SETHEX") SetHexadecimal 0x260 (λ others. refl) (λ others. refl) (λ others. refl) refl
+    & single (codes "SETDEC") SetDecimal 0x2A0 (λ others. refl) (λ others. refl) (λ others. refl) refl
+    & single (codes "DISOFF") DisplayOff 0x2E0 (λ others. refl) (λ others. refl) (λ others. refl) refl
+    & single (codes "DISTOG") ToggleDisplay 0x320 (λ others. refl) (λ others. refl) (λ others. refl) refl
+    & carry_sound
+    & no_carry_sound
+    & single (codes "RTN") Return 0x3E0 (λ others. refl) (λ others. refl) (λ others. refl) refl
+    & transfer_sound CToN
+    & transfer_sound NToC
+    & transfer_sound ExchangeCN
+    & push_sound
+    & pop_sound
+    & ram_sound
+    & write_sound
+    & fetch_sound
+    & logic_sound
+    & peripheral_sound
+    & field_sound ClearA
+    & field_sound ClearB
+    & field_sound ClearC
+    & field_sound ExchangeAB
+    & field_sound AToB
+    & field_sound ExchangeAC
+    & field_sound BToC
+    & field_sound ExchangeBC
+    & field_sound CToA
+    & field_sound AddBToA
+    & field_sound AddCToA
+    & field_sound IncrementA
+    & field_sound SubtractBFromA
+    & field_sound DecrementA
+    & field_sound SubtractCFromA
+    & field_sound DoubleC
+    & field_sound AddAToC
+    & field_sound IncrementC
+    & field_sound SubtractCFromAToC
+    & field_sound DecrementC
+    & field_sound NegateC
+    & field_sound ComplementC
+    & field_sound TestBNonzero
+    & field_sound TestCNonzero
+    & field_sound TestALessThanC
+    & field_sound TestALessThanB
+    & field_sound TestANonzero
+    & field_sound TestADiffersFromC
+    & field_sound ShiftRightA
+    & field_sound ShiftRightB
+    & field_sound ShiftRightC
+    & field_sound ShiftLeftA
+    & (λ others. refl)
+    & (λ others. refl)
+    & (λ others. refl)
+    & (λ others. refl)
+    & (λ others. refl)
+    & (λ others. refl)
+    & (λ others. refl)
+    & (λ others. refl)
+    & (λ others. refl)
+    & (λ others. refl)
+    & (λ others. refl)
+    & (λ others. refl)
+    & (λ others. refl)
+    & (λ others. refl)
+    & tt
 
 -- whether the words that it tells are words
 abbrev tells : Opening → Bool
@@ -339,7 +172,8 @@ all_told (entry ∷ some) low =
     let both = and_parts (tells entry.1) (list_all (λ entry. tells entry.1) some) low in
     (told entry.1 both.0, all_told some both.1)
 
-all_below : (count : ℕ) (places : List ℕ) → list_all (λ place. nat_lt place count) places ≡ true → AllByRecursion (λ place. place < count) places
+all_below : (count : ℕ) (places : List ℕ) → list_all (λ place. nat_lt place count) places ≡ true
+    → AllByRecursion (λ place. place < count) places
 all_below count [] low = tt
 all_below count (place ∷ places) low =
     let both = and_parts (nat_lt place count) (list_all (λ place. nat_lt place count) places) low in
@@ -349,7 +183,8 @@ pub is_table : IsTable entries PLACES
 unfolding singles takers
 is_table = record {
   count = refl;
-  within = λ k inside. All-from_recursion (λ (place : ℕ). place < length entries) PLACES (all_below (length entries) PLACES refl) k 0 inside;
+  within =
+      λ k inside. All-from_recursion (λ (place : ℕ). place < length entries) PLACES (all_below (length entries) PLACES refl) k 0 inside;
   sound = All-from_recursion (λ (entry : Entry). OpensAs entry.0 (Some entry.1)) entries entries_sound;
   words = All-from_recursion (λ (entry : Entry). TellsWords entry.1) entries (all_told entries refl);
   complete = λ word other missed. begins_nothing entries PLACES other word missed refl refl;

@@ -1,5 +1,6 @@
 -- The code's table of first words is right: what each of them begins, and that every mnemonic's first word is in its place.
-use Rattle.std.proofs.Common.{◌≡◌, ℕ, Bool, true, false, List, [], ◌∷◌, length, Some, None, Ok, Err, refl, ◌∙◌, inl, inr, ap, sym, subst, bytes_eq, if◌then◌else◌}
+use Rattle.std.proofs.Common.{◌≡◌, ℕ, Bool, true, false, List, [], ◌∷◌, length, Some, None, Ok, Err, refl, ◌∙◌, inl, inr, ap, sym, subst}
+use Rattle.std.proofs.Common.{bytes_eq, if◌then◌else◌}
 use Rattle.std.specs.Prelude.{codes, cond, ◌&&◌, ◌||◌, ◌==◌, Option, Result, option_map}
 use Rattle.std.proofs.Math.Dec.{eqb-suc-zero}
 use Rattle.std.proofs.lemmas.Bool.{cases_Bool}
@@ -8,14 +9,16 @@ use Rattle.h41_words.specs.declared.rows.Condition.TheVariants.{NoCarry, Carry}
 use Rattle.h41_words.specs.declared.second_word.LongJumpKind.TheVariants.{Execute, Go}
 use Rattle.h41_fields.specs.declared.field.Pointer.TheVariants.{P, Q}
 use Rattle.h41_words.specs.declared.rows.Row.{Row}
-use Rattle.h41_words.specs.declared.rows.Row.TheVariants.{And, FetchWord, GoToAddress, GoToKey, Or, PopAddress, PushAddress, ReadData, ReturnIf, SelectPeripheral, SelectPointer, SelectRegister, WriteData}
+use Rattle.h41_words.specs.declared.rows.Row.TheVariants.{And, FetchWord, GoToAddress, GoToKey, Or, PopAddress, PushAddress, ReadData}
+use Rattle.h41_words.specs.declared.rows.Row.TheVariants.{ReturnIf, SelectPeripheral, SelectPointer, SelectRegister, WriteData}
 use Rattle.h41_words.specs.WordTable.{number_of}
 use Rattle.h41_asm.specs.declared.fault.SourceFault.{SourceFault}
 use Rattle.h41_asm.specs.declared.fault.SourceFault.TheVariants.{BadLine, BadOperand}
 use Rattle.h41_asm.specs.declared.table.Opening.TheVariants.{Data, Fetch, GoTo, If, Logic, Peripheral, Pop, Push, Ram, Select, Single}
 use Rattle.h41_asm.specs.declared.table.Numbered.TheVariants as numbers
 use Rattle.h41_asm.specs.CodeStatements.{takes_numbered}
-use Rattle.h41_asm.specs.Statements.{Statement, Taking, Words, behind, is_begun, one_word, reading, single_among, singles, taken, taken_among, takers, takes_address}
+use Rattle.h41_asm.specs.Statements.{Statement, Taking, Words, behind, is_begun, one_word, reading, single_among, singles, taken}
+use Rattle.h41_asm.specs.Statements.{taken_among, takers, takes_address}
 use Rattle.h41_asm.specs.Openings.{OpensAs, alone, at_carry, pair}
 
 -- what words say by the single mnemonic that they are, by the one that they begin with, and by whether they begin with a single
@@ -25,8 +28,8 @@ answer None (Some read) begun = read
 answer None None begun = Err (if begun then BadOperand else BadLine)
 
 answered : (first : List ℕ) (others : List (List ℕ)) (found : Option Row) (taken : Option (Result Statement SourceFault)) (begun : Bool)
-    → single_among singles (first ∷ others) ≡ found → taken_among takers (first ∷ others) ≡ taken → is_begun singles (first ∷ others) ≡ begun
-    → reading (first ∷ others) ≡ answer found taken begun
+    → single_among singles (first ∷ others) ≡ found → taken_among takers (first ∷ others) ≡ taken
+    → is_begun singles (first ∷ others) ≡ begun → reading (first ∷ others) ≡ answer found taken begun
 answered first others (Some row) taken begun found_is taken_is begun_is = rw found_is refl
 answered first others None (Some read) begun found_is taken_is begun_is = rw (found_is, taken_is) refl
 answered first others None None begun found_is taken_is begun_is = rw (found_is, taken_is, begun_is) refl
@@ -47,64 +50,76 @@ alone_is number [] = refl
 alone_is number (word ∷ others) = rw (eqb-suc-zero (length others)) refl
 
 -- an instruction that is its first word alone
-single_answer : (none : Bool) (name : List ℕ) (row : Row) → answer (row_of (if_found none name row None)) None true ≡ alone_if (number_of row) none
+single_answer : (none : Bool) (name : List ℕ) (row : Row)
+    → answer (row_of (if_found none name row None)) None true ≡ alone_if (number_of row) none
 single_answer true name row = refl
 single_answer false name row = refl
 
-pub single : (name : List ℕ) (row : Row) (number : ℕ) → ((others : List (List ℕ)) → single_among singles (name ∷ others) ≡ row_of (if_found (length others == 0) name row None))
-    → ((others : List (List ℕ)) → taken_among takers (name ∷ others) ≡ None) → ((others : List (List ℕ)) → is_begun singles (name ∷ others) ≡ true)
-    → number_of row ≡ number → OpensAs name (Some (Single number))
+pub single : (name : List ℕ) (row : Row) (number : ℕ)
+    → ((others : List (List ℕ)) → single_among singles (name ∷ others) ≡ row_of (if_found (length others == 0) name row None))
+    → ((others : List (List ℕ)) → taken_among takers (name ∷ others) ≡ None)
+    → ((others : List (List ℕ)) → is_begun singles (name ∷ others) ≡ true) → number_of row ≡ number → OpensAs name (Some (Single number))
 single name row number found taken begun numbered others =
     answered name others _ _ _ (found others) (taken others) (begun others) ∙ single_answer (length others == 0) name row
     ∙ ap (λ (n : ℕ). alone_if n (length others == 0)) numbered ∙ alone_is number others
 
 -- an instruction of two words
 pair_answer : (same none : Bool) (name : List ℕ) (row : Row)
-    → answer (row_of (if_found ((same && true) && none) name row None)) None ((same && true) || false) ≡ (if same then alone_if (number_of row) none else Err BadLine)
+    → answer (row_of (if_found ((same && true) && none) name row None)) None ((same && true) || false)
+    ≡ (if same then alone_if (number_of row) none else Err BadLine)
 pair_answer true true name row = refl
 pair_answer true false name row = refl
 pair_answer false none name row = refl
 
 abbrev is_pair : List ℕ → List ℕ → List ℕ → Row → Type 0
 is_pair first second_name name row = (second : List ℕ) (others : List (List ℕ))
-    → (single_among singles (first ∷ second ∷ others) ≡ row_of (if_found ((bytes_eq second second_name && true) && (length others == 0)) name row None))
-    × (taken_among takers (first ∷ second ∷ others) ≡ None) × (is_begun singles (first ∷ second ∷ others) ≡ ((bytes_eq second second_name && true) || false))
+    → (single_among singles (first ∷ second ∷ others)
+    ≡ row_of (if_found ((bytes_eq second second_name && true) && (length others == 0)) name row None))
+    × (taken_among takers (first ∷ second ∷ others) ≡ None)
+    × (is_begun singles (first ∷ second ∷ others) ≡ ((bytes_eq second second_name && true) || false))
 
 pair_reads : (first second_name name : List ℕ) (row : Row) → is_pair first second_name name row → (second : List ℕ) (others : List (List ℕ))
     → reading (first ∷ second ∷ others) ≡ pair second_name (number_of row) second others
 pair_reads first second_name name row facts second others =
     let given = facts second others in
     answered first (second ∷ others) _ _ _ given.0 given.1 given.2 ∙ pair_answer (bytes_eq second second_name) (length others == 0) name row
-    ∙ ap (λ (said : Result Statement SourceFault). if bytes_eq second second_name then said else Err BadLine) (alone_is (number_of row) others)
+    ∙ ap (λ (said : Result Statement SourceFault). if bytes_eq second second_name then said else Err BadLine)
+    (alone_is (number_of row) others)
 
 pub push_sound : OpensAs (codes "PUSH") (Some Push)
 unfolding singles takers
 push_sound [] = refl
-push_sound (second ∷ others) = pair_reads (codes "PUSH") (codes "ADR") (codes "PUSH ADR") PushAddress (λ second others. (refl, refl, refl)) second others
+push_sound (second ∷ others) =
+    pair_reads (codes "PUSH") (codes "ADR") (codes "PUSH ADR") PushAddress (λ second others. (refl, refl, refl)) second others
 
 pub pop_sound : OpensAs (codes "POP") (Some Pop)
 unfolding singles takers
 pop_sound [] = refl
-pop_sound (second ∷ others) = pair_reads (codes "POP") (codes "ADR") (codes "POP ADR") PopAddress (λ second others. (refl, refl, refl)) second others
+pop_sound (second ∷ others) =
+    pair_reads (codes "POP") (codes "ADR") (codes "POP ADR") PopAddress (λ second others. (refl, refl, refl)) second others
 
 pub ram_sound : OpensAs (codes "RAM") (Some Ram)
 unfolding singles takers
 ram_sound [] = refl
-ram_sound (second ∷ others) = pair_reads (codes "RAM") (codes "SLCT") (codes "RAM SLCT") SelectRegister (λ second others. (refl, refl, refl)) second others
+ram_sound (second ∷ others) =
+    pair_reads (codes "RAM") (codes "SLCT") (codes "RAM SLCT") SelectRegister (λ second others. (refl, refl, refl)) second others
 
 pub peripheral_sound : OpensAs (codes "PRPH") (Some Peripheral)
 unfolding singles takers
 peripheral_sound [] = refl
-peripheral_sound (second ∷ others) = pair_reads (codes "PRPH") (codes "SLCT") (codes "PRPH SLCT") SelectPeripheral (λ second others. (refl, refl, refl)) second others
+peripheral_sound (second ∷ others) =
+    pair_reads (codes "PRPH") (codes "SLCT") (codes "PRPH SLCT") SelectPeripheral (λ second others. (refl, refl, refl)) second others
 
 pub fetch_sound : OpensAs (codes "FETCH") (Some Fetch)
 unfolding singles takers
 fetch_sound [] = refl
-fetch_sound (second ∷ others) = pair_reads (codes "FETCH") (codes "S&X") (codes "FETCH S&X") FetchWord (λ second others. (refl, refl, refl)) second others
+fetch_sound (second ∷ others) =
+    pair_reads (codes "FETCH") (codes "S&X") (codes "FETCH S&X") FetchWord (λ second others. (refl, refl, refl)) second others
 
 -- one of two instructions of two words
 either_answer : (same next none : Bool) (name next_name : List ℕ) (row next_row : Row)
-    → answer (row_of (if_found ((same && true) && none) name row (if_found ((next && true) && none) next_name next_row None))) None ((same && true) || ((next && true) || false))
+    → answer (row_of (if_found ((same && true) && none) name row (if_found ((next && true) && none) next_name next_row None)))
+    None ((same && true) || ((next && true) || false))
     ≡ (if same then alone_if (number_of row) none else (if next then alone_if (number_of next_row) none else Err BadLine))
 either_answer true true true name next_name row next_row = refl
 either_answer true true false name next_name row next_row = refl
@@ -118,9 +133,11 @@ abbrev both_alone : Bool → Bool → Result Statement SourceFault → Result St
 both_alone same next said next_said = if same then said else (if next then next_said else Err BadLine)
 
 both_alone_is : (same next : Bool) (number next_number : ℕ) (others : List (List ℕ))
-    → both_alone same next (alone_if number (length others == 0)) (alone_if next_number (length others == 0)) ≡ both_alone same next (alone number others) (alone next_number others)
+    → both_alone same next (alone_if number (length others == 0)) (alone_if next_number (length others == 0))
+    ≡ both_alone same next (alone number others) (alone next_number others)
 both_alone_is same next number next_number others =
-    ap (λ (said : Result Statement SourceFault). both_alone same next said (alone_if next_number (length others == 0))) (alone_is number others)
+    ap (λ (said : Result Statement SourceFault). both_alone same next said (alone_if next_number (length others == 0)))
+    (alone_is number others)
     ∙ ap (λ (said : Result Statement SourceFault). both_alone same next (alone number others) said) (alone_is next_number others)
 
 pub select_sound : OpensAs (codes "SLCT") (Some Select)
@@ -129,7 +146,8 @@ select_sound [] = refl
 select_sound (second ∷ others) =
     let p : Bool = bytes_eq second (codes "P") in
     let q : Bool = bytes_eq second (codes "Q") in
-    answered (codes "SLCT") (second ∷ others) (row_of (if_found ((p && true) && (length others == 0)) (codes "SLCT P") (SelectPointer P) (if_found ((q && true) && (length others == 0)) (codes "SLCT Q") (SelectPointer Q) None)))
+    answered (codes "SLCT") (second ∷ others) (row_of (if_found ((p && true) && (length others == 0)) (codes "SLCT P")
+    (SelectPointer P) (if_found ((q && true) && (length others == 0)) (codes "SLCT Q") (SelectPointer Q) None)))
     None ((p && true) || ((q && true) || false)) refl refl refl
     ∙ either_answer p q (length others == 0) (codes "SLCT P") (codes "SLCT Q") (SelectPointer P) (SelectPointer Q)
     ∙ both_alone_is p q (number_of (SelectPointer P)) (number_of (SelectPointer Q)) others
@@ -140,14 +158,16 @@ goto_sound [] = refl
 goto_sound (second ∷ others) =
     let address : Bool = bytes_eq second (codes "ADR") in
     let key : Bool = bytes_eq second (codes "KEY") in
-    answered (codes "GOTO") (second ∷ others) (row_of (if_found ((address && true) && (length others == 0)) (codes "GOTO ADR") GoToAddress (if_found ((key && true) && (length others == 0)) (codes "GOTO KEY") GoToKey None)))
+    answered (codes "GOTO") (second ∷ others) (row_of (if_found ((address && true) && (length others == 0))
+    (codes "GOTO ADR") GoToAddress (if_found ((key && true) && (length others == 0)) (codes "GOTO KEY") GoToKey None)))
     None ((address && true) || ((key && true) || false)) refl refl refl
     ∙ either_answer address key (length others == 0) (codes "GOTO ADR") (codes "GOTO KEY") GoToAddress GoToKey
     ∙ both_alone_is address key (number_of GoToAddress) (number_of GoToKey) others
 
 -- C=C OR A and C=C AND A
 logic_none : (same next : Bool) (name next_name : List ℕ) (row next_row : Row)
-    → answer (row_of (if_found ((same && false) && true) name row (if_found ((next && false) && true) next_name next_row None))) None ((same && false) || ((next && false) || false))
+    → answer (row_of (if_found ((same && false) && true) name row (if_found ((next && false) && true) next_name next_row None)))
+    None ((same && false) || ((next && false) || false))
     ≡ both_alone same next (Err BadLine) (Err BadLine)
 logic_none true true name next_name row next_row = refl
 logic_none true false name next_name row next_row = refl
@@ -158,8 +178,8 @@ abbrev with_a : Bool → Result Statement SourceFault → Result Statement Sourc
 with_a a said = if a then said else Err BadLine
 
 logic_answer : (same next a none : Bool) (name next_name : List ℕ) (row next_row : Row)
-    → answer (row_of (if_found ((same && (a && true)) && none) name row (if_found ((next && (a && true)) && none) next_name next_row None))) None
-    ((same && (a && true)) || ((next && (a && true)) || false))
+    → answer (row_of (if_found ((same && (a && true)) && none) name row (if_found ((next && (a && true)) && none) next_name next_row None)))
+    None ((same && (a && true)) || ((next && (a && true)) || false))
     ≡ both_alone same next (with_a a (alone_if (number_of row) none)) (with_a a (alone_if (number_of next_row) none))
 logic_answer true true true true name next_name row next_row = refl
 logic_answer true true true false name next_name row next_row = refl
@@ -177,8 +197,11 @@ logic_alone : (same next a : Bool) (number next_number : ℕ) (others : List (Li
     → both_alone same next (with_a a (alone_if number (length others == 0))) (with_a a (alone_if next_number (length others == 0)))
     ≡ both_alone same next (with_a a (alone number others)) (with_a a (alone next_number others))
 logic_alone same next a number next_number others =
-    ap (λ (said : Result Statement SourceFault). both_alone same next (with_a a said) (with_a a (alone_if next_number (length others == 0)))) (alone_is number others)
-    ∙ ap (λ (said : Result Statement SourceFault). both_alone same next (with_a a (alone number others)) (with_a a said)) (alone_is next_number others)
+    ap
+    (λ (said : Result Statement SourceFault). both_alone same next (with_a a said) (with_a a (alone_if next_number (length others == 0))))
+    (alone_is number others)
+    ∙ ap (λ (said : Result Statement SourceFault). both_alone same next (with_a a (alone number others)) (with_a a said))
+    (alone_is next_number others)
 
 pub logic_sound : OpensAs (codes "C=C") (Some Logic)
 unfolding singles takers
@@ -186,7 +209,8 @@ logic_sound [] = refl
 logic_sound (second ∷ []) =
     let o : Bool = bytes_eq second (codes "OR") in
     let n : Bool = bytes_eq second (codes "AND") in
-    answered (codes "C=C") (second ∷ []) (row_of (if_found ((o && false) && true) (codes "C=C OR A") Or (if_found ((n && false) && true) (codes "C=C AND A") And None)))
+    answered (codes "C=C") (second ∷ [])
+    (row_of (if_found ((o && false) && true) (codes "C=C OR A") Or (if_found ((n && false) && true) (codes "C=C AND A") And None)))
     None ((o && false) || ((n && false) || false)) refl refl refl
     ∙ logic_none o n (codes "C=C OR A") (codes "C=C AND A") Or And
 logic_sound (second ∷ third ∷ others) =
@@ -194,7 +218,8 @@ logic_sound (second ∷ third ∷ others) =
     let n : Bool = bytes_eq second (codes "AND") in
     let a : Bool = bytes_eq third (codes "A") in
     let none : Bool = length others == 0 in
-    answered (codes "C=C") (second ∷ third ∷ others) (row_of (if_found ((o && (a && true)) && none) (codes "C=C OR A") Or (if_found ((n && (a && true)) && none) (codes "C=C AND A") And None)))
+    answered (codes "C=C") (second ∷ third ∷ others) (row_of
+    (if_found ((o && (a && true)) && none) (codes "C=C OR A") Or (if_found ((n && (a && true)) && none) (codes "C=C AND A") And None)))
     None ((o && (a && true)) || ((n && (a && true)) || false)) refl refl refl
     ∙ logic_answer o n a none (codes "C=C OR A") (codes "C=C AND A") Or And
     ∙ logic_alone o n a (number_of Or) (number_of And) others
@@ -210,16 +235,20 @@ unfolding singles takers number_of
 read_sound [] = refl
 read_sound (second ∷ others) =
     let whole : Bool = (bytes_eq second (codes "DATA") && true) && (length others == 0) in
-    answered (codes "READ") (second ∷ others) (row_of (if_found whole (codes "READ DATA") ReadData None)) (Some (taken (takes_numbered numbers.Read) (second ∷ others))) _ refl refl refl
-    ∙ data_answer whole (codes "READ DATA") ReadData (taken (takes_numbered numbers.Read) (second ∷ others)) (is_begun singles (codes "READ" ∷ second ∷ others))
+    answered (codes "READ") (second ∷ others) (row_of (if_found whole (codes "READ DATA") ReadData None))
+    (Some (taken (takes_numbered numbers.Read) (second ∷ others))) _ refl refl refl
+    ∙ data_answer whole (codes "READ DATA") ReadData (taken (takes_numbered numbers.Read) (second ∷ others))
+    (is_begun singles (codes "READ" ∷ second ∷ others))
 
 pub write_sound : OpensAs (codes "WRIT") (Some (Data 0x2F0 numbers.Write))
 unfolding singles takers number_of
 write_sound [] = refl
 write_sound (second ∷ others) =
     let whole : Bool = (bytes_eq second (codes "DATA") && true) && (length others == 0) in
-    answered (codes "WRIT") (second ∷ others) (row_of (if_found whole (codes "WRIT DATA") WriteData None)) (Some (taken (takes_numbered numbers.Write) (second ∷ others))) _ refl refl refl
-    ∙ data_answer whole (codes "WRIT DATA") WriteData (taken (takes_numbered numbers.Write) (second ∷ others)) (is_begun singles (codes "WRIT" ∷ second ∷ others))
+    answered (codes "WRIT") (second ∷ others) (row_of (if_found whole (codes "WRIT DATA") WriteData None))
+    (Some (taken (takes_numbered numbers.Write) (second ∷ others))) _ refl refl refl
+    ∙ data_answer whole (codes "WRIT DATA") WriteData (taken (takes_numbered numbers.Write) (second ∷ others))
+    (is_begun singles (codes "WRIT" ∷ second ∷ others))
 
 -- returns and jumps by address
 jump_answer : (execute go : Bool) (says : List ℕ × Taking → Result Statement SourceFault) (name next_name : List ℕ) (takes next : Taking)
@@ -232,19 +261,26 @@ jump_answer false false says name next_name takes next = refl
 carry_returns : (others : List (List ℕ)) → reading (codes "?C" ∷ codes "RTN" ∷ others) ≡ at_carry Carry (codes "RTN") others
 unfolding singles takers
 carry_returns others =
-    answered (codes "?C") (codes "RTN" ∷ others) (row_of (if_found (length others == 0) (codes "?C RTN") (ReturnIf Carry) None)) None true refl refl refl
+    answered (codes "?C") (codes "RTN" ∷ others)
+    (row_of (if_found (length others == 0) (codes "?C RTN") (ReturnIf Carry) None)) None true refl refl refl
     ∙ single_answer (length others == 0) (codes "?C RTN") (ReturnIf Carry) ∙ alone_is (number_of (ReturnIf Carry)) others
 
-carry_jumps : (second : List ℕ) (others : List (List ℕ)) → bytes_eq second (codes "RTN") ≡ false → reading (codes "?C" ∷ second ∷ others) ≡ at_carry Carry second others
+carry_jumps : (second : List ℕ) (others : List (List ℕ)) → bytes_eq second (codes "RTN") ≡ false
+    → reading (codes "?C" ∷ second ∷ others) ≡ at_carry Carry second others
 unfolding singles takers
 carry_jumps second others other =
     let x : Bool = bytes_eq second (codes "XQ") in
     let g : Bool = bytes_eq second (codes "GO") in
     let says : List ℕ × Taking → Result Statement SourceFault = λ taker. taken taker.1 (behind taker.0 (codes "?C" ∷ second ∷ others)) in
-    answered (codes "?C") (second ∷ others) None (option_map says (if_found (x && true) (codes "?C XQ") (takes_address Carry Execute) (if_found (g && true) (codes "?C GO") (takes_address Carry Go) None))) false
-    (ap (λ (b : Bool). row_of (if_found ((b && true) && (length others == 0)) (codes "?C RTN") (ReturnIf Carry) None)) other) refl (ap (λ (b : Bool). (b && true) || false) other)
+    answered (codes "?C") (second ∷ others) None (option_map says (if_found (x && true) (codes "?C XQ")
+    (takes_address Carry Execute) (if_found (g && true) (codes "?C GO") (takes_address Carry Go) None)))
+    false
+    (ap (λ (b : Bool). row_of (if_found ((b && true) && (length others == 0)) (codes "?C RTN") (ReturnIf Carry) None)) other) refl
+    (ap (λ (b : Bool). (b && true) || false) other)
     ∙ jump_answer x g says (codes "?C XQ") (codes "?C GO") (takes_address Carry Execute) (takes_address Carry Go)
-    ∙ ap (λ (b : Bool). if b then alone (number_of (ReturnIf Carry)) others else both_alone x g (taken (takes_address Carry Execute) others) (taken (takes_address Carry Go) others)) (sym other)
+    ∙ ap (λ (b : Bool). if b then alone (number_of (ReturnIf Carry)) others
+    else both_alone x g (taken (takes_address Carry Execute) others) (taken (takes_address Carry Go) others))
+    (sym other)
 
 pub carry_sound : OpensAs (codes "?C") (Some (If Carry))
 unfolding singles takers
@@ -259,19 +295,26 @@ carry_sound (second ∷ others) = elim (cases_Bool (bytes_eq second (codes "RTN"
 no_carry_returns : (others : List (List ℕ)) → reading (codes "?NC" ∷ codes "RTN" ∷ others) ≡ at_carry NoCarry (codes "RTN") others
 unfolding singles takers
 no_carry_returns others =
-    answered (codes "?NC") (codes "RTN" ∷ others) (row_of (if_found (length others == 0) (codes "?NC RTN") (ReturnIf NoCarry) None)) None true refl refl refl
+    answered (codes "?NC") (codes "RTN" ∷ others)
+    (row_of (if_found (length others == 0) (codes "?NC RTN") (ReturnIf NoCarry) None)) None true refl refl refl
     ∙ single_answer (length others == 0) (codes "?NC RTN") (ReturnIf NoCarry) ∙ alone_is (number_of (ReturnIf NoCarry)) others
 
-no_carry_jumps : (second : List ℕ) (others : List (List ℕ)) → bytes_eq second (codes "RTN") ≡ false → reading (codes "?NC" ∷ second ∷ others) ≡ at_carry NoCarry second others
+no_carry_jumps : (second : List ℕ) (others : List (List ℕ)) → bytes_eq second (codes "RTN") ≡ false
+    → reading (codes "?NC" ∷ second ∷ others) ≡ at_carry NoCarry second others
 unfolding singles takers
 no_carry_jumps second others other =
     let x : Bool = bytes_eq second (codes "XQ") in
     let g : Bool = bytes_eq second (codes "GO") in
     let says : List ℕ × Taking → Result Statement SourceFault = λ taker. taken taker.1 (behind taker.0 (codes "?NC" ∷ second ∷ others)) in
-    answered (codes "?NC") (second ∷ others) None (option_map says (if_found (x && true) (codes "?NC XQ") (takes_address NoCarry Execute) (if_found (g && true) (codes "?NC GO") (takes_address NoCarry Go) None))) false
-    (ap (λ (b : Bool). row_of (if_found ((b && true) && (length others == 0)) (codes "?NC RTN") (ReturnIf NoCarry) None)) other) refl (ap (λ (b : Bool). (b && true) || false) other)
+    answered (codes "?NC") (second ∷ others) None (option_map says (if_found (x && true) (codes "?NC XQ")
+    (takes_address NoCarry Execute) (if_found (g && true) (codes "?NC GO") (takes_address NoCarry Go) None)))
+    false
+    (ap (λ (b : Bool). row_of (if_found ((b && true) && (length others == 0)) (codes "?NC RTN") (ReturnIf NoCarry) None)) other) refl
+    (ap (λ (b : Bool). (b && true) || false) other)
     ∙ jump_answer x g says (codes "?NC XQ") (codes "?NC GO") (takes_address NoCarry Execute) (takes_address NoCarry Go)
-    ∙ ap (λ (b : Bool). if b then alone (number_of (ReturnIf NoCarry)) others else both_alone x g (taken (takes_address NoCarry Execute) others) (taken (takes_address NoCarry Go) others)) (sym other)
+    ∙ ap (λ (b : Bool). if b then alone (number_of (ReturnIf NoCarry)) others
+    else both_alone x g (taken (takes_address NoCarry Execute) others) (taken (takes_address NoCarry Go) others))
+    (sym other)
 
 pub no_carry_sound : OpensAs (codes "?NC") (Some (If NoCarry))
 unfolding singles takers

@@ -1,5 +1,6 @@
 -- What a table of first words gives for a word, and that a word that is not in it begins nothing.
-use Rattle.std.proofs.Common.{◌≡◌, ℕ, ◌<◌, Bool, true, false, List, [], ◌∷◌, length, Some, None, refl, sym, ◌∙◌, inl, inr, bytes_eq, slice_index, slice_index_or, subst}
+use Rattle.std.proofs.Common.{◌≡◌, ℕ, ◌<◌, Bool, true, false, List, [], ◌∷◌, length, Some, None, refl, sym, ◌∙◌, inl, inr, bytes_eq}
+use Rattle.std.proofs.Common.{slice_index, slice_index_or, subst}
 use Rattle.std.specs.Prelude.{find}
 use Rattle.std.proofs.lemmas.List.{get_or-map, length-map}
 use Rattle.std.specs.Borrow.{Bor}
@@ -29,16 +30,19 @@ same_bytes a b e = (bytes_eq-Decides a b).0 e
 no_both : (test : Bool) → test ≡ true → test ≡ false → true ≡ false
 no_both test holds fails = sym holds ∙ fails
 
-module _ (entries : List Entry) (places : List ℕ) (other : Entry) (word : List ℕ) (missed : bytes_eq word (slot entries places other word) ≡ false) where
+module _ (entries : List Entry) (places : List ℕ) (other : Entry) (word : List ℕ)
+    (missed : bytes_eq word (slot entries places other word) ≡ false) where
   unlike : (part : List ℕ) → bytes_eq part (slot entries places other part) ≡ true → bytes_eq word part ≡ false
   unlike part home = elim (cases_Bool (bytes_eq word part)) [
     | inl same ↦
-        let here : bytes_eq part (slot entries places other part) ≡ false = subst (λ (w : List ℕ). bytes_eq w (slot entries places other w) ≡ false) (same_bytes word part same) missed in
+        let here : bytes_eq part (slot entries places other part) ≡ false =
+        subst (λ (w : List ℕ). bytes_eq w (slot entries places other w) ≡ false) (same_bytes word part same) missed in
         let no : true ≡ false = no_both _ home here in cc
     | inr differs ↦ differs
   ]
 
-  unbegun : (parts others : List (List ℕ)) → leads_home entries places other parts ≡ true → starts_with (λ part word. bytes_eq word part) (word ∷ others) parts ≡ false
+  unbegun : (parts others : List (List ℕ)) → leads_home entries places other parts ≡ true
+      → starts_with (λ part word. bytes_eq word part) (word ∷ others) parts ≡ false
   unbegun [] others home = let no : false ≡ true = home in cc
   unbegun (part ∷ parts) others home = rw (unlike part home) refl
 
@@ -46,19 +50,22 @@ module _ (entries : List Entry) (places : List ℕ) (other : Entry) (word : List
   abbrev homes : {T : Type 0} → List (List ℕ × T) → Bool
   homes some = list_all (λ entry. is_placed entries places other entry.0) some
 
-  none_begun : {T : Type 0} (some : List (List ℕ × T)) (others : List (List ℕ)) → homes some ≡ true → list_any (λ entry. begins (word ∷ others) entry.0) some ≡ false
+  none_begun : {T : Type 0} (some : List (List ℕ × T)) (others : List (List ℕ)) → homes some ≡ true
+      → list_any (λ entry. begins (word ∷ others) entry.0) some ≡ false
   none_begun [] others home = refl
   none_begun (entry ∷ some) others home =
       let both = and_parts (is_placed entries places other entry.0) (homes some) home in
       rw (unbegun (words_of entry.0) others both.0) (none_begun some others both.1)
 
-  none_found : {T : Type 0} (some : List (List ℕ × T)) (others : List (List ℕ)) → homes some ≡ true → find (λ entry. begins (word ∷ others) entry.0) some ≡ None
+  none_found : {T : Type 0} (some : List (List ℕ × T)) (others : List (List ℕ)) → homes some ≡ true
+      → find (λ entry. begins (word ∷ others) entry.0) some ≡ None
   none_found [] others home = refl
   none_found (entry ∷ some) others home =
       let both = and_parts (is_placed entries places other entry.0) (homes some) home in
       rw (unbegun (words_of entry.0) others both.0) (none_found some others both.1)
 
-  none_whole : {T : Type 0} (some : List (List ℕ × T)) (others : List (List ℕ)) → homes some ≡ true → find (λ entry. is_whole (word ∷ others) entry.0) some ≡ None
+  none_whole : {T : Type 0} (some : List (List ℕ × T)) (others : List (List ℕ)) → homes some ≡ true
+      → find (λ entry. is_whole (word ∷ others) entry.0) some ≡ None
   none_whole [] others home = refl
   none_whole (entry ∷ some) others home =
       let both = and_parts (is_placed entries places other entry.0) (homes some) home in
@@ -72,14 +79,17 @@ module _ (entries : List Entry) (places : List ℕ) (other : Entry) (word : List
       rw (whole, taken, begun) refl
 
 -- the entry to which a word's hash leads in the code's table
-module _ (openings : List (Bor (List ℕ) × Opening)) (places word : List ℕ) (place : ℕ) (d : Bor (List ℕ) × Opening) (table : IsTable (entries_in openings) places) (near : hash_of word < place_count) (here : place ≡ slice_index places (hash_of word)) where
+module _ (openings : List (Bor (List ℕ) × Opening)) (places word : List ℕ) (place : ℕ)
+    (d : Bor (List ℕ) × Opening) (table : IsTable (entries_in openings) places)
+    (near : hash_of word < place_count) (here : place ≡ slice_index places (hash_of word)) where
   inside : place < length (entries_in openings)
   inside = rw here (table.within (hash_of word) (rw table.count near))
 
   within : place < length openings
   within = rw length-map at inside
 
-  mapped : slice_index_or (entries_in openings) place (d.0.now, d.1) ≡ ((slice_index_or openings place d).0.now, (slice_index_or openings place d).1)
+  mapped : slice_index_or (entries_in openings) place (d.0.now, d.1)
+      ≡ ((slice_index_or openings place d).0.now, (slice_index_or openings place d).1)
   mapped = get_or-map (λ (opening : Bor (List ℕ) × Opening). (opening.0.now, opening.1)) openings place d (d.0.now, d.1) within
 
   pub found_at : bytes_eq word (slice_index_or openings place d).0.now ≡ true → OpensAs word (Some (slice_index_or openings place d).1)

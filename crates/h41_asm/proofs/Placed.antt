@@ -1,5 +1,6 @@
 -- The first pass: what its loop keeps over the lines.
-use Rattle.std.proofs.Common.{◌≡◌, ℕ, suc, ◌+◌, ◌≤◌, Bool, false, ◌&&◌, ◌||◌, List, [], ◌∷◌, ◌++◌, refl, sym, ap, ◌∙◌, Some, None, Option, is_some, add-one, nat_le, bytes_eq, inl, inr, if◌then◌else◌}
+use Rattle.std.proofs.Common.{◌≡◌, ℕ, suc, ◌+◌, ◌≤◌, Bool, false, ◌&&◌, ◌||◌, List, [], ◌∷◌, ◌++◌, refl, sym, ap, ◌∙◌, Some, None, Option}
+use Rattle.std.proofs.Common.{is_some, add-one, nat_le, bytes_eq, inl, inr, if◌then◌else◌}
 use Rattle.std.specs.Bool.{then_some}
 use Rattle.std.specs.List.{list_any}
 use Rattle.std.specs.Option.{option_or}
@@ -11,7 +12,8 @@ use Rattle.std.specs.Cmp.Lexicographic.{nat_list_eq_equiv}
 use Rattle.std.proofs.lemmas.Slice.Eq.{bytes_eq-Decides}
 use Rattle.h41_asm.specs.declared.fault.SourceFault.TheVariants.{LabelTwice, TooLong}
 use Rattle.h41_asm.specs.Assembly.{address_count}
-use Rattle.h41_asm.specs.Faults.{at_line, first_fault, has_label, is_labelled_twice, is_past, label_address, line_length, numbered_lines, own_fault, own_fault_at}
+use Rattle.h41_asm.specs.Faults.{at_line, first_fault, has_label, is_labelled_twice, is_past, label_address, line_length, numbered_lines}
+use Rattle.h41_asm.specs.Faults.{own_fault, own_fault_at}
 use Rattle.h41_asm.specs.Placing.{Labels}
 use Rattle.h41_asm.specs.LabelTable.{is_held, with_label}
 use Rattle.h41_asm.specs.SourceLines.{SourceLine}
@@ -25,9 +27,11 @@ pub record IsPlaced (labels : Labels) (all : List SourceLine) (origin number add
   pub earlier : List SourceLine
   pub faults : own_faults number address earlier rest ≡ first_fault own_fault_at (numbered_lines origin all)
   pub known : (name : List ℕ) → is_some (labels name) ≡ list_any (λ line. has_label name line.label) earlier
-  pub addresses : (name : List ℕ) → option_or (labels name) (address_from address rest name) ≡ label_address (numbered_lines origin all) name
+  pub addresses : (name : List ℕ)
+      → option_or (labels name) (address_from address rest name) ≡ label_address (numbered_lines origin all) name
 
-pub placed_none : (labels : Labels) (all : List SourceLine) (origin : ℕ) → ((name : List ℕ) → labels name ≡ None) → IsPlaced labels all origin 1 origin all
+pub placed_none : (labels : Labels) (all : List SourceLine) (origin : ℕ) → ((name : List ℕ) → labels name ≡ None)
+    → IsPlaced labels all origin 1 origin all
 placed_none labels all origin none = record {
   earlier = [];
   faults = sym (own_faults_of origin all);
@@ -36,15 +40,18 @@ placed_none labels all origin none = record {
 }
 
 -- a name stands twice by the table where it does by the lines before
-held_twice : (labels : Labels) (earlier : List SourceLine) → ((name : List ℕ) → is_some (labels name) ≡ list_any (λ line. has_label name line.label) earlier)
-    → (label : Option (List ℕ)) → is_held labels label ≡ is_labelled_twice earlier label
+held_twice : (labels : Labels) (earlier : List SourceLine)
+    → ((name : List ℕ) → is_some (labels name) ≡ list_any (λ line. has_label name line.label) earlier) → (label : Option (List ℕ))
+    → is_held labels label ≡ is_labelled_twice earlier label
 held_twice labels earlier known None = refl
 held_twice labels earlier known (Some name) = known name
 
 -- the names of the lines with one more
 known_next : (labels : Labels) (earlier : List SourceLine) (address : ℕ)
-    → ((name : List ℕ) → is_some (labels name) ≡ list_any (λ line. has_label name line.label) earlier) → (label : Option (List ℕ)) (name : List ℕ)
-    → is_some (with_label labels label address name) ≡ (list_any (λ line. has_label name line.label) earlier || (has_label name label || false))
+    → ((name : List ℕ) → is_some (labels name) ≡ list_any (λ line. has_label name line.label) earlier)
+    → (label : Option (List ℕ)) (name : List ℕ)
+    → is_some (with_label labels label address name)
+    ≡ (list_any (λ line. has_label name line.label) earlier || (has_label name label || false))
 known_next labels earlier address known None name = known name ∙ sym (or-false (list_any (λ line. has_label name line.label) earlier))
 known_next labels earlier address known (Some own) name =
     let turned : bytes_eq name own ≡ bytes_eq own name = nat_list_eq_equiv.symm name own in
@@ -54,8 +61,10 @@ known_next labels earlier address known (Some own) name =
     ]
 
 -- the addresses with one more
-addresses_next : (labels : Labels) (address : ℕ) (behind : Labels) (label : Option (List ℕ)) → is_held labels label ≡ false → (name : List ℕ)
-    → option_or (with_label labels label address name) (behind name) ≡ option_or (labels name) (if has_label name label then Some address else behind name)
+addresses_next : (labels : Labels) (address : ℕ) (behind : Labels) (label : Option (List ℕ)) → is_held labels label ≡ false
+    → (name : List ℕ)
+    → option_or (with_label labels label address name) (behind name)
+    ≡ option_or (labels name) (if has_label name label then Some address else behind name)
 addresses_next labels address behind None none name = refl
 addresses_next labels address behind (Some own) none name =
     let turned : bytes_eq name own ≡ bytes_eq own name = nat_list_eq_equiv.symm name own in
@@ -67,11 +76,14 @@ addresses_next labels address behind (Some own) none name =
     ]
 
 -- a line without a fault ends within the addresses
-pub placed_within : (twice : Bool) (address : ℕ) (line : SourceLine) → own_fault twice address line ≡ None → address + line_length line ≤ address_count
+pub placed_within : (twice : Bool) (address : ℕ) (line : SourceLine) → own_fault twice address line ≡ None
+    → address + line_length line ≤ address_count
 placed_within twice address line none =
     let parts = or_none (result_err (reading line.code)) _ none in
     let long = or_none (then_some twice LabelTwice) _ parts.1 in
-    let both = both_false (is_some line.label && nat_le address_count address) _ (not_then_some (is_past address line.label (line_length line)) TooLong long.1) in
+    let both =
+    both_false (is_some line.label && nat_le address_count address) _
+    (not_then_some (is_past address line.label (line_length line)) TooLong long.1) in
     ltb-false address_count (address + line_length line) both.1
 
 -- and the next lines stand behind it
@@ -86,10 +98,18 @@ placed_next labels after all origin number address line rest placed none added =
     let new = or_none (then_some (is_held labels line.label) LabelTwice) _ parts.1 in
     record {
       earlier = placed.earlier ++ line ∷ [];
-      faults = rw add-one (sym (ap (λ own. option_or (at_line number own) (own_faults (suc number) (address + line_length line) (placed.earlier ++ line ∷ []) rest)) own) ∙ placed.faults);
-      known = λ name. ap is_some (added name) ∙ known_next labels placed.earlier address placed.known line.label name ∙ sym (list_any-append (λ line. has_label name line.label) placed.earlier (line ∷ []));
+      faults =
+          rw add-one (sym (ap
+          (λ own. option_or (at_line number own) (own_faults (suc number) (address + line_length line) (placed.earlier ++ line ∷ []) rest))
+          own)
+          ∙ placed.faults);
+      known =
+          λ name. ap is_some (added name) ∙ known_next labels placed.earlier address placed.known line.label name
+          ∙ sym (list_any-append (λ line. has_label name line.label) placed.earlier (line ∷ []));
       addresses = λ name. ap (λ found. option_or found (address_from (address + line_length line) rest name)) (added name)
-          ∙ addresses_next labels address (address_from (address + line_length line) rest) line.label (not_then_some _ LabelTwice new.0) name ∙ placed.addresses name;
+          ∙ addresses_next labels address (address_from (address + line_length line) rest)
+          line.label (not_then_some _ LabelTwice new.0) name
+          ∙ placed.addresses name;
     }
 
 -- where none are left, the addresses are those of all

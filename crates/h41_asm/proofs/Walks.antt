@@ -1,13 +1,15 @@
 -- The faults of lines and the addresses of labels as walks over the lines, as the code goes: each carries the number and the
 -- address of the next line. They are the faults and the addresses of the numbered lines.
-use Rattle.std.proofs.Common.{◌≡◌, ℕ, suc, ◌+◌, if◌then◌else◌, List, [], ◌∷◌, ◌++◌, length, refl, ap, ◌∙◌, Some, None, Option, inl, inr, append_assoc, length-append, arith, map, slice_get, filter_map}
+use Rattle.std.proofs.Common.{◌≡◌, ℕ, suc, ◌+◌, if◌then◌else◌, List, [], ◌∷◌, ◌++◌, length, refl, ap, ◌∙◌, Some, None, Option, inl, inr}
+use Rattle.std.proofs.Common.{append_assoc, length-append, arith, map, slice_get, filter_map}
 use Rattle.std.specs.List.{cons_option, enumerate_from, sum_by}
 use Rattle.std.specs.Option.{option_or}
 use Rattle.std.proofs.Math.Seq.{take-append_seam}
 use Rattle.std.proofs.lemmas.Bool.{cases_Bool}
 use Rattle.std.proofs.lemmas.List.Sums.{sum_by_push}
 use Rattle.h41_asm.specs.declared.fault.SourceFault.{SourceFault}
-use Rattle.h41_asm.specs.Faults.{LineFault, NumberedLine, at_line, first_fault, has_label, is_labelled_twice, label_address, line_length, numbered, numbered_lines, own_fault, own_fault_at, read_fault, reference_fault_at}
+use Rattle.h41_asm.specs.Faults.{LineFault, NumberedLine, at_line, first_fault, has_label, is_labelled_twice, label_address, line_length}
+use Rattle.h41_asm.specs.Faults.{numbered, numbered_lines, own_fault, own_fault_at, read_fault, reference_fault_at}
 use Rattle.h41_asm.specs.Placing.{Labels}
 use Rattle.h41_asm.specs.SourceLines.{SourceLine}
 use Rattle.h41_asm.specs.Statements.{reading}
@@ -72,32 +74,41 @@ own_behind : (origin : ℕ) (rest earlier : List SourceLine) (number address : �
     → first_fault own_fault_at (numbered_behind origin earlier rest) ≡ own_faults number address earlier rest
 own_behind origin [] earlier number address stands = refl
 own_behind origin (line ∷ rest) earlier number address stands =
-    let others = own_behind origin rest (earlier ++ line ∷ []) (suc number) (address + line_length line) (stands_next origin earlier line number address stands) in
+    let others =
+    own_behind origin rest (earlier ++ line ∷ []) (suc number) (address + line_length line)
+    (stands_next origin earlier line number address stands) in
     let at = next origin earlier line in
-    let own : at_line at.number (own_fault_at at) ≡ at_line number (own_fault (is_labelled_twice earlier line.label) address line) = rw (stands.0, stands.1) refl in
+    let own : at_line at.number (own_fault_at at) ≡ at_line number (own_fault (is_labelled_twice earlier line.label) address line) =
+    rw (stands.0, stands.1) refl in
     ap (first_fault own_fault_at) (next_behind origin earlier line rest)
     ∙ first_or (at_line at.number (own_fault_at at)) (told own_fault_at (numbered_behind origin (earlier ++ line ∷ []) rest))
     ∙ ap (λ first. option_or first (first_fault own_fault_at (numbered_behind origin (earlier ++ line ∷ []) rest))) own
     ∙ ap (option_or (at_line number (own_fault (is_labelled_twice earlier line.label) address line))) others
 
-references_behind : (labels : Labels) (origin : ℕ) (rest earlier : List SourceLine) (number address : ℕ) → StandsAt origin earlier number address
+references_behind : (labels : Labels) (origin : ℕ) (rest earlier : List SourceLine) (number address : ℕ)
+    → StandsAt origin earlier number address
     → first_fault (reference_fault_at labels) (numbered_behind origin earlier rest) ≡ reference_faults labels number address rest
 references_behind labels origin [] earlier number address stands = refl
 references_behind labels origin (line ∷ rest) earlier number address stands =
-    let others = references_behind labels origin rest (earlier ++ line ∷ []) (suc number) (address + line_length line) (stands_next origin earlier line number address stands) in
+    let others =
+    references_behind labels origin rest (earlier ++ line ∷ []) (suc number)
+    (address + line_length line) (stands_next origin earlier line number address stands) in
     let at = next origin earlier line in
     let fault = reference_fault_at labels in
-    let own : at_line at.number (fault at) ≡ at_line number (read_fault labels address (reading line.code)) = rw (stands.0, stands.1) refl in
+    let own : at_line at.number (fault at) ≡ at_line number (read_fault labels address (reading line.code)) =
+    rw (stands.0, stands.1) refl in
     ap (first_fault fault) (next_behind origin earlier line rest)
     ∙ first_or (at_line at.number (fault at)) (told fault (numbered_behind origin (earlier ++ line ∷ []) rest))
     ∙ ap (λ first. option_or first (first_fault fault (numbered_behind origin (earlier ++ line ∷ []) rest))) own
     ∙ ap (option_or (at_line number (read_fault labels address (reading line.code)))) others
 
-addresses_behind : (origin : ℕ) (rest earlier : List SourceLine) (number address : ℕ) (name : List ℕ) → StandsAt origin earlier number address
-    → label_address (numbered_behind origin earlier rest) name ≡ address_from address rest name
+addresses_behind : (origin : ℕ) (rest earlier : List SourceLine) (number address : ℕ) (name : List ℕ)
+    → StandsAt origin earlier number address → label_address (numbered_behind origin earlier rest) name ≡ address_from address rest name
 addresses_behind origin [] earlier number address name stands = refl
 addresses_behind origin (line ∷ rest) earlier number address name stands =
-    let others = addresses_behind origin rest (earlier ++ line ∷ []) (suc number) (address + line_length line) name (stands_next origin earlier line number address stands) in
+    let others =
+    addresses_behind origin rest (earlier ++ line ∷ []) (suc number) (address + line_length line)
+    name (stands_next origin earlier line number address stands) in
     ap (λ all. label_address all name) (next_behind origin earlier line rest) ∙ elim (cases_Bool (has_label name line.label)) [
       | inl here ↦ rw (here, stands.1) refl
       | inr other ↦ rw other others
@@ -111,5 +122,6 @@ pub reference_faults_of : (labels : Labels) (origin : ℕ) (all : List SourceLin
     → first_fault (reference_fault_at labels) (numbered_lines origin all) ≡ reference_faults labels 1 origin all
 reference_faults_of labels origin all = references_behind labels origin all [] 1 origin (stands_first origin)
 
-pub addresses_of : (origin : ℕ) (all : List SourceLine) (name : List ℕ) → label_address (numbered_lines origin all) name ≡ address_from origin all name
+pub addresses_of : (origin : ℕ) (all : List SourceLine) (name : List ℕ)
+    → label_address (numbered_lines origin all) name ≡ address_from origin all name
 addresses_of origin all name = addresses_behind origin all [] 1 origin name (stands_first origin)

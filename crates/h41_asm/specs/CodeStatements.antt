@@ -1,5 +1,6 @@
 -- What the code's lines and statements say, in the words of a source.
-use Rattle.std.specs.Prelude.{ℕ, ◌%◌, map, reverse, List, [], ◌∷◌, Option, Some, None, Result, Ok, Err}
+use Rattle.std.specs.Prelude.{ℕ, ◌%◌, map, reverse, List, [], ◌∷◌, Option, Some, None, Result, Ok}
+use Rattle.std.specs.Prelude.{Err}
 use Rattle.std.specs.Borrow.{Bor}
 use Rattle.std.specs.Option.{option_map}
 use Rattle.h41_asm.specs.declared.fault.SourceFault.{SourceFault}
@@ -14,9 +15,14 @@ use Rattle.h41_asm.specs.declared.table.Numbered.TheVariants as numbers
 use Rattle.h41_asm.specs.declared.table.Taking as table
 use Rattle.h41_asm.specs.declared.table.Taking.TheVariants as takings
 use Rattle.h41_asm.specs.SourceLines.{SourceLine, words_of}
-use Rattle.h41_asm.specs.Statements.{Statement, Words, OutOfReach, LongJumpTo, ShortJumpTo, EntryAt, Taking, name_words, takes_field, takes_number, takes_immediate, takes_constant, takes_address, takes_displacement, takes_name, takes_entry, taken}
+use Rattle.h41_asm.specs.Statements.{Statement, Words, OutOfReach, LongJumpTo, ShortJumpTo, EntryAt}
+use Rattle.h41_asm.specs.Statements.{Taking, name_words, takes_field, takes_number, takes_immediate}
+use Rattle.h41_asm.specs.Statements.{takes_constant, takes_address, takes_displacement, takes_name}
+use Rattle.h41_asm.specs.Statements.{takes_entry, taken}
 use Rattle.h41_words.specs.Counts.{status_bit_count, place_count, digit_count, block_register_count}
-use Rattle.h41_words.specs.declared.rows.Row.TheVariants.{ClearStatus, SetStatus, TestStatus, TestPointer, SetPointer, RotateRight, LoadDigit, Write, Read}
+use Rattle.h41_words.specs.declared.rows.Row.TheVariants.{ClearStatus, SetStatus, TestStatus}
+use Rattle.h41_words.specs.declared.rows.Row.TheVariants.{TestPointer, SetPointer, RotateRight}
+use Rattle.h41_words.specs.declared.rows.Row.TheVariants.{LoadDigit, Write, Read}
 
 -- the bits of an entry's first word
 abbrev pub entry_bits : entry.EntryKind → ℕ

@@ -1,16 +1,21 @@
--- Why a source is refused: its first fault. First come the faults that a line has whatever the labels are, by lines, a line's
--- in the order 30, 31, 32, 35; then those of references, 33 and 34, by lines.
-use Rattle.std.specs.Prelude.{ℕ, ◌+◌, pos, ◌-ℤ◌, Bool, false, not, ◌&&◌, ◌||◌, List, map, take, sum_by, find, filter_map, slice_get, nat_le, nat_lt, is_some, Option, Some, None, option_map, Result, Ok, Err, bytes_eq}
+-- Why a source is refused: its first fault. First come the faults that a line has whatever the
+-- labels are, by lines, a line's in the order 30, 31, 32, 35; then those of references, 33 and 34,
+-- by lines.
+use Rattle.std.specs.Prelude.{ℕ, ◌+◌, pos, ◌-ℤ◌, Bool, false, not, ◌&&◌, ◌||◌, List, map, take}
+use Rattle.std.specs.Prelude.{sum_by, find, filter_map, slice_get, nat_le, nat_lt, is_some, Option}
+use Rattle.std.specs.Prelude.{Some, None, option_map, Result, Ok, Err, bytes_eq}
 use Rattle.std.specs.Bool.{then_some}
 use Rattle.std.specs.List.{enumerate_from, list_any}
 use Rattle.std.specs.Option.{option_or}
 use Rattle.std.specs.Result.{result_err}
 use Rattle.h41_asm.specs.declared.fault.SourceFault.{SourceFault}
-use Rattle.h41_asm.specs.declared.fault.SourceFault.TheVariants.{LabelTwice, NoLabel, TooFar, TooLong}
+use Rattle.h41_asm.specs.declared.fault.SourceFault.TheVariants.{LabelTwice, NoLabel, TooFar}
+use Rattle.h41_asm.specs.declared.fault.SourceFault.TheVariants.{TooLong}
 use Rattle.h41_asm.specs.Assembly.{address_count}
 use Rattle.h41_asm.specs.Placing.{Labels}
 use Rattle.h41_asm.specs.SourceLines.{SourceLine, source_lines}
-use Rattle.h41_asm.specs.Statements.{Statement, Words, OutOfReach, LongJumpTo, ShortJumpTo, EntryAt, is_in_reach, reading, statement_length}
+use Rattle.h41_asm.specs.Statements.{Statement, Words, OutOfReach, LongJumpTo, ShortJumpTo, EntryAt}
+use Rattle.h41_asm.specs.Statements.{is_in_reach, reading, statement_length}
 
 -- how many words a line takes; one that cannot be read takes none
 abbrev pub read_length : Result Statement SourceFault → ℕ
@@ -27,15 +32,22 @@ pub record NumberedLine : Type 0 where
   pub earlier : List SourceLine
   pub line : SourceLine
 
--- the line at a place, counted from 0, among all: its address is the origin plus the lengths of the lines before it
+-- the line at a place, counted from 0, among all: its address is the origin plus the lengths of the
+-- lines before it
 abbrev pub numbered : ℕ → List SourceLine → ℕ → SourceLine → NumberedLine
 numbered origin all place line =
     let earlier = take place all in
-    record { number = place + 1; address = origin + sum_by line_length earlier; earlier = earlier; line = line }
+    record {
+      number = place + 1;
+      address = origin + sum_by line_length earlier;
+      earlier = earlier;
+      line = line;
+    }
 
 -- the lines of a source
 abbrev pub numbered_lines : ℕ → List SourceLine → List NumberedLine
-numbered_lines origin all = map (λ entry. numbered origin all entry.0 entry.1) (enumerate_from 0 all)
+numbered_lines origin all =
+    map (λ entry. numbered origin all entry.0 entry.1) (enumerate_from 0 all)
 
 -- a fault of the line with this number
 abbrev pub LineFault : Type 0
@@ -55,11 +67,14 @@ abbrev pub is_labelled_twice : List SourceLine → Option (List ℕ) → Bool
 is_labelled_twice earlier None = false
 is_labelled_twice earlier (Some name) = list_any (λ line. has_label name line.label) earlier
 
--- 35: whether a label at an address, or one of so many words from there on, is past the last address
+-- 35: whether a label at an address, or one of so many words from there on, is past the last
+-- address
 abbrev pub is_past : ℕ → Option (List ℕ) → ℕ → Bool
-is_past address label length = (is_some label && nat_le address_count address) || nat_lt address_count (address + length)
+is_past address label length =
+    (is_some label && nat_le address_count address) || nat_lt address_count (address + length)
 
--- the first fault of a line at an address, whatever the labels are, where it is told whether an earlier line has its label:
+-- the first fault of a line at an address, whatever the labels are, where it is told whether an
+-- earlier line has its label:
 -- 30 or 31, 32, 35
 abbrev pub own_fault : Bool → ℕ → SourceLine → Option SourceFault
 own_fault twice address line =
@@ -71,7 +86,8 @@ own_fault_at at = own_fault (is_labelled_twice at.earlier at.line.label) at.addr
 
 -- the address of the first line with a label
 abbrev pub label_address : List NumberedLine → Labels
-label_address all name = option_map (λ at. at.address) (find (λ at. has_label name at.line.label) all)
+label_address all name =
+    option_map (λ at. at.address) (find (λ at. has_label name at.line.label) all)
 
 -- 33 where no line has the label, 34 where a displacement is out of reach
 abbrev pub reach_fault : ℕ → Option ℕ → Option SourceFault
@@ -104,4 +120,5 @@ first_fault fault all = slice_get (filter_map (λ at. at_line at.number (fault a
 abbrev pub assembly_fault : List ℕ → ℕ → LineFault
 assembly_fault source origin =
     let all = numbered_lines origin (source_lines source) in
-    option_or (first_fault own_fault_at all) (first_fault (reference_fault_at (label_address all)) all)
+    option_or (first_fault own_fault_at all)
+    (first_fault (reference_fault_at (label_address all)) all)

@@ -1,6 +1,7 @@
--- What the code keeps of the lines that have words: it is what these lines say. It only connects the code with the definitions of
--- assembly.
-use Rattle.std.specs.Prelude.{◌≡◌, ℕ, suc, List, [], ◌∷◌, ◌++◌, map, drop, ◌==◌, if◌then◌else◌, Result, Ok, Err}
+-- What the code keeps of the lines that have words: it is what these lines say. It only connects
+-- the code with the definitions of assembly.
+use Rattle.std.specs.Prelude.{◌≡◌, ℕ, suc, List, [], ◌∷◌, ◌++◌, map, drop, ◌==◌, if◌then◌else◌}
+use Rattle.std.specs.Prelude.{Result, Ok, Err}
 use Rattle.h41_asm.specs.declared.fault.SourceFault.{SourceFault}
 use Rattle.h41_asm.specs.declared.fault.SourceFault.TheVariants.{BadLine}
 use Rattle.h41_asm.specs.declared.kept.KeptLine.{KeptLine}
@@ -42,7 +43,8 @@ with_words number said = if read_length said == 0 then [] else (number, said) �
 
 abbrev pub said_from : ℕ → List SourceLine → List Said
 said_from number [] = []
-said_from number (line ∷ rest) = with_words number (reading line.code) ++ said_from (suc number) rest
+said_from number (line ∷ rest) =
+    with_words number (reading line.code) ++ said_from (suc number) rest
 
 -- this is kept of the lines of a source
 abbrev pub KeepsLines : List ℕ → List KeptLine → Type 0

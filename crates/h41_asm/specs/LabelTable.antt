@@ -1,6 +1,8 @@
--- The code's table of labels: the addresses that it holds, what a name or a line adds to it, and what lines and statements say
--- by it. It only connects the code with the definitions of assembly.
-use Rattle.std.specs.Prelude.{◌≡◌, Vec, ℕ, ◌+◌, ◌≤◌, ℤ, Bool, false, List, [], ◌∷◌, ◌++◌, IsOk, IfSome, Option, Some, None, Result, Ok, Err, bytes_eq, if◌then◌else◌, is_some}
+-- The code's table of labels: the addresses that it holds, what a name or a line adds to it, and
+-- what lines and statements say by it. It only connects the code with the definitions of assembly.
+use Rattle.std.specs.Prelude.{◌≡◌, Vec, ℕ, ◌+◌, ◌≤◌, ℤ, Bool, false, List, [], ◌∷◌, ◌++◌, IsOk}
+use Rattle.std.specs.Prelude.{IfSome, Option, Some, None, Result, Ok, Err, bytes_eq, if◌then◌else◌}
+use Rattle.std.specs.Prelude.{is_some}
 use Rattle.std.specs.Borrow.{Bor}
 use Rattle.std.specs.Global.{Global}
 use Rattle.indexmap.specs.IndexMap.{IndexMap, get_by}
@@ -13,7 +15,8 @@ use Rattle.h41_asm.specs.declared.source.SourceLine as code_lines
 use Rattle.h41_asm.specs.declared.statement.Statement as code
 use Rattle.h41_asm.specs.Assembly.{address_count}
 use Rattle.h41_asm.specs.CodeStatements.{in_code, in_label, in_line}
-use Rattle.h41_asm.specs.Faults.{LineFault, first_fault, label_address, line_length, numbered_lines, own_fault, own_fault_at, reference_fault, reference_fault_at}
+use Rattle.h41_asm.specs.Faults.{LineFault, first_fault, label_address, line_length, numbered_lines}
+use Rattle.h41_asm.specs.Faults.{own_fault, own_fault_at, reference_fault, reference_fault_at}
 use Rattle.h41_asm.specs.Placing.{Labels, LinesSpell, StatementSpells}
 use Rattle.h41_asm.specs.SourceLines.{SourceLine, source_lines}
 use Rattle.h41_asm.specs.Statements.{Statement, is_in_reach, reading}
@@ -26,12 +29,14 @@ abbrev pub labels_in : {S : Type 0} → Table S → Labels
 labels_in table name = get_by (λ key. bytes_eq name key.now) table
 
 -- words that a statement adds to those before it
-pub record SpellsNext (labels : Labels) (address : ℕ) (statement : Statement) (before after : List ℕ) : Type 0 where
+pub record SpellsNext (labels : Labels) (address : ℕ)
+    (statement : Statement) (before after : List ℕ) : Type 0 where
   pub own : List ℕ
   pub added : after ≡ before ++ own
   pub spelled : StatementSpells labels address statement own
 
-abbrev pub AddsOwn : {S : Type 0} → Table S → ℕ → code.Statement → Vec ℕ Global → Vec ℕ Global → Type 0
+abbrev pub AddsOwn : {S : Type 0} → Table S → ℕ → code.Statement → Vec ℕ Global → Vec ℕ Global
+    → Type 0
 AddsOwn table address statement before after =
     SpellsNext (labels_in table) address (in_code statement) before.items after.items
 
@@ -40,7 +45,8 @@ abbrev pub fault_by : {S : Type 0} → Table S → ℕ → code.Statement → Op
 fault_by table address statement = reference_fault (labels_in table) address (in_code statement)
 
 abbrev pub first_fault_by : {S : Type 0} → Table S → ℕ → List ℕ → LineFault
-first_fault_by table origin source = first_fault (reference_fault_at (labels_in table)) (numbered_lines origin (source_lines source))
+first_fault_by table origin source =
+    first_fault (reference_fault_at (labels_in table)) (numbered_lines origin (source_lines source))
 
 -- the words of a source under a table
 abbrev pub SpellsBy : {S : Type 0} → Table S → ℕ → List ℕ → List ℕ → Type 0
@@ -48,13 +54,17 @@ SpellsBy table origin source words = LinesSpell (labels_in table) origin (source
 
 -- the word of a short jump, or that it is out of reach
 abbrev pub jump_word : Condition → ℤ → Result ℕ SourceFault
-jump_word condition displacement = if is_in_reach displacement then Ok (number_of (ShortJump condition displacement)) else Err TooFar
+jump_word condition displacement =
+    if is_in_reach displacement then Ok (number_of (ShortJump condition displacement))
+    else Err TooFar
 
 -- lines that can be read and placed from an address on, each label at its line
 abbrev pub IsReady : Labels → ℕ → List SourceLine → Type 0
 IsReady labels address [] = Unit {0}
 IsReady labels address (line ∷ rest) =
-    IsOk (reading line.code) × (address + line_length line ≤ address_count) × IfSome line.label (λ name. labels name ≡ Some address)
+    IsOk (reading line.code)
+    × (address + line_length line ≤ address_count)
+    × IfSome line.label (λ name. labels name ≡ Some address)
     × IsReady labels (address + line_length line) rest
 
 abbrev pub IsReadyBy : {S : Type 0} → Table S → ℕ → List ℕ → Type 0
@@ -62,7 +72,8 @@ IsReadyBy table origin source = IsReady (labels_in table) origin (source_lines s
 
 -- the first fault of a source's own lines
 abbrev pub first_own_fault : ℕ → List ℕ → LineFault
-first_own_fault origin source = first_fault own_fault_at (numbered_lines origin (source_lines source))
+first_own_fault origin source =
+    first_fault own_fault_at (numbered_lines origin (source_lines source))
 
 -- whether a line's label has an address already
 abbrev pub is_held : Labels → Option (List ℕ) → Bool
@@ -86,11 +97,16 @@ with_label labels (Some own) address = with_address labels own address
 
 -- what a name, or a line's label, adds to a table
 abbrev pub AddsName : {S : Type 0} → Table S → Table S → ℕ → List ℕ → Type 0
-AddsName old new address own = (name : List ℕ) → labels_in new name ≡ with_address (labels_in old) own address name
+AddsName old new address own =
+    (name : List ℕ) → labels_in new name ≡ with_address (labels_in old) own address name
 
 abbrev pub AddsLabel : {S : Type 0} → Table S → Table S → ℕ → code_lines.SourceLine → Type 0
-AddsLabel old new address line = (name : List ℕ) → labels_in new name ≡ with_label (labels_in old) (in_line line).label address name
+AddsLabel old new address line =
+    (name : List ℕ)
+    → labels_in new name ≡ with_label (labels_in old) (in_line line).label address name
 
 -- a table of the labels of a source
 abbrev pub HoldsLabels : {S : Type 0} → Table S → ℕ → List ℕ → Type 0
-HoldsLabels table origin source = (name : List ℕ) → labels_in table name ≡ label_address (numbered_lines origin (source_lines source)) name
+HoldsLabels table origin source =
+    (name : List ℕ)
+    → labels_in table name ≡ label_address (numbered_lines origin (source_lines source)) name

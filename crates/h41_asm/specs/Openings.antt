@@ -1,5 +1,8 @@
--- The code's table of first words, and what the words behind one of these say. It only connects the code with `reading`.
-use Rattle.std.specs.Prelude.{◌≡◌, ℕ, ◌<◌, if◌then◌else◌, false, bytes_eq, codes, length, map, slice_index, slice_index_or, All, List, [], ◌∷◌, Option, Some, None, Result, Ok, Err}
+-- The code's table of first words, and what the words behind one of these say. It only connects the
+-- code with `reading`.
+use Rattle.std.specs.Prelude.{◌≡◌, ℕ, ◌<◌, if◌then◌else◌, false, bytes_eq, codes, length, map}
+use Rattle.std.specs.Prelude.{slice_index, slice_index_or, All, List, [], ◌∷◌, Option, Some, None}
+use Rattle.std.specs.Prelude.{Result, Ok, Err}
 use Rattle.std.specs.Borrow.{Bor}
 use Rattle.h41_fields.specs.declared.field.Pointer.TheVariants.{P, Q}
 use Rattle.h41_lines.specs.Hashes.{word_hash}
@@ -16,7 +19,8 @@ use Rattle.h41_asm.specs.declared.statement.Statement as code
 use Rattle.h41_asm.specs.declared.words.LineWords as rests
 use Rattle.h41_asm.specs.CodeStatements.{read_in_code, takes_in_code, takes_numbered}
 use Rattle.h41_asm.specs.SourceLines.{words_of}
-use Rattle.h41_asm.specs.Statements.{Statement, Words, Taking, is_whole, reading, taken, takes_address}
+use Rattle.h41_asm.specs.Statements.{Statement, Words, Taking, is_whole, reading, taken}
+use Rattle.h41_asm.specs.Statements.{takes_address}
 
 -- the words behind an instruction that takes none, by its word
 abbrev pub alone : ℕ → List (List ℕ) → Result Statement SourceFault
@@ -25,18 +29,23 @@ alone number (word ∷ others) = Err BadOperand
 
 -- behind READ and WRIT: DATA, or an operand
 abbrev pub data_or : ℕ → Taking → List (List ℕ) → Result Statement SourceFault
-data_or number takes words = if is_whole words (codes "DATA") then Ok (Words (number ∷ [])) else taken takes words
+data_or number takes words =
+    if is_whole words (codes "DATA") then Ok (Words (number ∷ [])) else taken takes words
 
 -- behind a word and its second one
-abbrev pub by_second : (List ℕ → List (List ℕ) → Result Statement SourceFault) → List (List ℕ) → Result Statement SourceFault
+abbrev pub by_second : (List ℕ → List (List ℕ) → Result Statement SourceFault) → List (List ℕ)
+    → Result Statement SourceFault
 by_second says [] = Err BadLine
 by_second says (second ∷ others) = says second others
 
--- what the code read of the words behind an opening, by a rule for them, or by one for the second word and those behind it
-abbrev pub Reads : (List (List ℕ) → Result Statement SourceFault) → rests.LineWords → Result code.Statement SourceFault → Type 0
+-- what the code read of the words behind an opening, by a rule for them, or by one for the second
+-- word and those behind it
+abbrev pub Reads : (List (List ℕ) → Result Statement SourceFault) → rests.LineWords
+    → Result code.Statement SourceFault → Type 0
 Reads says others read = read_in_code read ≡ says (words_of others.rest.now)
 
-abbrev pub ReadsSecond : (List ℕ → List (List ℕ) → Result Statement SourceFault) → rests.LineWords → Result code.Statement SourceFault → Type 0
+abbrev pub ReadsSecond : (List ℕ → List (List ℕ) → Result Statement SourceFault) → rests.LineWords
+    → Result code.Statement SourceFault → Type 0
 ReadsSecond says others read = Reads (by_second says) others read
 
 abbrev pub pair : List ℕ → ℕ → List ℕ → List (List ℕ) → Result Statement SourceFault
@@ -44,7 +53,8 @@ pair name number second others = if bytes_eq second name then alone number other
 
 -- the first of two that the second word is
 abbrev pub either : List ℕ → ℕ → List ℕ → ℕ → List ℕ → List (List ℕ) → Result Statement SourceFault
-either name number other_name other second others = if bytes_eq second name then alone number others else pair other_name other second others
+either name number other_name other second others =
+    if bytes_eq second name then alone number others else pair other_name other second others
 
 abbrev pub then_a : ℕ → List (List ℕ) → Result Statement SourceFault
 then_a number words = by_second (pair (codes "A") number) words
@@ -69,10 +79,17 @@ opened (openings.Data number numbered) others = data_or number (takes_numbered n
 opened openings.Push others = by_second (pair (codes "ADR") (number_of rows.PushAddress)) others
 opened openings.Pop others = by_second (pair (codes "ADR") (number_of rows.PopAddress)) others
 opened openings.Ram others = by_second (pair (codes "SLCT") (number_of rows.SelectRegister)) others
-opened openings.Peripheral others = by_second (pair (codes "SLCT") (number_of rows.SelectPeripheral)) others
+opened openings.Peripheral others =
+    by_second (pair (codes "SLCT") (number_of rows.SelectPeripheral)) others
 opened openings.Fetch others = by_second (pair (codes "S&X") (number_of rows.FetchWord)) others
-opened openings.Select others = by_second (either (codes "P") (number_of (rows.SelectPointer P)) (codes "Q") (number_of (rows.SelectPointer Q))) others
-opened openings.GoTo others = by_second (either (codes "ADR") (number_of rows.GoToAddress) (codes "KEY") (number_of rows.GoToKey)) others
+opened openings.Select others =
+    by_second (either (codes "P") (number_of (rows.SelectPointer P))
+    (codes "Q") (number_of (rows.SelectPointer Q)))
+    others
+opened openings.GoTo others =
+    by_second
+    (either (codes "ADR") (number_of rows.GoToAddress) (codes "KEY") (number_of rows.GoToKey))
+    others
 opened openings.Logic others = by_second logic others
 opened (openings.If condition) others = by_second (at_carry condition) others
 
@@ -110,4 +127,6 @@ pub record IsTable (entries : List Entry) (places : List ℕ) : Type 0 where
   pub within : (k : ℕ) → k < length places → slice_index places k < length entries
   pub sound : All (λ entry. OpensAs entry.0 (Some entry.1)) entries
   pub words : All (λ entry. TellsWords entry.1) entries
-  pub complete : (word : List ℕ) (other : Entry) → bytes_eq word (slice_index_or entries (slice_index places (hash_of word)) other).0 ≡ false → OpensAs word None
+  pub complete : (word : List ℕ) (other : Entry)
+      → bytes_eq word (slice_index_or entries (slice_index places (hash_of word)) other).0 ≡ false
+      → OpensAs word None

@@ -1,6 +1,8 @@
--- The operands of a source: which words are one, and what it is. Hexadecimal digits may be of either case, decimal numbers
--- have no leading zeros. The language is this project's own.
-use Rattle.std.specs.Prelude.{ℕ, ◌-◌, ℤ, pos, negsuc, Bool, ◌&&◌, List, [], ◌∷◌, length, take, drop, nat_lt, nat_le, ◌==◌, not, if◌then◌else◌, Option, Some, None, bytes_eq, slice_index}
+-- The operands of a source: which words are one, and what it is. Hexadecimal digits may be of
+-- either case, decimal numbers have no leading zeros. The language is this project's own.
+use Rattle.std.specs.Prelude.{ℕ, ◌-◌, ℤ, pos, negsuc, Bool, ◌&&◌, List, [], ◌∷◌, length, take, drop}
+use Rattle.std.specs.Prelude.{nat_lt, nat_le, ◌==◌, not, if◌then◌else◌, Option, Some, None}
+use Rattle.std.specs.Prelude.{bytes_eq, slice_index}
 use Rattle.std.specs.Fmt.{decimal}
 use Rattle.std.specs.List.{find, list_all, range_with_len}
 use Rattle.h41_fields.specs.declared.field.Field.{Field}
@@ -37,11 +39,13 @@ backward (Some size) = if size == 0 then None else Some (negsuc (size - 1))
 abbrev pub displacement_in : List ℕ → Option ℤ
 displacement_in [] = None
 displacement_in (sign ∷ digits) =
-    if sign == 43 then forward (hexadecimal_in 2 digits) else (if sign == 45 then backward (hexadecimal_in 2 digits) else None)
+    if sign == 43 then forward (hexadecimal_in 2 digits)
+    else (if sign == 45 then backward (hexadecimal_in 2 digits) else None)
 
 -- a decimal number: one of so many from the least on
 abbrev pub number_in : ℕ → ℕ → List ℕ → Option ℕ
-number_in least count word = find (λ number. bytes_eq word (decimal number)) (range_with_len least count)
+number_in least count word =
+    find (λ number. bytes_eq word (decimal number)) (range_with_len least count)
 
 -- a field, by its name
 abbrev pub field_in : List ℕ → Option Field
@@ -59,4 +63,6 @@ is_text text = nat_lt 0 (length text) && (nat_le (length text) 11 && list_all is
 abbrev pub text_in : List ℕ → Option (List ℕ)
 text_in word =
     let text = take (length word - 2) (drop 1 word) in
-    if slice_index word 0 == 34 && slice_index word (length word - 1) == 34 && is_text text then Some text else None
+    if slice_index word 0 == 34 && slice_index word (length word - 1) == 34 && is_text text
+    then Some text
+    else None

@@ -1,5 +1,8 @@
--- The lines of a source, the words of a line, and the label that a line can begin with. The language is this project's own.
-use Rattle.std.specs.Prelude.{ℕ, suc, ◌-◌, Bool, false, not, ◌&&◌, ◌||◌, List, [], ◌∷◌, length, take, filter, map, filter_map, nat_lt, nat_le, ◌==◌, if◌then◌else◌, Option, Some, None, slice_index}
+-- The lines of a source, the words of a line, and the label that a line can begin with. The
+-- language is this project's own.
+use Rattle.std.specs.Prelude.{ℕ, suc, ◌-◌, Bool, false, not, ◌&&◌, ◌||◌, List, [], ◌∷◌, length}
+use Rattle.std.specs.Prelude.{take, filter, map, filter_map, nat_lt, nat_le, ◌==◌, if◌then◌else◌}
+use Rattle.std.specs.Prelude.{Option, Some, None, slice_index}
 use Rattle.std.specs.List.{list_all, onto_first}
 pub use Rattle.h41_lines.specs.Lines.{lines}
 pub use Rattle.h41_lines.specs.Words.{is_blank}
@@ -8,8 +11,8 @@ pub use Rattle.h41_lines.specs.Words.{is_blank}
 abbrev pub quoted_after : Bool → ℕ → Bool
 quoted_after quoted byte = if byte == 34 then not quoted else quoted
 
--- the parts of a line whose first byte stands in quotes or not: outside quotes a blank parts them, and a ';' begins a
--- comment, which ends the last
+-- the parts of a line whose first byte stands in quotes or not: outside quotes a blank parts them,
+-- and a ';' begins a comment, which ends the last
 abbrev pub parts_from : Bool → List ℕ → List (List ℕ)
 parts_from quoted [] = [] ∷ []
 parts_from quoted (byte ∷ rest) =
@@ -22,7 +25,8 @@ parts_from quoted (byte ∷ rest) =
 abbrev pub part_length : Bool → List ℕ → ℕ
 part_length quoted [] = 0
 part_length quoted (byte ∷ rest) =
-    if not quoted && (is_blank byte || byte == 59) then 0 else suc (part_length (quoted_after quoted byte) rest)
+    if not quoted && (is_blank byte || byte == 59) then 0
+    else suc (part_length (quoted_after quoted byte) rest)
 
 -- the words of a line: the parts that are not empty
 abbrev pub words_of : List ℕ → List (List ℕ)
@@ -38,7 +42,8 @@ is_name_byte byte = is_letter byte || (nat_le 48 byte && nat_le byte 57) || byte
 -- a name: a letter, and up to eleven letters, digits or '_'
 abbrev pub is_name : List ℕ → Bool
 is_name [] = false
-is_name (first ∷ others) = is_letter first && (list_all is_name_byte others && nat_le (length others) 11)
+is_name (first ∷ others) =
+    is_letter first && (list_all is_name_byte others && nat_le (length others) 11)
 
 -- the name that a word labels its line with: 'name:'
 abbrev pub label_in : List ℕ → Option (List ℕ)

@@ -1,7 +1,10 @@
--- What a line of a source says behind its label: the words of an instruction or of a directive, some by an address that a
--- label stands for; or that it cannot be read. Instructions are those of this project's table of mnemonics; the directives CON,
--- NAME, ENTRY and FOCAL, and which faults there are, are its own too.
-use Rattle.std.specs.Prelude.{ℕ, ◌+◌, ◌/◌, ◌%◌, ℤ, Bool, ◌&&◌, List, [], ◌∷◌, ◌++◌, length, drop, map, filter, find, reverse, ◌==◌, is_none, if◌then◌else◌, Option, Some, None, option_map, Result, Ok, Err, bytes_eq, codes}
+-- What a line of a source says behind its label: the words of an instruction or of a directive,
+-- some by an address that a label stands for; or that it cannot be read. Instructions are those of
+-- this project's table of mnemonics; the directives CON, NAME, ENTRY and FOCAL, and which faults
+-- there are, are its own too.
+use Rattle.std.specs.Prelude.{ℕ, ◌+◌, ◌/◌, ◌%◌, ℤ, Bool, ◌&&◌, List, [], ◌∷◌, ◌++◌, length, drop}
+use Rattle.std.specs.Prelude.{map, filter, find, reverse, ◌==◌, is_none, if◌then◌else◌, Option}
+use Rattle.std.specs.Prelude.{Some, None, option_map, Result, Ok, Err, bytes_eq, codes}
 use Rattle.std.specs.Prelude.{int_le}
 use Rattle.std.specs.List.{list_any, starts_with}
 use Rattle.std.specs.Option.{ok_or}
@@ -9,17 +12,23 @@ use Rattle.h41_words.specs.declared.operation.Operation.{Operation}
 use Rattle.h41_words.specs.declared.rows.Condition.{Condition}
 use Rattle.h41_words.specs.declared.rows.Condition.TheVariants.{NoCarry, Carry}
 use Rattle.h41_words.specs.declared.rows.Row.{Row}
-use Rattle.h41_words.specs.declared.rows.Row.TheVariants.{Arithmetic, LongJump, ShortJump, ClearStatus, SetStatus, TestStatus, TestPointer, SetPointer, RotateRight, LoadDigit, Write, Read, LoadImmediate}
+use Rattle.h41_words.specs.declared.rows.Row.TheVariants.{Arithmetic, LongJump, ShortJump}
+use Rattle.h41_words.specs.declared.rows.Row.TheVariants.{ClearStatus, SetStatus, TestStatus}
+use Rattle.h41_words.specs.declared.rows.Row.TheVariants.{TestPointer, SetPointer, RotateRight}
+use Rattle.h41_words.specs.declared.rows.Row.TheVariants.{LoadDigit, Write, Read, LoadImmediate}
 use Rattle.h41_words.specs.declared.second_word.LongJumpKind.{LongJumpKind}
 use Rattle.h41_words.specs.declared.second_word.LongJumpKind.TheVariants.{Execute, Go}
-use Rattle.h41_words.specs.Counts.{status_bit_count, place_count, digit_count, block_register_count, least_displacement, greatest_displacement}
-use Rattle.h41_words.specs.Mnemonics.{mnemonic, operand, operation_text, long_jump_text, short_jump_text}
+use Rattle.h41_words.specs.Counts.{status_bit_count, place_count, digit_count, block_register_count}
+use Rattle.h41_words.specs.Counts.{least_displacement, greatest_displacement}
+use Rattle.h41_words.specs.Mnemonics.{mnemonic, operand, operation_text, long_jump_text}
+use Rattle.h41_words.specs.Mnemonics.{short_jump_text}
 use Rattle.h41_words.specs.SecondWord.{second_number_of}
 use Rattle.h41_words.specs.Listing.{operations, single_rows}
 use Rattle.h41_words.specs.WordTable.{number_of}
 use Rattle.h41_asm.specs.declared.fault.SourceFault.{SourceFault}
 use Rattle.h41_asm.specs.declared.fault.SourceFault.TheVariants.{BadLine, BadOperand}
-use Rattle.h41_asm.specs.Operands.{address_in, displacement_in, field_in, number_in, text_in, word_in}
+use Rattle.h41_asm.specs.Operands.{address_in, displacement_in, field_in, number_in, text_in}
+use Rattle.h41_asm.specs.Operands.{word_in}
 use Rattle.h41_asm.specs.SourceLines.{reference_in, words_of}
 
 -- what a line says
@@ -50,17 +59,20 @@ one_word row = Words (number_of row ∷ [])
 abbrev pub long_jump_words : Condition → LongJumpKind → ℕ → List ℕ
 long_jump_words condition kind address =
     number_of (LongJump (address % 256))
-    ∷ second_number_of (record { condition = condition; kind = kind; high_byte = address / 256 }) ∷ []
+    ∷ second_number_of (record { condition = condition; kind = kind; high_byte = address / 256 })
+    ∷ []
 
 -- whether a short jump has this displacement
 abbrev pub is_in_reach : ℤ → Bool
-is_in_reach displacement = int_le least_displacement displacement && int_le displacement greatest_displacement
+is_in_reach displacement =
+    int_le least_displacement displacement && int_le displacement greatest_displacement
 
 abbrev pub short_jump_by : Condition → ℤ → Statement
 short_jump_by condition displacement =
     if is_in_reach displacement then one_word (ShortJump condition displacement) else OutOfReach
 
--- the words of a name: a word for each character, the last first and with bit 7 set; a character is its code modulo 64
+-- the words of a name: a word for each character, the last first and with bit 7 set; a character is
+-- its code modulo 64
 abbrev pub with_mark : List ℕ → List ℕ
 with_mark [] = []
 with_mark (last ∷ others) = (last + 0x80) ∷ others
@@ -68,7 +80,8 @@ with_mark (last ∷ others) = (last + 0x80) ∷ others
 abbrev pub name_words : List ℕ → List ℕ
 name_words text = with_mark (reverse (map (λ byte. byte % 64) text))
 
--- what a mnemonic or a directive takes as its one operand: what the operand's word says with it, where it is one
+-- what a mnemonic or a directive takes as its one operand: what the operand's word says with it,
+-- where it is one
 abbrev pub Taking : Type 0
 Taking = List ℕ → Option Statement
 
@@ -86,7 +99,8 @@ abbrev pub takes_field : Operation → Taking
 takes_field operation word = said (λ field. one_word (Arithmetic operation field)) (field_in word)
 
 abbrev pub takes_number : ℕ → ℕ → (ℕ → Row) → Taking
-takes_number least count row word = said (λ number. one_word (row number)) (number_in least count word)
+takes_number least count row word =
+    said (λ number. one_word (row number)) (number_in least count word)
 
 abbrev pub takes_address : Condition → LongJumpKind → Taking
 takes_address condition kind word =
@@ -95,7 +109,8 @@ takes_address condition kind word =
 
 abbrev pub takes_displacement : Condition → Taking
 takes_displacement condition word =
-    or_else (said (short_jump_by condition) (displacement_in word)) (said (λ name. ShortJumpTo condition name) (reference_in word))
+    or_else (said (short_jump_by condition) (displacement_in word))
+    (said (λ name. ShortJumpTo condition name) (reference_in word))
 
 abbrev pub takes_immediate : Taking
 takes_immediate word = said (λ number. Words (number_of LoadImmediate ∷ number ∷ [])) (word_in word)
@@ -158,22 +173,27 @@ taken takes (word ∷ other ∷ others) = Err BadOperand
 
 -- the row of the first single mnemonic that words are
 abbrev pub single_among : List (List ℕ × Row) → List (List ℕ) → Option Row
-single_among some words = option_map (λ single. single.1) (find (λ single. is_whole words single.0) some)
+single_among some words =
+    option_map (λ single. single.1) (find (λ single. is_whole words single.0) some)
 
 -- whether words begin with one
 abbrev pub is_begun : List (List ℕ × Row) → List (List ℕ) → Bool
 is_begun some words = list_any (λ single. begins words single.0) some
 
 -- what the words behind the first mnemonic that they begin with say as its operand
-abbrev pub taken_among : List (List ℕ × Taking) → List (List ℕ) → Option (Result Statement SourceFault)
+abbrev pub taken_among : List (List ℕ × Taking) → List (List ℕ)
+    → Option (Result Statement SourceFault)
 taken_among some words =
-    option_map (λ taker. taken taker.1 (behind taker.0 words)) (find (λ taker. begins words taker.0) some)
+    option_map (λ taker. taken taker.1 (behind taker.0 words))
+    (find (λ taker. begins words taker.0) some)
 
--- the fault of words that begin with none of these: a single mnemonic with something behind it, or nothing that is known
+-- the fault of words that begin with none of these: a single mnemonic with something behind it, or
+-- nothing that is known
 abbrev pub unread_fault : List (List ℕ) → SourceFault
 unread_fault words = if is_begun singles words then BadOperand else BadLine
 
-abbrev pub taken_or_unread : Option (Result Statement SourceFault) → List (List ℕ) → Result Statement SourceFault
+abbrev pub taken_or_unread : Option (Result Statement SourceFault) → List (List ℕ)
+    → Result Statement SourceFault
 taken_or_unread (Some read) words = read
 taken_or_unread None words = Err (unread_fault words)
 
@@ -185,8 +205,9 @@ abbrev pub single_or_not : Option Row → List (List ℕ) → Result Statement S
 single_or_not (Some row) words = Ok (one_word row)
 single_or_not None words = not_single words
 
--- What the words behind a label say: nothing, a single mnemonic, or one that takes an operand. BadOperand is a known mnemonic
--- or directive with an operand that is missing, too many, or not one that it takes; BadLine is everything else.
+-- What the words behind a label say: nothing, a single mnemonic, or one that takes an operand.
+-- BadOperand is a known mnemonic or directive with an operand that is missing, too many, or not one
+-- that it takes; BadLine is everything else.
 abbrev pub reading : List (List ℕ) → Result Statement SourceFault
 reading [] = Ok (Words [])
 reading (first ∷ others) = single_or_not (single_among singles (first ∷ others)) (first ∷ others)

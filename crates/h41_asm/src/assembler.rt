@@ -1,12 +1,15 @@
 //! From lines to words, in two passes: first the addresses of the labels, then the words.
 
-ghost use Rattle.std.specs.Prelude.{◌≡◌, ◌-ℤ◌, pos, ◌<◌, ◌≤◌, ◌++◌, [], ◌∷◌, None, IfOk, IfErr, OnOk};
+ghost use Rattle.std.specs.Prelude.{◌≡◌, ◌-ℤ◌, pos, ◌<◌, ◌≤◌, ◌++◌, [], ◌∷◌, None, IfOk, IfErr};
+ghost use Rattle.std.specs.Prelude.{OnOk};
 ghost use Rattle.std.specs.Option.{ok_or};
 ghost use Rattle.h41_asm.specs.Assembly.{Assembles, address_count};
 ghost use Rattle.h41_asm.specs.CodeStatements.{in_label};
 ghost use Rattle.h41_asm.specs.Faults.{assembly_fault, is_past};
 ghost use Rattle.h41_asm.specs.KeptLines.{KeepsLines, Says};
-ghost use Rattle.h41_asm.specs.LabelTable.{AddsLabel, AddsName, AddsOwn, HoldsLabels, IsReadyBy, SpellsBy, fault_by, first_fault_by, first_own_fault, is_held_in, jump_word, labels_in, line_fault_in};
+ghost use Rattle.h41_asm.specs.LabelTable.{AddsLabel, AddsName, AddsOwn, HoldsLabels, IsReadyBy};
+ghost use Rattle.h41_asm.specs.LabelTable.{SpellsBy, fault_by, first_fault_by, first_own_fault};
+ghost use Rattle.h41_asm.specs.LabelTable.{is_held_in, jump_word, labels_in, line_fault_in};
 ghost use Rattle.h41_asm.specs.Refusals.{IsFault, IsRefusal};
 
 use crate::emit::{entry_words, push_name};

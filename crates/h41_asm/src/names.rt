@@ -3,7 +3,8 @@
 ghost use Rattle.std.specs.Prelude.{◌≡◌};
 ghost use Rattle.std.specs.List.{list_all};
 ghost use Rattle.std.specs.Option.{option_map};
-ghost use Rattle.h41_asm.specs.SourceLines.{is_letter, is_name, is_name_byte, label_in, reference_in};
+ghost use Rattle.h41_asm.specs.SourceLines.{is_letter, is_name, is_name_byte, label_in};
+ghost use Rattle.h41_asm.specs.SourceLines.{reference_in};
 
 /// The most bytes behind the first letter of a name.
 const MOST_BEHIND: usize = 11;

@@ -1,7 +1,8 @@
 //! What a line says behind its label.
 
 ghost use Rattle.std.specs.Prelude.{◌≡◌, ◌+◌, ◌≤◌, ◌==◌, [], ◌∷◌, codes, length};
-ghost use Rattle.h41_asm.specs.CodeStatements.{found_in_code, in_code, in_line, read_in_code, taken_operand, takes_in_code, takes_numbered};
+ghost use Rattle.h41_asm.specs.CodeStatements.{found_in_code, in_code, in_line, read_in_code};
+ghost use Rattle.h41_asm.specs.CodeStatements.{taken_operand, takes_in_code, takes_numbered};
 ghost use Rattle.h41_asm.specs.Openings as openings;
 ghost use Rattle.h41_asm.specs.Openings.{Reads, ReadsSecond};
 ghost use Rattle.h41_asm.specs.SourceLines.{words_of};

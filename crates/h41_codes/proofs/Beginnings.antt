@@ -1,5 +1,7 @@
 -- Bytes begin with one line at most, and how a line at the front is shown.
-use Rattle.std.proofs.Common.{◌≡◌, ℕ, suc, zero, ◌+◌, ◌-◌, ◌*◌, ◌<◌, ◌≤◌, ◌↔◌, set, add-one, List, [], ◌∷◌, ◌++◌, map, length, take, drop, get_or, refl, sym, ◌∙◌, ap, subst, arith, Result, Ok, Err, IfOk, OnErr, IsErr, length-append, length-take-le, take-append-drop}
+use Rattle.std.proofs.Common.{◌≡◌, ℕ, suc, zero, ◌+◌, ◌-◌, ◌*◌, ◌<◌, ◌≤◌, ◌↔◌, set, add-one, List, [], ◌∷◌, ◌++◌, map, length, take, drop}
+use Rattle.std.proofs.Common.{get_or, refl, sym, ◌∙◌, ap, subst, arith, Result, Ok, Err, IfOk, OnErr, IsErr, length-append, length-take-le}
+use Rattle.std.proofs.Common.{take-append-drop}
 use Rattle.std.proofs.lemmas.Bool.{false≢true}
 use Rattle.std.proofs.lemmas.List.{take_at}
 use Rattle.std.proofs.Math.Seq.{drop-append_seam, take-suc, take-suc-set}
@@ -25,7 +27,8 @@ pub length_of : (bytes : List ℕ) (line : Line) (count : ℕ) → Begins bytes 
 length_of bytes line count begins = ap length (sym begins.spells.same) ∙ length-take-le count bytes begins.inside
 
 -- there is just one
-pub one_line : (bytes : List ℕ) (line other : Line) (count size : ℕ) → Begins bytes line count → Begins bytes other size → (line ≡ other) × (count ≡ size)
+pub one_line : (bytes : List ℕ) (line other : Line) (count size : ℕ) → Begins bytes line count → Begins bytes other size
+    → (line ≡ other) × (count ≡ size)
 one_line bytes line other count size first second =
     let same : line ≡ other = sym (line_of bytes line count first) ∙ line_of bytes other size second in
     (same, sym (length_of bytes line count first) ∙ ap (λ l. length (spelling l)) same ∙ length_of bytes other size second)
@@ -54,7 +57,8 @@ begins_by bytes line count inside valid same whole =
     record { inside = inside; spells = record { valid = valid; same = sym same }; whole = whole }
 
 -- a line's bytes, whatever follows
-pub begins_spelled : (line : Line) (rest : List ℕ) → IsLine line → IsWhole line rest → Begins (spelling line ++ rest) line (length (spelling line))
+pub begins_spelled : (line : Line) (rest : List ℕ) → IsLine line → IsWhole line rest
+    → Begins (spelling line ++ rest) line (length (spelling line))
 begins_spelled line rest valid whole = record {
   inside = omega (arith, length-append (spelling line) rest);
   spells = record { valid = valid; same = take_at (spelling line) rest (length (spelling line)) refl };
@@ -92,10 +96,10 @@ answers_broken bytes (Ok found) begins broken = ((λ none. absurd (false≢true 
 answers_broken bytes (Err fault) begins broken = ((λ is. broken), (λ none. refl))
 
 -- a global label at the front
-pub begins_label : (bytes : List ℕ) (link size : ℕ) (name : List ℕ) → 0xC0 ≤ get_or bytes 0 0 → get_or bytes 0 0 < 0xCE → get_or bytes 1 0 < 256
-    → link ≡ (get_or bytes 0 0 - 0xC0) * 256 + get_or bytes 1 0 → 0xF0 ≤ get_or bytes 2 0 → get_or bytes 2 0 < 256 → get_or bytes 3 0 < 256
-    → size ≡ get_or bytes 2 0 - 0xF0 → 4 ≤ 3 + size → 3 + size ≤ length bytes → name ≡ take (3 + size - 4) (drop 4 bytes)
-    → IsBytes name → Begins bytes (GlobalLabel link (get_or bytes 3 0) name) (3 + size)
+pub begins_label : (bytes : List ℕ) (link size : ℕ) (name : List ℕ) → 0xC0 ≤ get_or bytes 0 0 → get_or bytes 0 0 < 0xCE
+    → get_or bytes 1 0 < 256 → link ≡ (get_or bytes 0 0 - 0xC0) * 256 + get_or bytes 1 0 → 0xF0 ≤ get_or bytes 2 0 → get_or bytes 2 0 < 256
+    → get_or bytes 3 0 < 256 → size ≡ get_or bytes 2 0 - 0xF0 → 4 ≤ 3 + size → 3 + size ≤ length bytes
+    → name ≡ take (3 + size - 4) (drop 4 bytes) → IsBytes name → Begins bytes (GlobalLabel link (get_or bytes 3 0) name) (3 + size)
 begins_label bytes link size name from below second linked label third key sized some inside named characters =
     let n = 3 + size - 4 in
     let count : length name ≡ n = ap length named ∙ length-take-le n (drop 4 bytes) (omega (arith, length-drop 4 bytes)) in
@@ -106,7 +110,8 @@ begins_label bytes link size name from below second linked label third key sized
     take_four_and bytes n (omega arith) in
     let all : 4 + n ≡ 3 + size = omega arith in
     let spelled : spelling (GlobalLabel link (get_or bytes 3 0) name) ≡ take (4 + n) bytes = cc in
-    begins_by bytes (GlobalLabel link (get_or bytes 3 0) name) (3 + size) inside (omega arith, key, record { fits = omega arith; bytes = characters })
+    begins_by bytes (GlobalLabel link (get_or bytes 3 0) name) (3 + size) inside
+    (omega arith, key, record { fits = omega arith; bytes = characters })
     (spelled ∙ ap (λ k. take k bytes) all) tt
 
 -- a number at the front
@@ -117,11 +122,12 @@ goes_on (code ∷ bytes) zero on = (omega arith, (on.0, omega (arith, on.1)))
 goes_on (code ∷ bytes) (suc n) on = let more = goes_on bytes n on in (omega (arith, more.0), more.1)
 
 pub begins_number : (bytes : List ℕ) (characters cells : List Character) (count : ℕ) → 0 < length bytes → IsIn 0x10 0x1D (get_or bytes 0 0)
-    → count ≤ 16 → count ≤ length bytes → (count < length bytes → IsIn 0x10 0x1D (get_or bytes count 0) → count ≡ 16)
-    → length cells ≡ 16 → map character_code (take count cells) ≡ take count bytes → characters ≡ take count cells → Begins bytes (Number characters) count
+    → count ≤ 16 → count ≤ length bytes → (count < length bytes → IsIn 0x10 0x1D (get_or bytes count 0) → count ≡ 16) → length cells ≡ 16
+    → map character_code (take count cells) ≡ take count bytes → characters ≡ take count cells → Begins bytes (Number characters) count
 begins_number bytes characters cells count some first most inside whole size same taken =
     let long : length characters ≡ count = ap length taken ∙ length-take-le count cells (omega arith) in
-    let none : count ≡ 0 → ⊥ = λ e. let full = whole (omega arith) (subst (λ (n : ℕ). IsIn 0x10 0x1D (get_or bytes n 0)) (sym e) first) in omega arith in
+    let none : count ≡ 0 → ⊥ =
+    λ e. let full = whole (omega arith) (subst (λ (n : ℕ). IsIn 0x10 0x1D (get_or bytes n 0)) (sym e) first) in omega arith in
     begins_by bytes (Number characters) count inside (omega (arith, none), omega arith) (ap (map character_code) taken ∙ same)
     (λ on. let next = goes_on bytes count on in long ∙ whole next.0 next.1)
 

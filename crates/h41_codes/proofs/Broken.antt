@@ -1,10 +1,12 @@
 -- What bytes must have for a line of the kind of their first byte to stand in front.
-use Rattle.std.proofs.Common.{◌≡◌, ℕ, ◌+◌, ◌/◌, ◌<◌, ◌≤◌, true, List, [], ◌∷◌, ◌++◌, length, drop, get_or, ◌⊎◌, inl, inr, refl, sym, ap, subst, arith, length-append}
+use Rattle.std.proofs.Common.{◌≡◌, ℕ, ◌+◌, ◌/◌, ◌<◌, ◌≤◌, true, List, [], ◌∷◌, ◌++◌, length, drop, get_or, ◌⊎◌, inl, inr, refl, sym, ap}
+use Rattle.std.proofs.Common.{subst, arith, length-append}
 use Rattle.std.proofs.lemmas.Bool.Decides.{leb_tells}
 use Rattle.h41_codes.specs.declared.functions.ParameterFunction.{ParameterFunction}
 use Rattle.h41_codes.specs.declared.functions.ParameterFunction.TheVariants.{Recall}
 use Rattle.h41_codes.specs.declared.line.Line.{Line}
-use Rattle.h41_codes.specs.declared.line.Line.TheVariants.{Null, LocalLabel, Number, Named, Register, Plain, WithOperand, Module, BranchIndirect, ShortGoTo, GlobalLabel, End, FinalEnd, BranchTo, Text}
+use Rattle.h41_codes.specs.declared.line.Line.TheVariants.{Null, LocalLabel, Number, Named, Register, Plain, WithOperand, Module}
+use Rattle.h41_codes.specs.declared.line.Line.TheVariants.{BranchIndirect, ShortGoTo, GlobalLabel, End, FinalEnd, BranchTo, Text}
 use Rattle.h41_codes.specs.Codes.{parameter_function_code}
 use Rattle.h41_codes.specs.Heads.{IsTwoBytes, LacksText}
 use Rattle.h41_codes.specs.ByteGrammar.{spelling, IsLine, BeginsNoLine}
@@ -55,7 +57,8 @@ unfolding kind
 operand_needs Recall bytes inside = inside
 operand_needs function bytes inside = inside
 
-number_needs : (characters : List _) (rest : List ℕ) → IsLine (Number characters) → Needs (kind (byte (spelling (Number characters) ++ rest) 0)) (spelling (Number characters) ++ rest)
+number_needs : (characters : List _) (rest : List ℕ) → IsLine (Number characters)
+    → Needs (kind (byte (spelling (Number characters) ++ rest) 0)) (spelling (Number characters) ++ rest)
 number_needs [] rest valid = absurd (omega (arith, valid.0))
 number_needs (character ∷ characters) rest valid =
     let range = character_range character in
@@ -96,7 +99,8 @@ needs_of (BranchTo branch distance backwards label) rest valid =
     let range = branch_range branch (distance / 256) (omega (arith, valid.0)) in
     by_kind 14 0xD0 0xF0 (spelling (BranchTo branch distance backwards label) ++ rest) refl range.0 range.1 (omega arith)
 needs_of (Text characters) rest valid =
-    by_kind 15 0xF0 0x100 (spelling (Text characters) ++ rest) refl (omega arith) (omega (arith, valid.fits)) (omega (arith, length-append characters rest))
+    by_kind 15 0xF0 0x100 (spelling (Text characters) ++ rest) refl (omega arith)
+    (omega (arith, valid.fits)) (omega (arith, length-append characters rest))
 
 -- bytes that have not what their first byte needs begin with no line
 pub broken_at : (k low high : ℕ) (bytes : List ℕ) → is_interval edges k low high ≡ true → low ≤ byte bytes 0 → byte bytes 0 < high
@@ -127,7 +131,11 @@ text_broken bytes some from lacks fits =
 pub named_broken : (bytes : List ℕ) → LacksText (drop 1 bytes) → NamedFits bytes → ⊥
 named_broken [] lacks fits = omega (arith, fits.0)
 named_broken (first ∷ bytes) lacks fits =
-    elim lacks [ inl none ↦ omega (arith, fits.0, ap length none) | inr (inl low) ↦ omega (arith, fits.1, low) | inr (inr cut) ↦ omega (arith, fits.2, cut) ]
+    elim lacks [
+      | inl none ↦ omega (arith, fits.0, ap length none)
+      | inr (inl low) ↦ omega (arith, fits.1, low)
+      | inr (inr cut) ↦ omega (arith, fits.2, cut)
+    ]
 
 -- which of two numbers is the lower
 order : (a b : ℕ) → (a < b) ⊎ (b ≤ a)

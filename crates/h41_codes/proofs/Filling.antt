@@ -1,5 +1,6 @@
 -- Cells that are filled one after another.
-use Rattle.std.proofs.Common.{◌≡◌, ℕ, suc, ◌+◌, ◌-◌, ◌<◌, ◌≤◌, List, [], ◌∷◌, ◌++◌, take, length, get_or, set, replicate, sym, ◌∙◌, ap, append_assoc, add-one, length-take-le, arith}
+use Rattle.std.proofs.Common.{◌≡◌, ℕ, suc, ◌+◌, ◌-◌, ◌<◌, ◌≤◌, List, [], ◌∷◌, ◌++◌, take, length, get_or, set, replicate, sym, ◌∙◌, ap}
+use Rattle.std.proofs.Common.{append_assoc, add-one, length-take-le, arith}
 use Rattle.std.proofs.Math.Seq.{take-suc, set-append_seam}
 use Rattle.std.proofs.lemmas.List.{take_at, take_all, length-append, length-replicate}
 use Rattle.h41_codes.specs.Cells.{IsFilled}

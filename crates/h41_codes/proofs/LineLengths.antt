@@ -3,7 +3,8 @@ use Rattle.std.proofs.Common.{◌≤◌, length, arith}
 use Rattle.h41_codes.specs.Codes.{character_code}
 use Rattle.h41_codes.specs.ByteGrammar.{spelling, IsLine}
 use Rattle.h41_codes.specs.declared.line.Line.{Line}
-use Rattle.h41_codes.specs.declared.line.Line.TheVariants.{Null, LocalLabel, Number, Named, Register, Plain, WithOperand, Module, BranchIndirect, ShortGoTo, GlobalLabel, End, FinalEnd, BranchTo, Text}
+use Rattle.h41_codes.specs.declared.line.Line.TheVariants.{Null, LocalLabel, Number, Named, Register, Plain, WithOperand, Module}
+use Rattle.h41_codes.specs.declared.line.Line.TheVariants.{BranchIndirect, ShortGoTo, GlobalLabel, End, FinalEnd, BranchTo, Text}
 use Rattle.std.proofs.lemmas.List.{length-map}
 
 pub spelling_least : (line : Line) → IsLine line → 1 ≤ length (spelling line)

@@ -34,7 +34,8 @@ no_prefix line other rest valid other_valid no_number same =
     (one, append_cancel_left (spelling line) rest [] (sym same ∙ ap spelling one ∙ sym (append-nil (spelling line))))
 
 -- the canonical line is a line
-function_is_line : (function : ParameterFunction) (operand : Operand) → IsLine (WithOperand function operand) → IsLine (shortest_function function operand)
+function_is_line : (function : ParameterFunction) (operand : Operand) → IsLine (WithOperand function operand)
+    → IsLine (shortest_function function operand)
 function_is_line Recall (Direct register) valid =
     cond_both (nat_lt register 16) _ _ IsLine (λ short. ltb-true register 16 short) (λ long. valid)
 function_is_line Store (Direct register) valid =
@@ -80,10 +81,12 @@ canonical_is_no_longer Null = omega arith
 canonical_is_no_longer line = omega arith
 
 pub canonical_is_shortest : CanonicalIsShortest
-canonical_is_shortest line other same = subst (λ shortest. length (spelling shortest) ≤ length (spelling other)) same (canonical_is_no_longer other)
+canonical_is_shortest line other same =
+    subst (λ shortest. length (spelling shortest) ≤ length (spelling other)) same (canonical_is_no_longer other)
 
 -- and its own
-function_once : (function : ParameterFunction) (operand : Operand) → canonical (shortest_function function operand) ≡ shortest_function function operand
+function_once : (function : ParameterFunction) (operand : Operand)
+    → canonical (shortest_function function operand) ≡ shortest_function function operand
 function_once Recall (Direct register) =
     cond_both (nat_lt register 16) _ _ (λ line. canonical line ≡ line) (λ short. refl) (λ long. cond-false (nat_lt register 16) _ _ long)
 function_once Store (Direct register) =

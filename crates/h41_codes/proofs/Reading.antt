@@ -1,5 +1,6 @@
 -- Bytes that spell a line say which: reading them by their first byte gives the line again, whatever follows.
-use Rattle.std.proofs.Common.{◌≡◌, ℕ, zero, suc, ◌+◌, ◌-◌, ◌*◌, ◌/◌, ◌%◌, ◌<◌, ◌≤◌, Bool, true, false, ◌&&◌, ◌==◌, List, [], ◌∷◌, ◌++◌, map, length, take, drop, get_or, leb, if◌then◌else◌, refl, ◌∙◌, ap, arith, inl, inr}
+use Rattle.std.proofs.Common.{◌≡◌, ℕ, zero, suc, ◌+◌, ◌-◌, ◌*◌, ◌/◌, ◌%◌, ◌<◌, ◌≤◌, Bool, true, false, ◌&&◌, ◌==◌, List, [], ◌∷◌, ◌++◌, map}
+use Rattle.std.proofs.Common.{length, take, drop, get_or, leb, if◌then◌else◌, refl, ◌∙◌, ap, arith, inl, inr}
 use Rattle.std.proofs.lemmas.Bool.{le-leb, lt-leb, cond-true, cond-false, eq-eqb, ne_eqb}
 use Rattle.std.proofs.lemmas.Bool.Decides.{leb_tells}
 use Rattle.std.proofs.lemmas.List.{take_at}
@@ -16,11 +17,13 @@ use Rattle.h41_codes.specs.declared.functions.RegisterFunction.TheVariants.{Reca
 use Rattle.h41_codes.specs.declared.line.Operand.{Operand}
 use Rattle.h41_codes.specs.declared.line.Operand.TheVariants.{Direct, Indirect}
 use Rattle.h41_codes.specs.declared.line.Line.{Line}
-use Rattle.h41_codes.specs.declared.line.Line.TheVariants.{Null, LocalLabel, Number, Named, Register, Plain, WithOperand, Module, BranchIndirect, ShortGoTo, GlobalLabel, End, FinalEnd, BranchTo, Text}
+use Rattle.h41_codes.specs.declared.line.Line.TheVariants.{Null, LocalLabel, Number, Named, Register, Plain, WithOperand, Module}
+use Rattle.h41_codes.specs.declared.line.Line.TheVariants.{BranchIndirect, ShortGoTo, GlobalLabel, End, FinalEnd, BranchTo, Text}
 use Rattle.h41_codes.specs.Codes.{parameter_function_code, register_function_code, name_function_code, character_code, branch_code}
 use Rattle.h41_codes.specs.ByteGrammar.{spelling, operand_byte, indirect_byte, mark_bits, label_byte, IsLine, IsOperand, IsWhole, GoesOn}
 use Rattle.h41_codes.proofs.Intervals.{edges, kind, is_interval, kind_at}
-use Rattle.h41_codes.proofs.Tables.{function_at, function_again, function_range, parameter_function_at, parameter_function_again, character_at, character_again, character_range}
+use Rattle.h41_codes.proofs.Tables.{function_at, function_again, function_range, parameter_function_at, parameter_function_again}
+use Rattle.h41_codes.proofs.Tables.{character_at, character_again, character_range}
 
 -- the byte at a place
 abbrev pub byte : List ℕ → ℕ → ℕ
@@ -62,7 +65,8 @@ link_of bytes = (byte bytes 0 - 0xC0) * 256 + byte bytes 1
 
 abbrev pub linked_line : List ℕ → Line
 linked_line bytes =
-    if leb 0xF0 (byte bytes 2) then GlobalLabel (link_of bytes) (byte bytes 3) (take (byte bytes 2 - 0xF1) (drop 4 bytes)) else end_line (link_of bytes) (byte bytes 2)
+    if leb 0xF0 (byte bytes 2) then GlobalLabel (link_of bytes) (byte bytes 3) (take (byte bytes 2 - 0xF1) (drop 4 bytes))
+    else end_line (link_of bytes) (byte bytes 2)
 
 abbrev pub branch_at : ℕ → Branch
 branch_at code = if leb 0xE0 code then Execute else GoTo
@@ -122,19 +126,22 @@ operand_again (Direct parameter) inside = cond-false (leb 0x80 parameter) _ _ (l
 operand_again (Indirect parameter) inside =
     cond-true (leb 0x80 (0x80 + parameter)) _ _ (le-leb 0x80 (0x80 + parameter) (omega arith)) ∙ ap Indirect (omega arith)
 
-indirect_again : (branch : Branch) (register : ℕ) → register < 0x80 → indirect_line (indirect_byte branch register) ≡ BranchIndirect branch register
+indirect_again : (branch : Branch) (register : ℕ) → register < 0x80
+    → indirect_line (indirect_byte branch register) ≡ BranchIndirect branch register
 indirect_again GoTo register inside = cond-false (leb 0x80 register) _ _ (lt-leb 0x80 register (omega arith))
 indirect_again Execute register inside =
     cond-true (leb 0x80 (0x80 + register)) _ _ (le-leb 0x80 (0x80 + register) (omega arith)) ∙ ap (BranchIndirect Execute) (omega arith)
 
-register_again : (function : RegisterFunction) (register : ℕ) → register < 16 → register_line (register_function_code function + register) ≡ Register function register
+register_again : (function : RegisterFunction) (register : ℕ) → register < 16
+    → register_line (register_function_code function + register) ≡ Register function register
 register_again RecallRegister register inside =
     cond-false (leb 0x30 (0x20 + register)) _ _ (lt-leb 0x30 (0x20 + register) (omega arith)) ∙ ap (Register RecallRegister) (omega arith)
 register_again StoreRegister register inside =
     cond-true (leb 0x30 (0x30 + register)) _ _ (le-leb 0x30 (0x30 + register) (omega arith)) ∙ ap (Register StoreRegister) (omega arith)
 
 -- the functions with an operand have three kinds
-operand_kinds : (function : ParameterFunction) (bytes : List ℕ) → line_of_kind (kind (parameter_function_code function)) bytes ≡ operand_line bytes
+operand_kinds : (function : ParameterFunction) (bytes : List ℕ)
+    → line_of_kind (kind (parameter_function_code function)) bytes ≡ operand_line bytes
 unfolding kind
 operand_kinds Recall bytes = refl
 operand_kinds function bytes = refl
@@ -161,14 +168,16 @@ leading_again (suc n) [] (code ∷ rest) room whole =
 leading_again (suc n) (character ∷ characters) rest room whole =
     cond-true (is_number (character_code character)) _ _ (number_code character)
     ∙ ap (λ c. c ∷ leading n (map character_code characters ++ rest)) (character_again character)
-    ∙ ap (λ cs. character ∷ cs) (leading_again n characters rest (omega arith) (λ on. let all : suc (length characters) ≡ suc n = whole on in omega arith))
+    ∙ ap (λ cs. character ∷ cs)
+    (leading_again n characters rest (omega arith) (λ on. let all : suc (length characters) ≡ suc n = whole on in omega arith))
 
 number_again : (characters : List Character) (rest : List ℕ) → IsLine (Number characters) → IsWhole (Number characters) rest
     → line_at (spelling (Number characters) ++ rest) ≡ Number characters
 number_again [] rest valid whole = absurd (omega (arith, valid.0))
 number_again (character ∷ characters) rest valid whole =
     let range = character_range character in
-    by_kind 2 0x10 0x1D (spelling (Number (character ∷ characters)) ++ rest) (Number (character ∷ characters)) refl range.0 (omega (arith, range.1))
+    by_kind 2 0x10 0x1D (spelling (Number (character ∷ characters)) ++ rest)
+    (Number (character ∷ characters)) refl range.0 (omega (arith, range.1))
     (ap Number (leading_again 16 (character ∷ characters) rest valid.1 whole))
 
 -- an END's marks again
@@ -180,15 +189,18 @@ final_again : (link marks : ℕ) → marks < 112 → end_line link (0x20 + mark_
 final_again link marks inside =
     cond-false ((0x20 + mark_bits marks) / 32 % 2 == 0) _ _ (ne_eqb _ 0 (λ e. omega (arith, e))) ∙ ap (FinalEnd link) (omega arith)
 
-linked_end : (bytes : List ℕ) (line : Line) → byte bytes 2 < 0xF0 → end_line (link_of bytes) (byte bytes 2) ≡ line → linked_line bytes ≡ line
+linked_end : (bytes : List ℕ) (line : Line) → byte bytes 2 < 0xF0 → end_line (link_of bytes) (byte bytes 2) ≡ line
+    → linked_line bytes ≡ line
 linked_end bytes line below same = cond-false (leb 0xF0 (byte bytes 2)) _ _ (lt-leb 0xF0 (byte bytes 2) below) ∙ same
 
 -- a branch's parts again
-backwards_again : (backwards : Bool) (label : ℕ) → label < 0x80 → (backwards_at (label_byte backwards label) ≡ backwards) × (label_byte backwards label % 0x80 ≡ label)
+backwards_again : (backwards : Bool) (label : ℕ) → label < 0x80
+    → (backwards_at (label_byte backwards label) ≡ backwards) × (label_byte backwards label % 0x80 ≡ label)
 backwards_again false label inside = (lt-leb 0x80 label (omega arith), omega arith)
 backwards_again true label inside = (le-leb 0x80 (0x80 + label) (omega arith), omega arith)
 
-branch_again : (branch : Branch) (high : ℕ) → high < 16 → (branch_at (branch_code branch + high) ≡ branch) × ((branch_code branch + high) % 16 ≡ high)
+branch_again : (branch : Branch) (high : ℕ) → high < 16
+    → (branch_at (branch_code branch + high) ≡ branch) × ((branch_code branch + high) % 16 ≡ high)
 branch_again GoTo high inside = (cond-false (leb 0xE0 (0xD0 + high)) _ _ (lt-leb 0xE0 (0xD0 + high) (omega arith)), omega arith)
 branch_again Execute high inside = (cond-true (leb 0xE0 (0xE0 + high)) _ _ (le-leb 0xE0 (0xE0 + high) (omega arith)), omega arith)
 
@@ -196,7 +208,8 @@ pub branch_range : (branch : Branch) (high : ℕ) → high < 16 → (0xD0 ≤ br
 branch_range GoTo high inside = (omega arith, omega arith)
 branch_range Execute high inside = (omega arith, omega arith)
 
-pub register_range : (function : RegisterFunction) (register : ℕ) → register < 16 → (0x20 ≤ register_function_code function + register) × (register_function_code function + register < 0x40)
+pub register_range : (function : RegisterFunction) (register : ℕ) → register < 16
+    → (0x20 ≤ register_function_code function + register) × (register_function_code function + register < 0x40)
 register_range RecallRegister register inside = (omega arith, omega arith)
 register_range StoreRegister register inside = (omega arith, omega arith)
 
@@ -214,7 +227,8 @@ line_again (Named function name) rest valid whole =
     ∙ ap (Named function) (take_at name rest (0xF0 + length name - 0xF0) (omega arith)))
 line_again (Register function register) rest valid whole =
     let range = register_range function register valid in
-    by_kind 4 0x20 0x40 (spelling (Register function register) ++ rest) (Register function register) refl range.0 range.1 (register_again function register valid)
+    by_kind 4 0x20 0x40 (spelling (Register function register) ++ rest)
+    (Register function register) refl range.0 range.1 (register_again function register valid)
 line_again (Plain function) rest valid whole =
     let range = function_range function in
     by_kind 5 0x40 0x90 (spelling (Plain function) ++ rest) (Plain function) refl range.0 range.1 (ap Plain (function_again function))
@@ -228,14 +242,17 @@ line_again (Module number entry) rest valid whole =
     by_kind 7 0xA0 0xA8 (spelling (Module number entry) ++ rest) (Module number entry) refl (omega arith) (omega (arith, valid.0))
     (ap (λ n. Module n ((number % 4 * 64 + entry) % 64)) first ∙ ap (Module number) second)
 line_again (BranchIndirect branch register) rest valid whole =
-    by_kind 9 0xAE 0xAF (spelling (BranchIndirect branch register) ++ rest) (BranchIndirect branch register) refl (omega arith) (omega arith)
+    by_kind 9 0xAE 0xAF (spelling (BranchIndirect branch register) ++ rest)
+    (BranchIndirect branch register) refl (omega arith) (omega arith)
     (indirect_again branch register valid)
 line_again (ShortGoTo label distance) rest valid whole =
-    by_kind 11 0xB1 0xC0 (spelling (ShortGoTo label distance) ++ rest) (ShortGoTo label distance) refl (omega arith) (omega (arith, valid.0))
+    by_kind 11 0xB1 0xC0 (spelling (ShortGoTo label distance) ++ rest)
+    (ShortGoTo label distance) refl (omega arith) (omega (arith, valid.0))
     (ap (λ n. ShortGoTo n distance) (omega arith))
 line_again (GlobalLabel link key name) rest valid whole =
     let link_same : (0xC0 + link / 256 - 0xC0) * 256 + link % 256 ≡ link = omega arith in
-    by_kind 12 0xC0 0xCE (spelling (GlobalLabel link key name) ++ rest) (GlobalLabel link key name) refl (omega arith) (omega (arith, valid.0))
+    by_kind 12 0xC0 0xCE (spelling (GlobalLabel link key name) ++ rest)
+    (GlobalLabel link key name) refl (omega arith) (omega (arith, valid.0))
     (cond-true (leb 0xF0 (0xF1 + length name)) _ _ (le-leb 0xF0 (0xF1 + length name) (omega arith))
     ∙ ap (λ n. GlobalLabel n key (take (0xF1 + length name - 0xF1) (name ++ rest))) link_same
     ∙ ap (GlobalLabel link key) (take_at name rest (0xF1 + length name - 0xF1) (omega arith)))
@@ -257,7 +274,8 @@ line_again (BranchTo branch distance backwards label) rest valid whole =
     let first = branch_code branch + distance / 256 in
     let last = label_byte backwards label in
     let distance_same : first % 16 * 256 + distance % 256 ≡ distance = omega (arith, parts.1) in
-    by_kind 14 0xD0 0xF0 (spelling (BranchTo branch distance backwards label) ++ rest) (BranchTo branch distance backwards label) refl range.0 range.1
+    by_kind 14 0xD0 0xF0 (spelling (BranchTo branch distance backwards label) ++ rest)
+    (BranchTo branch distance backwards label) refl range.0 range.1
     (ap (λ b. BranchTo b (first % 16 * 256 + distance % 256) (backwards_at last) (last % 0x80)) parts.0
     ∙ ap (λ n. BranchTo branch n (backwards_at last) (last % 0x80)) distance_same
     ∙ ap (λ b. BranchTo branch distance b (last % 0x80)) ends.0

@@ -1,13 +1,22 @@
 -- The byte grammar: which bytes spell which line, family after family of HP's byte table.
-use Rattle.std.specs.Prelude.{◌≡◌, ℕ, ◌+◌, ◌*◌, ◌/◌, ◌%◌, ◌<◌, ◌≤◌, Bool, List, [], ◌∷◌, map, length, take, drop, if◌then◌else◌, ◌++◌, ◌↔◌, EachIndex, slice_index, Result, Ok}
+use Rattle.std.specs.Prelude.{◌≡◌, ℕ, ◌+◌, ◌*◌, ◌/◌, ◌%◌, ◌<◌, ◌≤◌, Bool, List, [], ◌∷◌, map}
+use Rattle.std.specs.Prelude.{length, take, drop, if◌then◌else◌, ◌++◌, ◌↔◌, EachIndex, slice_index}
+use Rattle.std.specs.Prelude.{Result, Ok}
 use Rattle.h41_codes.specs.declared.functions.Branch.{Branch}
 use Rattle.h41_codes.specs.declared.functions.Branch.TheVariants.{GoTo, Execute}
 use Rattle.h41_codes.specs.declared.line.Operand.{Operand}
 use Rattle.h41_codes.specs.declared.line.Operand.TheVariants.{Direct, Indirect}
 use Rattle.h41_codes.specs.declared.line.Line.{Line}
-use Rattle.h41_codes.specs.declared.line.Line.TheVariants.{Null, LocalLabel, Number, Named, Register, Plain, WithOperand, Module, BranchIndirect, ShortGoTo, GlobalLabel, End, FinalEnd, BranchTo, Text}
-use Rattle.h41_codes.specs.Codes.{function_code, parameter_function_code, register_function_code, name_function_code, character_code, branch_code}
-use Rattle.h41_codes.specs.Counts.{parameter_count, short_label_count, short_register_count, module_count, entry_count, distance_count, link_count, end_mark_count, final_mark_count, text_most, name_most, number_most}
+use Rattle.h41_codes.specs.declared.line.Line.TheVariants.{Null, LocalLabel, Number, Named}
+use Rattle.h41_codes.specs.declared.line.Line.TheVariants.{Register, Plain, WithOperand, Module}
+use Rattle.h41_codes.specs.declared.line.Line.TheVariants.{BranchIndirect, ShortGoTo, GlobalLabel}
+use Rattle.h41_codes.specs.declared.line.Line.TheVariants.{End, FinalEnd, BranchTo, Text}
+use Rattle.h41_codes.specs.Codes.{function_code, parameter_function_code, register_function_code}
+use Rattle.h41_codes.specs.Codes.{name_function_code, character_code, branch_code}
+use Rattle.h41_codes.specs.Counts.{parameter_count, short_label_count, short_register_count}
+use Rattle.h41_codes.specs.Counts.{module_count, entry_count, distance_count, link_count}
+use Rattle.h41_codes.specs.Counts.{end_mark_count, final_mark_count, text_most, name_most}
+use Rattle.h41_codes.specs.Counts.{number_most}
 
 -- a text: F0 to FF, whose low four bits count its characters, and these
 abbrev pub text_bytes : List ℕ → List ℕ
@@ -53,20 +62,24 @@ spelling (Register function register) = (register_function_code function + regis
 -- 40 to 8F: functions of one byte
 spelling (Plain function) = function_code function ∷ []
 -- 90 to 9F, A8 to AD, CE and CF, and an operand: functions with a parameter
-spelling (WithOperand function operand) = parameter_function_code function ∷ operand_byte operand ∷ []
+spelling (WithOperand function operand) =
+    parameter_function_code function ∷ operand_byte operand ∷ []
 -- A0 to A7 and a byte: XROM, five bits for the module and six for its function
 spelling (Module number entry) = (0xA0 + number / 4) ∷ (number % 4 * 64 + entry) ∷ []
 -- AE and a register: GTO IND, or XEQ IND where bit 7 is set
 spelling (BranchIndirect branch register) = 0xAE ∷ indirect_byte branch register ∷ []
 -- B1 to BF and a byte for the distance: GTO 00 to GTO 14
 spelling (ShortGoTo label distance) = (0xB1 + label) ∷ distance ∷ []
--- C0 to CD, the link, and F1 to FF: LBL of a name. F0 plus one more than the name has characters, the key, the name
-spelling (GlobalLabel link key name) = link_high link ∷ link_low link ∷ (0xF1 + length name) ∷ key ∷ name
+-- C0 to CD, the link, and F1 to FF: LBL of a name. F0 plus one more than the name has characters,
+-- the key, the name
+spelling (GlobalLabel link key name) =
+    link_high link ∷ link_low link ∷ (0xF1 + length name) ∷ key ∷ name
 -- C0 to CD, the link, and a byte below F0: END, or .END. where bit 5 is set
 spelling (End link marks) = link_high link ∷ link_low link ∷ mark_bits marks ∷ []
 spelling (FinalEnd link marks) = link_high link ∷ link_low link ∷ (0x20 + mark_bits marks) ∷ []
 -- any byte of row D or row E of the byte table, the distance, and the label: GTO and XEQ
-spelling (BranchTo branch distance backwards label) = (branch_code branch + distance / 256) ∷ (distance % 256) ∷ label_byte backwards label ∷ []
+spelling (BranchTo branch distance backwards label) =
+    (branch_code branch + distance / 256) ∷ (distance % 256) ∷ label_byte backwards label ∷ []
 -- F0 to FF and the characters: a text
 spelling (Text characters) = text_bytes characters
 
@@ -74,7 +87,8 @@ spelling (Text characters) = text_bytes characters
 abbrev pub IsBytes : List ℕ → Type 0
 IsBytes characters = EachIndex characters (λ index. slice_index characters index < 256)
 
--- what the parts of a line are: numbers in their ranges, bytes, and lists of bytes that are not too long
+-- what the parts of a line are: numbers in their ranges, bytes, and lists of bytes that are not too
+-- long
 pub record IsText (most : ℕ) (characters : List ℕ) : Type 0 where
   pub fits : length characters ≤ most
   pub bytes : IsBytes characters
@@ -97,7 +111,8 @@ IsLine (ShortGoTo label distance) = (label < short_label_count) × (distance < 2
 IsLine (GlobalLabel link key name) = (link < link_count) × (key < 256) × IsText name_most name
 IsLine (End link marks) = (link < link_count) × (marks < end_mark_count)
 IsLine (FinalEnd link marks) = (link < link_count) × (marks < final_mark_count)
-IsLine (BranchTo branch distance backwards label) = (distance < distance_count) × (label < parameter_count)
+IsLine (BranchTo branch distance backwards label) =
+    (distance < distance_count) × (label < parameter_count)
 IsLine (Text characters) = IsText text_most characters
 
 -- bytes spell a line
@@ -127,7 +142,8 @@ BeginsNoLine bytes = (line : Line) (count : ℕ) → Spells (take count bytes) l
 
 -- an answer is a line and a count just where the bytes begin with that line, of so many bytes
 abbrev pub AnswersLine : {E : Type 0} → Result (Line × ℕ) E → List ℕ → Type 0
-AnswersLine result bytes = (line : Line) (count : ℕ) → (result ≡ Ok (line, count)) ↔ Begins bytes line count
+AnswersLine result bytes =
+    (line : Line) (count : ℕ) → (result ≡ Ok (line, count)) ↔ Begins bytes line count
 
 -- bytes over whose front a line's are written
 abbrev pub written_over : Line → List ℕ → List ℕ

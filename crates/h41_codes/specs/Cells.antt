@@ -17,15 +17,20 @@ IsNumberOf characters = (1 ≤ length characters) × (length characters ≤ numb
 
 -- a list in so many cells: it is not longer, and the rest is blank
 abbrev pub Keeps : {A : Type 0} → A → ℕ → ℕ → List A → Type 0
-Keeps blank most count cells = (count ≤ most) × (length cells ≡ most) × IsFilled blank most count cells
+Keeps blank most count cells =
+    (count ≤ most) × (length cells ≡ most) × IsFilled blank most count cells
 
 -- there are as many first cells as are counted
-pub count_again : {A : Type 0} (most count : ℕ) (cells : List A) → count ≤ most → length cells ≡ most → length (take count cells) ≡ count
+pub count_again : {A : Type 0} (most count : ℕ) (cells : List A) → count ≤ most
+    → length cells ≡ most → length (take count cells) ≡ count
 count_again most count cells inside size =
     length-take-le count cells (subst (λ (n : ℕ). count ≤ n) (sym size) inside)
 
 -- cells whose first ones are a list are that list's cells
-pub filled_again : {A : Type 0} (blank : A) (most count : ℕ) (cells : List A) → count ≤ most → length cells ≡ most
-    → IsFilled blank most count cells → filled blank most (take count cells) ≡ cells
+pub filled_again : {A : Type 0} (blank : A) (most count : ℕ) (cells : List A) → count ≤ most
+    → length cells ≡ most → IsFilled blank most count cells
+    → filled blank most (take count cells) ≡ cells
 filled_again blank most count cells inside size rest =
-    ap (λ n. take count cells ++ replicate (most - n) blank) (count_again most count cells inside size) ∙ sym rest
+    ap (λ n. take count cells ++ replicate (most - n) blank)
+    (count_again most count cells inside size)
+    ∙ sym rest

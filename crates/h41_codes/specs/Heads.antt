@@ -1,5 +1,5 @@
--- What first bytes stand for, as the functions that read bytes promise it one another. Of public contracts only those of lines
--- of one byte or two need this file.
+-- What first bytes stand for, as the functions that read bytes promise it one another. Of public
+-- contracts only those of lines of one byte or two need this file.
 use Rattle.h41_codes.specs.ByteGrammar.{Spells}
 use Rattle.h41_codes.specs.declared.line.Line.{Line}
 use Rattle.std.specs.Prelude.{ℕ, ◌<◌, ◌≤◌, ◌⊎◌, ◌≡◌, ◌+◌, List, [], ◌∷◌, length, slice_index}
@@ -27,9 +27,13 @@ LacksText bytes =
 
 -- so many characters of a number are all: no further one follows, or there are 16
 abbrev pub IsWholeRun : List ℕ → ℕ → Type 0
-IsWholeRun bytes count = count < length bytes → IsIn 0x10 0x1D (slice_index bytes count) → count ≡ 16
+IsWholeRun bytes count =
+    count < length bytes → IsIn 0x10 0x1D (slice_index bytes count) → count ≡ 16
 
 -- a byte is the code of a function with a parameter
 abbrev pub IsParameterCode : ℕ → Type 0
 IsParameterCode code =
-    ((0x90 ≤ code) × (code ≤ 0x9F)) ⊎ ((0xA8 ≤ code) × (code ≤ 0xAD)) ⊎ (code ≡ 0xCE) ⊎ (code ≡ 0xCF)
+    ((0x90 ≤ code) × (code ≤ 0x9F))
+    ⊎ ((0xA8 ≤ code) × (code ≤ 0xAD))
+    ⊎ (code ≡ 0xCE)
+    ⊎ (code ≡ 0xCF)

@@ -27,7 +27,8 @@ impl<const MOST: usize> Model for Text<MOST> {
 
     ghost invariant = { λ text. Keeps 0 MOST text.count text.cells };
 
-    ghost inverse = { λ characters. record { cells = filled 0 MOST characters; count = length characters } };
+    ghost inverse = { λ characters.
+        record { cells = filled 0 MOST characters; count = length characters } };
 
     ghost inverse_ok = { λ text h i. record {
       cells = filled_again 0 MOST text.count text.cells h.0 h.1 h.2 i;
@@ -131,9 +132,11 @@ impl Model for Number {
 
     ghost view = { λ number. take number.count number.cells };
 
-    ghost invariant = { λ number. (1 ≤ number.count) × Keeps Zero number_most number.count number.cells };
+    ghost invariant = { λ number.
+        (1 ≤ number.count) × Keeps Zero number_most number.count number.cells };
 
-    ghost inverse = { λ characters. record { cells = filled Zero number_most characters; count = length characters } };
+    ghost inverse = { λ characters.
+        record { cells = filled Zero number_most characters; count = length characters } };
 
     ghost inverse_ok = { λ number h i. record {
       cells = filled_again Zero number_most number.count number.cells h.1.0 h.1.1 h.1.2 i;

@@ -1,9 +1,14 @@
 //! From bytes to the line that they begin with.
-ghost use Rattle.std.specs.Prelude.{◌≡◌, ℕ, ◌+◌, ◌*◌, ◌<◌, ◌≤◌, ◌↔◌, ◌⊎◌, [], ◌∷◌, map, length, take, drop, slice_index, IfOk, OnErr, IfSome, IfNone, IsErr, IsTrue, Ok};
-ghost use Rattle.h41_codes.specs.ByteGrammar.{spelling, text_bytes, IsBytes, IsLine, Spells, Begins, BeginsNoLine, operand_byte, AnswersLine, link_high, link_low};
+ghost use Rattle.std.specs.Prelude.{◌≡◌, ℕ, ◌+◌, ◌*◌, ◌<◌, ◌≤◌, ◌↔◌, ◌⊎◌, [], ◌∷◌, map, length};
+ghost use Rattle.std.specs.Prelude.{take, drop, slice_index, IfOk, OnErr, IfSome, IfNone, IsErr};
+ghost use Rattle.std.specs.Prelude.{IsTrue, Ok};
+ghost use Rattle.h41_codes.specs.ByteGrammar.{spelling, text_bytes, IsBytes, IsLine, Spells};
+ghost use Rattle.h41_codes.specs.ByteGrammar.{Begins, BeginsNoLine, operand_byte, AnswersLine};
+ghost use Rattle.h41_codes.specs.ByteGrammar.{link_high, link_low};
 ghost use Rattle.h41_codes.specs.ByteGrammar as grammar;
 ghost use Rattle.h41_codes.specs.Codes as code;
-ghost use Rattle.h41_codes.specs.Heads.{IsAlone, IsOneByte, IsTwoBytes, IsIn, LacksText, IsWholeRun};
+ghost use Rattle.h41_codes.specs.Heads.{IsAlone, IsOneByte, IsTwoBytes, IsIn, LacksText};
+ghost use Rattle.h41_codes.specs.Heads.{IsWholeRun};
 
 use crate::characters::{Character, Number, Text};
 use crate::faults::BrokenProgram;

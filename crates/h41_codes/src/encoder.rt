@@ -1,7 +1,9 @@
 //! From a line to its bytes.
-ghost use Rattle.std.specs.Prelude.{◌≡◌, ◌+◌, ◌*◌, ◌<◌, ◌≤◌, ◌↔◌, [], ◌∷◌, ◌++◌, map, length, drop, IfOk, OnOk, OnErr, IsErr};
+ghost use Rattle.std.specs.Prelude.{◌≡◌, ◌+◌, ◌*◌, ◌<◌, ◌≤◌, ◌↔◌, [], ◌∷◌, ◌++◌, map, length, drop};
+ghost use Rattle.std.specs.Prelude.{IfOk, OnOk, OnErr, IsErr};
 ghost use Rattle.arrayvec.specs.ArrayVec.{array_vec_len};
-ghost use Rattle.h41_codes.specs.ByteGrammar.{spelling, text_bytes, link_high, link_low, written_over};
+ghost use Rattle.h41_codes.specs.ByteGrammar.{spelling, text_bytes, link_high, link_low};
+ghost use Rattle.h41_codes.specs.ByteGrammar.{written_over};
 ghost use Rattle.h41_codes.specs.ByteGrammar as grammar;
 ghost use Rattle.h41_codes.specs.Codes as code;
 ghost use Rattle.h41_codes.specs.declared.line.Line.TheVariants as line;

@@ -1,6 +1,8 @@
 //! Laws of lines and their bytes: each is the contract of a function with nothing to do.
 
-ghost use Rattle.h41_codes.specs.ByteLaws.{ByteRoundTrip, LineOrNone, OneLine, NoPrefix, CanonicalIsLine, CanonicalIsShortest, CanonicalOnce, LineHasBytes, NumberBegins, NullBegins};
+ghost use Rattle.h41_codes.specs.ByteLaws.{ByteRoundTrip, LineOrNone, OneLine, NoPrefix};
+ghost use Rattle.h41_codes.specs.ByteLaws.{CanonicalIsLine, CanonicalIsShortest, CanonicalOnce};
+ghost use Rattle.h41_codes.specs.ByteLaws.{LineHasBytes, NumberBegins, NullBegins};
 
 /// The byte round trip: the bytes of a line begin with that line, whatever follows them, and with no other. A number of
 /// fewer than 16 characters is read again where no character of a number follows.

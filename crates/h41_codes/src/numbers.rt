@@ -1,6 +1,8 @@
 //! The numbers that lines hold, each with its range.
 ghost use Rattle.std.specs.Prelude.{◌≡◌, ℕ, ◌<◌};
-ghost use Rattle.h41_codes.specs.Counts.{parameter_count, short_label_count, short_register_count, module_count, entry_count, distance_count, link_count, end_mark_count, final_mark_count};
+ghost use Rattle.h41_codes.specs.Counts.{parameter_count, short_label_count, short_register_count};
+ghost use Rattle.h41_codes.specs.Counts.{module_count, entry_count, distance_count, link_count};
+ghost use Rattle.h41_codes.specs.Counts.{end_mark_count, final_mark_count};
 
 use std::marker::Model;
 

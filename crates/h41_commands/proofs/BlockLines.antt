@@ -1,5 +1,6 @@
 -- A block, line by line.
-use Rattle.std.proofs.Common.{◌≡◌, ℕ, suc, ◌+◌, Bool, true, false, cond, not, List, [], ◌∷◌, ◌++◌, length, Option, take, drop, refl, sym, ◌∙◌, ap, arith, append_assoc, append-nil, subst}
+use Rattle.std.proofs.Common.{◌≡◌, ℕ, suc, ◌+◌, Bool, true, false, cond, not, List, [], ◌∷◌, ◌++◌, length, Option, take, drop, refl, sym}
+use Rattle.std.proofs.Common.{◌∙◌, ap, arith, append_assoc, append-nil, subst}
 use Rattle.std.specs.List.{list_any, before_first, after_first, position_or_len}
 use Rattle.std.proofs.lemmas.Bool.{or_parts, or_left, or_right, or_from}
 use Rattle.std.proofs.lemmas.Grind.{common_steps}
@@ -16,7 +17,8 @@ pub record ReadsBlock (kind : Option BlockKind) (inside all rest : List (List �
   pub endless : list_any is_end inside ≡ false
   pub taken : IsTaken kind inside block
 
-end_after : (inside rest : List (List ℕ)) (line : List ℕ) → list_any is_end inside ≡ false → is_end line ≡ true → position_or_len is_end (inside ++ line ∷ rest) ≡ length inside
+end_after : (inside rest : List (List ℕ)) (line : List ℕ) → list_any is_end inside ≡ false → is_end line ≡ true
+    → position_or_len is_end (inside ++ line ∷ rest) ≡ length inside
 end_after [] rest line none e = ap (λ (b : Bool). cond (not b) (1 + position_or_len is_end rest) 0) e
 end_after (other ∷ inside) rest line none e =
     let parts = or_parts (is_end other) (list_any is_end inside) none in
@@ -49,7 +51,8 @@ pub ends_block : (kind : Option BlockKind) (line : List ℕ) (inside all rest : 
     → ReadsBlock kind inside all (line ∷ rest) block → is_end line ≡ true → EndsBlock kind all rest block
 ends_block kind line inside all rest block h e =
     let at : position_or_len is_end (inside ++ line ∷ rest) ≡ length inside = end_after inside rest line h.endless e in
-    let any : list_any is_end (inside ++ line ∷ rest) ≡ true = list_any-append is_end inside (line ∷ rest) ∙ or_right _ _ (or_left (is_end line) (list_any is_end rest) e) in
+    let any : list_any is_end (inside ++ line ∷ rest) ≡ true =
+    list_any-append is_end inside (line ∷ rest) ∙ or_right _ _ (or_left (is_end line) (list_any is_end rest) e) in
     let before : before_first is_end (inside ++ line ∷ rest) ≡ inside = front inside (line ∷ rest) _ at in
     let lines_are : before_first is_end all ≡ inside = ap (before_first is_end) h.parts ∙ before in
     record {

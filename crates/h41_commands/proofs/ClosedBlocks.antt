@@ -5,5 +5,6 @@ use Rattle.h41_commands.specs.Blocks.{HasTaken, TakenBlock, judgement}
 use Rattle.h41_commands.specs.Items.{is_open, with_values}
 use Rattle.h41_commands.specs.declared.commands.Command.{Command}
 
-pub never_open : (block : TakenBlock) (lines : List (List ℕ)) (command : Command) → HasTaken block lines → is_open (with_values (judgement block) command) ≡ false
+pub never_open : (block : TakenBlock) (lines : List (List ℕ)) (command : Command) → HasTaken block lines
+    → is_open (with_values (judgement block) command) ≡ false
 never_open block lines command taken = grind (arith, common_steps)

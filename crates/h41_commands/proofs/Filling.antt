@@ -11,14 +11,16 @@ use Rattle.h41_commands.specs.PageBlocks.{Fills, fitting, page_address}
 use Rattle.h41_commands.specs.declared.refusal.LineRefusal.TheVariants.{Source}
 
 -- words that it spells
-pub fills_words : {E : Type 0} (source text : List ℕ) (page origin : ℕ) (words : List ℕ) (ended : Result (Result (Vec ℕ Global) LineRefusal) E)
+pub fills_words : {E : Type 0} (source text : List ℕ) (page origin : ℕ)
+    (words : List ℕ) (ended : Result (Result (Vec ℕ Global) LineRefusal) E)
     → text ≡ source → origin ≡ page_address page → Assembles text origin words → IfOk ended (λ made. values_in made ≡ fitting words)
     → IfOk ended (λ made. Fills Asm page source (values_in made))
 fills_words source text page origin words (Ok made) same at spelled fits = (Ok words, rw (sym same, sym at) spelled, fits)
 fills_words source text page origin words (Err why) same at spelled fits = fits
 
 -- a source with a fault
-pub fills_fault : (source text : List ℕ) (page origin line : ℕ) (fault : SourceFault) (why : LineRefusal) → text ≡ source → origin ≡ page_address page
-    → assembly_fault text origin ≡ Some (fault, line) → why ≡ Source fault line → Fills Asm page source (Err why)
+pub fills_fault : (source text : List ℕ) (page origin line : ℕ) (fault : SourceFault) (why : LineRefusal) → text ≡ source
+    → origin ≡ page_address page → assembly_fault text origin ≡ Some (fault, line) → why ≡ Source fault line
+    → Fills Asm page source (Err why)
 fills_fault source text page origin line fault why same at found own =
     (Err why, rw (sym same, sym at) (rw (found, own) refl), refl)

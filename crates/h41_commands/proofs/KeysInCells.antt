@@ -1,5 +1,6 @@
 -- Cells with one more key.
-use Rattle.std.proofs.Common.{◌≡◌, ℕ, suc, ◌+◌, ◌-◌, ◌<◌, List, [], ◌∷◌, ◌++◌, take, length, set, replicate, sym, ◌∙◌, ap, append_assoc, arith}
+use Rattle.std.proofs.Common.{◌≡◌, ℕ, suc, ◌+◌, ◌-◌, ◌<◌, List, [], ◌∷◌, ◌++◌, take, length, set, replicate, sym, ◌∙◌, ap, append_assoc}
+use Rattle.std.proofs.Common.{arith}
 use Rattle.std.proofs.Math.Seq.{set-append_seam}
 use Rattle.std.proofs.lemmas.List.{take_at, length-append, length-replicate}
 use Rattle.h41_codes.specs.Cells.{Keeps, count_again}

@@ -1,5 +1,6 @@
 -- Programs' texts: their lines in turn, and the bytes of these.
-use Rattle.std.proofs.Common.{inl, inr, ◌≡◌, ℕ, ◌+◌, ◌≤◌, suc, Bool, false, ◌==◌, List, [], ◌∷◌, ◌++◌, length, take, drop, Some, None, Result, Ok, Err, refl, sym, ◌∙◌, ap, subst, append_assoc, append-nil, arith}
+use Rattle.std.proofs.Common.{inl, inr, ◌≡◌, ℕ, ◌+◌, ◌≤◌, suc, Bool, false, ◌==◌, List, [], ◌∷◌, ◌++◌, length, take, drop, Some, None}
+use Rattle.std.proofs.Common.{Result, Ok, Err, refl, sym, ◌∙◌, ap, subst, append_assoc, append-nil, arith}
 use Rattle.std.specs.List.{position, position_or_len, All}
 use Rattle.std.specs.Option.{option_map_or}
 use Rattle.std.proofs.lemmas.List.Splits.{slice_split_first, slice_split_none, length-slice_split}
@@ -17,7 +18,8 @@ use Rattle.h41_commands.specs.ProgramTexts.{IsPacked, parting}
 use Rattle.h41_lines.proofs.Positions.{position_none, position_some}
 
 -- the first text, and those behind it
-pub texts_at : (text : List ℕ) (n : ℕ) → Some n ≡ position (λ byte. byte == 10) text → texts_of text ≡ take n text ∷ texts_of (drop (n + 1) text)
+pub texts_at : (text : List ℕ) (n : ℕ) → Some n ≡ position (λ byte. byte == 10) text
+    → texts_of text ≡ take n text ∷ texts_of (drop (n + 1) text)
 texts_at text n e =
     let p : ℕ → Bool = λ byte. byte == 10 in
     let at = position_some p text n e in
@@ -40,7 +42,8 @@ last_line-more (one ∷ []) line = refl
 last_line-more (one ∷ next ∷ lines) line = last_line-more (next ∷ lines) line
 
 -- a line behind others, by its bytes
-packed-more : (lines : List Line) (line : Line) → packed (lines ++ line ∷ []) ≡ packed lines ++ parting (ends_with_number lines) (is_number line) ++ spelling line
+packed-more : (lines : List Line) (line : Line)
+    → packed (lines ++ line ∷ []) ≡ packed lines ++ parting (ends_with_number lines) (is_number line) ++ spelling line
 packed-more [] line = simp append-nil
 packed-more (one ∷ []) line = simp (append-nil, append_assoc)
 packed-more (one ∷ next ∷ lines) line =
@@ -48,8 +51,8 @@ packed-more (one ∷ next ∷ lines) line =
     ∙ simp append_assoc
 
 pub pushed : (lines : List Line) (line : Line) (old new : Packed) → IsPacked lines old
-    → new.bytes.items ≡ (old.bytes.items ++ parting old.ends_with_number (is_number line)) ++ spelling line → new.ends_with_number ≡ is_number line
-    → IsPacked (lines ++ line ∷ []) new
+    → new.bytes.items ≡ (old.bytes.items ++ parting old.ends_with_number (is_number line)) ++ spelling line
+    → new.ends_with_number ≡ is_number line → IsPacked (lines ++ line ∷ []) new
 pushed lines line old new packed_is bytes last = record {
   bytes =
       bytes ∙ ap (λ (front : List ℕ). (front ++ parting old.ends_with_number (is_number line)) ++ spelling line) packed_is.bytes
@@ -63,7 +66,8 @@ pub with_more-nil : (more : Result (List Line) LineRefusal) → with_more [] mor
 with_more-nil (Ok lines) = refl
 with_more-nil (Err why) = refl
 
-with_more-append : (front said : List Line) (more : Result (List Line) LineRefusal) → with_more (front ++ said) more ≡ with_more front (with_more said more)
+with_more-append : (front said : List Line) (more : Result (List Line) LineRefusal)
+    → with_more (front ++ said) more ≡ with_more front (with_more said more)
 with_more-append front said (Ok lines) = ap (λ (all : List Line). Ok all) (append_assoc front said lines)
 with_more-append front said (Err why) = refl
 
@@ -74,15 +78,15 @@ Tells all front number left = (more : Result (List Line) LineRefusal) → SayLin
 pub tells_none : (all : List (List ℕ)) → Tells all [] 1 all
 tells_none all more say = subst (SayLines 1 all) (sym (with_more-nil more)) say
 
-pub tells_more : (all left : List (List ℕ)) (front said : List Line) (number : ℕ) (text : List ℕ) → Tells all front number (text ∷ left) → SaysLine text said
-    → Tells all (front ++ said) (number + 1) left
+pub tells_more : (all left : List (List ℕ)) (front said : List Line) (number : ℕ) (text : List ℕ) → Tells all front number (text ∷ left)
+    → SaysLine text said → Tells all (front ++ said) (number + 1) left
 tells_more all left front said number text tells says more say =
     let next : number + 1 ≡ suc number = omega arith in
     subst (SayLines 1 all) (sym (with_more-append front said more))
     (tells (with_more said more) (inr (said, says, more, subst (λ n. SayLines n left more) next say, refl)))
 
-pub tells_bad : (all left : List (List ℕ)) (front : List Line) (number : ℕ) (text : List ℕ) → Tells all front number (text ∷ left) → IsBadText text
-    → SayLines 1 all (Err (BadText number))
+pub tells_bad : (all left : List (List ℕ)) (front : List Line) (number : ℕ) (text : List ℕ) → Tells all front number (text ∷ left)
+    → IsBadText text → SayLines 1 all (Err (BadText number))
 tells_bad all left front number text tells bad = tells (Err (BadText number)) (inl (bad, refl))
 
 pub tells_all : (all : List (List ℕ)) (front : List Line) (number : ℕ) → Tells all front number [] → SayLines 1 all (Ok front)

@@ -1,5 +1,7 @@
 -- What one more word, and one more line, make of a page.
-use Rattle.std.proofs.Common.{inl, inr, ◌≡◌, ℕ, ◌<◌, Bool, true, false, not, ◌&&◌, ◌||◌, cond, nat_lt, List, [], ◌∷◌, ◌++◌, map, length, filter, flat_map, Option, Some, None, Result, Ok, Err, refl, sym, ◌∙◌, ap, arith, if◌then◌else◌, append-nil, suc, length-append, ◌⊎◌, ◌≤◌, ◌-◌, take, replicate}
+use Rattle.std.proofs.Common.{inl, inr, ◌≡◌, ℕ, ◌<◌, Bool, true, false, not, ◌&&◌, ◌||◌, cond, nat_lt, List, [], ◌∷◌, ◌++◌, map, length}
+use Rattle.std.proofs.Common.{filter, flat_map, Option, Some, None, Result, Ok, Err, refl, sym, ◌∙◌, ap, arith, if◌then◌else◌, append-nil}
+use Rattle.std.proofs.Common.{suc, length-append, ◌⊎◌, ◌≤◌, ◌-◌, take, replicate}
 use Rattle.std.specs.List.{list_all, list_any}
 use Rattle.std.specs.Option.{option_or}
 use Rattle.std.specs.Str.Parse.{digits_value}
@@ -30,11 +32,17 @@ is_big word = nat_lt 1023 (value word)
 abbrev judged : Bool → Bool → List ℕ → Result (List ℕ) LineRefusal
 judged hex image values = if not hex then Err BadNumber else (if image then Err BadImage else Ok values)
 
-pushed : (words : List (List ℕ)) (word : List ℕ) → word_values (words ++ word ∷ []) ≡ judged (list_all is_hex words && (is_hex word && true)) (nat_lt 4096 (length (words ++ word ∷ [])) || (list_any is_big words || (is_big word || false))) (map value words ++ value word ∷ [])
-pushed words word = λ i. judged (list_all-append is_hex words (word ∷ []) i) (nat_lt 4096 (length (words ++ word ∷ [])) || list_any-append is_big words (word ∷ []) i) (map-append value words (word ∷ []) i)
+pushed : (words : List (List ℕ)) (word : List ℕ)
+    → word_values (words ++ word ∷ [])
+    ≡ judged (list_all is_hex words && (is_hex word && true))
+    (nat_lt 4096 (length (words ++ word ∷ [])) || (list_any is_big words || (is_big word || false))) (map value words ++ value word ∷ [])
+pushed words word =
+    λ i. judged (list_all-append is_hex words (word ∷ []) i)
+    (nat_lt 4096 (length (words ++ word ∷ [])) || list_any-append is_big words (word ∷ []) i) (map-append value words (word ∷ []) i)
 
 -- a fault stays
-stays : (hex image more : Bool) (values others : List ℕ) (fault : LineRefusal) → (image ≡ true → more ≡ true) → Err fault ≡ judged hex image values → Err fault ≡ judged (hex && true) more others
+stays : (hex image more : Bool) (values others : List ℕ) (fault : LineRefusal) → (image ≡ true → more ≡ true)
+    → Err fault ≡ judged hex image values → Err fault ≡ judged (hex && true) more others
 stays false image more values others fault keeps e = e
 stays true true more values others fault keeps e = rw (keeps refl) e
 stays true false more values others fault keeps e = cc
@@ -45,16 +53,20 @@ passed false image values taken e = cc
 passed true true values taken e = cc
 passed true false values taken e = (refl, refl, cc)
 
-grows : (words : List (List ℕ)) (word : List ℕ) → (nat_lt 4096 (length words) || list_any is_big words) ≡ true → (nat_lt 4096 (length (words ++ word ∷ [])) || (list_any is_big words || (is_big word || false))) ≡ true
+grows : (words : List (List ℕ)) (word : List ℕ) → (nat_lt 4096 (length words) || list_any is_big words) ≡ true
+    → (nat_lt 4096 (length (words ++ word ∷ [])) || (list_any is_big words || (is_big word || false))) ≡ true
 grows words word e =
     let more = length-append words (word ∷ []) in
     elim (or_cases (nat_lt 4096 (length words)) (list_any is_big words) e) [
-      | inl many ↦ let before : 4096 < length words = ltb-true _ _ many in or_left _ _ (lt-ltb 4096 (length (words ++ word ∷ [])) (omega arith))
+      | inl many ↦
+          let before : 4096 < length words = ltb-true _ _ many in or_left _ _ (lt-ltb 4096 (length (words ++ word ∷ [])) (omega arith))
       | inr big ↦ or_right _ _ (or_left _ _ big)
     ]
 
-fault_stays : (words : List (List ℕ)) (word : List ℕ) (fault : LineRefusal) → is_hex word ≡ true → Err fault ≡ word_values words → Err fault ≡ word_values (words ++ word ∷ [])
-fault_stays words word fault hex e = rw (pushed words word, hex) (stays (list_all is_hex words) _ _ (map value words) _ fault (grows words word) e)
+fault_stays : (words : List (List ℕ)) (word : List ℕ) (fault : LineRefusal) → is_hex word ≡ true → Err fault ≡ word_values words
+    → Err fault ≡ word_values (words ++ word ∷ [])
+fault_stays words word fault hex e =
+    rw (pushed words word, hex) (stays (list_all is_hex words) _ _ (map value words) _ fault (grows words word) e)
 
 never : (b : Bool) → (b && false) ≡ false
 never true = refl
@@ -68,14 +80,19 @@ length_values [] = refl
 length_values (word ∷ words) = ap (λ (n : ℕ). suc n) (length_values words)
 
 -- a word that is too great, or one too many
-pub word_values-image : (words : List (List ℕ)) (word : List ℕ) (fault : Option LineRefusal) (taken : List ℕ) → is_hex word ≡ true → (1023 < value word) ⊎ (length taken ≡ 4096) → unless_fault fault taken ≡ word_values words → unless_fault (option_or fault (Some BadImage)) taken ≡ word_values (words ++ word ∷ [])
+pub word_values-image : (words : List (List ℕ)) (word : List ℕ) (fault : Option LineRefusal) (taken : List ℕ) → is_hex word ≡ true
+    → (1023 < value word) ⊎ (length taken ≡ 4096) → unless_fault fault taken ≡ word_values words
+    → unless_fault (option_or fault (Some BadImage)) taken ≡ word_values (words ++ word ∷ [])
 word_values-image words word (Some fault) taken hex over e = fault_stays words word fault hex e
 word_values-image words word None taken hex over e =
     let good = passed (list_all is_hex words) _ (map value words) taken e in
     let more = length-append words (word ∷ []) in
     let fault : (nat_lt 4096 (length (words ++ word ∷ [])) || (list_any is_big words || (is_big word || false))) ≡ true = elim over [
       | inl great ↦ or_right _ _ (or_right _ _ (or_left _ _ (lt-ltb 1023 (value word) great)))
-      | inr full ↦ let same : length words ≡ 4096 = sym (length_values words) ∙ ap length (sym good.2) ∙ full in or_left _ _ (lt-ltb 4096 (length (words ++ word ∷ [])) (omega arith))
+      | inr full ↦
+          let same : length words ≡ 4096 =
+          sym (length_values words) ∙ ap length (sym good.2) ∙ full in
+          or_left _ _ (lt-ltb 4096 (length (words ++ word ∷ [])) (omega arith))
     ] in
     rw (pushed words word, good.0, hex, fault) refl
 
@@ -84,28 +101,36 @@ hex_of : (hex : Bool) (number n : ℕ) → Ok n ≡ (if hex then Ok number else 
 hex_of true number n e = (refl, cc)
 hex_of false number n e = cc
 
-pub hex-Ok : (word : List ℕ) (n : ℕ) → Ok n ≡ (if is_hex word then Ok (value word) else Err BadNumber) → (is_hex word ≡ true) × (n ≡ value word)
+pub hex-Ok : (word : List ℕ) (n : ℕ) → Ok n ≡ (if is_hex word then Ok (value word) else Err BadNumber)
+    → (is_hex word ≡ true) × (n ≡ value word)
 hex-Ok word n e = hex_of (is_hex word) (value word) n e
 
-no_hex_of : (hex : Bool) (number : ℕ) (fault : LineRefusal) → Err fault ≡ (if hex then Ok number else Err BadNumber) → (hex ≡ false) × (fault ≡ BadNumber)
+no_hex_of : (hex : Bool) (number : ℕ) (fault : LineRefusal) → Err fault ≡ (if hex then Ok number else Err BadNumber)
+    → (hex ≡ false) × (fault ≡ BadNumber)
 no_hex_of true number fault e = cc
 no_hex_of false number fault e = (refl, cc)
 
-pub hex-Err : (word : List ℕ) (fault : LineRefusal) → Err fault ≡ (if is_hex word then Ok (value word) else Err BadNumber) → (is_hex word ≡ false) × (fault ≡ BadNumber)
+pub hex-Err : (word : List ℕ) (fault : LineRefusal) → Err fault ≡ (if is_hex word then Ok (value word) else Err BadNumber)
+    → (is_hex word ≡ false) × (fault ≡ BadNumber)
 hex-Err word fault e = no_hex_of (is_hex word) (value word) fault e
 
 -- one more line
 abbrev says : List ℕ → Bool
 says line = not (is_skipped line)
 
-pub block_words-skipped : (inside : List (List ℕ)) (line : List ℕ) → is_skipped line ≡ true → block_words (inside ++ line ∷ []) ≡ block_words inside
+pub block_words-skipped : (inside : List (List ℕ)) (line : List ℕ) → is_skipped line ≡ true
+    → block_words (inside ++ line ∷ []) ≡ block_words inside
 block_words-skipped inside line skipped =
-    ap (flat_map words_of) (filter-append says inside (line ∷ []) ∙ ap (λ (b : Bool). filter says inside ++ cond (not b) (line ∷ []) []) skipped ∙ append-nil _)
+    ap (flat_map words_of)
+    (filter-append says inside (line ∷ []) ∙ ap (λ (b : Bool). filter says inside ++ cond (not b) (line ∷ []) []) skipped ∙ append-nil _)
 
-pub block_words-push : (inside : List (List ℕ)) (line : List ℕ) → is_skipped line ≡ false → block_words (inside ++ line ∷ []) ≡ block_words inside ++ words_of line
+pub block_words-push : (inside : List (List ℕ)) (line : List ℕ) → is_skipped line ≡ false
+    → block_words (inside ++ line ∷ []) ≡ block_words inside ++ words_of line
 block_words-push inside line other =
-    ap (flat_map words_of) (filter-append says inside (line ∷ []) ∙ ap (λ (b : Bool). filter says inside ++ cond (not b) (line ∷ []) []) other)
-    ∙ flat_map-append words_of (filter says inside) (line ∷ []) ∙ ap (λ (words : List (List ℕ)). block_words inside ++ words) (append-nil (words_of line))
+    ap (flat_map words_of)
+    (filter-append says inside (line ∷ []) ∙ ap (λ (b : Bool). filter says inside ++ cond (not b) (line ∷ []) []) other)
+    ∙ flat_map-append words_of (filter says inside) (line ∷ [])
+    ∙ ap (λ (words : List (List ℕ)). block_words inside ++ words) (append-nil (words_of line))
 
 -- what `resize` makes of a page's words
 pub resized : (values items : List ℕ) (count : ℕ) → count ≡ length values → count ≤ page_size

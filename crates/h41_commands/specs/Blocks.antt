@@ -1,5 +1,8 @@
--- What the lines of a block say, by the block's kind, or why they are refused. The language is this project's own.
-use Rattle.std.specs.Prelude.{◌≡◌, ℕ, ◌-◌, Bool, not, ◌||◌, List, [], ◌∷◌, ◌++◌, map, length, replicate, filter, flat_map, nat_lt, if◌then◌else◌, Option, Some, None, Result, Ok, Err, is_ok, codes}
+-- What the lines of a block say, by the block's kind, or why they are refused. The language is this
+-- project's own.
+use Rattle.std.specs.Prelude.{◌≡◌, ℕ, ◌-◌, Bool, not, ◌||◌, List, [], ◌∷◌, ◌++◌, map, length}
+use Rattle.std.specs.Prelude.{replicate, filter, flat_map, nat_lt, if◌then◌else◌, Option, Some}
+use Rattle.std.specs.Prelude.{None, Result, Ok, Err, is_ok, codes}
 use Rattle.std.specs.Result.{result_unwrap_or}
 use Rattle.std.specs.List.{list_any, list_all}
 use Rattle.std.specs.Str.Parse.{digits_value}
@@ -12,7 +15,8 @@ use Rattle.h41_commands.specs.declared.commands.BlockKind.TheVariants.{Page, Pro
 use Rattle.h41_commands.specs.declared.commands.PageKind.TheVariants.{Words, Image, Asm}
 use Rattle.h41_commands.specs.declared.commands.ProgramKind.TheVariants.{Bytes, Text}
 use Rattle.h41_commands.specs.declared.refusal.LineRefusal.{LineRefusal}
-use Rattle.h41_commands.specs.declared.refusal.LineRefusal.TheVariants.{BadImage, BadNumber, LineTooLong}
+use Rattle.h41_commands.specs.declared.refusal.LineRefusal.TheVariants.{BadImage, BadNumber}
+use Rattle.h41_commands.specs.declared.refusal.LineRefusal.TheVariants.{LineTooLong}
 use Rattle.h41_lines.specs.Words.{is_blank, words_of}
 use Rattle.h41_commands.specs.DeckLines.{is_long, is_skipped}
 use Rattle.h41_lines.specs.Numbers.{is_hexadecimal}
@@ -21,12 +25,14 @@ use Rattle.h41_lines.specs.Numbers.{is_hexadecimal}
 abbrev pub block_words : List (List ℕ) → List (List ℕ)
 block_words lines = flat_map words_of (filter (λ line. not (is_skipped line)) lines)
 
--- the values of a page's words: 51 where one isn't of 1 to 3 hexadecimal digits, and else 4 where there are more words than
--- a page has, or one is too great
+-- the values of a page's words: 51 where one isn't of 1 to 3 hexadecimal digits, and else 4 where
+-- there are more words than a page has, or one is too great
 abbrev pub word_values : List (List ℕ) → Result (List ℕ) LineRefusal
 word_values words =
     if not (list_all (is_hexadecimal 1 3) words) then Err BadNumber
-    else (if nat_lt page_size (length words) || list_any (λ word. nat_lt last_word (digits_value 16 word)) words then Err BadImage
+    else (if nat_lt page_size (length words)
+    || list_any (λ word. nat_lt last_word (digits_value 16 word)) words
+    then Err BadImage
     else Ok (map (digits_value 16) words))
 
 -- the bytes of a line: two hexadecimal digits each, of either case, with blanks and tabs anywhere
@@ -43,7 +49,8 @@ said_lines lines = filter (λ line. not (is_skipped line)) lines
 -- the bytes of a block's lines: 51 where one isn't a row of bytes
 abbrev pub bytes_values : List (List ℕ) → Result (List ℕ) LineRefusal
 bytes_values lines =
-    if list_all (λ line. is_ok (line_bytes line)) lines then Ok (flat_map (λ line. result_unwrap_or (line_bytes line) []) lines)
+    if list_all (λ line. is_ok (line_bytes line)) lines
+    then Ok (flat_map (λ line. result_unwrap_or (line_bytes line) []) lines)
     else Err BadNumber
 
 abbrev pub block_bytes : List (List ℕ) → Result (List ℕ) LineRefusal
@@ -54,15 +61,16 @@ abbrev pub image_content : Result (List ℕ) LineRefusal → Result (List ℕ) L
 image_content (Ok bytes) = if is_image_bytes bytes then Ok (words_in bytes) else Err BadImage
 image_content (Err refusal) = Err refusal
 
--- the source or the text that a block's lines are: each with its end, where those that say nothing are left empty
+-- the source or the text that a block's lines are: each with its end, where those that say nothing
+-- are left empty
 abbrev pub source_line : List ℕ → List ℕ
 source_line line = (if is_skipped line then [] else line) ++ codes "\n"
 
 abbrev pub block_source : List (List ℕ) → List ℕ
 block_source lines = flat_map source_line lines
 
--- what the lines of a block say, before it is judged: values of words, bytes, a source or a text; a command without a block
--- has none
+-- what the lines of a block say, before it is judged: values of words, bytes, a source or a text; a
+-- command without a block has none
 abbrev pub said_by : Option BlockKind → List (List ℕ) → Result (List ℕ) LineRefusal
 said_by None lines = Ok []
 said_by (Some (Page Words)) lines = word_values (block_words lines)

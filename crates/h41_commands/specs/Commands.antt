@@ -1,13 +1,16 @@
--- The commands that the words of a line spell: 50 BadCommand where they spell none, and else 51 BadNumber where a number is
--- wrong. The language is this project's own.
-use Rattle.std.specs.Prelude.{ℕ, Bool, true, false, List, [], ◌∷◌, if◌then◌else◌, Option, Some, None, is_some, Result, Ok, Err, codes, bytes_eq}
+-- The commands that the words of a line spell: 50 BadCommand where they spell none, and else 51
+-- BadNumber where a number is wrong. The language is this project's own.
+use Rattle.std.specs.Prelude.{ℕ, Bool, true, false, List, [], ◌∷◌, if◌then◌else◌, Option, Some}
+use Rattle.std.specs.Prelude.{None, is_some, Result, Ok, Err, codes, bytes_eq}
 use Rattle.std.specs.Option.{option_map_or}
 use Rattle.h41_keys.specs.declared.key.Key.{Key}
 use Rattle.h41_keys.specs.Keyboard.{key_named}
 use Rattle.h41_breakpoints.specs.declared.location.Location.{Location}
 use Rattle.h41_breakpoints.specs.declared.location.Location.TheVariants.{Line, Word}
 use Rattle.h41_commands.specs.declared.commands.Command.{Command}
-use Rattle.h41_commands.specs.declared.commands.Command.TheVariants.{Plug, Load, Unplug, Size, Reset, Call, Step, Run, Trace, Break, Unbreak, Show}
+use Rattle.h41_commands.specs.declared.commands.Command.TheVariants.{Plug, Load, Unplug, Size}
+use Rattle.h41_commands.specs.declared.commands.Command.TheVariants.{Reset, Call, Step, Run, Trace}
+use Rattle.h41_commands.specs.declared.commands.Command.TheVariants.{Break, Unbreak, Show}
 use Rattle.h41_commands.specs.declared.commands.Command.TheVariants as commands
 use Rattle.h41_commands.specs.declared.commands.BlockKind.{BlockKind}
 use Rattle.h41_commands.specs.declared.commands.BlockKind.TheVariants.{Page, Program}
@@ -18,14 +21,17 @@ use Rattle.h41_commands.specs.declared.commands.PlainKind.TheVariants as plain
 use Rattle.h41_commands.specs.declared.commands.ProgramKind.{ProgramKind}
 use Rattle.h41_commands.specs.declared.commands.ProgramKind.TheVariants.{Bytes, Text}
 use Rattle.h41_commands.specs.declared.commands.View.{View}
-use Rattle.h41_commands.specs.declared.commands.View.TheVariants.{Cpu, Register, Stack, Flags, Alpha, Display, Position, Lines, Functions}
+use Rattle.h41_commands.specs.declared.commands.View.TheVariants.{Cpu, Register, Stack, Flags}
+use Rattle.h41_commands.specs.declared.commands.View.TheVariants.{Alpha, Display, Position, Lines}
+use Rattle.h41_commands.specs.declared.commands.View.TheVariants.{Functions}
 use Rattle.h41_commands.specs.declared.commands.View.TheVariants as views
 use Rattle.h41_commands.specs.declared.refusal.LineRefusal.{LineRefusal}
 use Rattle.h41_commands.specs.declared.refusal.LineRefusal.TheVariants.{BadCommand}
 use Rattle.h41_commands.specs.Numbers.{count_up_to, hexadecimal, number_up_to}
 
 -- what goes on with a value, and keeps a refusal
-abbrev pub and_then : {A B : Type 0} → Result A LineRefusal → (A → Result B LineRefusal) → Result B LineRefusal
+abbrev pub and_then : {A B : Type 0} → Result A LineRefusal → (A → Result B LineRefusal)
+    → Result B LineRefusal
 and_then (Ok value) next = next value
 and_then (Err refusal) next = Err refusal
 
@@ -49,7 +55,8 @@ most_words = 4096
 abbrev pub plug_at : PageKind → List ℕ → Bool → Result Command LineRefusal
 plug_at kind page writable = and_then (hexadecimal 1 page) (λ page. Ok (Plug kind page writable))
 
--- words P [rw], image P [rw] and asm P [rw]: a block that fills a page, which microcode may write with rw
+-- words P [rw], image P [rw] and asm P [rw]: a block that fills a page, which microcode may write
+-- with rw
 abbrev pub plug_command : PageKind → List (List ℕ) → Result Command LineRefusal
 plug_command kind (page ∷ []) = plug_at kind page false
 plug_command kind (page ∷ option ∷ []) =
@@ -68,7 +75,8 @@ unplug_command operands = Err BadCommand
 
 -- size n
 abbrev pub size_command : List (List ℕ) → Result Command LineRefusal
-size_command (count ∷ []) = and_then (number_up_to most_registers 10 count) (λ count. Ok (Size count))
+size_command (count ∷ []) =
+    and_then (number_up_to most_registers 10 count) (λ count. Ok (Size count))
 size_command operands = Err BadCommand
 
 -- reset
@@ -89,14 +97,16 @@ step_command operands = Err BadCommand
 
 -- run n and trace n: so many steps at most
 abbrev pub counted_command : (ℕ → Command) → List (List ℕ) → Result Command LineRefusal
-counted_command command (count ∷ []) = and_then (number_up_to most_steps 10 count) (λ count. Ok (command count))
+counted_command command (count ∷ []) =
+    and_then (number_up_to most_steps 10 count) (λ count. Ok (command count))
 counted_command command operands = Err BadCommand
 
 -- where a breakpoint stands: w hhhh, l n
 abbrev pub location_by : List ℕ → List ℕ → Result Location LineRefusal
 location_by kind number =
     if bytes_eq kind (codes "w") then and_then (hexadecimal 4 number) (λ address. Ok (Word address))
-    else (if bytes_eq kind (codes "l") then and_then (number_up_to most_position 10 number) (λ position. Ok (Line position))
+    else (if bytes_eq kind (codes "l")
+    then and_then (number_up_to most_position 10 number) (λ position. Ok (Line position))
     else Err BadCommand)
 
 abbrev pub break_location : List (List ℕ) → Result Location LineRefusal
@@ -105,7 +115,8 @@ break_location operands = Err BadCommand
 
 -- break and unbreak, and a location
 abbrev pub placed_command : (Location → Command) → List (List ℕ) → Result Command LineRefusal
-placed_command command operands = and_then (break_location operands) (λ location. Ok (command location))
+placed_command command operands =
+    and_then (break_location operands) (λ location. Ok (command location))
 
 -- the key that a word names
 abbrev pub key_of : List ℕ → Result Key LineRefusal
@@ -114,7 +125,8 @@ key_of name = option_map_or (λ key. Ok key) (key_named name) (Err BadCommand)
 -- the keys that words name, in their order
 abbrev pub keys_of : List (List ℕ) → Result (List Key) LineRefusal
 keys_of [] = Ok []
-keys_of (name ∷ names) = and_then (key_of name) (λ key. and_then (keys_of names) (λ keys. Ok (key ∷ keys)))
+keys_of (name ∷ names) =
+    and_then (key_of name) (λ key. and_then (keys_of names) (λ keys. Ok (key ∷ keys)))
 
 -- key NAME ..
 abbrev pub key_command : List (List ℕ) → Result Command LineRefusal
@@ -123,10 +135,12 @@ key_command names = and_then (keys_of names) (λ keys. Ok (commands.Key keys))
 
 -- list hhhh n
 abbrev pub listing_of : ℕ → List ℕ → Result Command LineRefusal
-listing_of address count = and_then (count_up_to most_words count) (λ count. Ok (commands.List address count))
+listing_of address count =
+    and_then (count_up_to most_words count) (λ count. Ok (commands.List address count))
 
 abbrev pub list_command : List (List ℕ) → Result Command LineRefusal
-list_command (address ∷ count ∷ []) = and_then (hexadecimal 4 address) (λ address. listing_of address count)
+list_command (address ∷ count ∷ []) =
+    and_then (hexadecimal 4 address) (λ address. listing_of address count)
 list_command operands = Err BadCommand
 
 -- the value that stands beside a word in a table
@@ -154,8 +168,10 @@ view_named what = option_map_or (λ view. Ok view) (named_in views_by_name what)
 abbrev pub view_of : List (List ℕ) → Result View LineRefusal
 view_of (what ∷ []) = view_named what
 view_of (what ∷ address ∷ []) =
-    if bytes_eq what (codes "ram") then and_then (hexadecimal 3 address) (λ address. Ok (Register address))
-    else (if bytes_eq what (codes "image") then and_then (hexadecimal 1 address) (λ page. Ok (views.Image page))
+    if bytes_eq what (codes "ram")
+    then and_then (hexadecimal 3 address) (λ address. Ok (Register address))
+    else (if bytes_eq what (codes "image")
+    then and_then (hexadecimal 1 address) (λ page. Ok (views.Image page))
     else Err BadCommand)
 view_of operands = Err BadCommand
 
@@ -217,7 +233,8 @@ read_plain plain.Key operands = key_command operands
 
 -- the command of a line that opens no block, by its first word
 abbrev pub plain_command : List ℕ → List (List ℕ) → Result Command LineRefusal
-plain_command name operands = option_map_or (λ kind. read_plain kind operands) (plain_of_word name) (Err BadCommand)
+plain_command name operands =
+    option_map_or (λ kind. read_plain kind operands) (plain_of_word name) (Err BadCommand)
 
 -- the command of a line, by the kind of the block that its first word opens
 abbrev pub command_by : Option BlockKind → List ℕ → List (List ℕ) → Result Command LineRefusal

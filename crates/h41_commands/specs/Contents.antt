@@ -1,5 +1,7 @@
--- What the code's blocks hold, in the words of a deck. It only connects the code with the other definitions.
-use Rattle.std.specs.Prelude.{◌≡◌, ℕ, List, [], ◌∷◌, ◌++◌, Option, Some, None, Result, Ok, Err, Vec, is_ok, false, if◌then◌else◌}
+-- What the code's blocks hold, in the words of a deck. It only connects the code with the other
+-- definitions.
+use Rattle.std.specs.Prelude.{◌≡◌, ℕ, List, [], ◌∷◌, ◌++◌, Option, Some, None, Result, Ok, Err, Vec}
+use Rattle.std.specs.Prelude.{is_ok, false, if◌then◌else◌}
 use Rattle.std.specs.Global.{Global}
 use Rattle.h41_commands.specs.declared.refusal.LineRefusal.TheVariants.{BadNumber}
 use Rattle.h41_commands.specs.declared.blocks.Content.{Content}
@@ -14,7 +16,8 @@ use Rattle.h41_commands.specs.declared.blocks.hex_bytes.HexBytes.{HexBytes}
 use Rattle.h41_commands.specs.declared.blocks.source_text.SourceText.{SourceText}
 use Rattle.h41_commands.specs.declared.commands.PageKind.{PageKind}
 use Rattle.h41_commands.specs.declared.commands.ProgramKind.{ProgramKind}
-use Rattle.h41_commands.specs.Blocks.{TakenBlock, block_bytes, block_source, block_words, judgement, line_bytes, word_values}
+use Rattle.h41_commands.specs.Blocks.{TakenBlock, block_bytes, block_source, block_words, judgement}
+use Rattle.h41_commands.specs.Blocks.{line_bytes, word_values}
 use Rattle.h41_commands.specs.PageBlocks.{Fills}
 use Rattle.h41_commands.specs.ProgramBlocks.{Means}
 
@@ -29,12 +32,14 @@ words_in page = unless_fault page.fault page.words.items
 -- whatever lines the words were those of, they are now those of one line more
 abbrev pub TakesLine : PageWords → List ℕ → PageWords → Type 0
 TakesLine old line new =
-    (lines : List (List ℕ)) → words_in old ≡ word_values (block_words lines) → words_in new ≡ word_values (block_words (lines ++ line ∷ []))
+    (lines : List (List ℕ)) → words_in old ≡ word_values (block_words lines)
+    → words_in new ≡ word_values (block_words (lines ++ line ∷ []))
 
 -- whatever words they were, there is now one word more
 abbrev pub TakesWord : PageWords → List ℕ → PageWords → Type 0
 TakesWord old word new =
-    (words : List (List ℕ)) → words_in old ≡ word_values words → words_in new ≡ word_values (words ++ word ∷ [])
+    (words : List (List ℕ)) → words_in old ≡ word_values words
+    → words_in new ≡ word_values (words ++ word ∷ [])
 
 -- the bytes of lines, or their fault
 abbrev pub bytes_in : HexBytes → Result (List ℕ) LineRefusal
@@ -43,7 +48,8 @@ bytes_in said = if said.is_wrong then Err BadNumber else Ok said.bytes.items
 -- whatever lines the bytes were those of, they are now those of one line more
 abbrev pub TakesBytes : HexBytes → List ℕ → HexBytes → Type 0
 TakesBytes old line new =
-    (lines : List (List ℕ)) → bytes_in old ≡ block_bytes lines → bytes_in new ≡ block_bytes (lines ++ line ∷ [])
+    (lines : List (List ℕ)) → bytes_in old ≡ block_bytes lines
+    → bytes_in new ≡ block_bytes (lines ++ line ∷ [])
 
 -- what was decoded of a line
 abbrev pub AreBytesOf : List ℕ → Option (Vec ℕ Global) → Type 0
@@ -57,7 +63,8 @@ source_in said = said.text.items
 -- whatever lines the source was that of, it is now that of one line more
 abbrev pub TakesSource : SourceText → List ℕ → SourceText → Type 0
 TakesSource old line new =
-    (lines : List (List ℕ)) → source_in old ≡ block_source lines → source_in new ≡ block_source (lines ++ line ∷ [])
+    (lines : List (List ℕ)) → source_in old ≡ block_source lines
+    → source_in new ≡ block_source (lines ++ line ∷ [])
 
 -- what the content of a block says, and its kind
 abbrev pub content_in : Content → Result (List ℕ) LineRefusal
@@ -89,7 +96,8 @@ FillsFrom page source made = Fills Asm page source (values_in made)
 abbrev pub IsForPage : TakenBlock → Type 0
 IsForPage block = (kind : PageKind) × (block.kind ≡ Some (Page kind))
 
-pub record FillsBy (block : TakenBlock) (page : ℕ) (made : Result (Vec ℕ Global) LineRefusal) : Type 0 where
+pub record FillsBy (block : TakenBlock) (page : ℕ)
+    (made : Result (Vec ℕ Global) LineRefusal) : Type 0 where
   pub kind : PageKind
   pub kind_is : block.kind ≡ Some (Page kind)
   pub values : List ℕ

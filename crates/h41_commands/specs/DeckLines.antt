@@ -1,5 +1,7 @@
--- Which lines of a deck say nothing, are too long, or end a block. The language is this project's own.
-use Rattle.std.specs.Prelude.{ℕ, Bool, not, ◌&&◌, ◌||◌, List, [], ◌∷◌, length, slice_index, nat_lt, ◌==◌, codes, bytes_eq, false}
+-- Which lines of a deck say nothing, are too long, or end a block. The language is this project's
+-- own.
+use Rattle.std.specs.Prelude.{ℕ, Bool, not, ◌&&◌, ◌||◌, List, [], ◌∷◌, length, slice_index, nat_lt}
+use Rattle.std.specs.Prelude.{◌==◌, codes, bytes_eq, false}
 use Rattle.h41_lines.specs.Words.{words_of}
 
 -- the most bytes that a line may have

@@ -1,4 +1,5 @@
--- What the code's items say, in the words of a deck. It only connects the code with the other definitions.
+-- What the code's items say, in the words of a deck. It only connects the code with the other
+-- definitions.
 use Rattle.std.specs.Prelude.{◌≡◌, ℕ, ◌<◌, List, [], ◌∷◌, length, Option, Some, None, OnSome, Err}
 use Rattle.h41_commands.specs.declared.item.Item.{Item}
 use Rattle.h41_commands.specs.declared.item.Item.TheVariants.{Given, Refused}
@@ -27,7 +28,8 @@ abbrev pub TakesSome : List (List ℕ) → List (List ℕ) → Option Item → T
 TakesSome lines left next = OnSome next (length left < length lines)
 
 -- where there is a block, it is of this kind, and these are the lines that it has taken
-pub record IsTaken (kind : Option BlockKind) (lines : List (List ℕ)) (block : TakenBlock) : Type 0 where
+pub record IsTaken (kind : Option BlockKind)
+    (lines : List (List ℕ)) (block : TakenBlock) : Type 0 where
   pub kind_is : block.kind ≡ kind
   pub lines_are : HasTaken block lines
 

@@ -1,5 +1,6 @@
 -- Which commands the lines of a deck spell. No state comes in. The language is this project's own.
-use Rattle.std.specs.Prelude.{ℕ, zero, suc, Bool, true, false, not, List, [], ◌∷◌, length, filter, if◌then◌else◌, Result, Ok, Err}
+use Rattle.std.specs.Prelude.{ℕ, zero, suc, Bool, true, false, not, List, [], ◌∷◌, length, filter}
+use Rattle.std.specs.Prelude.{if◌then◌else◌, Result, Ok, Err}
 use Rattle.std.specs.List.{list_any, before_first, after_first}
 use Rattle.h41_commands.specs.declared.commands.Command.{Command}
 use Rattle.h41_commands.specs.declared.refusal.LineRefusal.{LineRefusal}
@@ -9,7 +10,8 @@ use Rattle.h41_commands.specs.Commands.{and_then, is_opening, kind_of, parsed}
 use Rattle.h41_lines.specs.Words.{words_of}
 use Rattle.h41_commands.specs.DeckLines.{is_end, is_long, is_skipped}
 
--- What lines spell: a command and its block's values (none where it has no block), or why the lines are refused.
+-- What lines spell: a command and its block's values (none where it has no block), or why the lines
+-- are refused.
 abbrev pub Spelled : Type 0
 Spelled = Result (Command × List ℕ) LineRefusal
 
@@ -17,10 +19,12 @@ Spelled = Result (Command × List ℕ) LineRefusal
 abbrev pub with_values : Result (List ℕ) LineRefusal → Command → Spelled
 with_values values command = and_then values (λ values. Ok (command, values))
 
--- what a first line and the lines of its block spell; a fault of the first line comes before all else
+-- what a first line and the lines of its block spell; a fault of the first line comes before all
+-- else
 abbrev pub spelled_by : List ℕ → List (List ℕ) → Spelled
 spelled_by first inside =
-    and_then (parsed (words_of first)) (λ command. with_values (block_values (kind_of command) inside) command)
+    and_then (parsed (words_of first))
+    (λ command. with_values (block_values (kind_of command) inside) command)
 
 -- a line that opens a block, and the lines after it
 abbrev pub opened_block : List ℕ → List (List ℕ) → Spelled
@@ -34,7 +38,8 @@ spelled_within (suc most) [] = []
 spelled_within (suc most) (line ∷ rest) =
     if is_long line then Err LineTooLong ∷ spelled_within most rest
     else (if is_skipped line then spelled_within most rest
-    else (if is_opening (words_of line) then opened_block line rest ∷ spelled_within most (after_first is_end rest)
+    else (if is_opening (words_of line)
+    then opened_block line rest ∷ spelled_within most (after_first is_end rest)
     else spelled_by line [] ∷ spelled_within most rest))
 
 -- the commands that lines spell, each with its block's values, or refused as 50 to 53 or 4

@@ -7,7 +7,8 @@ use Rattle.h41_commands.specs.declared.refusal.LineRefusal.TheVariants.{BadNumbe
 
 -- a hexadecimal number of so many digits, of either case
 abbrev pub hexadecimal_within : ℕ → ℕ → List ℕ → Result ℕ LineRefusal
-hexadecimal_within least most word = if is_hexadecimal least most word then Ok (digits_value 16 word) else Err BadNumber
+hexadecimal_within least most word =
+    if is_hexadecimal least most word then Ok (digits_value 16 word) else Err BadNumber
 
 abbrev pub hexadecimal : ℕ → List ℕ → Result ℕ LineRefusal
 hexadecimal count word = hexadecimal_within count count word
@@ -15,7 +16,9 @@ hexadecimal count word = hexadecimal_within count count word
 -- a number of any count of digits in the radix, up to a greatest one
 abbrev pub number_up_to : ℕ → ℕ → List ℕ → Result ℕ LineRefusal
 number_up_to most radix word =
-    if is_numeral radix word && nat_le (digits_value radix word) most then Ok (digits_value radix word) else Err BadNumber
+    if is_numeral radix word && nat_le (digits_value radix word) most
+    then Ok (digits_value radix word)
+    else Err BadNumber
 
 -- a decimal number likewise, from 1 up
 abbrev pub count_up_to : ℕ → List ℕ → Result ℕ LineRefusal

@@ -1,5 +1,6 @@
 -- The words that a block's values fill a page with. The language is this project's own.
-use Rattle.std.specs.Prelude.{◌≡◌, ℕ, ◌*◌, ◌%◌, List, length, nat_lt, if◌then◌else◌, Option, Some, Result, Ok, Err, option_map}
+use Rattle.std.specs.Prelude.{◌≡◌, ℕ, ◌*◌, ◌%◌, List, length, nat_lt, if◌then◌else◌, Option, Some}
+use Rattle.std.specs.Prelude.{Result, Ok, Err, option_map}
 use Rattle.h41_asm.specs.Assembly.{Assembles}
 use Rattle.h41_asm.specs.Faults.{assembly_fault}
 use Rattle.h41_pages.specs.Addresses.{page_count, page_size}
@@ -15,7 +16,8 @@ page_address page = page % page_count * page_size
 
 -- why a source spells no words: its first fault, told with its line
 abbrev pub source_refusal : List ℕ → ℕ → Option LineRefusal
-source_refusal source origin = option_map (λ found. Source found.0 found.1) (assembly_fault source origin)
+source_refusal source origin =
+    option_map (λ found. Source found.0 found.1) (assembly_fault source origin)
 
 -- what a source gives at an origin: the words that it spells, or its refusal
 abbrev pub SourceMakes : List ℕ → ℕ → Result (List ℕ) LineRefusal → Type 0
@@ -26,9 +28,12 @@ SourceMakes source origin (Err refusal) = source_refusal source origin ≡ Some 
 abbrev pub fitting : List ℕ → Result (List ℕ) LineRefusal
 fitting words = if nat_lt page_size (length words) then Err BadImage else Ok words
 
--- the words that a block's values say for a page, or why they say none: they are words already, or the source of these
+-- the words that a block's values say for a page, or why they say none: they are words already, or
+-- the source of these
 abbrev pub Fills : PageKind → ℕ → List ℕ → Result (List ℕ) LineRefusal → Type 0
 Fills Words page values words = words ≡ Ok values
 Fills Image page values words = words ≡ Ok values
 Fills Asm page source words =
-    (given : Result (List ℕ) LineRefusal) × SourceMakes source (page_address page) given × (words ≡ and_then given fitting)
+    (given : Result (List ℕ) LineRefusal)
+    × SourceMakes source (page_address page) given
+    × (words ≡ and_then given fitting)

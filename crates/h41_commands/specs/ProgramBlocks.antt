@@ -1,4 +1,5 @@
--- The program that the lines of a block say, as bytes or as text. The commands are this project's choice.
+-- The program that the lines of a block say, as bytes or as text. The commands are this project's
+-- choice.
 use Rattle.std.specs.Prelude.{◌≡◌, ◌⊎◌, ℕ, suc, ◌==◌, ◌++◌, List, [], ◌∷◌, Result, Ok, Err}
 use Rattle.std.specs.List.{slice_split}
 use Rattle.h41_codes.specs.declared.line.Line.{Line}
@@ -28,17 +29,24 @@ SaysLine (byte ∷ rest) said = (line : Line) × IsTextOf (byte ∷ rest) line �
 abbrev pub with_more : List Line → Result (List Line) LineRefusal → Result (List Line) LineRefusal
 with_more said more = and_then more (λ lines. Ok (said ++ lines))
 
--- the lines that texts say in turn, or 41 with the number of the first that is that of no line; the first has this number
+-- the lines that texts say in turn, or 41 with the number of the first that is that of no line; the
+-- first has this number
 abbrev pub SayLines : ℕ → List (List ℕ) → Result (List Line) LineRefusal → Type 0
 SayLines number [] lines = lines ≡ Ok []
 SayLines number (text ∷ texts) lines =
     (IsBadText text × (lines ≡ Err (BadText number)))
-    ⊎ ((said : List Line) × SaysLine text said × (more : Result (List Line) LineRefusal) × SayLines (suc number) texts more × (lines ≡ with_more said more))
+    ⊎ ((said : List Line)
+    × SaysLine text said
+    × (more : Result (List Line) LineRefusal)
+    × SayLines (suc number) texts more
+    × (lines ≡ with_more said more))
 
 -- the bytes that a program's text spells: those of its lines, with a null between two numbers
 abbrev pub TextSpells : List ℕ → Result (List ℕ) LineRefusal → Type 0
 TextSpells source bytes =
-    (lines : Result (List Line) LineRefusal) × SayLines 1 (texts_of source) lines × (bytes ≡ and_then lines (λ lines. Ok (packed lines)))
+    (lines : Result (List Line) LineRefusal)
+    × SayLines 1 (texts_of source) lines
+    × (bytes ≡ and_then lines (λ lines. Ok (packed lines)))
 
 -- the bytes of a block: they are these already, or its text spells them
 abbrev pub Means : ProgramKind → List ℕ → Result (List ℕ) LineRefusal → Type 0

@@ -1,4 +1,5 @@
--- What the code that reads a program's text holds, in the words of a deck. It only connects the code with the other definitions.
+-- What the code that reads a program's text holds, in the words of a deck. It only connects the
+-- code with the other definitions.
 use Rattle.std.specs.Prelude.{◌≡◌, ℕ, Bool, false, ◌&&◌, if◌then◌else◌, List, [], ◌∷◌, ◌++◌}
 use Rattle.std.specs.Option.{option_map_or}
 use Rattle.h41_codes.specs.declared.line.Line.{Line}
@@ -23,4 +24,5 @@ pub record IsPacked (lines : List Line) (held : Packed) : Type 0 where
 
 -- one more line was put behind the others
 abbrev pub PushesLine : Packed → Line → Packed → Type 0
-PushesLine old line new = (lines : List Line) → IsPacked lines old → IsPacked (lines ++ line ∷ []) new
+PushesLine old line new =
+    (lines : List Line) → IsPacked lines old → IsPacked (lines ++ line ∷ []) new

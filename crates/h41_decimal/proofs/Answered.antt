@@ -1,5 +1,6 @@
 -- What the operations answer is determined.
-use Rattle.std.proofs.Common.{◌≡◌, ℕ, suc, ◌+◌, ◌*◌, ◌<◌, ◌≤◌, ⊎_elim, sym, ◌∙◌, subst, arith, Result, Ok, Err, Bool, true, false, MatchBool}
+use Rattle.std.proofs.Common.{◌≡◌, ℕ, suc, ◌+◌, ◌*◌, ◌<◌, ◌≤◌, ⊎_elim, sym, ◌∙◌, subst, arith, Result, Ok, Err, Bool, true, false}
+use Rattle.std.proofs.Common.{MatchBool}
 use Rattle.std.specs.Prelude.{ℤ, pos, negsuc, ◌+ℤ◌, ◌-ℤ◌, ◌*ℤ◌, ◌<ℤ◌, ◌≤ℤ◌, ◌==◌, unsigned_abs}
 use Rattle.std.proofs.lemmas.Bool.{cases_lt}
 use Rattle.std.proofs.lemmas.Int.{ints, by_lt_z}
@@ -22,7 +23,8 @@ not_fewer step size k l next not_above less =
     let a : (k + 1) * step ≤ l * step = mul-le-mul_right step le in
     omega arith
 
-same_count : (step size k l : ℕ) → 2 * (k * step) ≤ size → size < 2 * ((k + 1) * step) → 2 * (l * step) ≤ size → size < 2 * ((l + 1) * step) → k ≡ l
+same_count : (step size k l : ℕ) → 2 * (k * step) ≤ size → size < 2 * ((k + 1) * step) → 2 * (l * step) ≤ size → size < 2 * ((l + 1) * step)
+    → k ≡ l
 same_count step size k l k_low k_high l_low l_high =
     ⊎_elim
     (λ (less : k < l). absurd (not_fewer step size k l k_high l_low less))
@@ -35,7 +37,8 @@ same_count step size k l k_low k_high l_low l_high =
 
 pub steps_determined : StepsAreDetermined
 steps_determined step number a b h k =
-    let e : h.steps ≡ k.steps = same_count step (2 * unsigned_abs number + step) h.steps k.steps h.not_above h.next_above k.not_above k.next_above in
+    let e : h.steps ≡ k.steps =
+    same_count step (2 * unsigned_abs number + step) h.steps k.steps h.not_above h.next_above k.not_above k.next_above in
     let P : ℕ → Type 0 = λ t. Nearest (signed (sign_of number) (t * step)) 1 b in
     nearest_determined (signed (sign_of number) (h.steps * step)) 1 a b h.value (subst P (sym e) k.value)
 

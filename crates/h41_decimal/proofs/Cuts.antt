@@ -1,7 +1,8 @@
 -- From a cut to the rounded answer.
 use Rattle.std.proofs.Common.{◌≡◌, ℕ, zero, suc, ◌+◌, ◌-◌, ◌*◌, ◌/◌, ◌^◌, ◌<◌, ◌≤◌, ⊎_elim, sym, ◌∙◌, ap, subst, arith, Result, Ok}
 use Rattle.std.specs.Prelude.{pos, negsuc}
-use Rattle.std.proofs.Math.Nat.{mul-le-mul_left, mul-le-mul_right, mul-lt-mul_of_pos_right, mul-le-mul, pow-suc, div-mul-le_self, lt-div-mul-add}
+use Rattle.std.proofs.Math.Nat.{mul-le-mul_left, mul-le-mul_right, mul-lt-mul_of_pos_right, mul-le-mul, pow-suc, div-mul-le_self}
+use Rattle.std.proofs.Math.Nat.{lt-div-mul-add}
 use Rattle.std.proofs.lemmas.Nat.{pow-add, le-div, div_below}
 use Rattle.std.proofs.lemmas.Bool.{cases_lt}
 use Rattle.h41_decimal.specs.NearestDecimal.{Exact, Fraction, RootOf, IsBelow, IsAtLeast, IsTenDigits, IsBounded, IsRounded}
@@ -40,7 +41,8 @@ rounded_at sign v T m n scale place answer cut T_size low high m_size ten link z
       exponent = negsuc (127 - place);
       ten_digits = ten;
       near = near_at v T m n scale 0 (127 - place + 1) 128 cut.at_least cut.below T_size low high m_size
-          (low_link n m (10 ^ place) (10 ^ (127 - place + 1)) (10 ^ 128) (10 ^ scale) (power_parts place (127 - place + 1) 128 (omega arith)) link);
+          (low_link n m (10 ^ place) (10 ^ (127 - place + 1)) (10 ^ 128) (10 ^ scale)
+          (power_parts place (127 - place + 1) 128 (omega arith)) link);
       bounded = zero_below below;
     })
     (λ (above : 128 ≤ place). record {
@@ -48,7 +50,8 @@ rounded_at sign v T m n scale place answer cut T_size low high m_size ten link z
       exponent = pos (place - 128);
       ten_digits = ten;
       near = near_at v T m n scale (place - 128) 0 128 cut.at_least cut.below T_size low high m_size
-          (high_link n m (10 ^ place) (10 ^ (place - 128)) (10 ^ 128) (10 ^ scale) (power_parts (place - 128) 128 place (omega arith)) link);
+          (high_link n m (10 ^ place) (10 ^ (place - 128)) (10 ^ 128) (10 ^ scale)
+          (power_parts (place - 128) 128 place (omega arith)) link);
       bounded = bounded above;
     })
     (cases_lt place 128)
@@ -65,8 +68,11 @@ cut_further v whole part scale dropped cut low high =
     let ge : (whole + 1) * 10 ^ scale ≤ (part + 1) * 10 ^ (scale + dropped) = omega arith in
     let o : 0 < origin = ten_pow_pos 128 in
     record {
-      at_least = at_least_less v (whole * 10 ^ scale) origin (part * 10 ^ (scale + dropped)) origin o o (mul-le-mul_right origin le) cut.at_least;
-      below = below_more v ((whole + 1) * 10 ^ scale) origin ((part + 1) * 10 ^ (scale + dropped)) origin o o (mul-le-mul_right origin ge) cut.below;
+      at_least =
+          at_least_less v (whole * 10 ^ scale) origin (part * 10 ^ (scale + dropped)) origin o o (mul-le-mul_right origin le) cut.at_least;
+      below =
+          below_more v ((whole + 1) * 10 ^ scale) origin ((part + 1) * 10 ^ (scale + dropped))
+          origin o o (mul-le-mul_right origin ge) cut.below;
     }
 
 -- what is at most a bound is below a larger one
@@ -116,7 +122,8 @@ eleven_of_fewer whole count missing p is e least next =
     (omega arith, omega arith)
 
 -- a number of more digits, cut to eleven
-pub cut_to_eleven : (v : Exact) (whole scale dropped p : ℕ) → 0 < p → p ≡ 10 ^ dropped → IsCut v whole scale → IsCut v (whole / p) (scale + dropped)
+pub cut_to_eleven : (v : Exact) (whole scale dropped p : ℕ) → 0 < p → p ≡ 10 ^ dropped → IsCut v whole scale
+    → IsCut v (whole / p) (scale + dropped)
 cut_to_eleven v whole scale dropped p p_pos is cut =
     let low : whole / p * p ≤ whole = div-mul-le_self whole p in
     let high : whole < whole / p * p + p = lt-div-mul-add p_pos in

@@ -1,12 +1,14 @@
 -- The nearest decimal is determined.
-use Rattle.std.proofs.Common.{◌≡◌, ℕ, ◌+◌, ◌*◌, ◌^◌, ◌<◌, ◌≤◌, ⊎_elim, sym, ◌∙◌, ap, subst, arith, Result, Ok, Err, Bool, true, false, MatchBool, IsOkAnd}
+use Rattle.std.proofs.Common.{◌≡◌, ℕ, ◌+◌, ◌*◌, ◌^◌, ◌<◌, ◌≤◌, ⊎_elim, sym, ◌∙◌, ap, subst, arith, Result, Ok, Err, Bool, true, false}
+use Rattle.std.proofs.Common.{MatchBool, IsOkAnd}
 use Rattle.std.specs.Prelude.{ℤ, pos, negsuc, nat_le, ◌==◌, unsigned_abs}
 use Rattle.std.proofs.lemmas.Bool.{cases_lt}
 use Rattle.std.proofs.Math.Nat.{eq_of_mul-eq-mul_right}
 use Rattle.std.proofs.lemmas.Nat.{pow-add}
 use Rattle.h41_decimal.specs.Signs.{signed, sign_of}
 use Rattle.h41_decimal.specs.Units.{one, size_of, units}
-use Rattle.h41_decimal.specs.NearestDecimal.{Exact, Fraction, RootOf, IsBelow, IsAtLeast, IsNear, IsTenDigits, IsBounded, IsRounded, Nearest, NearestRoot, up_of, down_of}
+use Rattle.h41_decimal.specs.NearestDecimal.{Exact, Fraction, RootOf, IsBelow, IsAtLeast, IsNear, IsTenDigits, IsBounded, IsRounded}
+use Rattle.h41_decimal.specs.NearestDecimal.{Nearest, NearestRoot, up_of, down_of}
 use Rattle.h41_decimal.proofs.Same.{units_injective}
 use Rattle.h41_decimal.specs.declared.fault.DecimalFault.{DecimalFault}
 use Rattle.h41_decimal.specs.declared.fault.DecimalFault.TheVariants.{Range}
@@ -32,7 +34,8 @@ not_both (RootOf n) p p' q q' e f below least =
 not_smaller : (v : Exact) (m a b n a' b' : ℕ) → IsTenDigits m → IsTenDigits n → IsNear v m a b → IsNear v n a' b'
     → m * (10 ^ a * 10 ^ b') < n * (10 ^ a' * 10 ^ b) → ⊥
 not_smaller v m a b n a' b' m_ten n_ten x y less =
-    not_both v (m * (10 ^ a * 10 ^ b') + n * (10 ^ a' * 10 ^ b)) (n * (10 ^ a' * 10 ^ b) + m * (10 ^ a * 10 ^ b')) (2 * (10 ^ b * 10 ^ b')) (2 * (10 ^ b' * 10 ^ b))
+    not_both v (m * (10 ^ a * 10 ^ b') + n * (10 ^ a' * 10 ^ b))
+    (n * (10 ^ a' * 10 ^ b) + m * (10 ^ a * 10 ^ b')) (2 * (10 ^ b * 10 ^ b')) (2 * (10 ^ b' * 10 ^ b))
     (omega arith) (omega arith) (x.larger n a' b' n_ten less) (y.smaller m a b m_ten less)
 
 same_size : (v : Exact) (m a b n a' b' : ℕ) → IsTenDigits m → IsTenDigits n → IsNear v m a b → IsNear v n a' b'
@@ -68,9 +71,8 @@ not_below_range m n s d m_ten n_ten e =
     omega arith
 
 -- what is answered in range
-in_range : (b : Bool) (z : ℤ) (x y : Result Ten DecimalFault)
-    → MatchBool b (IsOkAnd x (λ number. units number ≡ z)) (x ≡ Err Range) → MatchBool b (IsOkAnd y (λ number. units number ≡ z)) (y ≡ Err Range)
-    → x ≡ y
+in_range : (b : Bool) (z : ℤ) (x y : Result Ten DecimalFault) → MatchBool b (IsOkAnd x (λ number. units number ≡ z)) (x ≡ Err Range)
+    → MatchBool b (IsOkAnd y (λ number. units number ≡ z)) (y ≡ Err Range) → x ≡ y
 in_range true z (Ok x) (Ok y) h k = ap Ok (units_injective x y (h ∙ sym k))
 in_range true z (Ok x) (Err f) h k = absurd k
 in_range true z (Err f) y h k = absurd h
@@ -94,7 +96,8 @@ answers sign v m (pos s) n (pos t) x y m_ten n_ten near near' bounded bounded' =
     in_range (nat_le s 198) (signed sign (size_of m s)) x y bounded (subst Q (sym mn) (subst P (sym st) bounded'))
 
 rounded_determined : (sign : Sign) (v : Exact) (x y : Result Ten DecimalFault) → IsRounded sign v x → IsRounded sign v y → x ≡ y
-rounded_determined sign v x y h k = answers sign v h.digits h.exponent k.digits k.exponent x y h.ten_digits k.ten_digits h.near k.near h.bounded k.bounded
+rounded_determined sign v x y h k =
+    answers sign v h.digits h.exponent k.digits k.exponent x y h.ten_digits k.ten_digits h.near k.near h.bounded k.bounded
 
 either : (b : Bool) (sign : Sign) (v : Exact) (x y : Result Ten DecimalFault)
     → MatchBool b (x ≡ Ok Zero) (IsRounded sign v x) → MatchBool b (y ≡ Ok Zero) (IsRounded sign v y) → x ≡ y

@@ -18,41 +18,48 @@ use Rattle.h41_decimal.proofs.Signed.{nearest_of, nearest_of_zero, signed-sub, s
 at_scale : (m s t apart : ℕ) → apart + t ≡ s → (m * 10 ^ apart) * 10 ^ t ≡ m * 10 ^ s
 at_scale m s t apart e = let p = ap (λ u. m * u) (power_parts apart t s e) in omega (arith, p)
 
-pub difference_above : (sign : Sign) (answer : Result Ten DecimalFault) (m n s t apart large small k : ℕ) → apart + t ≡ s → large ≡ m * 10 ^ apart → small ≡ n
-    → k ≡ t + 128 → small < large → RoundsWhole sign (large - small) k answer → Nearest (signed sign (m * 10 ^ s) -ℤ signed sign (n * 10 ^ t)) 1 answer
+pub difference_above : (sign : Sign) (answer : Result Ten DecimalFault) (m n s t apart large small k : ℕ) → apart + t ≡ s
+    → large ≡ m * 10 ^ apart → small ≡ n → k ≡ t + 128 → small < large → RoundsWhole sign (large - small) k answer
+    → Nearest (signed sign (m * 10 ^ s) -ℤ signed sign (n * 10 ^ t)) 1 answer
 difference_above sign answer m n s t apart large small k e large_is small_is k_is less rounds =
     let x : (m * 10 ^ apart) * 10 ^ t ≡ m * 10 ^ s = at_scale m s t apart e in
     let less' : n < m * 10 ^ apart = omega arith in
     let h : n * 10 ^ t < (m * 10 ^ apart) * 10 ^ t = mul-lt-mul_of_pos_right less' (ten_pow_pos t) in
-    nearest_of _ 1 sign (m * 10 ^ s - n * 10 ^ t) answer (signed-sub sign (m * 10 ^ s) (n * 10 ^ t) (m * 10 ^ s - n * 10 ^ t) (omega arith)) (omega arith)
+    nearest_of _ 1 sign (m * 10 ^ s - n * 10 ^ t) answer
+    (signed-sub sign (m * 10 ^ s) (n * 10 ^ t) (m * 10 ^ s - n * 10 ^ t) (omega arith)) (omega arith)
     (rounds (Fraction (m * 10 ^ s - n * 10 ^ t) 1)
     (same_cut (Fraction (m * 10 ^ s - n * 10 ^ t) 1) (large - small) (large - small) k (t + 128) refl k_is
     (cut_difference m n s t apart (m * 10 ^ s - n * 10 ^ t) (large - small) e (omega arith) (omega arith))))
 
-pub difference_below : (sign : Sign) (answer : Result Ten DecimalFault) (m n s t apart large small k : ℕ) → apart + t ≡ s → large ≡ m * 10 ^ apart → small ≡ n
-    → k ≡ t + 128 → large < small → RoundsWhole (opposite_of sign) (small - large) k answer → Nearest (signed sign (m * 10 ^ s) -ℤ signed sign (n * 10 ^ t)) 1 answer
+pub difference_below : (sign : Sign) (answer : Result Ten DecimalFault) (m n s t apart large small k : ℕ) → apart + t ≡ s
+    → large ≡ m * 10 ^ apart → small ≡ n → k ≡ t + 128 → large < small → RoundsWhole (opposite_of sign) (small - large) k answer
+    → Nearest (signed sign (m * 10 ^ s) -ℤ signed sign (n * 10 ^ t)) 1 answer
 difference_below sign answer m n s t apart large small k e large_is small_is k_is less rounds =
     let x : (m * 10 ^ apart) * 10 ^ t ≡ m * 10 ^ s = at_scale m s t apart e in
     let less' : m * 10 ^ apart < n = omega arith in
     let h : (m * 10 ^ apart) * 10 ^ t < n * 10 ^ t = mul-lt-mul_of_pos_right less' (ten_pow_pos t) in
-    nearest_of _ 1 (opposite_of sign) (n * 10 ^ t - m * 10 ^ s) answer (signed-sub_turned sign (m * 10 ^ s) (n * 10 ^ t) (n * 10 ^ t - m * 10 ^ s) (omega arith)) (omega arith)
+    nearest_of _ 1 (opposite_of sign) (n * 10 ^ t - m * 10 ^ s) answer
+    (signed-sub_turned sign (m * 10 ^ s) (n * 10 ^ t) (n * 10 ^ t - m * 10 ^ s) (omega arith)) (omega arith)
     (rounds (Fraction (n * 10 ^ t - m * 10 ^ s) 1)
     (same_cut (Fraction (n * 10 ^ t - m * 10 ^ s) 1) (small - large) (small - large) k (t + 128) refl k_is
     (cut_difference_turned m n s t apart (n * 10 ^ t - m * 10 ^ s) (small - large) e (omega arith) (omega arith))))
 
-pub difference_none : (sign : Sign) (answer : Result Ten DecimalFault) (m n s t apart large small : ℕ) → apart + t ≡ s → large ≡ m * 10 ^ apart → small ≡ n
-    → large ≡ small → answer ≡ Ok Zero → Nearest (signed sign (m * 10 ^ s) -ℤ signed sign (n * 10 ^ t)) 1 answer
+pub difference_none : (sign : Sign) (answer : Result Ten DecimalFault) (m n s t apart large small : ℕ) → apart + t ≡ s
+    → large ≡ m * 10 ^ apart → small ≡ n → large ≡ small → answer ≡ Ok Zero
+    → Nearest (signed sign (m * 10 ^ s) -ℤ signed sign (n * 10 ^ t)) 1 answer
 difference_none sign answer m n s t apart large small e large_is small_is same zero_is =
     let x : (m * 10 ^ apart) * 10 ^ t ≡ m * 10 ^ s = at_scale m s t apart e in
     let same' : m * 10 ^ apart ≡ n = omega arith in
     let h : (m * 10 ^ apart) * 10 ^ t ≡ n * 10 ^ t = ap (λ u. u * 10 ^ t) same' in
     nearest_of_zero _ 1 answer (signed-sub_same sign (m * 10 ^ s) (n * 10 ^ t) (omega arith)) zero_is
 
-pub difference_far : (sign : Sign) (answer : Result Ten DecimalFault) (m n s t whole k : ℕ) → 10 ^ 9 ≤ m → 0 < n → n < 10 ^ 10 → t + 12 ≤ s → k ≡ s + 126
-    → whole + 1 ≡ m * 100 → RoundsWhole sign whole k answer → Nearest (signed sign (m * 10 ^ s) -ℤ signed sign (n * 10 ^ t)) 1 answer
+pub difference_far : (sign : Sign) (answer : Result Ten DecimalFault) (m n s t whole k : ℕ) → 10 ^ 9 ≤ m → 0 < n → n < 10 ^ 10 → t + 12 ≤ s
+    → k ≡ s + 126 → whole + 1 ≡ m * 100 → RoundsWhole sign whole k answer
+    → Nearest (signed sign (m * 10 ^ s) -ℤ signed sign (n * 10 ^ t)) 1 answer
 difference_far sign answer m n s t whole k m_size n_pos n_size apart k_is whole_is rounds =
     let far : (n * 10 ^ t) * 100 < 10 ^ s = far_below n s t n_size apart in
     let x : 10 ^ 9 * 10 ^ s ≤ m * 10 ^ s = mul-le-mul_right (10 ^ s) m_size in
-    nearest_of _ 1 sign (m * 10 ^ s - n * 10 ^ t) answer (signed-sub sign (m * 10 ^ s) (n * 10 ^ t) (m * 10 ^ s - n * 10 ^ t) (omega arith)) (omega arith)
+    nearest_of _ 1 sign (m * 10 ^ s - n * 10 ^ t) answer
+    (signed-sub sign (m * 10 ^ s) (n * 10 ^ t) (m * 10 ^ s - n * 10 ^ t) (omega arith)) (omega arith)
     (rounds (Fraction (m * 10 ^ s - n * 10 ^ t) 1)
     (cut_far_difference m n s t k (m * 10 ^ s - n * 10 ^ t) whole m_size n_pos n_size apart k_is whole_is (omega arith)))

@@ -33,22 +33,29 @@ typed_cut digits biased places scale e =
     exact_fraction (digits * 10 ^ 108 * 10 ^ biased) (10 ^ places * 10 ^ 99) digits scale (mul-pos (ten_pow_pos places) (ten_pow_pos 99))
     (typed_steps digits (10 ^ scale) (10 ^ places) (10 ^ biased) parts)
 
-pub typed_nearest : (sign : Sign) (digits biased places whole scale : ℕ) (answer : Result Ten DecimalFault) → 0 < digits → scale + places ≡ 137 + biased
-    → whole ≡ digits → RoundsWhole sign whole scale answer → Nearest (signed sign (digits * 10 ^ 108 * 10 ^ biased)) (10 ^ places * 10 ^ 99) answer
+pub typed_nearest : (sign : Sign) (digits biased places whole scale : ℕ) (answer : Result Ten DecimalFault) → 0 < digits
+    → scale + places ≡ 137 + biased → whole ≡ digits → RoundsWhole sign whole scale answer
+    → Nearest (signed sign (digits * 10 ^ 108 * 10 ^ biased)) (10 ^ places * 10 ^ 99) answer
 typed_nearest sign digits biased places whole scale answer some e same rounds =
     let rounds_digits = subst (λ n. RoundsWhole sign n scale answer) same rounds in
-    nearest_of _ (10 ^ places * 10 ^ 99) sign (digits * 10 ^ 108 * 10 ^ biased) answer refl (mul-pos (mul-pos some (ten_pow_pos 108)) (ten_pow_pos biased))
+    nearest_of _ (10 ^ places * 10 ^ 99) sign (digits * 10 ^ 108 * 10 ^ biased)
+    answer refl (mul-pos (mul-pos some (ten_pow_pos 108)) (ten_pow_pos biased))
     (rounds_digits (Fraction (digits * 10 ^ 108 * 10 ^ biased) (10 ^ places * 10 ^ 99)) (typed_cut digits biased places scale e))
 
 -- digits that are all zero
 pub typed_zero : (sign : Sign) (digits places : ℕ) (exponent : Exponent) → digits ≡ 0 → IsTyped sign digits places exponent Zero
 typed_zero sign digits places exponent none = record {
   answer = Ok Zero;
-  nearest = nearest_of_zero _ (10 ^ places * 10 ^ 99) (Ok Zero) (signed-zero sign _ (ap (λ d. d * 10 ^ 108 * 10 ^ exponent.biased) none ∙ omega arith)) refl;
+  nearest =
+      nearest_of_zero _ (10 ^ places * 10 ^ 99) (Ok Zero)
+      (signed-zero sign _ (ap (λ d. d * 10 ^ 108 * 10 ^ exponent.biased) none ∙ omega arith)) refl;
   value = refl;
 }
 
 pub typed_determined : TypedIsDetermined
 typed_determined sign digits places exponent x y p q =
     units_injective x y
-    (p.value ∙ ap (within_bounds sign) (nearest_determined (signed sign (digits * one * 10 ^ exponent.biased)) (10 ^ places * 10 ^ 99) p.answer q.answer p.nearest q.nearest) ∙ sym q.value)
+    (p.value
+    ∙ ap (within_bounds sign) (nearest_determined (signed sign (digits * one * 10 ^ exponent.biased))
+    (10 ^ places * 10 ^ 99) p.answer q.answer p.nearest q.nearest)
+    ∙ sym q.value)

@@ -1,6 +1,7 @@
 -- The whole numbers that the operations round are cuts of their exact values.
 use Rattle.std.proofs.Common.{◌≡◌, ℕ, ◌+◌, ◌*◌, ◌/◌, ◌^◌, ◌<◌, ◌≤◌, ⊎_elim, sym, ◌∙◌, ap, refl, subst, arith}
-use Rattle.std.proofs.Math.Nat.{mul-le-mul_right, mul-lt-mul_of_pos_right, mul-pos, mul-le-mul, pow-le-pow_right, div-mul-le_self, lt-div-mul-add}
+use Rattle.std.proofs.Math.Nat.{mul-le-mul_right, mul-lt-mul_of_pos_right, mul-pos, mul-le-mul, pow-le-pow_right, div-mul-le_self}
+use Rattle.std.proofs.Math.Nat.{lt-div-mul-add}
 use Rattle.std.proofs.lemmas.Nat.{pow-add, le-div}
 use Rattle.std.proofs.lemmas.Bool.{cases_lt}
 use Rattle.h41_decimal.specs.NearestDecimal.{Exact, Fraction, RootOf}
@@ -18,7 +19,8 @@ exact_fraction n d whole scale d_pos e =
     }
 
 -- the product of two sizes
-product_steps : (m n ps pt p108 p128 pscale : ℕ) → (ps * pt) * p128 ≡ pscale * p108 → ((m * ps) * (n * pt)) * p128 ≡ ((m * n) * pscale) * p108
+product_steps : (m n ps pt p108 p128 pscale : ℕ) → (ps * pt) * p128 ≡ pscale * p108
+    → ((m * ps) * (n * pt)) * p128 ≡ ((m * n) * pscale) * p108
 product_steps m n ps pt p108 p128 pscale e =
     let a : (m * n) * ((ps * pt) * p128) ≡ (m * n) * (pscale * p108) = ap (λ t. (m * n) * t) e in
     omega arith
@@ -26,12 +28,14 @@ product_steps m n ps pt p108 p128 pscale e =
 pub cut_product : (m n s t : ℕ) → IsCutFarEnough (Fraction ((m * 10 ^ s) * (n * 10 ^ t)) (10 ^ 108)) (m * n) (s + t + 20)
 cut_product m n s t =
     let e : (10 ^ s * 10 ^ t) * 10 ^ 128 ≡ 10 ^ (s + t + 20) * 10 ^ 108 =
-    ap (λ u. u * 10 ^ 128) (power_parts s t (s + t) refl) ∙ (power_parts (s + t) 128 (s + t + 128) refl ∙ sym (power_parts (s + t + 20) 108 (s + t + 128) (omega arith))) in
+    ap (λ u. u * 10 ^ 128) (power_parts s t (s + t) refl)
+    ∙ (power_parts (s + t) 128 (s + t + 128) refl ∙ sym (power_parts (s + t + 20) 108 (s + t + 128) (omega arith))) in
     exact_fraction ((m * 10 ^ s) * (n * 10 ^ t)) (10 ^ 108) (m * n) (s + t + 20) (ten_pow_pos 108)
     (product_steps m n (10 ^ s) (10 ^ t) (10 ^ 108) (10 ^ 128) (10 ^ (s + t + 20)) e)
 
 -- the same, where the code has the numbers under other names
-pub same_cut : (v : Exact) (whole whole' scale scale' : ℕ) → whole ≡ whole' → scale ≡ scale' → IsCutFarEnough v whole' scale' → IsCutFarEnough v whole scale
+pub same_cut : (v : Exact) (whole whole' scale scale' : ℕ) → whole ≡ whole' → scale ≡ scale' → IsCutFarEnough v whole' scale'
+    → IsCutFarEnough v whole scale
 same_cut v whole whole' scale scale' e f cut =
     let P : ℕ → Type 0 = λ w. IsCutFarEnough v w scale' in
     let Q : ℕ → Type 0 = λ s. IsCutFarEnough v whole s in
@@ -41,7 +45,8 @@ same_cut v whole whole' scale scale' e f cut =
 pub cut_percent : (m n s t : ℕ) → IsCutFarEnough (Fraction ((m * 10 ^ s) * (n * 10 ^ t)) (100 * 10 ^ 108)) (m * n) (s + t + 18)
 cut_percent m n s t =
     let e : (10 ^ s * 10 ^ t) * 10 ^ 128 ≡ 10 ^ (s + t + 18) * 10 ^ 110 =
-    ap (λ u. u * 10 ^ 128) (power_parts s t (s + t) refl) ∙ (power_parts (s + t) 128 (s + t + 128) refl ∙ sym (power_parts (s + t + 18) 110 (s + t + 128) (omega arith))) in
+    ap (λ u. u * 10 ^ 128) (power_parts s t (s + t) refl)
+    ∙ (power_parts (s + t) 128 (s + t + 128) refl ∙ sym (power_parts (s + t + 18) 110 (s + t + 128) (omega arith))) in
     exact_fraction ((m * 10 ^ s) * (n * 10 ^ t)) (100 * 10 ^ 108) (m * n) (s + t + 18) (ten_pow_pos 110)
     (product_steps m n (10 ^ s) (10 ^ t) (10 ^ 110) (10 ^ 128) (10 ^ (s + t + 18)) e)
 
@@ -64,7 +69,8 @@ quotient_high m n q ps pt pr n_pos pt_pos pr_pos high parts =
 pub cut_quotient : (m n s t q r : ℕ) → 10 ^ 9 ≤ m → 0 < n → n < 10 ^ 10 → q ≡ m * 10 ^ 11 / n → r + t ≡ s + 225
     → IsCutFarEnough (Fraction (((m * 10 ^ s) * (n * 10 ^ t)) * 10 ^ 108) ((n * 10 ^ t) * (n * 10 ^ t))) q r
 cut_quotient m n s t q r m_size n_pos n_size q_is e =
-    let parts : 10 ^ r * 10 ^ t ≡ 10 ^ s * 10 ^ 225 = power_parts r t (r + t) refl ∙ (ap (λ k. 10 ^ k) e ∙ sym (power_parts s 225 (s + 225) refl)) in
+    let parts : 10 ^ r * 10 ^ t ≡ 10 ^ s * 10 ^ 225 =
+    power_parts r t (r + t) refl ∙ (ap (λ k. 10 ^ k) e ∙ sym (power_parts s 225 (s + 225) refl)) in
     let low : m * 10 ^ 11 / n * n ≤ m * 10 ^ 11 = div-mul-le_self (m * 10 ^ 11) n in
     let high : m * 10 ^ 11 < m * 10 ^ 11 / n * n + n = lt-div-mul-add n_pos in
     let qn : q * n ≡ m * 10 ^ 11 / n * n = ap (λ t. t * n) q_is in
@@ -129,29 +135,34 @@ cut_sum m n s t apart e =
     (sum_steps m n (10 ^ s) (10 ^ t) (10 ^ apart) (10 ^ (t + 128)) (power_parts apart t s e) (pow-add 10 t 128))
 
 -- their difference, either way
-difference_steps : (m n ps pt p pk r d : ℕ) → p * pt ≡ ps → pk ≡ pt * 10 ^ 128 → d + n ≡ m * p → r + n * pt ≡ m * ps → r * 10 ^ 128 ≡ (d * pk) * 1
+difference_steps : (m n ps pt p pk r d : ℕ) → p * pt ≡ ps → pk ≡ pt * 10 ^ 128 → d + n ≡ m * p → r + n * pt ≡ m * ps
+    → r * 10 ^ 128 ≡ (d * pk) * 1
 difference_steps m n ps pt p pk r d parts scale steps size =
     let a : m * (p * pt) ≡ m * ps = ap (λ t. m * t) parts in
     let b : d * pk ≡ d * (pt * 10 ^ 128) = ap (λ t. d * t) scale in
     let c : (d + n) * pt ≡ (m * p) * pt = ap (λ t. t * pt) steps in
     omega arith
 
-difference_steps_turned : (m n ps pt p pk r d : ℕ) → p * pt ≡ ps → pk ≡ pt * 10 ^ 128 → d + m * p ≡ n → r + m * ps ≡ n * pt → r * 10 ^ 128 ≡ (d * pk) * 1
+difference_steps_turned : (m n ps pt p pk r d : ℕ) → p * pt ≡ ps → pk ≡ pt * 10 ^ 128 → d + m * p ≡ n → r + m * ps ≡ n * pt
+    → r * 10 ^ 128 ≡ (d * pk) * 1
 difference_steps_turned m n ps pt p pk r d parts scale steps size =
     let a : m * (p * pt) ≡ m * ps = ap (λ t. m * t) parts in
     let b : d * pk ≡ d * (pt * 10 ^ 128) = ap (λ t. d * t) scale in
     let c : (d + m * p) * pt ≡ n * pt = ap (λ t. t * pt) steps in
     omega arith
 
-pub cut_difference : (m n s t apart r d : ℕ) → apart + t ≡ s → d + n ≡ m * 10 ^ apart → r + n * 10 ^ t ≡ m * 10 ^ s → IsCutFarEnough (Fraction r 1) d (t + 128)
+pub cut_difference : (m n s t apart r d : ℕ) → apart + t ≡ s → d + n ≡ m * 10 ^ apart → r + n * 10 ^ t ≡ m * 10 ^ s
+    → IsCutFarEnough (Fraction r 1) d (t + 128)
 cut_difference m n s t apart r d e steps size =
     exact_fraction r 1 d (t + 128) (omega arith)
     (difference_steps m n (10 ^ s) (10 ^ t) (10 ^ apart) (10 ^ (t + 128)) r d (power_parts apart t s e) (pow-add 10 t 128) steps size)
 
-pub cut_difference_turned : (m n s t apart r d : ℕ) → apart + t ≡ s → d + m * 10 ^ apart ≡ n → r + m * 10 ^ s ≡ n * 10 ^ t → IsCutFarEnough (Fraction r 1) d (t + 128)
+pub cut_difference_turned : (m n s t apart r d : ℕ) → apart + t ≡ s → d + m * 10 ^ apart ≡ n → r + m * 10 ^ s ≡ n * 10 ^ t
+    → IsCutFarEnough (Fraction r 1) d (t + 128)
 cut_difference_turned m n s t apart r d e steps size =
     exact_fraction r 1 d (t + 128) (omega arith)
-    (difference_steps_turned m n (10 ^ s) (10 ^ t) (10 ^ apart) (10 ^ (t + 128)) r d (power_parts apart t s e) (pow-add 10 t 128) steps size)
+    (difference_steps_turned m n (10 ^ s) (10 ^ t) (10 ^ apart) (10 ^ (t + 128))
+    r d (power_parts apart t s e) (pow-add 10 t 128) steps size)
 
 -- a size whose exponent is twelve lower is less than a hundredth of the other's last place
 pub far_below : (n s t : ℕ) → n < 10 ^ 10 → t + 12 ≤ s → (n * 10 ^ t) * 100 < 10 ^ s

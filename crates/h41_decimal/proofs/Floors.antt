@@ -39,7 +39,8 @@ unfolding IsBetween
 between_same Plus a b c h k = (omega (arith, ints), omega (arith, ints))
 between_same Minus a b c h k = (omega (arith, ints), omega (arith, ints))
 
-between_apart : (s : Sign) (a b c : ℕ) → b ≤ a → c < b → IsBetween s (signed (opposite_of s) a) (signed (opposite_of s) b) (signed (opposite_of s) c)
+between_apart : (s : Sign) (a b c : ℕ) → b ≤ a → c < b
+    → IsBetween s (signed (opposite_of s) a) (signed (opposite_of s) b) (signed (opposite_of s) c)
 unfolding IsBetween
 between_apart Plus a b c h k = (omega (arith, ints), omega (arith, ints))
 between_apart Minus a b c h k = (omega (arith, ints), omega (arith, ints))
@@ -65,14 +66,16 @@ rest_of_same s Y X q r answer e less nearest =
     ap (λ z. signed s Y -ℤ z) x ∙ signed-sub s Y (X * q) r (omega arith) in
     record {
       whole = pos q;
-      floor = floor_at s (pos q) (signed s Y) X (signed s (q * X)) (signed s ((q + 1) * X)) (omega arith) (signed-mul Plus s q X) (signed-mul Plus s (q + 1) X)
+      floor =
+          floor_at s (pos q) (signed s Y) X (signed s (q * X)) (signed s ((q + 1) * X))
+          (omega arith) (signed-mul Plus s q X) (signed-mul Plus s (q + 1) X)
           (between_same s (q * X) Y ((q + 1) * X) (omega arith) (omega arith));
       rest = nearest_along _ _ 1 answer d nearest;
     }
 
 -- of two signs, with something left
-pub rest_of_apart : (s : Sign) (Y X q r : ℕ) (answer : Result Ten DecimalFault) → Y ≡ q * X + r → 0 < r → r < X → Nearest (signed s (X - r)) 1 answer
-    → RoundsRest (signed (opposite_of s) Y) (signed s X) answer
+pub rest_of_apart : (s : Sign) (Y X q r : ℕ) (answer : Result Ten DecimalFault) → Y ≡ q * X + r → 0 < r → r < X
+    → Nearest (signed s (X - r)) 1 answer → RoundsRest (signed (opposite_of s) Y) (signed s X) answer
 rest_of_apart s Y X q r answer e some less nearest =
     let x : signed s X *ℤ signed Minus (suc q) ≡ signed (opposite_of s) (X * suc q) =
     signed-mul s Minus X (suc q) ∙ ap (λ t. signed t (X * suc q)) (product_with_minus s) in
@@ -83,7 +86,9 @@ rest_of_apart s Y X q r answer e some less nearest =
     let l : suc q * X ≡ q * X + X = omega arith in
     record {
       whole = signed Minus (suc q);
-      floor = floor_at s (signed Minus (suc q)) (signed (opposite_of s) Y) X (signed (opposite_of s) (suc q * X)) (signed (opposite_of s) (q * X)) (omega arith)
+      floor =
+          floor_at s (signed Minus (suc q)) (signed (opposite_of s) Y) X
+          (signed (opposite_of s) (suc q * X)) (signed (opposite_of s) (q * X)) (omega arith)
           (signed-mul Minus s (suc q) X) (ap (λ z. z *ℤ signed s X) (one_less q) ∙ signed-mul Minus s q X)
           (between_apart s (suc q * X) Y (q * X) (omega arith) (omega arith));
       rest = nearest_along _ _ 1 answer d nearest;
@@ -100,7 +105,9 @@ rest_of_apart_none s Y X (suc q) e some X_pos =
     let l : suc q * X ≡ q * X + X = omega arith in
     record {
       whole = signed Minus (suc q);
-      floor = floor_at s (signed Minus (suc q)) (signed (opposite_of s) Y) X (signed (opposite_of s) (suc q * X)) (signed (opposite_of s) (q * X)) X_pos
+      floor =
+          floor_at s (signed Minus (suc q)) (signed (opposite_of s) Y) X
+          (signed (opposite_of s) (suc q * X)) (signed (opposite_of s) (q * X)) X_pos
           (signed-mul Minus s (suc q) X) (ap (λ z. z *ℤ signed s X) (one_less q) ∙ signed-mul Minus s q X)
           (between_apart s (suc q * X) Y (q * X) (omega arith) (omega arith));
       rest = nearest_of_zero _ 1 (Ok Zero) d refl;
@@ -114,7 +121,8 @@ remainder_step n v s p r e =
     ap (λ t. t % v) m ∙ mul-mod_first n (10 ^ p) v
 
 -- the sizes of a dividend, a divisor and what is left, where the divisor has no higher exponent
-pub sizes_divide : (n m t s r : ℕ) → 0 < m → s ≤ t → r ≡ n * 10 ^ (t - s) % m → (n * 10 ^ t ≡ (n * 10 ^ (t - s) / m) * (m * 10 ^ s) + r * 10 ^ s) × (r < m) × (r * 10 ^ s < m * 10 ^ s)
+pub sizes_divide : (n m t s r : ℕ) → 0 < m → s ≤ t → r ≡ n * 10 ^ (t - s) % m
+    → (n * 10 ^ t ≡ (n * 10 ^ (t - s) / m) * (m * 10 ^ s) + r * 10 ^ s) × (r < m) × (r * 10 ^ s < m * 10 ^ s)
 sizes_divide n m t s r m_pos le r_is =
     let q : 10 ^ (t - s) * 10 ^ s ≡ 10 ^ t = power_parts (t - s) s t (omega arith) in
     let a : n * (10 ^ (t - s) * 10 ^ s) ≡ n * 10 ^ t = ap (λ u. n * u) q in
@@ -126,13 +134,14 @@ sizes_divide n m t s r m_pos le r_is =
     (omega arith, less, mul-lt-mul_of_pos_right less (ten_pow_pos s))
 
 -- what is rounded is what is left
-pub rest_rounds : (sign : Sign) (k place : ℕ) (answer : Result Ten DecimalFault) → 0 < k → RoundsWhole sign k (place + 128) answer → Nearest (signed sign (k * 10 ^ place)) 1 answer
+pub rest_rounds : (sign : Sign) (k place : ℕ) (answer : Result Ten DecimalFault) → 0 < k → RoundsWhole sign k (place + 128) answer
+    → Nearest (signed sign (k * 10 ^ place)) 1 answer
 rest_rounds sign k place answer k_pos rounds =
     nearest_of (signed sign (k * 10 ^ place)) 1 sign (k * 10 ^ place) answer refl (mul-pos k_pos (ten_pow_pos place))
     (rounds (Fraction (k * 10 ^ place) 1) (exact_fraction (k * 10 ^ place) 1 k (place + 128) (omega arith) (at_unit_scale k place)))
 
-pub rest_rounds_at : (sign : Sign) (k place scale : ℕ) (answer : Result Ten DecimalFault) → 0 < k → scale ≡ place + 128 → RoundsWhole sign k scale answer
-    → Nearest (signed sign (k * 10 ^ place)) 1 answer
+pub rest_rounds_at : (sign : Sign) (k place scale : ℕ) (answer : Result Ten DecimalFault) → 0 < k → scale ≡ place + 128
+    → RoundsWhole sign k scale answer → Nearest (signed sign (k * 10 ^ place)) 1 answer
 rest_rounds_at sign k place scale answer k_pos scale_is rounds =
     let P : ℕ → Type 0 = λ t. RoundsWhole sign k t answer in
     rest_rounds sign k place answer k_pos (subst P scale_is rounds)
@@ -142,8 +151,8 @@ pub rest_of_zero : (s : Sign) (X : ℕ) → 0 < X → RoundsRest (pos 0) (signed
 rest_of_zero Plus X some = rest_of_same Plus 0 X 0 0 (Ok Zero) (omega arith) some refl
 rest_of_zero Minus X some = rest_of_same Minus 0 X 0 0 (Ok Zero) (omega arith) some refl
 
-pub modulo_by : (y : Ten) (t : Sign) (x : Size) (z : ℤ) (answer : Result Ten DecimalFault) → units y ≡ z → RoundsRest z (signed t (size x)) answer
-    → NearestModulo y (Nonzero t x) answer
+pub modulo_by : (y : Ten) (t : Sign) (x : Size) (z : ℤ) (answer : Result Ten DecimalFault) → units y ≡ z
+    → RoundsRest z (signed t (size x)) answer → NearestModulo y (Nonzero t x) answer
 modulo_by y t x z answer e rest =
     let a : unsigned_abs (signed t (size x)) ≡ size x = unsigned_abs-signed t (size x) in
     let some : 0 < unsigned_abs (signed t (size x)) = subst (λ n. 0 < n) (sym a) (size_pos x) in

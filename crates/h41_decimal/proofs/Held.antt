@@ -1,5 +1,6 @@
 -- A number has one register.
-use Rattle.std.proofs.Common.{◌≡◌, ℕ, zero, suc, ◌+◌, ◌-◌, ◌*◌, ◌^◌, ◌<◌, ◌≤◌, ◌⊎◌, ⊎_elim, inl, inr, sym, ◌∙◌, ap, refl, subst, arith, length, List, Option, Some, None, Bool, true, false}
+use Rattle.std.proofs.Common.{◌≡◌, ℕ, zero, suc, ◌+◌, ◌-◌, ◌*◌, ◌^◌, ◌<◌, ◌≤◌, ◌⊎◌, ⊎_elim, inl, inr, sym, ◌∙◌, ap, refl, subst, arith}
+use Rattle.std.proofs.Common.{length, List, Option, Some, None, Bool, true, false}
 use Rattle.std.specs.Prelude.{ℤ, pos, ◌==◌, if◌then◌else◌, nat_le, nat_lt, slice_index, ◌&&◌, unsigned_abs}
 use Rattle.std.specs.Option.{option_map}
 use Rattle.std.proofs.lemmas.Bool.{cases_lt}
@@ -25,8 +26,8 @@ record IsSplit (digit n : ℕ) (others : Option ℕ) : Type 0 where
   pub small : digit ≤ 9
   pub number_is : digit + 10 * rest ≡ n
 
-split_of : (t : Bool) (digit n : ℕ) (others : Option ℕ) → nat_le digit 9 ≡ t → (if t then option_map (λ rest. digit + 10 * rest) others else None) ≡ Some n
-    → IsSplit digit n others
+split_of : (t : Bool) (digit n : ℕ) (others : Option ℕ) → nat_le digit 9 ≡ t
+    → (if t then option_map (λ rest. digit + 10 * rest) others else None) ≡ Some n → IsSplit digit n others
 split_of true digit n (Some rest) e h = record {
   rest = rest;
   rest_is = refl;
@@ -96,8 +97,8 @@ record IsHeld (mantissa exponent : Option ℕ) (s : ℕ) (z : ℤ) : Type 0 wher
   pub exponent_is : exponent ≡ Some e
   pub either : IsHeldZero m e s z ⊎ IsHeldNonzero m e s z
 
-worth_of : (t : Bool) (m e s : ℕ) (sign : Sign) (steps : ℕ) (z : ℤ) → nat_lt m (10 ^ 9) ≡ t → sign_in s ≡ Some sign → steps_in e ≡ Some steps
-    → (if t then None else Some (signed sign (size_of m steps))) ≡ Some z → IsHeldNonzero m e s z
+worth_of : (t : Bool) (m e s : ℕ) (sign : Sign) (steps : ℕ) (z : ℤ) → nat_lt m (10 ^ 9) ≡ t → sign_in s ≡ Some sign
+    → steps_in e ≡ Some steps → (if t then None else Some (signed sign (size_of m steps))) ≡ Some z → IsHeldNonzero m e s z
 worth_of true m e s sign steps z less sign_is steps_is h = absurd cc
 worth_of false m e s sign steps z less sign_is steps_is h = record {
   sign = sign;
@@ -108,8 +109,8 @@ worth_of false m e s sign steps z less sign_is steps_is h = record {
   value_is = cc;
 }
 
-nonzero_of : (m e s : ℕ) (sign : Option Sign) (steps : Option ℕ) (z : ℤ) → sign_in s ≡ sign → steps_in e ≡ steps → digits_worth m sign steps ≡ Some z
-    → IsHeldNonzero m e s z
+nonzero_of : (m e s : ℕ) (sign : Option Sign) (steps : Option ℕ) (z : ℤ) → sign_in s ≡ sign → steps_in e ≡ steps
+    → digits_worth m sign steps ≡ Some z → IsHeldNonzero m e s z
 nonzero_of m e s (Some sign) (Some steps) z sign_is steps_is h = worth_of (nat_lt m (10 ^ 9)) m e s sign steps z refl sign_is steps_is h
 nonzero_of m e s (Some sign) None z sign_is steps_is h = absurd cc
 nonzero_of m e s None (Some steps) z sign_is steps_is h = absurd cc
@@ -201,8 +202,8 @@ not_held_zero m e s z none h =
     let b : 0 < m * 10 ^ h.steps = held_pos m h.steps h.at_least in
     omega arith
 
-same_nonzero : (m e s n f r : ℕ) (z : ℤ) → m < 10 ^ 10 → n < 10 ^ 10 → e < 10 ^ 3 → f < 10 ^ 3 → IsHeldNonzero m e s z → IsHeldNonzero n f r z
-    → AreSame m e s n f r
+same_nonzero : (m e s n f r : ℕ) (z : ℤ) → m < 10 ^ 10 → n < 10 ^ 10 → e < 10 ^ 3 → f < 10 ^ 3 → IsHeldNonzero m e s z
+    → IsHeldNonzero n f r z → AreSame m e s n f r
 same_nonzero m e s n f r z m_below n_below e_below f_below h k =
     let x = m * 10 ^ h.steps in
     let y = n * 10 ^ k.steps in
@@ -230,7 +231,8 @@ same_parts m e s n f r z m_below n_below e_below f_below (inl h) (inr k) = absur
 same_parts m e s n f r z m_below n_below e_below f_below (inr h) (inl k) = absurd (not_held_zero m e s z k.value_is h)
 same_parts m e s n f r z m_below n_below e_below f_below (inr h) (inr k) = same_nonzero m e s n f r z m_below n_below e_below f_below h k
 
-held : (register : List ℕ) (z : ℤ) → holding_of register ≡ Number z → IsHeld (decimal_in register 3 10) (decimal_in register 0 3) (slice_index register 13) z
+held : (register : List ℕ) (z : ℤ) → holding_of register ≡ Number z
+    → IsHeld (decimal_in register 3 10) (decimal_in register 0 3) (slice_index register 13) z
 held register z h =
     let n : number_in register ≡ Some z = sym (worth-holding_of register) ∙ ap worth h in
     held_of (decimal_in register 3 10) (decimal_in register 0 3) (slice_index register 13) z n
@@ -240,7 +242,9 @@ same_at : (a b : List ℕ) (z : ℤ) → holding_of a ≡ Number z → holding_o
 same_at a b z a_holds b_holds k less =
     let h = held a z a_holds in
     let i = held b z b_holds in
-    let same = same_parts h.m h.e (slice_index a 13) i.m i.e (slice_index b 13) z (below_power a 3 10 h.m h.mantissa_is) (below_power b 3 10 i.m i.mantissa_is)
+    let same =
+    same_parts h.m h.e (slice_index a 13) i.m i.e (slice_index b 13) z
+    (below_power a 3 10 h.m h.mantissa_is) (below_power b 3 10 i.m i.mantissa_is)
     (below_power a 0 3 h.e h.exponent_is) (below_power b 0 3 i.e i.exponent_is) h.either i.either in
     ⊎_elim
     (λ (exponent : k < 3).

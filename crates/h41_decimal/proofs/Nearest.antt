@@ -1,6 +1,7 @@
 -- Why a size that was cut to eleven digits and rounded there is nearest to what was cut.
 use Rattle.std.proofs.Common.{◌≡◌, ℕ, zero, suc, ◌+◌, ◌*◌, ◌^◌, ◌<◌, ◌≤◌, ◌⊎◌, inl, inr, sym, ◌∙◌, ap, refl, subst, arith}
-use Rattle.std.proofs.Math.Nat.{mul-le-mul_right, mul-lt-mul_of_pos_right, mul-pos, le_of_mul-le-mul_right, lt_of_mul-lt-mul_left, lt_of_mul-lt-mul_right, mul-le-mul, pow-suc, one-le-pow, mul_comm}
+use Rattle.std.proofs.Math.Nat.{mul-le-mul_right, mul-lt-mul_of_pos_right, mul-pos, le_of_mul-le-mul_right, lt_of_mul-lt-mul_left}
+use Rattle.std.proofs.Math.Nat.{lt_of_mul-lt-mul_right, mul-le-mul, pow-suc, one-le-pow, mul_comm}
 use Rattle.std.proofs.lemmas.Nat.{pow-add}
 use Rattle.h41_decimal.specs.NearestDecimal.{Exact, Fraction, RootOf, IsBelow, IsAtLeast, IsNear}
 
@@ -57,7 +58,8 @@ powers_apart (suc i) (suc j) =
         factor = m.factor;
         positive = m.positive;
         product =
-            next_product (10 ^ i) (10 * 10 ^ j) (10 ^ suc i) (10 * 10 ^ suc j) m.factor (pow-suc 10 i) (omega (arith, pow-suc 10 j)) m.product;
+            next_product (10 ^ i) (10 * 10 ^ j) (10 ^ suc i) (10 * 10 ^ suc j)
+            m.factor (pow-suc 10 i) (omega (arith, pow-suc 10 j)) m.product;
       }
     ]
 
@@ -132,11 +134,9 @@ larger_from v T m n k pu pb pa c ps q c_pos pb_pos q_pos rounded m_size k_size l
     let w : 0 < 2 * (c * pb) = mul-pos (omega arith) (mul-pos c_pos pb_pos) in
     below_more v ((T + 1) * ps) q (n * (pu * pb) + k * (pa * c)) (2 * (c * pb)) q_pos w (omega (arith, h)) cut
 
-pub smaller_from : (v : Exact) (T m n k pu pb pa c ps q : ℕ) → 0 < c → 0 < pb → 0 < q → 10 ^ 10 ≤ T → 10 * m ≤ T + 5 → 10 ^ 9 ≤ m → k < 10 ^ 10
-    → (n * pu) * q ≡ (m * (10 * ps)) * c
-    → IsMultiple (pa * q) (10 * (ps * pb)) ⊎ IsMultiple (10 * (ps * pb)) (10 * (pa * q))
-    → k * (pa * c) < n * (pu * pb) → IsAtLeast v (T * ps) q
-    → IsAtLeast v (n * (pu * pb) + k * (pa * c)) (2 * (c * pb))
+pub smaller_from : (v : Exact) (T m n k pu pb pa c ps q : ℕ) → 0 < c → 0 < pb → 0 < q → 10 ^ 10 ≤ T → 10 * m ≤ T + 5 → 10 ^ 9 ≤ m
+    → k < 10 ^ 10 → (n * pu) * q ≡ (m * (10 * ps)) * c → IsMultiple (pa * q) (10 * (ps * pb)) ⊎ IsMultiple (10 * (ps * pb)) (10 * (pa * q))
+    → k * (pa * c) < n * (pu * pb) → IsAtLeast v (T * ps) q → IsAtLeast v (n * (pu * pb) + k * (pa * c)) (2 * (c * pb))
 smaller_from v T m n k pu pb pa c ps q c_pos pb_pos q_pos T_size rounded m_size k_size link apart less cut =
     let e : (n * (pu * pb)) * q ≡ (m * (10 * (ps * pb))) * c = answered_steps n m pu pb ps c q link in
     let l : (k * (pa * c)) * q < (n * (pu * pb)) * q = mul-lt-mul_of_pos_right less q_pos in
@@ -152,7 +152,8 @@ powers_of i j X Y ex ey =
     let Q : ℕ → Type 0 = λ x. IsMultiple (10 ^ j) x ⊎ IsMultiple x (10 * 10 ^ j) in
     subst P ey (subst Q ex (powers_apart i j))
 
-steps_apart : (a b scale o : ℕ) → IsMultiple (10 ^ a * 10 ^ o) (10 * (10 ^ scale * 10 ^ b)) ⊎ IsMultiple (10 * (10 ^ scale * 10 ^ b)) (10 * (10 ^ a * 10 ^ o))
+steps_apart : (a b scale o : ℕ)
+    → IsMultiple (10 ^ a * 10 ^ o) (10 * (10 ^ scale * 10 ^ b)) ⊎ IsMultiple (10 * (10 ^ scale * 10 ^ b)) (10 * (10 ^ a * 10 ^ o))
 steps_apart a b scale o =
     powers_of (suc (scale + b)) (a + o) (10 * (10 ^ scale * 10 ^ b)) (10 ^ a * 10 ^ o)
     (pow-suc 10 (scale + b) ∙ (ap (λ t. t * 10) (pow-add 10 scale b) ∙ mul_comm (10 ^ scale * 10 ^ b) 10)) (pow-add 10 a o)
@@ -167,6 +168,7 @@ near_at v T m n scale up down o least below T_size low high m_size link = record
       larger_from v T m n k (10 ^ up) (10 ^ b) (10 ^ a) (10 ^ down) (10 ^ scale) (10 ^ o) (ten_pow_pos down) (ten_pow_pos b) (ten_pow_pos o)
       high m_size ten.below link (steps_apart a b scale o) less below;
   smaller = λ k a b ten less.
-      smaller_from v T m n k (10 ^ up) (10 ^ b) (10 ^ a) (10 ^ down) (10 ^ scale) (10 ^ o) (ten_pow_pos down) (ten_pow_pos b) (ten_pow_pos o)
+      smaller_from v T m n k (10 ^ up) (10 ^ b) (10 ^ a) (10 ^ down) (10 ^ scale)
+      (10 ^ o) (ten_pow_pos down) (ten_pow_pos b) (ten_pow_pos o)
       T_size low m_size ten.below link (steps_apart a b scale o) less least;
 }

@@ -1,5 +1,6 @@
 -- Decimal digits that are packed, and written all at once.
-use Rattle.std.proofs.Common.{◌≡◌, ℕ, zero, suc, ◌+◌, ◌-◌, ◌*◌, ◌/◌, ◌%◌, ◌^◌, ◌<◌, ◌≤◌, List, ◌∷◌, Some, None, length, get_or, take, drop, refl, sym, ap, ◌∙◌, arith}
+use Rattle.std.proofs.Common.{◌≡◌, ℕ, zero, suc, ◌+◌, ◌-◌, ◌*◌, ◌/◌, ◌%◌, ◌^◌, ◌<◌, ◌≤◌, List, ◌∷◌, Some, None, length, get_or, take, drop}
+use Rattle.std.proofs.Common.{refl, sym, ap, ◌∙◌, arith}
 use Rattle.std.specs.Prelude.{slice_index, nat_le, if◌then◌else◌}
 use Rattle.std.specs.Option.{option_map}
 use Rattle.std.proofs.Math.Nat.{pow-succ', pow-le-pow_right, mul-le-mul_right}
@@ -16,9 +17,11 @@ use Rattle.h41_decimal.proofs.Registers.{written_more}
 
 -- one digit more is packed
 moved_digit : (place digit : ℕ) → digit ≤ 9 → place < 14 → digit * 2 ^ (4 * place) % 2 ^ 64 ≡ digit * 16 ^ place
-moved_digit place digit small few = shl_whole digit 4 (4 * place) 64 (omega arith) (omega arith) ∙ ap (λ weight. digit * weight) (bits_of_places place)
+moved_digit place digit small few =
+    shl_whole digit 4 (4 * place) 64 (omega arith) (omega arith) ∙ ap (λ weight. digit * weight) (bits_of_places place)
 
-pub packed_more : (count place number rest so_far : ℕ) → place < count → count ≤ 14 → so_far + 16 ^ place * packed (count - place) rest ≡ packed count number
+pub packed_more : (count place number rest so_far : ℕ) → place < count → count ≤ 14
+    → so_far + 16 ^ place * packed (count - place) rest ≡ packed count number
     → so_far + rest % 10 * 2 ^ (4 * place) % 2 ^ 64 + 16 ^ (place + 1) * packed (count - (place + 1)) (rest / 10) ≡ packed count number
 packed_more count place number rest so_far more few held =
     let left = count - (place + 1) in
@@ -31,19 +34,22 @@ weighed digit weight so_far small below =
     let most : digit * weight ≤ 9 * weight = mul-le-mul_right weight small in
     omega (arith, most)
 
-pub packed_bound : (place rest so_far : ℕ) → so_far < 16 ^ place → place < 14 → so_far + rest % 10 * 2 ^ (4 * place) % 2 ^ 64 < 16 ^ (place + 1)
+pub packed_bound : (place rest so_far : ℕ) → so_far < 16 ^ place → place < 14
+    → so_far + rest % 10 * 2 ^ (4 * place) % 2 ^ 64 < 16 ^ (place + 1)
 packed_bound place rest so_far small few =
     let digit : rest % 10 ≤ 9 = omega arith in
     rw (moved_digit place (rest % 10) digit few, pow-next place) (weighed (rest % 10) (16 ^ place) so_far digit small)
 
-pub packed_all : (count number rest so_far : ℕ) → so_far + 16 ^ count * packed (count - count) rest ≡ packed count number → so_far ≡ packed count number
+pub packed_all : (count number rest so_far : ℕ) → so_far + 16 ^ count * packed (count - count) rest ≡ packed count number
+    → so_far ≡ packed count number
 packed_all count number rest so_far held =
     let none : count - count ≡ 0 = omega arith in
     let plain : so_far + 16 ^ count * 0 ≡ packed count number = rw none at held in
     omega (arith, plain)
 
 -- digits that stand alike are read alike
-moved : (x y : List ℕ) (p q count : ℕ) → ((k : ℕ) → k < count → slice_index x (p + k) ≡ slice_index y (q + k)) → decimal_in x p count ≡ decimal_in y q count
+moved : (x y : List ℕ) (p q count : ℕ) → ((k : ℕ) → k < count → slice_index x (p + k) ≡ slice_index y (q + k))
+    → decimal_in x p count ≡ decimal_in y q count
 moved x y p q zero same = refl
 moved x y p q (suc count) same =
     let p_is : p + 0 ≡ p = omega arith in
@@ -79,15 +85,19 @@ packed_read (suc count) number small =
     (rw one_less (behind_first (number % 10) digits count ∙ packed_read count (number / 10) fewer)))
 
 -- a register in which packed digits were written
-pub packed_written : (register : List ℕ) (place hi count number : ℕ) → IsRegister 14 register → hi + 1 ≡ place + count → place + count ≤ 14 → number < 10 ^ count
-    → value (take (hi + 1 - place) (drop place register)) ≡ packed count number → decimal_in register place count ≡ Some number
+pub packed_written : (register : List ℕ) (place hi count number : ℕ) → IsRegister 14 register → hi + 1 ≡ place + count → place + count ≤ 14
+    → number < 10 ^ count → value (take (hi + 1 - place) (drop place register)) ≡ packed count number
+    → decimal_in register place count ≡ Some number
 packed_written register place hi count number is ends inside small held =
     let part = take count (drop place register) in
     let places : hi + 1 - place ≡ count = omega arith in
     let held_in : value part ≡ packed count number = rw places at held in
     let size : length part ≡ count = length-take-le count (drop place register) (omega (arith, length-drop place register, is.size)) in
     let part_is : part ≡ digits_of count (packed count number) =
-    sym (digits_of-value count part (record { size = size; each = All-take (λ digit. digit < 16) count (drop place register) (All-drop (λ digit. digit < 16) place register is.each) }))
+    sym (digits_of-value count part (record {
+      size = size;
+      each = All-take (λ digit. digit < 16) count (drop place register) (All-drop (λ digit. digit < 16) place register is.each);
+    }))
     ∙ ap (digits_of count) held_in in
     moved register part place 0 count (λ k lt.
     let same : 0 + k ≡ k = omega arith in
@@ -97,7 +107,8 @@ packed_written register place hi count number is ends inside small held =
 pub same_from : (new old : List ℕ) (place hi : ℕ) → hi + 1 ≡ place → drop (hi + 1) new ≡ drop (hi + 1) old → SameDigitsFrom place new old
 same_from new old place hi is same k from =
     let at : hi + 1 + (k - (hi + 1)) ≡ k = omega arith in
-    rw at at (sym (get_or-drop (hi + 1) new (k - (hi + 1)) 0) ∙ ap (λ digits. get_or digits (k - (hi + 1)) 0) same ∙ get_or-drop (hi + 1) old (k - (hi + 1)) 0)
+    rw at at (sym (get_or-drop (hi + 1) new (k - (hi + 1)) 0) ∙ ap (λ digits. get_or digits (k - (hi + 1)) 0) same
+    ∙ get_or-drop (hi + 1) old (k - (hi + 1)) 0)
 
 pub packed_fits : (place rest so_far : ℕ) → so_far < 16 ^ place → place < 14 → so_far + rest % 10 * 2 ^ (4 * place) % 2 ^ 64 < 2 ^ 64
 packed_fits place rest so_far small few =

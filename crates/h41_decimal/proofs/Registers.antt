@@ -1,5 +1,6 @@
 -- Numbers in registers.
-use Rattle.std.proofs.Common.{◌≡◌, ℕ, zero, suc, ◌+◌, ◌-◌, ◌*◌, ◌^◌, ◌<◌, ◌≤◌, inl, inr, sym, ◌∙◌, ap, refl, arith, List, Option, Some, None, Bool, true, false}
+use Rattle.std.proofs.Common.{◌≡◌, ℕ, zero, suc, ◌+◌, ◌-◌, ◌*◌, ◌^◌, ◌<◌, ◌≤◌, inl, inr, sym, ◌∙◌, ap, refl, arith, List, Option, Some}
+use Rattle.std.proofs.Common.{None, Bool, true, false}
 use Rattle.std.specs.Prelude.{ℤ, pos, ◌==◌, if◌then◌else◌, nat_le, nat_lt, slice_index, ◌&&◌, ◌/◌, ◌%◌}
 use Rattle.h41_decimal.specs.Signs.{signed}
 use Rattle.h41_decimal.specs.Units.{size_of}
@@ -7,7 +8,8 @@ use Rattle.h41_decimal.specs.declared.sign.Sign.{Sign}
 use Rattle.std.specs.Option.{option_map}
 use Rattle.std.proofs.lemmas.Bool.{cases_eq}
 use Rattle.std.proofs.lemmas.Bool.Decides.{nat_tests}
-use Rattle.h41_decimal.specs.Holding.{Number, Text, Other, decimal_in, holding, holding_of, number_in, worth, text_in, sign_in, steps_in, parts_worth, digits_worth}
+use Rattle.h41_decimal.specs.Holding.{Number, Text, Other, decimal_in, holding, holding_of, number_in, worth, text_in, sign_in, steps_in}
+use Rattle.h41_decimal.specs.Holding.{parts_worth, digits_worth}
 
 -- what is held is worth what the number in the register is
 other-worth : (b : Bool) (bytes : List ℕ) → worth (if b then Text bytes else Other) ≡ None
@@ -52,8 +54,9 @@ written_more register place count number some digit rest =
     sym (ap Some (let e : number ≡ number % 10 + 10 * (number / 10) = omega arith in e) ∙ h)
 
 -- parts that are read as those of a decimal
-pub parts_hold : (register : List ℕ) (m e s : ℕ) (sign : Sign) (steps : ℕ) → decimal_in register 3 10 ≡ Some m → decimal_in register 0 3 ≡ Some e
-    → slice_index register 13 ≡ s → sign_in s ≡ Some sign → steps_in e ≡ Some steps → 10 ^ 9 ≤ m → holding_of register ≡ Number (signed sign (size_of m steps))
+pub parts_hold : (register : List ℕ) (m e s : ℕ) (sign : Sign) (steps : ℕ) → decimal_in register 3 10 ≡ Some m
+    → decimal_in register 0 3 ≡ Some e → slice_index register 13 ≡ s → sign_in s ≡ Some sign → steps_in e ≡ Some steps → 10 ^ 9 ≤ m
+    → holding_of register ≡ Number (signed sign (size_of m steps))
 parts_hold register m e s sign steps m_in e_in s_in sign_is steps_is m_size =
     let z : (m == 0) ≡ false = grind (arith, nat_tests) in
     let l : nat_lt m (10 ^ 9) ≡ false = grind (arith, nat_tests) in
@@ -61,7 +64,8 @@ parts_hold register m e s sign steps m_in e_in s_in sign_is steps_is m_size =
     let b : parts_worth (Some m) (Some e) s ≡ digits_worth m (sign_in s) (steps_in e) =
     ap (λ t. if t && e == 0 && s == 0 then Some (pos 0) else digits_worth m (sign_in s) (steps_in e)) z in
     let c : digits_worth m (sign_in s) (steps_in e) ≡ digits_worth m (Some sign) (Some steps) = cc in
-    let d : digits_worth m (Some sign) (Some steps) ≡ Some (signed sign (size_of m steps)) = ap (λ t. if t then None else Some (signed sign (size_of m steps))) l in
+    let d : digits_worth m (Some sign) (Some steps) ≡ Some (signed sign (size_of m steps)) =
+    ap (λ t. if t then None else Some (signed sign (size_of m steps))) l in
     ap (λ v. holding v register) (a ∙ (b ∙ (c ∙ d)))
 
 -- a digit above 9 among others
@@ -69,7 +73,8 @@ none_either : (b : Bool) (f : ℕ → ℕ) (others : Option ℕ) → others ≡ 
 none_either true f others none = ap (option_map f) none
 none_either false f others none = refl
 
-pub no_decimal : (count : ℕ) (register : List ℕ) (place bad : ℕ) → place ≤ bad → bad < place + count → 9 < slice_index register bad → decimal_in register place count ≡ None
+pub no_decimal : (count : ℕ) (register : List ℕ) (place bad : ℕ) → place ≤ bad → bad < place + count → 9 < slice_index register bad
+    → decimal_in register place count ≡ None
 no_decimal zero register place bad low high above = absurd (omega (arith, low, high))
 no_decimal (suc count) register place bad low high above = elim (cases_eq bad place) [
   | inl same ↦
@@ -77,6 +82,7 @@ no_decimal (suc count) register place bad low high above = elim (cases_eq bad pl
       let t : nat_le (slice_index register place) 9 ≡ false = grind (arith, nat_tests) in
       ap (λ b. if b then option_map (λ rest. slice_index register place + 10 * rest) (decimal_in register (place + 1) count) else None) t
   | inr other ↦
-      none_either (nat_le (slice_index register place) 9) (λ rest. slice_index register place + 10 * rest) (decimal_in register (place + 1) count)
+      none_either (nat_le (slice_index register place) 9)
+      (λ rest. slice_index register place + 10 * rest) (decimal_in register (place + 1) count)
       (no_decimal count register (place + 1) bad (omega (arith, low, other)) (omega (arith, high)) above)
 ]

@@ -20,7 +20,8 @@ not_zero A B n n_pos b =
     subst P (sym f) b
 
 -- the nearest decimal of a size with a sign
-pub nearest_of : (z : ℤ) (d : ℕ) (sign : Sign) (n : ℕ) (answer : Result Ten DecimalFault) → z ≡ signed sign n → 0 < n → IsRounded sign (Fraction n d) answer → Nearest z d answer
+pub nearest_of : (z : ℤ) (d : ℕ) (sign : Sign) (n : ℕ) (answer : Result Ten DecimalFault) → z ≡ signed sign n → 0 < n
+    → IsRounded sign (Fraction n d) answer → Nearest z d answer
 nearest_of z d sign zero answer e n_pos rounded = absurd (omega arith)
 nearest_of z d Plus (suc n) answer e n_pos rounded =
     let P : ℤ → Type 0 = λ t. Nearest t d answer in

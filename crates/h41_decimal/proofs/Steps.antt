@@ -1,7 +1,8 @@
 -- A size rounded to whole steps.
 use Rattle.std.proofs.Common.{◌≡◌, ℕ, zero, suc, ◌+◌, ◌-◌, ◌*◌, ◌/◌, ◌^◌, ◌<◌, ◌≤◌, sym, ◌∙◌, ap, refl, subst, arith, Result, Ok}
 use Rattle.std.specs.Prelude.{pos, unsigned_abs}
-use Rattle.std.proofs.Math.Nat.{mul-pos, mul-le-mul_right, mul-lt-mul_of_pos_right, div-mul-le_self, lt-div-mul-add, pow-le-pow_right, pow-suc}
+use Rattle.std.proofs.Math.Nat.{mul-pos, mul-le-mul_right, mul-lt-mul_of_pos_right, div-mul-le_self, lt-div-mul-add, pow-le-pow_right}
+use Rattle.std.proofs.Math.Nat.{pow-suc}
 use Rattle.std.proofs.lemmas.Nat.{pow-add}
 use Rattle.h41_decimal.specs.Signs.{signed, sign_of}
 use Rattle.h41_decimal.specs.Units.{size}
@@ -49,7 +50,8 @@ zero_rounds step step_pos = record {
 }
 
 -- a size with no place below the step stays as it is
-pub whole_rounds : (sign : Sign) (x : Size) (place : ℕ) → place ≤ x.exponent.biased → RoundsTo (10 ^ place) (signed sign (size x)) (Ok (Nonzero sign x))
+pub whole_rounds : (sign : Sign) (x : Size) (place : ℕ) → place ≤ x.exponent.biased
+    → RoundsTo (10 ^ place) (signed sign (size x)) (Ok (Nonzero sign x))
 whole_rounds sign x place low =
     let m = x.mantissa.digits in
     let s = x.exponent.biased in
@@ -61,7 +63,8 @@ whole_rounds sign x place low =
     (subst P (sym e) (own_nearest (Nonzero sign x)))
 
 -- one far below half a step becomes zero
-pub tiny_rounds : (sign : Sign) (x : Size) (place : ℕ) → x.exponent.biased + 10 < place → RoundsTo (10 ^ place) (signed sign (size x)) (Ok Zero)
+pub tiny_rounds : (sign : Sign) (x : Size) (place : ℕ) → x.exponent.biased + 10 < place
+    → RoundsTo (10 ^ place) (signed sign (size x)) (Ok Zero)
 tiny_rounds sign x place far =
     let m = x.mantissa.digits in
     let s = x.exponent.biased in
@@ -89,8 +92,9 @@ half_of_power : (p dropped : ℕ) → p ≡ 10 ^ dropped → 0 < dropped → 2 *
 half_of_power p zero e h = absurd (omega arith)
 half_of_power p (suc dropped) e h = let q : 10 ^ suc dropped ≡ 10 ^ dropped * 10 = pow-suc 10 dropped in omega arith
 
-quotient_rounds : (sign : Sign) (x : Size) (place dropped p k : ℕ) (answer : Result Ten DecimalFault) → dropped + x.exponent.biased ≡ place → 0 < dropped
-    → p ≡ 10 ^ dropped → k ≡ (x.mantissa.digits + p / 2) / p → Nearest (signed sign (k * 10 ^ place)) 1 answer → RoundsTo (10 ^ place) (signed sign (size x)) answer
+quotient_rounds : (sign : Sign) (x : Size) (place dropped p k : ℕ) (answer : Result Ten DecimalFault) → dropped + x.exponent.biased ≡ place
+    → 0 < dropped → p ≡ 10 ^ dropped → k ≡ (x.mantissa.digits + p / 2) / p → Nearest (signed sign (k * 10 ^ place)) 1 answer
+    → RoundsTo (10 ^ place) (signed sign (size x)) answer
 quotient_rounds sign x place dropped p k answer places some p_is k_is nearest =
     let m = x.mantissa.digits in
     let s = x.exponent.biased in
@@ -119,8 +123,9 @@ pub at_unit_scale : (k place : ℕ) → (k * 10 ^ place) * 10 ^ 128 ≡ (k * 10 
 at_unit_scale k place = let p = ap (λ t. k * t) (pow-add 10 place 128) in omega (arith, p)
 
 -- and another, rounded to ten digits
-pub quotient_rounds_to_steps : (sign : Sign) (x : Size) (place dropped p k : ℕ) (answer : Result Ten DecimalFault) → dropped + x.exponent.biased ≡ place → 0 < dropped
-    → p ≡ 10 ^ dropped → k ≡ (x.mantissa.digits + p / 2) / p → 0 < k → RoundsWhole sign k (place + 128) answer → RoundsTo (10 ^ place) (signed sign (size x)) answer
+pub quotient_rounds_to_steps : (sign : Sign) (x : Size) (place dropped p k : ℕ) (answer : Result Ten DecimalFault)
+    → dropped + x.exponent.biased ≡ place → 0 < dropped → p ≡ 10 ^ dropped → k ≡ (x.mantissa.digits + p / 2) / p → 0 < k
+    → RoundsWhole sign k (place + 128) answer → RoundsTo (10 ^ place) (signed sign (size x)) answer
 quotient_rounds_to_steps sign x place dropped p k answer places some p_is k_is k_pos rounds =
     quotient_rounds sign x place dropped p k answer places some p_is k_is
     (nearest_of (signed sign (k * 10 ^ place)) 1 sign (k * 10 ^ place) answer refl (mul-pos k_pos (ten_pow_pos place))

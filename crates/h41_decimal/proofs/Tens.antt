@@ -1,5 +1,6 @@
 -- Operations on decimals, from those on sizes.
-use Rattle.std.proofs.Common.{◌≡◌, ℕ, zero, suc, ◌+◌, ◌-◌, ◌*◌, ◌^◌, ◌<◌, ◌≤◌, sym, ◌∙◌, ap, refl, subst, arith, Result, Ok, Err, Bool, true, false, MatchBool, IsOkAnd}
+use Rattle.std.proofs.Common.{◌≡◌, ℕ, zero, suc, ◌+◌, ◌-◌, ◌*◌, ◌^◌, ◌<◌, ◌≤◌, sym, ◌∙◌, ap, refl, subst, arith, Result, Ok, Err, Bool}
+use Rattle.std.proofs.Common.{true, false, MatchBool, IsOkAnd}
 use Rattle.std.proofs.lemmas.Bool.Decides.{nat_tests}
 use Rattle.std.specs.Prelude.{ℤ, pos, neg_ℤ, ◌+ℤ◌, ◌-ℤ◌, ◌*ℤ◌, ◌<ℤ◌, unsigned_abs, nat_le}
 use Rattle.std.proofs.lemmas.Int.{ints}
@@ -42,12 +43,14 @@ unsigned_abs-signed Minus zero = refl
 unsigned_abs-signed Minus (suc n) = refl
 
 -- a decimal is the answer for its own value
-own_bounded : (sign : Sign) (x : Size) (steps : ℕ) → steps ≡ x.exponent.biased → IsBounded sign x.mantissa.digits (pos steps) (Ok (Nonzero sign x))
+own_bounded : (sign : Sign) (x : Size) (steps : ℕ) → steps ≡ x.exponent.biased
+    → IsBounded sign x.mantissa.digits (pos steps) (Ok (Nonzero sign x))
 own_bounded sign x steps e =
     let low : x.exponent.biased ≤ 198 = x.exponent.in_range in
     let small : steps ≤ 198 = omega arith in
     let t : nat_le steps 198 ≡ true = grind (arith, nat_tests) in
-    let same : signed sign (size x) ≡ signed sign (size_of x.mantissa.digits steps) = ap (λ k. signed sign (size_of x.mantissa.digits k)) (sym e) in
+    let same : signed sign (size x) ≡ signed sign (size_of x.mantissa.digits steps) =
+    ap (λ k. signed sign (size_of x.mantissa.digits k)) (sym e) in
     let answer : Result Ten DecimalFault = Ok (Nonzero sign x) in
     let Then : Type 0 = IsOkAnd answer (λ number. units number ≡ signed sign (size_of x.mantissa.digits steps)) in
     let Else : Type 0 = answer ≡ Err Range in
@@ -79,17 +82,18 @@ own_rounded sign x =
 
 pub own_nearest : (x : Ten) → Nearest (units x) 1 (Ok x)
 own_nearest Zero = refl
-own_nearest (Nonzero sign x) = nearest_of (units (Nonzero sign x)) 1 sign (size x) (Ok (Nonzero sign x)) refl (size_pos x) (own_rounded sign x)
+own_nearest (Nonzero sign x) =
+    nearest_of (units (Nonzero sign x)) 1 sign (size x) (Ok (Nonzero sign x)) refl (size_pos x) (own_rounded sign x)
 
 -- the product, and a hundredth of it
-pub product_nearest : (s t : Sign) (x y : Size) (d : ℕ) (answer : Result Ten DecimalFault) → IsRounded (product_of s t) (Fraction (size x * size y) d) answer
-    → Nearest (signed s (size x) *ℤ signed t (size y)) d answer
+pub product_nearest : (s t : Sign) (x y : Size) (d : ℕ) (answer : Result Ten DecimalFault)
+    → IsRounded (product_of s t) (Fraction (size x * size y) d) answer → Nearest (signed s (size x) *ℤ signed t (size y)) d answer
 product_nearest s t x y d answer rounded =
     nearest_of _ d (product_of s t) (size x * size y) answer (signed-mul s t (size x) (size y)) (mul-pos (size_pos x) (size_pos y)) rounded
 
 -- the quotient by what is not zero
-pub quotient_by : (z : ℤ) (t : Sign) (y : Size) (answer : Result Ten DecimalFault) → Nearest (z *ℤ signed t (size y) *ℤ pos one) (size y * size y) answer
-    → NearestQuotient z (signed t (size y)) answer
+pub quotient_by : (z : ℤ) (t : Sign) (y : Size) (answer : Result Ten DecimalFault)
+    → Nearest (z *ℤ signed t (size y) *ℤ pos one) (size y * size y) answer → NearestQuotient z (signed t (size y)) answer
 quotient_by z t y answer nearest =
     let e : unsigned_abs (signed t (size y)) ≡ size y = unsigned_abs-signed t (size y) in
     let some : 0 < unsigned_abs (signed t (size y)) = subst (λ n. 0 < n) (sym e) (size_pos y) in
@@ -106,9 +110,11 @@ pub quotient_nearest : (s t : Sign) (x y : Size) (answer : Result Ten DecimalFau
 quotient_nearest s t x y answer rounded =
     let e : signed s (size x) *ℤ signed t (size y) *ℤ pos one ≡ signed (product_of s t) (size x * size y * one) =
     ap (λ z. z *ℤ pos one) (signed-mul s t (size x) (size y))
-    ∙ (signed-mul (product_of s t) Plus (size x * size y) one ∙ ap (λ u. signed u (size x * size y * one)) (product_with_plus (product_of s t))) in
+    ∙ (signed-mul (product_of s t) Plus (size x * size y) one
+    ∙ ap (λ u. signed u (size x * size y * one)) (product_with_plus (product_of s t))) in
     quotient_by (signed s (size x)) t y answer
-    (nearest_of _ (size y * size y) (product_of s t) (size x * size y * one) answer e (mul-pos (mul-pos (size_pos x) (size_pos y)) (ten_pow_pos 108)) rounded)
+    (nearest_of _ (size y * size y) (product_of s t) (size x * size y * one) answer
+    e (mul-pos (mul-pos (size_pos x) (size_pos y)) (ten_pow_pos 108)) rounded)
 
 pub quotient_of_zero : (t : Sign) (y : Size) → NearestQuotient (pos 0) (signed t (size y)) (Ok Zero)
 quotient_of_zero t y =
@@ -116,7 +122,8 @@ quotient_of_zero t y =
     (nearest_of_zero _ (size y * size y) (Ok Zero) (ap (λ z. z *ℤ pos one) (zero-*ℤ (signed t (size y))) ∙ zero-*ℤ (pos one)) refl)
 
 -- the square root of what is above zero, and of what is below
-pub root_nearest : (x : Size) (answer : Result Ten DecimalFault) → IsRounded Plus (RootOf (size x * one)) answer → NearestRoot (signed Plus (size x)) answer
+pub root_nearest : (x : Size) (answer : Result Ten DecimalFault) → IsRounded Plus (RootOf (size x * one)) answer
+    → NearestRoot (signed Plus (size x)) answer
 root_nearest x answer rounded = not_zero (answer ≡ Ok Zero) _ (size x) (size_pos x) rounded
 
 pub root_of_negative : (x : Size) → NearestRoot (signed Minus (size x)) (Err Data)

@@ -35,7 +35,8 @@ pub ones_cut : (m s k p : ℕ) → p ≡ 10 ^ k → k + s ≡ 108 → HasOnes (m
 ones_cut m s k p is e =
     let some : 0 < 10 ^ k = ten_pow_pos k in
     let p_pos : 0 < p = omega arith in
-    ones_of_quotient (m / p) m p (10 ^ s) (div-mul-le_self m p) (lt-div-mul-add p_pos) (ap (λ t. t * 10 ^ s) is ∙ power_parts k s 108 e) (ten_pow_pos s)
+    ones_of_quotient (m / p) m p (10 ^ s) (div-mul-le_self m p) (lt-div-mul-add p_pos)
+    (ap (λ t. t * 10 ^ s) is ∙ power_parts k s 108 e) (ten_pow_pos s)
 
 pub all_ones : (m s : ℕ) → 108 ≤ s → m * 10 ^ (s - 108) * 10 ^ 108 ≡ m * 10 ^ s
 all_ones m s high =
@@ -63,7 +64,8 @@ split_at_ones m s k p is e =
     omega arith
 
 -- with the sign
-pub integer_of : (sign : Sign) (n ones : ℕ) (part : ℤ) → 0 < n → HasOnes n ones → part ≡ signed sign (ones * 10 ^ 108) → IsIntegerPart (signed sign n) part
+pub integer_of : (sign : Sign) (n ones : ℕ) (part : ℤ) → 0 < n → HasOnes n ones → part ≡ signed sign (ones * 10 ^ 108)
+    → IsIntegerPart (signed sign n) part
 integer_of sign n ones part n_pos has e = record {
   ones = ones;
   whole = subst (λ k. HasOnes k ones) (sym (unsigned_abs-signed sign n)) has;
@@ -86,7 +88,9 @@ pub few_digits : (count number : ℕ) → 10 ^ count ≤ 10 * number → number 
 few_digits count number least few =
     ⊎_elim
     (λ (more : 10 < count).
-    absurd (let ten : 0 < 10 = omega arith in let le : 11 ≤ count = omega arith in let p : 10 ^ 11 ≤ 10 ^ count = pow-le-pow_right ten le in omega arith))
+    absurd (let ten : 0 < 10 =
+    omega arith in
+    let le : 11 ≤ count = omega arith in let p : 10 ^ 11 ≤ 10 ^ count = pow-le-pow_right ten le in omega arith))
     (λ (fits : count ≤ 10). fits)
     (cases_lt 10 count)
 
@@ -101,9 +105,11 @@ ten_of_fewer number count missing p is e least next =
     let b : number * p < 10 ^ count * p = mul-lt-mul_of_pos_right next p_pos in
     (omega arith, omega arith)
 
-pub filled_worth : (number missing steps p : ℕ) → p ≡ 10 ^ missing → missing ≤ steps → number * p * 10 ^ (steps - missing) ≡ number * 10 ^ steps
+pub filled_worth : (number missing steps p : ℕ) → p ≡ 10 ^ missing → missing ≤ steps
+    → number * p * 10 ^ (steps - missing) ≡ number * 10 ^ steps
 filled_worth number missing steps p is le =
-    let q : p * 10 ^ (steps - missing) ≡ 10 ^ steps = ap (λ t. t * 10 ^ (steps - missing)) is ∙ power_parts missing (steps - missing) steps (omega arith) in
+    let q : p * 10 ^ (steps - missing) ≡ 10 ^ steps =
+    ap (λ t. t * 10 ^ (steps - missing)) is ∙ power_parts missing (steps - missing) steps (omega arith) in
     let a : number * (p * 10 ^ (steps - missing)) ≡ number * 10 ^ steps = ap (λ t. number * t) q in
     omega arith
 
@@ -121,7 +127,8 @@ integer_determined number x y p q =
     p.value ∙ ap (λ k. signed (sign_of number) (k * one)) (ones_determined _ p.ones q.ones p.whole q.whole) ∙ sym q.value
 
 pub fraction_determined : FractionIsDetermined
-fraction_determined number x y p q = p.rest ∙ ap (λ part. number -ℤ part) (integer_determined number p.part q.part p.integer q.integer) ∙ sym q.rest
+fraction_determined number x y p q =
+    p.rest ∙ ap (λ part. number -ℤ part) (integer_determined number p.part q.part p.integer q.integer) ∙ sym q.rest
 
 -- the fraction of zero
 pub zero_fraction : IsFraction (pos 0) (pos 0)

@@ -1,4 +1,5 @@
--- A whole number to which an exact size was cut, before it is rounded. No public contract needs this file.
+-- A whole number to which an exact size was cut, before it is rounded. No public contract needs
+-- this file.
 use Rattle.std.specs.Prelude.{ℕ, ◌+◌, ◌*◌, ◌^◌, ◌<◌, ◌≤◌, Result}
 use Rattle.h41_decimal.specs.NearestDecimal.{Exact, Fraction, RootOf, IsBelow, IsAtLeast, IsRounded}
 use Rattle.h41_decimal.specs.declared.fault.DecimalFault.{DecimalFault}
@@ -26,8 +27,10 @@ pub record IsCutFarEnough (exact : Exact) (whole scale : ℕ) : Type 0 where
 
 -- the answer is right for each exact size that was cut to eleven digits
 abbrev pub RoundsElevenDigits : Sign → ℕ → ℕ → Result Ten DecimalFault → Type 0
-RoundsElevenDigits sign whole scale answer = (exact : Exact) → IsCut exact whole scale → IsRounded sign exact answer
+RoundsElevenDigits sign whole scale answer =
+    (exact : Exact) → IsCut exact whole scale → IsRounded sign exact answer
 
 -- and for each that was cut far enough
 abbrev pub RoundsWhole : Sign → ℕ → ℕ → Result Ten DecimalFault → Type 0
-RoundsWhole sign whole scale answer = (exact : Exact) → IsCutFarEnough exact whole scale → IsRounded sign exact answer
+RoundsWhole sign whole scale answer =
+    (exact : Exact) → IsCutFarEnough exact whole scale → IsRounded sign exact answer

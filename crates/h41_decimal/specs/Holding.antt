@@ -1,5 +1,7 @@
 -- What a register of 14 digits holds: a number, ALPHA data, or neither.
-use Rattle.std.specs.Prelude.{ℕ, zero, suc, ◌+◌, ◌-◌, ◌*◌, ◌^◌, ◌&&◌, List, [], ◌∷◌, map, slice_index, Option, Some, None, nat_le, nat_lt, ◌==◌, if◌then◌else◌, ℤ, pos}
+use Rattle.std.specs.Prelude.{ℕ, zero, suc, ◌+◌, ◌-◌, ◌*◌, ◌^◌, ◌&&◌, List, [], ◌∷◌, map}
+use Rattle.std.specs.Prelude.{slice_index, Option, Some, None, nat_le, nat_lt, ◌==◌, if◌then◌else◌}
+use Rattle.std.specs.Prelude.{ℤ, pos}
 use Rattle.std.specs.Option.{option_map}
 use Rattle.h41_digits.specs.Register.{byte_at}
 use Rattle.h41_decimal.specs.Signs.{signed}
@@ -16,20 +18,22 @@ pub data Holding : Type 0 where
   -- neither
   Other : Holding
 
--- the number whose decimal digits stand from a place up, so many of them, or nothing where one is above 9
+-- the number whose decimal digits stand from a place up, so many of them, or nothing where one is
+-- above 9
 abbrev pub decimal_in : List ℕ → ℕ → ℕ → Option ℕ
 decimal_in register place zero = Some 0
 decimal_in register place (suc count) =
     if nat_le (slice_index register place) 9
-    then option_map (λ rest. slice_index register place + 10 * rest) (decimal_in register (place + 1) count)
+    then option_map (λ rest. slice_index register place + 10 * rest)
+    (decimal_in register (place + 1) count)
     else None
 
 -- the sign, in place 13: 0, or 9 for a negative number
 abbrev pub sign_in : ℕ → Option Sign
 sign_in digit = if digit == 0 then Some Plus else if digit == 9 then Some Minus else None
 
--- The exponent, three digits, counted from -99: 0 to 99 are themselves, and 901 to 999 stand for -99 to -1, as 1000 less the
--- size.
+-- The exponent, three digits, counted from -99: 0 to 99 are themselves, and 901 to 999 stand for
+-- -99 to -1, as 1000 less the size.
 abbrev pub steps_in : ℕ → Option ℕ
 steps_in exponent =
     if nat_le exponent 99 then Some (exponent + 99)
@@ -49,16 +53,19 @@ parts_worth (Some mantissa) (Some exponent) sign =
     else digits_worth mantissa (sign_in sign) (steps_in exponent)
 parts_worth _ _ sign = None
 
--- what the number in a register is worth, where there is one: the mantissa stands in places 3 to 12, the exponent in 0 to 2
+-- what the number in a register is worth, where there is one: the mantissa stands in places 3 to
+-- 12, the exponent in 0 to 2
 abbrev pub number_in : List ℕ → Option ℤ
-number_in register = parts_worth (decimal_in register 3 10) (decimal_in register 0 3) (slice_index register 13)
+number_in register =
+    parts_worth (decimal_in register 3 10) (decimal_in register 0 3) (slice_index register 13)
 
 -- bytes without the leading ones that are zero
 abbrev pub after_nulls : List ℕ → List ℕ
 after_nulls [] = []
 after_nulls (byte ∷ bytes) = if byte == 0 then after_nulls bytes else byte ∷ bytes
 
--- ALPHA data has 1 in place 13, and up to six bytes at the right, in places 11 to 0; place 12 is not looked at
+-- ALPHA data has 1 in place 13, and up to six bytes at the right, in places 11 to 0; place 12 is
+-- not looked at
 abbrev pub text_in : List ℕ → List ℕ
 text_in register = after_nulls (map (byte_at register) (5 ∷ 4 ∷ 3 ∷ 2 ∷ 1 ∷ 0 ∷ []))
 

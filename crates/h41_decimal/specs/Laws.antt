@@ -19,23 +19,30 @@ UnitsAreInjective = (x y : Ten) → units x ≡ units y → x ≡ y
 -- the nearest decimal of a fraction is determined
 abbrev pub NearestIsDetermined : Type 0
 NearestIsDetermined =
-    (above : ℤ) (below : ℕ) (x y : Result Ten DecimalFault) → Nearest above below x → Nearest above below y → x ≡ y
+    (above : ℤ) (below : ℕ) (x y : Result Ten DecimalFault) → Nearest above below x
+    → Nearest above below y → x ≡ y
 
 -- and so is that of a root
 abbrev pub NearestRootIsDetermined : Type 0
 NearestRootIsDetermined =
-    (number : ℤ) (x y : Result Ten DecimalFault) → NearestRoot number x → NearestRoot number y → x ≡ y
+    (number : ℤ) (x y : Result Ten DecimalFault) → NearestRoot number x → NearestRoot number y
+    → x ≡ y
 
--- so are the answers for a quotient, for what a division leaves, and for a number that is rounded to steps
+-- so are the answers for a quotient, for what a division leaves, and for a number that is rounded
+-- to steps
 abbrev pub QuotientIsDetermined : Type 0
-QuotientIsDetermined = (x y : ℤ) (a b : Result Ten DecimalFault) → NearestQuotient x y a → NearestQuotient x y b → a ≡ b
+QuotientIsDetermined =
+    (x y : ℤ) (a b : Result Ten DecimalFault) → NearestQuotient x y a → NearestQuotient x y b
+    → a ≡ b
 
 abbrev pub ModuloIsDetermined : Type 0
-ModuloIsDetermined = (y x : Ten) (a b : Result Ten DecimalFault) → NearestModulo y x a → NearestModulo y x b → a ≡ b
+ModuloIsDetermined =
+    (y x : Ten) (a b : Result Ten DecimalFault) → NearestModulo y x a → NearestModulo y x b → a ≡ b
 
 abbrev pub StepsAreDetermined : Type 0
 StepsAreDetermined =
-    (step : ℕ) (number : ℤ) (a b : Result Ten DecimalFault) → RoundsTo step number a → RoundsTo step number b → a ≡ b
+    (step : ℕ) (number : ℤ) (a b : Result Ten DecimalFault) → RoundsTo step number a
+    → RoundsTo step number b → a ≡ b
 
 -- a number has one register
 abbrev pub RegisterIsDetermined : Type 0
@@ -60,5 +67,6 @@ FractionIsDetermined = (number x y : ℤ) → IsFraction number x → IsFraction
 -- and so is the number that is typed
 abbrev pub TypedIsDetermined : Type 0
 TypedIsDetermined =
-    (sign : Sign) (digits places : ℕ) (exponent : Exponent) (x y : Ten) → IsTyped sign digits places exponent x
+    (sign : Sign) (digits places : ℕ) (exponent : Exponent) (x y : Ten)
+    → IsTyped sign digits places exponent x
     → IsTyped sign digits places exponent y → x ≡ y

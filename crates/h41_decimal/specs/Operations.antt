@@ -1,5 +1,6 @@
 -- The exact values that the operations round.
-use Rattle.std.specs.Prelude.{◌≡◌, ℕ, ◌+◌, ◌-◌, ◌*◌, ◌^◌, ◌<◌, ◌≤◌, ◌==◌, MatchBool, Ok, Err, Result, ℤ, pos, negsuc, ◌+ℤ◌, ◌-ℤ◌, ◌*ℤ◌, ◌<ℤ◌, ◌≤ℤ◌, unsigned_abs}
+use Rattle.std.specs.Prelude.{◌≡◌, ℕ, ◌+◌, ◌-◌, ◌*◌, ◌^◌, ◌<◌, ◌≤◌, ◌==◌, MatchBool, Ok, Err}
+use Rattle.std.specs.Prelude.{Result, ℤ, pos, negsuc, ◌+ℤ◌, ◌-ℤ◌, ◌*ℤ◌, ◌<ℤ◌, ◌≤ℤ◌, unsigned_abs}
 use Rattle.h41_decimal.specs.Signs.{signed, sign_of}
 use Rattle.h41_decimal.specs.Units.{one, units}
 use Rattle.h41_decimal.specs.NearestDecimal.{Nearest}
@@ -30,15 +31,18 @@ pub record RoundsRest (y x : ℤ) (answer : Result Ten DecimalFault) : Type 0 wh
 
 -- and y where x is zero
 abbrev pub NearestModulo : Ten → Ten → Result Ten DecimalFault → Type 0
-NearestModulo y x answer = MatchBool (unsigned_abs (units x) == 0) (answer ≡ Ok y) (RoundsRest (units y) (units x) answer)
+NearestModulo y x answer =
+    MatchBool (unsigned_abs (units x) == 0) (answer ≡ Ok y) (RoundsRest (units y) (units x) answer)
 
--- what one step of the last place is worth, in units, of which there are 10^108 in 1: so many decimals, or so many digits
+-- what one step of the last place is worth, in units, of which there are 10^108 in 1: so many
+-- decimals, or so many digits
 abbrev pub step_of : Places → Ten → ℕ
 step_of (Decimals count) number = 10 ^ (108 - count)
 step_of (Digits count) Zero = 1
 step_of (Digits count) (Nonzero sign x) = 10 ^ (x.exponent.biased + (10 - count))
 
--- the answer for a number rounded to a whole count of steps, the nearest, a half going away from zero
+-- the answer for a number rounded to a whole count of steps, the nearest, a half going away from
+-- zero
 pub record RoundsTo (step : ℕ) (number : ℤ) (answer : Result Ten DecimalFault) : Type 0 where
   pub steps : ℕ
   pub not_above : 2 * (steps * step) ≤ 2 * unsigned_abs number + step

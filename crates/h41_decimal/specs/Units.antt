@@ -1,5 +1,6 @@
--- What a decimal is worth, as a whole number: it is counted in units of 10^-108. The tenth digit of the smallest decimals,
--- those of exponent -99, counts such units, so every decimal is a whole number of them.
+-- What a decimal is worth, as a whole number: it is counted in units of 10^-108. The tenth digit of
+-- the smallest decimals, those of exponent -99, counts such units, so every decimal is a whole
+-- number of them.
 use Rattle.std.specs.Prelude.{ℕ, ◌*◌, ◌^◌, ℤ, pos}
 use Rattle.h41_decimal.specs.Signs.{signed}
 use Rattle.h41_decimal.specs.declared.parts.Size.{Size}

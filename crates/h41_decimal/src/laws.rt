@@ -1,7 +1,12 @@
 //! Laws of decimals: each is the contract of a function with next to nothing to do.
 
 ghost use Rattle.std.specs.Prelude.{◌≡◌, Some};
-ghost use Rattle.h41_decimal.specs.Laws.{UnitsAreInjective, NearestIsDetermined, NearestRootIsDetermined, DecimalIsItsNearest, OnesAreDetermined, IntegerPartIsDetermined, FractionIsDetermined, TypedIsDetermined, QuotientIsDetermined, ModuloIsDetermined, StepsAreDetermined, RegisterIsDetermined};
+ghost use Rattle.h41_decimal.specs.Laws.{UnitsAreInjective, NearestIsDetermined};
+ghost use Rattle.h41_decimal.specs.Laws.{NearestRootIsDetermined, DecimalIsItsNearest};
+ghost use Rattle.h41_decimal.specs.Laws.{OnesAreDetermined, IntegerPartIsDetermined};
+ghost use Rattle.h41_decimal.specs.Laws.{FractionIsDetermined, TypedIsDetermined};
+ghost use Rattle.h41_decimal.specs.Laws.{QuotientIsDetermined, ModuloIsDetermined};
+ghost use Rattle.h41_decimal.specs.Laws.{StepsAreDetermined, RegisterIsDetermined};
 
 use crate::ten::Ten;
 

@@ -1,6 +1,7 @@
 //! The parts of a decimal that is not zero, beside its sign: its ten digits and its exponent.
 
-ghost use Rattle.std.specs.Prelude.{◌≡◌, ◌^◌, ◌<◌, ◌≤◌, ◌↔◌, ℤ, pos, ◌+ℤ◌, ◌-ℤ◌, ◌≤ℤ◌, IsSome, IfSome};
+ghost use Rattle.std.specs.Prelude.{◌≡◌, ◌^◌, ◌<◌, ◌≤◌, ◌↔◌, ℤ, pos, ◌+ℤ◌, ◌-ℤ◌, ◌≤ℤ◌, IsSome};
+ghost use Rattle.std.specs.Prelude.{IfSome};
 
 /// Ten decimal digits, the first of them not zero: 1,000,000,000 to 9,999,999,999. The radix mark is after the first.
 #[derive(Clone, Copy, Debug, PartialEq, Eq)]

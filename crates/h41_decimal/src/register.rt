@@ -1,12 +1,14 @@
 //! Numbers in registers of 14 digits: the sign in place 13, the mantissa in places 12 to 3, the exponent in places 2 to 0.
 
-ghost use Rattle.std.specs.Prelude.{◌≡◌, ℕ, ◌+◌, ◌*◌, ◌^◌, ◌<◌, ◌≤◌, IfSome, Some, None, slice_index};
+ghost use Rattle.std.specs.Prelude.{◌≡◌, ℕ, ◌+◌, ◌*◌, ◌^◌, ◌<◌, ◌≤◌, IfSome, Some, None};
+ghost use Rattle.std.specs.Prelude.{slice_index};
 ghost use Rattle.h41_decimal.specs.PackedDigits.{packed};
 ghost use Rattle.h41_decimal.specs.SameDigits.{SameDigitsBelow, SameDigitsFrom};
 ghost use Rattle.h41_decimal.specs.Signs.{signed};
 ghost use Rattle.std.specs.Option.{option_map};
 ghost use Rattle.h41_decimal.specs.Units.{size, units};
-ghost use Rattle.h41_decimal.specs.Holding.{decimal_in, sign_in, steps_in, parts_worth, holding_of, worth, Number};
+ghost use Rattle.h41_decimal.specs.Holding.{decimal_in, sign_in, steps_in, parts_worth, holding_of};
+ghost use Rattle.h41_decimal.specs.Holding.{worth, Number};
 
 use crate::parts::{Exponent, Mantissa, Size};
 use crate::sign::Sign;

@@ -20,7 +20,8 @@ pub next_line : (written before after whole : List ℕ) (address length : ℕ) (
     → after ++ columns_of ((address + length) % 0x10000) left ≡ whole
 next_line written before after whole address length piece all left fits cut known columns line counted =
     let same : address % 0x10000 ≡ address = omega arith in
-    let here : columns_line address piece ≡ columns_text address piece ++ piece_line piece = ap (λ a. columns_text a piece ++ piece_line piece) same in
+    let here : columns_line address piece ≡ columns_text address piece ++ piece_line piece =
+    ap (λ a. columns_text a piece ++ piece_line piece) same in
     let next = address + length in
     let wraps : columns_of (next % 0x10000) left ≡ columns_of next left = same_columns (next % 0x10000) next left (omega arith) in
     let behind : columns_of next left ≡ columns_of (address + piece_length piece) left = ap (λ n. columns_of (address + n) left) counted in

@@ -4,7 +4,8 @@ ghost use Rattle.std.specs.Prelude.{◌≡◌, ◌+◌, ◌*◌, ◌≤◌, ◌<
 ghost use Rattle.std.specs.Fmt.{decimal, digit_glyph};
 ghost use Rattle.arrayvec.specs.ArrayString.{array_string_len};
 ghost use Rattle.h41_digits.specs.Register.{hexadecimal_text};
-ghost use Rattle.h41_words.specs.Mnemonics.{address_text, behind, displacement_text, mnemonic, operand, row_text};
+ghost use Rattle.h41_words.specs.Mnemonics.{address_text, behind, displacement_text, mnemonic};
+ghost use Rattle.h41_words.specs.Mnemonics.{operand, row_text};
 ghost use Rattle.h41_dis.specs.Spelling.{piece_text};
 
 use crate::text::names::{field_name, long_jump_name, mnemonic};
@@ -123,7 +124,8 @@ fn push_decimal<const N: usize>(text: &mut ArrayString<N>, number: u8)
 #[inline]
 fn push_displacement<const N: usize>(text: &mut ArrayString<N>, displacement: Displacement)
     requires { array_string_len text.old + 4 ≤ N }
-    ensures text { text.new.bytes ≡ text.old.bytes ++ behind (Some (displacement_text displacement)) }
+    ensures text { text.new.bytes
+        ≡ text.old.bytes ++ behind (Some (displacement_text displacement)) }
     ensures length { array_string_len text.new ≤ array_string_len text.old + 4 }
 {
     let words = displacement.words();

@@ -1,6 +1,7 @@
--- How much of an input is read, what the mark of a sink says of one write, the inner ends of the two wrappers, and what calls leave
--- written.
-use Rattle.std.specs.Prelude.{◌≡◌, ◌==◌, ◌&&◌, ◌<◌, ℕ, Bool, true, not, List, length, nat_le, take, Option, IfSome, Result, Ok, Err}
+-- How much of an input is read, what the mark of a sink says of one write, the inner ends of the
+-- two wrappers, and what calls leave written.
+use Rattle.std.specs.Prelude.{◌≡◌, ◌==◌, ◌&&◌, ◌<◌, ℕ, Bool, true, not, List, length, nat_le, take}
+use Rattle.std.specs.Prelude.{Option, IfSome, Result, Ok, Err}
 use Rattle.std.specs.Io.KnownBytes.{Appends}
 use Rattle.h41_ends.specs.declared.source.FromRead.{FromRead}
 use Rattle.h41_ends.specs.declared.sink.ToWrite.{ToWrite}

@@ -1,5 +1,6 @@
 -- Where a line of a source stands among its words, and what it says.
-use Rattle.std.proofs.Common.{◌≡◌, ℕ, ◌+◌, ◌-◌, true, ◌&&◌, ◌==◌, List, [], ◌∷◌, ◌++◌, length, take, Some, None, Result, Ok, Err, if◌then◌else◌, refl, sym, ap, subst, ◌∙◌, arith, append_assoc, length-append}
+use Rattle.std.proofs.Common.{◌≡◌, ℕ, ◌+◌, ◌-◌, true, ◌&&◌, ◌==◌, List, [], ◌∷◌, ◌++◌, length, take, Some, None, Result, Ok, Err}
+use Rattle.std.proofs.Common.{if◌then◌else◌, refl, sym, ap, subst, ◌∙◌, arith, append_assoc, length-append}
 use Rattle.std.specs.Prelude.{codes, slice_index}
 use Rattle.std.specs.Option.{ok_or}
 use Rattle.std.proofs.lemmas.List.{take_at, get_or_at}
@@ -9,23 +10,27 @@ use Rattle.h41_asm.specs.Faults.{line_length, read_length}
 use Rattle.h41_asm.specs.Operands.{is_text, text_in}
 use Rattle.h41_asm.specs.Placing.{Labels, LineSpells, LinesSpell, SpellsRead, StatementSpells}
 use Rattle.h41_asm.specs.SourceLines.{SourceLine, is_name, reference_in}
-use Rattle.h41_asm.specs.Statements.{Statement, Words, OutOfReach, LongJumpTo, ShortJumpTo, EntryAt, name_words, reading, said, singles, statement_length, takers, takes_entry, takes_name}
+use Rattle.h41_asm.specs.Statements.{Statement, Words, OutOfReach, LongJumpTo, ShortJumpTo, EntryAt, name_words, reading, said, singles}
+use Rattle.h41_asm.specs.Statements.{statement_length, takers, takes_entry, takes_name}
 use Rattle.h41_entries.specs.DirectivesRead.{lines_length}
 
 -- a line's own words are as many as it takes
-length_said : (labels : Labels) (address : ℕ) (said : Statement) (own : List ℕ) → StatementSpells labels address said own → length own ≡ statement_length said
+length_said : (labels : Labels) (address : ℕ) (said : Statement) (own : List ℕ) → StatementSpells labels address said own
+    → length own ≡ statement_length said
 length_said labels address (Words words) own spells = ap length spells
 length_said labels address OutOfReach own spells = absurd spells
 length_said labels address (LongJumpTo condition kind name) own spells = ap length spells.2
 length_said labels address (ShortJumpTo condition name) own spells = ap length spells.4
 length_said labels address (EntryAt bits name) own spells = ap length spells.2
 
-length_read : (labels : Labels) (address : ℕ) (read : Result Statement SourceFault) (own : List ℕ) → SpellsRead labels address read own → length own ≡ read_length read
+length_read : (labels : Labels) (address : ℕ) (read : Result Statement SourceFault) (own : List ℕ) → SpellsRead labels address read own
+    → length own ≡ read_length read
 length_read labels address (Ok statement) own spells = length_said labels address statement own spells
 length_read labels address (Err fault) own spells = absurd spells
 
 -- the words of a line, those before it and those behind
-pub record IsPlaced (labels : Labels) (origin : ℕ) (before : List SourceLine) (line : SourceLine) (behind : List SourceLine) (words : List ℕ) : Type 0 where
+pub record IsPlaced (labels : Labels) (origin : ℕ) (before : List SourceLine)
+    (line : SourceLine) (behind : List SourceLine) (words : List ℕ) : Type 0 where
   pub front : List ℕ
   pub own : List ℕ
   pub others : List ℕ
@@ -49,13 +54,16 @@ placed labels origin [] line behind words spelled =
     }
 placed labels origin (first ∷ before) line behind words spelled =
     let next = placed labels (origin + length spelled.0) before line behind spelled.1 spelled.4 in
-    let here : origin + length spelled.0 + length next.front ≡ origin + length (spelled.0 ++ next.front) = omega (arith, length-append spelled.0 next.front) in
+    let here : origin + length spelled.0 + length next.front ≡ origin + length (spelled.0 ++ next.front) =
+    omega (arith, length-append spelled.0 next.front) in
     let own : length spelled.0 ≡ line_length first = length_read labels origin (reading first.code) spelled.0 spelled.3.words in
     record {
       front = spelled.0 ++ next.front;
       own = next.own;
       others = next.others;
-      parts = spelled.2 ∙ ap (λ (behind : List ℕ). spelled.0 ++ behind) next.parts ∙ sym (append_assoc spelled.0 next.front (next.own ++ next.others));
+      parts =
+          spelled.2 ∙ ap (λ (behind : List ℕ). spelled.0 ++ behind) next.parts
+          ∙ sym (append_assoc spelled.0 next.front (next.own ++ next.others));
       size = omega (arith, length-append spelled.0 next.front, own, next.size);
       spells = subst (λ a. LineSpells labels a line next.own) here next.spells;
       rest = subst (λ a. LinesSpell labels (a + length next.own) behind next.others) here next.rest;
@@ -86,7 +94,8 @@ text_quoted text good =
     (get_or_at (34 ∷ text) 34 [] 0 (length word - 1) (omega (arith, size)))
     (take_at text (34 ∷ []) (length word - 2) (omega (arith, size))) good
 
-pub name_reading : (text : List ℕ) → is_text text ≡ true → reading (codes "NAME" ∷ (34 ∷ text ++ 34 ∷ []) ∷ []) ≡ Ok (Words (name_words text))
+pub name_reading : (text : List ℕ) → is_text text ≡ true
+    → reading (codes "NAME" ∷ (34 ∷ text ++ 34 ∷ []) ∷ []) ≡ Ok (Words (name_words text))
 name_reading text good =
     name_taken (34 ∷ text ++ 34 ∷ [])
     ∙ ap (λ found. ok_or (said (λ t. Words (name_words t)) found) BadOperand) (text_quoted text good)
@@ -98,4 +107,5 @@ pub entry_reading : (name : List ℕ) → is_name name ≡ true → reading (cod
 entry_reading name good = entry_taken (58 ∷ name) ∙ ap (λ found. ok_or (said (λ n. EntryAt 0 n) found) BadOperand) (name_referred name good)
 
 pub focal_reading : (name : List ℕ) → is_name name ≡ true → reading (codes "FOCAL" ∷ (58 ∷ name) ∷ []) ≡ Ok (EntryAt 0x200 name)
-focal_reading name good = focal_taken (58 ∷ name) ∙ ap (λ found. ok_or (said (λ n. EntryAt 0x200 n) found) BadOperand) (name_referred name good)
+focal_reading name good =
+    focal_taken (58 ∷ name) ∙ ap (λ found. ok_or (said (λ n. EntryAt 0x200 n) found) BadOperand) (name_referred name good)

@@ -1,5 +1,6 @@
 -- The words of a name, read backwards from the function that they stand before.
-use Rattle.std.proofs.Common.{◌≡◌, ◌⊎◌, inl, inr, ℕ, zero, suc, ◌+◌, ◌-◌, ◌/◌, ◌%◌, ◌<◌, ◌≤◌, true, false, not, ◌&&◌, nat_lt, ◌==◌, List, [], ◌∷◌, ◌++◌, length, map, take, min, reverse, Some, refl, sym, ap, ◌∙◌, arith, length-append}
+use Rattle.std.proofs.Common.{◌≡◌, ◌⊎◌, inl, inr, ℕ, zero, suc, ◌+◌, ◌-◌, ◌/◌, ◌%◌, ◌<◌, ◌≤◌, true, false, not, ◌&&◌, nat_lt, ◌==◌, List}
+use Rattle.std.proofs.Common.{[], ◌∷◌, ◌++◌, length, map, take, min, reverse, Some, refl, sym, ap, ◌∙◌, arith, length-append}
 use Rattle.std.specs.Prelude.{nat_le, slice_index}
 use Rattle.std.specs.List.{list_all}
 use Rattle.std.specs.Option.{option_map}
@@ -38,7 +39,8 @@ length-with_mark (word ∷ words) = refl
 
 pub length-name_words : (text : List ℕ) → length (name_words text) ≡ length text
 length-name_words text =
-    length-with_mark (reverse (map (λ byte. byte % 64) text)) ∙ length-reverse (map (λ byte. byte % 64) text) ∙ length-map text (λ byte. byte % 64)
+    length-with_mark (reverse (map (λ byte. byte % 64) text)) ∙ length-reverse (map (λ byte. byte % 64) text)
+    ∙ length-map text (λ byte. byte % 64)
 
 -- one character
 character_read : (byte word : ℕ) → 32 ≤ byte → byte ≤ 95 → word % 64 ≡ byte % 64 → character word ≡ byte
@@ -46,8 +48,10 @@ character_read byte word low high same =
     by_size (cases_lt (word % 64) 0x20)
   where
     by_size : (word % 64 < 0x20) ⊎ (0x20 ≤ word % 64) → character word ≡ byte
-    by_size (inl small) = let test : nat_lt (word % 64) 0x20 ≡ true = grind (arith, nat_tests) in rw test (omega (arith, low, high, same, small))
-    by_size (inr large) = let test : nat_lt (word % 64) 0x20 ≡ false = grind (arith, nat_tests) in rw test (omega (arith, low, high, same, large))
+    by_size (inl small) =
+        let test : nat_lt (word % 64) 0x20 ≡ true = grind (arith, nat_tests) in rw test (omega (arith, low, high, same, small))
+    by_size (inr large) =
+        let test : nat_lt (word % 64) 0x20 ≡ false = grind (arith, nat_tests) in rw test (omega (arith, low, high, same, large))
 
 not_last : (byte : ℕ) → is_last (byte % 64) ≡ false
 not_last byte = ap (λ bit. bit == 1) (zero_bit byte)
@@ -102,8 +106,10 @@ pub name_spelled : (front text behind : List ℕ) → is_text text ≡ true
 name_spelled front text behind good =
     let parts = and_parts (nat_lt 0 (length text)) (nat_le (length text) 11 && list_all is_text_byte text) good in
     let more = and_parts (nat_le (length text) 11) (list_all is_text_byte text) parts.1 in
-    let size : length front + length text ≡ length (front ++ name_words text) = omega (arith, length-append front (name_words text), length-name_words text) in
+    let size : length front + length text ≡ length (front ++ name_words text) =
+    omega (arith, length-append front (name_words text), length-name_words text) in
     ap (λ offset. spelled (words_before ((front ++ name_words text) ++ behind) offset)) size
     ∙ ap spelled (words_in_front (front ++ name_words text) behind)
-    ∙ ap (λ (all : List ℕ). spelled (take 11 all)) (reverse-append front (name_words text) ∙ ap (λ (all : List ℕ). all ++ reverse front) (turned (map (λ byte. byte % 64) text)))
+    ∙ ap (λ (all : List ℕ). spelled (take 11 all))
+    (reverse-append front (name_words text) ∙ ap (λ (all : List ℕ). all ++ reverse front) (turned (map (λ byte. byte % 64) text)))
     ∙ text_spelled text (reverse front) 11 (ltb-true 0 (length text) parts.0) (leb-true (length text) 11 more.0) more.1

@@ -1,13 +1,15 @@
--- What the directives of a source say is what the table of functions reads in the words that it spells, with whatever fills the
--- page behind them.
-use Rattle.std.specs.Prelude.{◌≡◌, ℕ, ◌+◌, ◌*◌, ◌<◌, Bool, true, false, List, [], ◌∷◌, ◌++◌, length, Option, Some, codes}
+-- What the directives of a source say is what the table of functions reads in the words that it
+-- spells, with whatever fills the page behind them.
+use Rattle.std.specs.Prelude.{◌≡◌, ℕ, ◌+◌, ◌*◌, ◌<◌, Bool, true, false, List, [], ◌∷◌, ◌++◌, length}
+use Rattle.std.specs.Prelude.{Option, Some, codes}
 use Rattle.h41_asm.specs.Assembly.{AssemblesBy}
 use Rattle.h41_asm.specs.Faults.{line_length}
 use Rattle.h41_asm.specs.Operands.{is_text}
 use Rattle.h41_asm.specs.Placing.{Labels}
 use Rattle.h41_asm.specs.SourceLines.{SourceLine, is_name, source_lines}
 use Rattle.h41_pages.specs.Addresses.{page_size, offset_of}
-use Rattle.h41_pages.specs.FunctionTables.{spelled, words_before, entry_offset, is_keystroke, entry_name}
+use Rattle.h41_pages.specs.FunctionTables.{spelled, words_before, entry_offset, is_keystroke}
+use Rattle.h41_pages.specs.FunctionTables.{entry_name}
 
 -- the lines 'NAME "text"', 'ENTRY :name' and 'FOCAL :name', with a label or without
 abbrev pub name_line : Option (List ℕ) → List ℕ → SourceLine
@@ -25,15 +27,18 @@ lines_length [] = 0
 lines_length (line ∷ rest) = line_length line + lines_length rest
 
 -- a source of these lines spells these words at an origin, by these labels
-pub record SpellsBy (labels : Labels) (source : List ℕ) (origin : ℕ) (words : List ℕ) (lines : List SourceLine) : Type 0 where
+pub record SpellsBy (labels : Labels) (source : List ℕ) (origin : ℕ)
+    (words : List ℕ) (lines : List SourceLine) : Type 0 where
   pub assembled : AssemblesBy labels source origin words
   pub split : source_lines source ≡ lines
 
 -- 'NAME' is read as its text, before the offset behind its words
 abbrev pub NameIsRead : Type 0
 NameIsRead =
-    (labels : Labels) (source words fill text : List ℕ) (origin : ℕ) (label : Option (List ℕ)) (before behind : List SourceLine)
-    → is_text text ≡ true → SpellsBy labels source origin words (before ++ name_line label text ∷ behind)
+    (labels : Labels) (source words fill text : List ℕ) (origin : ℕ)
+    (label : Option (List ℕ)) (before behind : List SourceLine)
+    → is_text text ≡ true
+    → SpellsBy labels source origin words (before ++ name_line label text ∷ behind)
     → spelled (words_before (words ++ fill) (lines_length before + length text)) ≡ Some text
 
 -- an entry is that of the function at an address, of this kind
@@ -41,10 +46,12 @@ pub record IsEntryOf (words : List ℕ) (entry target : ℕ) (keystroke : Bool) 
   pub offset : entry_offset words entry ≡ offset_of target
   pub kind : is_keystroke words entry ≡ keystroke
 
--- 'ENTRY' where the words of an entry stand is read as the place of the label's address in its page, and as microcode
+-- 'ENTRY' where the words of an entry stand is read as the place of the label's address in its
+-- page, and as microcode
 abbrev pub EntryIsRead : Type 0
 EntryIsRead =
-    (labels : Labels) (source words fill name : List ℕ) (origin entry : ℕ) (label : Option (List ℕ)) (before behind : List SourceLine)
+    (labels : Labels) (source words fill name : List ℕ) (origin entry : ℕ)
+    (label : Option (List ℕ)) (before behind : List SourceLine)
     → is_name name ≡ true → lines_length before ≡ 2 + 2 * entry
     → SpellsBy labels source origin words (before ++ entry_line label name ∷ behind)
     → (target : ℕ) × (labels name ≡ Some target) × IsEntryOf (words ++ fill) entry target false
@@ -52,18 +59,23 @@ EntryIsRead =
 -- and 'FOCAL' as keystroke code
 abbrev pub FocalIsRead : Type 0
 FocalIsRead =
-    (labels : Labels) (source words fill name : List ℕ) (origin entry : ℕ) (label : Option (List ℕ)) (before behind : List SourceLine)
+    (labels : Labels) (source words fill name : List ℕ) (origin entry : ℕ)
+    (label : Option (List ℕ)) (before behind : List SourceLine)
     → is_name name ≡ true → lines_length before ≡ 2 + 2 * entry
     → SpellsBy labels source origin words (before ++ focal_line label name ∷ behind)
     → (target : ℕ) × (labels name ≡ Some target) × IsEntryOf (words ++ fill) entry target true
 
--- so a function whose label 'ENTRY' names has the name of the 'NAME' before that label, within a page from its start on
+-- so a function whose label 'ENTRY' names has the name of the 'NAME' before that label, within a
+-- page from its start on
 abbrev pub FunctionIsRead : Type 0
 FunctionIsRead =
-    (labels : Labels) (source words fill name text : List ℕ) (origin entry : ℕ) (label other : Option (List ℕ)) (code : List (List ℕ))
+    (labels : Labels) (source words fill name text : List ℕ) (origin entry : ℕ)
+    (label other : Option (List ℕ)) (code : List (List ℕ))
     (before behind first rest : List SourceLine)
-    → is_name name ≡ true → is_text text ≡ true → offset_of origin ≡ 0 → lines_length before ≡ 2 + 2 * entry
+    → is_name name ≡ true → is_text text ≡ true → offset_of origin ≡ 0
+    → lines_length before ≡ 2 + 2 * entry
     → lines_length first + length text < page_size
     → SpellsBy labels source origin words (before ++ entry_line label name ∷ behind)
-    → SpellsBy labels source origin words (first ++ name_line other text ∷ record { label = Some name; code = code } ∷ rest)
+    → SpellsBy labels source origin words
+    (first ++ name_line other text ∷ record { label = Some name; code = code } ∷ rest)
     → entry_name (words ++ fill) entry ≡ Some text

@@ -16,7 +16,8 @@ use Rattle.h41_keys.specs.Keyboard.{row_of, meaning_of}
 use Rattle.h41_keys.specs.KeyPress as press
 use Rattle.h41_keys.specs.NumberTyping.{with_digit, with_point, with_exponent, with_sign_turned, without_last, kept_within, value_of}
 use Rattle.h41_keys.specs.PromptKeys as keys
-use Rattle.h41_keys.specs.Prompts.{Lines, Parameter, Branching, prompt_row, wanted, takes_stack, line_with, line_naming, name_line, is_local_letter, local_label, stack_register}
+use Rattle.h41_keys.specs.Prompts.{Lines, Parameter, Branching, prompt_row, wanted, takes_stack, line_with, line_naming, name_line}
+use Rattle.h41_keys.specs.Prompts.{is_local_letter, local_label, stack_register}
 use Rattle.h41_keys.specs.StoredLines.{is_storable, StoresLine}
 use Rattle.h41_keys.specs.declared.action.Action.{Action}
 use Rattle.h41_keys.specs.declared.input.Entry.{Entry}
@@ -199,7 +200,8 @@ back_pressed input (entries.Number text) = number_becomes input text (without_la
 back_pressed input other = clearing input input.program_mode
 
 -- texts
-letter_typed : (input : Input) (program_mode : Bool) (entry : Entry) (letter : ℕ) → Stores (press.letter_typed input program_mode entry letter)
+letter_typed : (input : Input) (program_mode : Bool) (entry : Entry) (letter : ℕ)
+    → Stores (press.letter_typed input program_mode entry letter)
 letter_typed input false entries.Append letter = tt
 letter_typed input false entries.Letters letter = tt
 letter_typed input false other letter = tt

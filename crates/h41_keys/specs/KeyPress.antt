@@ -1,6 +1,8 @@
--- What each key does in each state of the keyboard: the action, and what the keyboard keeps; none where the key is refused, and then
--- nothing changes. It is a function, so one state and one key have one outcome.
-use Rattle.std.specs.Prelude.{◌≡◌, ℕ, nat_lt, Bool, true, false, not, ◌&&◌, ◌==◌, List, [], ◌∷◌, ◌++◌, length, Option, Some, None, if◌then◌else◌}
+-- What each key does in each state of the keyboard: the action, and what the keyboard keeps; none
+-- where the key is refused, and then nothing changes. It is a function, so one state and one key
+-- have one outcome.
+use Rattle.std.specs.Prelude.{◌≡◌, ℕ, nat_lt, Bool, true, false, not, ◌&&◌, ◌==◌, List, [], ◌∷◌}
+use Rattle.std.specs.Prelude.{◌++◌, length, Option, Some, None, if◌then◌else◌}
 use Rattle.h41_codes.specs.Counts.{text_most}
 use Rattle.h41_codes.specs.declared.characters.Character.{Character}
 use Rattle.h41_codes.specs.declared.functions.Function.{Function}
@@ -8,7 +10,8 @@ use Rattle.h41_codes.specs.declared.functions.Function.TheVariants as functions
 use Rattle.h41_codes.specs.declared.line.Line.{Line}
 use Rattle.h41_codes.specs.declared.line.Line.TheVariants as lines
 use Rattle.h41_keys.specs.Keyboard.{row_of, meaning_of}
-use Rattle.h41_keys.specs.NumberTyping.{with_digit, with_point, with_exponent, with_sign_turned, without_last, kept_within}
+use Rattle.h41_keys.specs.NumberTyping.{with_digit, with_point, with_exponent, with_sign_turned}
+use Rattle.h41_keys.specs.NumberTyping.{without_last, kept_within}
 use Rattle.h41_keys.specs.PromptKeys.{prompt_step}
 use Rattle.h41_keys.specs.declared.action.Action.{Action}
 use Rattle.h41_keys.specs.declared.action.Action.TheVariants as actions
@@ -46,10 +49,12 @@ abbrev pub without_number : Entry → Entry
 without_number (entries.Number number) = entries.Nothing
 without_number other = other
 
--- a line was typed: in program mode it is stored, and ends a text; else it is carried out, and a text goes on
+-- a line was typed: in program mode it is stored, and ends a text; else it is carried out, and a
+-- text goes on
 abbrev pub typed_line : Input → (program_mode : Bool) → Line → Pressed
 typed_line input true line = does (actions.Insert line) (ended input)
-typed_line input false line = does (actions.CarryOut line) (typing input (without_number input.entry))
+typed_line input false line =
+    does (actions.CarryOut line) (typing input (without_number input.entry))
 
 abbrev pub line_typed : Input → Line → Pressed
 line_typed input line = typed_line input input.program_mode line
@@ -68,20 +73,24 @@ number_in other = []
 
 -- it begins: outside program mode in X, else as a line
 abbrev pub number_begun : Input → (program_mode : Bool) → List Character → Pressed
-number_begun input true text = does (actions.Insert (lines.Number text)) (typing input (entries.Number text))
+number_begun input true text =
+    does (actions.Insert (lines.Number text)) (typing input (entries.Number text))
 number_begun input false text = does (actions.BeginNumber text) (typing input (entries.Number text))
 
 -- it changes
 abbrev pub number_changed : Input → (program_mode : Bool) → List Character → Pressed
-number_changed input true text = does (actions.Replace (lines.Number text)) (typing input (entries.Number text))
-number_changed input false text = does (actions.ChangeNumber text) (typing input (entries.Number text))
+number_changed input true text =
+    does (actions.Replace (lines.Number text)) (typing input (entries.Number text))
+number_changed input false text =
+    does (actions.ChangeNumber text) (typing input (entries.Number text))
 
 -- its last character was taken, by BACK or by CHS on a sign alone
 abbrev pub number_ended : Input → (program_mode : Bool) → Pressed
 number_ended input true = does actions.Delete (ended input)
 number_ended input false = does actions.EndNumber (ended input)
 
--- a key that changes a number makes its text longer or shorter; one that changes nothing is accepted too
+-- a key that changes a number makes its text longer or shorter; one that changes nothing is
+-- accepted too
 abbrev pub number_becomes : Input → (before after : List Character) → Pressed
 number_becomes input before after =
     if length after == 0 then number_ended input input.program_mode
@@ -96,7 +105,8 @@ retyped input before after = number_becomes input before (kept_within before aft
 abbrev pub number_typed : Input → (List Character → List Character) → Pressed
 number_typed input change = retyped input (number_in input.entry) (change (number_in input.entry))
 
--- CHS and BACK are functions where no number is being typed; in program mode BACK takes the shown line away
+-- CHS and BACK are functions where no number is being typed; in program mode BACK takes the shown
+-- line away
 abbrev pub sign_pressed : Input → Entry → Pressed
 sign_pressed input (entries.Number text) = number_typed input with_sign_turned
 sign_pressed input other = function_typed input functions.ChangeSign
@@ -122,11 +132,15 @@ replaces text = actions.Replace (lines.Text text)
 abbrev pub changed_line : Input → List ℕ → Pressed
 changed_line input text = text_line input replaces text
 
--- a letter. The first clears ALPHA unless it is appended; in a line the append sign 7F stands in front
+-- a letter. The first clears ALPHA unless it is appended; in a line the append sign 7F stands in
+-- front
 abbrev pub letter_typed : Input → (program_mode : Bool) → Entry → ℕ → Pressed
-letter_typed input false entries.Append letter = does (actions.AddLetter letter) (typing input entries.Letters)
-letter_typed input false entries.Letters letter = does (actions.AddLetter letter) (typing input entries.Letters)
-letter_typed input false other letter = does (actions.BeginText letter) (typing input entries.Letters)
+letter_typed input false entries.Append letter =
+    does (actions.AddLetter letter) (typing input entries.Letters)
+letter_typed input false entries.Letters letter =
+    does (actions.AddLetter letter) (typing input entries.Letters)
+letter_typed input false other letter =
+    does (actions.BeginText letter) (typing input entries.Letters)
 letter_typed input true entries.Append letter = text_line input inserts (0x7F ∷ letter ∷ [])
 letter_typed input true (entries.TextLine text) letter =
     if nat_lt (length text) text_most then changed_line input (text ++ letter ∷ [])
@@ -141,16 +155,19 @@ has_letter others = true
 
 -- the line goes with its last letter
 abbrev pub text_shortened : Input → List ℕ → Pressed
-text_shortened input text = if has_letter text then changed_line input text else does actions.Delete (ended input)
+text_shortened input text =
+    if has_letter text then changed_line input text else does actions.Delete (ended input)
 
--- BACK: a letter goes. Where none was typed, ALPHA is cleared, or in program mode the shown line goes
+-- BACK: a letter goes. Where none was typed, ALPHA is cleared, or in program mode the shown line
+-- goes
 abbrev pub letter_taken : Input → (program_mode : Bool) → Entry → Pressed
 letter_taken input false entries.Letters = does actions.TakeLetter (typing input entries.Letters)
 letter_taken input false other = does actions.ClearAlpha (ended input)
 letter_taken input true (entries.TextLine text) = text_shortened input (without_last text)
 letter_taken input true other = does actions.Delete (ended input)
 
--- SHIFT XEQ: the next letter is appended. In program mode it ends a line's text; else it changes nothing in a text
+-- SHIFT XEQ: the next letter is appended. In program mode it ends a line's text; else it changes
+-- nothing in a text
 abbrev pub append_pressed : Input → (program_mode : Bool) → Entry → Pressed
 append_pressed input false entries.Letters = does actions.Nothing (typing input entries.Letters)
 append_pressed input program_mode other = does actions.Nothing (typing input entries.Append)
@@ -170,7 +187,8 @@ program_mode_turned input = record (ended input) { program_mode = not input.prog
 
 -- a prompt opens, and ends a number
 abbrev pub asking : Input → PromptFunction → Input
-asking input function = record (typing input (without_number input.entry)) { prompt = Some (opened function) }
+asking input function =
+    record (typing input (without_number input.entry)) { prompt = Some (opened function) }
 
 abbrev pub acts : Input → Meaning → Option Pressed
 acts input meanings.Nothing = None
@@ -188,7 +206,8 @@ acts input meanings.Exponent = Some (number_typed input with_exponent)
 acts input meanings.Sign = Some (sign_pressed input input.entry)
 acts input (meanings.Function function) = Some (function_typed input function)
 acts input (meanings.Ask function) = Some (does actions.Nothing (asking input function))
-acts input (meanings.Letter letter) = Some (letter_typed input input.program_mode input.entry letter)
+acts input (meanings.Letter letter) =
+    Some (letter_typed input input.program_mode input.entry letter)
 acts input meanings.Append = Some (append_pressed input input.program_mode input.entry)
 
 -- A KEY WHERE A PROMPT IS OPEN
@@ -196,7 +215,8 @@ abbrev pub prompt_ended : Input → Input
 prompt_ended input = record input { shift = false; prompt = None }
 
 abbrev pub stepped : Input → Option PromptStep → Option Pressed
-stepped input (Some (steps.Becomes prompt)) = Some (does actions.Nothing (record input { shift = false; prompt = Some prompt }))
+stepped input (Some (steps.Becomes prompt)) =
+    Some (does actions.Nothing (record input { shift = false; prompt = Some prompt }))
 stepped input (Some steps.Cancels) = Some (does actions.Nothing (prompt_ended input))
 stepped input (Some (steps.Types line)) = Some (line_typed (prompt_ended input) line)
 stepped input (Some steps.GoesToEnd) = Some (does actions.GoToEnd (ended (prompt_ended input)))
@@ -227,7 +247,8 @@ idle input key flags =
     if flags.message && not input.shift && is_back key then Some (does actions.Nothing input)
     else by_prompt input input.prompt flags.alpha key
 
--- where a program runs R/S stops it; where it or a function in microcode runs, other keys only tell their codes
+-- where a program runs R/S stops it; where it or a function in microcode runs, other keys only tell
+-- their codes
 abbrev pub while_running : Input → Meaning → Option Pressed
 while_running input meanings.Nothing = None
 while_running input meanings.RunStop = Some (does actions.Stop input)
@@ -244,7 +265,8 @@ presses input key modes.Micro flags = while_in_microcode input (row_of key).plai
 
 -- a key is accepted with this action, and the keyboard keeps this
 abbrev pub Accepts : Input → Key → Mode → Flags → Action → Input → Type 0
-Accepts before key mode flags action after = presses before key mode flags ≡ Some (does action after)
+Accepts before key mode flags action after =
+    presses before key mode flags ≡ Some (does action after)
 
 -- the start: SHIFT and program mode off, nothing typed
 abbrev pub start : Input

@@ -1,6 +1,8 @@
--- How a number is typed: what each key makes of its characters. Their value is that of a number line with these characters. Up to the
--- E they are the mantissa's, behind it the exponent's; a sign stands in front of its part.
-use Rattle.std.specs.Prelude.{ℕ, ◌+◌, ◌-◌, nat_lt, nat_le, Bool, true, false, ◌||◌, List, [], ◌∷◌, ◌++◌, length, take, drop, filter, ◌==◌, if◌then◌else◌}
+-- How a number is typed: what each key makes of its characters. Their value is that of a number
+-- line with these characters. Up to the E they are the mantissa's, behind it the exponent's; a sign
+-- stands in front of its part.
+use Rattle.std.specs.Prelude.{ℕ, ◌+◌, ◌-◌, nat_lt, nat_le, Bool, true, false, ◌||◌, List, [], ◌∷◌}
+use Rattle.std.specs.Prelude.{◌++◌, length, take, drop, filter, ◌==◌, if◌then◌else◌}
 use Rattle.std.specs.List.{list_any, position_or_len}
 use Rattle.h41_codes.specs.Counts.{number_most}
 use Rattle.h41_codes.specs.declared.characters.Character.{Character}
@@ -68,17 +70,20 @@ exponent_part text = drop (exponent_place text + 1) text
 abbrev pub count_of_digits : List Character → ℕ
 count_of_digits text = length (filter is_digit text)
 
--- a digit more where there is room: a mantissa has ten, leading zeros and zeros behind the point included; an exponent two
+-- a digit more where there is room: a mantissa has ten, leading zeros and zeros behind the point
+-- included; an exponent two
 abbrev pub has_room : List Character → Bool
 has_room text =
-    if has_exponent text then nat_lt (count_of_digits (exponent_part text)) 2 else nat_lt (count_of_digits text) 10
+    if has_exponent text then nat_lt (count_of_digits (exponent_part text)) 2
+    else nat_lt (count_of_digits text) 10
 
 abbrev pub with_digit : List Character → Digit → List Character
 with_digit text digit = if has_room text then text ++ character_of digit ∷ [] else text
 
 -- one point, in the mantissa
 abbrev pub with_point : List Character → List Character
-with_point text = if list_any is_point text || has_exponent text then text else text ++ characters.Point ∷ []
+with_point text =
+    if list_any is_point text || has_exponent text then text else text ++ characters.Point ∷ []
 
 -- one E; a mantissa without a digit gets a 1
 abbrev pub with_exponent : List Character → List Character
@@ -91,13 +96,16 @@ abbrev pub begins_with_minus : List Character → Bool
 begins_with_minus [] = false
 begins_with_minus (first ∷ rest) = is_minus first
 
--- CHS puts the sign in front of a part, or takes it away: of the exponent where there is an E, else of the mantissa
+-- CHS puts the sign in front of a part, or takes it away: of the exponent where there is an E, else
+-- of the mantissa
 abbrev pub turned : List Character → List Character
 turned part = if begins_with_minus part then drop 1 part else characters.Minus ∷ part
 
 abbrev pub with_sign_turned : List Character → List Character
 with_sign_turned text =
-    if has_exponent text then mantissa_part text ++ characters.Exponent ∷ turned (exponent_part text) else turned text
+    if has_exponent text
+    then mantissa_part text ++ characters.Exponent ∷ turned (exponent_part text)
+    else turned text
 
 -- BACK takes the last character
 abbrev pub without_last : {A : Type 0} → List A → List A

@@ -1,10 +1,12 @@
 -- What each key makes of a prompt. Keys that are not named here are refused.
-use Rattle.std.specs.Prelude.{ℕ, ◌+◌, ◌*◌, nat_lt, Bool, true, false, not, ◌&&◌, ◌==◌, List, [], ◌∷◌, ◌++◌, length, Option, Some, None, if◌then◌else◌}
+use Rattle.std.specs.Prelude.{ℕ, ◌+◌, ◌*◌, nat_lt, Bool, true, false, not, ◌&&◌, ◌==◌, List, []}
+use Rattle.std.specs.Prelude.{◌∷◌, ◌++◌, length, Option, Some, None, if◌then◌else◌}
 use Rattle.h41_codes.specs.declared.functions.Function.{Function}
 use Rattle.h41_codes.specs.declared.functions.Function.TheVariants as functions
 use Rattle.h41_keys.specs.Keyboard.{KeyRow, row_of}
 use Rattle.h41_keys.specs.NumberTyping.{value_of, without_last}
-use Rattle.h41_keys.specs.Prompts.{prompt_row, wanted, takes_stack, parameter_line, name_line, stack_register}
+use Rattle.h41_keys.specs.Prompts.{prompt_row, wanted, takes_stack, parameter_line, name_line}
+use Rattle.h41_keys.specs.Prompts.{stack_register}
 use Rattle.h41_keys.specs.declared.key.Digit.{Digit}
 use Rattle.h41_keys.specs.declared.key.Key.{Key}
 use Rattle.h41_keys.specs.declared.meaning.Meaning.{Meaning}
@@ -23,7 +25,8 @@ goes_on prompt more = Some (steps.Becomes (record prompt { typed = more }))
 
 -- the parameter is whole
 abbrev pub ends_with : Prompt → ℕ → Option PromptStep
-ends_with prompt parameter = Some (steps.Types (parameter_line prompt.function prompt.indirect parameter))
+ends_with prompt parameter =
+    Some (steps.Types (parameter_line prompt.function prompt.indirect parameter))
 
 -- SHIFT puts IND in front of the parameter, or takes it away
 abbrev pub turns_indirect : Prompt → Option PromptStep
@@ -32,7 +35,8 @@ turns_indirect prompt = Some (steps.Becomes (record prompt { indirect = not prom
 -- a first digit: the only one, or one of two
 abbrev pub first_digit : Prompt → Digit → Option PromptStep
 first_digit prompt digit =
-    if wanted prompt.function prompt.indirect == 1 then ends_with prompt (value_of digit) else goes_on prompt (typed.Digit digit)
+    if wanted prompt.function prompt.indirect == 1 then ends_with prompt (value_of digit)
+    else goes_on prompt (typed.Digit digit)
 
 -- the point in front of all: a register of the stack comes, or the second point of GTO . .
 abbrev pub is_go_to : PromptFunction → Bool
@@ -59,7 +63,9 @@ is_bare_store function indirect = false
 
 abbrev pub combined : Prompt → Option PromptFunction → Option PromptStep
 combined prompt (Some function) =
-    if is_bare_store prompt.function prompt.indirect then Some (steps.Becomes (record prompt { function = function })) else None
+    if is_bare_store prompt.function prompt.indirect
+    then Some (steps.Becomes (record prompt { function = function }))
+    else None
 combined prompt None = None
 
 -- nothing is typed yet
@@ -67,20 +73,25 @@ abbrev pub with_nothing : Prompt → Meaning → Option PromptStep
 with_nothing prompt (meanings.Digit digit) = first_digit prompt digit
 with_nothing prompt meanings.Point = first_point prompt
 with_nothing prompt (meanings.Function function) = combined prompt (combining function)
-with_nothing prompt meanings.Shift = if (prompt_row prompt.function).indirect then turns_indirect prompt else None
+with_nothing prompt meanings.Shift =
+    if (prompt_row prompt.function).indirect then turns_indirect prompt else None
 -- ALPHA begins a name, of what has one without IND
 with_nothing prompt meanings.Alpha =
-    if (prompt_row prompt.function).named && not prompt.indirect then goes_on prompt (typed.Name []) else None
+    if (prompt_row prompt.function).named && not prompt.indirect then goes_on prompt (typed.Name [])
+    else None
 -- BACK never takes IND alone
 with_nothing prompt meanings.Back = Some steps.Cancels
 with_nothing prompt other = None
 
 -- the first of two digits is typed
 abbrev pub with_digit_typed : Prompt → Digit → Meaning → Option PromptStep
-with_digit_typed prompt first (meanings.Digit digit) = ends_with prompt (10 * value_of first + value_of digit)
+with_digit_typed prompt first (meanings.Digit digit) =
+    ends_with prompt (10 * value_of first + value_of digit)
 -- IND is put or taken away where two digits are taken without it too
 with_digit_typed prompt first meanings.Shift =
-    if (prompt_row prompt.function).indirect && (prompt_row prompt.function).digits == 2 then turns_indirect prompt else None
+    if (prompt_row prompt.function).indirect && (prompt_row prompt.function).digits == 2
+    then turns_indirect prompt
+    else None
 with_digit_typed prompt first meanings.Back = goes_on prompt typed.Nothing
 with_digit_typed prompt first other = None
 
@@ -95,7 +106,8 @@ lettered prompt other = None
 
 abbrev pub with_stack_typed : Prompt → (plain letter : Meaning) → Option PromptStep
 -- IND is put or taken away where the stack can be named without it too
-with_stack_typed prompt meanings.Shift letter = if (prompt_row prompt.function).registers then turns_indirect prompt else None
+with_stack_typed prompt meanings.Shift letter =
+    if (prompt_row prompt.function).registers then turns_indirect prompt else None
 with_stack_typed prompt meanings.Back letter = goes_on prompt typed.Nothing
 with_stack_typed prompt other letter = lettered prompt letter
 
@@ -114,7 +126,9 @@ name_letter prompt name other = None
 -- ALPHA ends a name that has a letter
 abbrev pub name_ended : Prompt → List ℕ → Option PromptStep
 name_ended prompt [] = None
-name_ended prompt name = if (prompt_row prompt.function).named then Some (steps.Types (name_line prompt.function name)) else None
+name_ended prompt name =
+    if (prompt_row prompt.function).named then Some (steps.Types (name_line prompt.function name))
+    else None
 
 -- BACK takes the last letter, and cancels the prompt of a name without one
 abbrev pub name_shortened : Prompt → List ℕ → Option PromptStep
@@ -122,20 +136,24 @@ name_shortened prompt [] = Some steps.Cancels
 name_shortened prompt name = goes_on prompt (typed.Name (without_last name))
 
 -- a name is typed; after SHIFT the digits and + - * / . are themselves
-abbrev pub with_name_typed : Prompt → List ℕ → (shift : Bool) → (plain letter shifted_letter : Meaning) → Option PromptStep
+abbrev pub with_name_typed : Prompt → List ℕ → (shift : Bool)
+    → (plain letter shifted_letter : Meaning) → Option PromptStep
 with_name_typed prompt name shift meanings.Alpha letter shifted_letter = name_ended prompt name
 with_name_typed prompt name false meanings.Back letter shifted_letter = name_shortened prompt name
 with_name_typed prompt name false plain letter shifted_letter = name_letter prompt name letter
-with_name_typed prompt name true plain letter shifted_letter = name_letter prompt name shifted_letter
+with_name_typed prompt name true plain letter shifted_letter =
+    name_letter prompt name shifted_letter
 
 abbrev pub in_name : Prompt → List ℕ → (shift : Bool) → KeyRow → Option PromptStep
-in_name prompt name shift row = with_name_typed prompt name shift row.plain row.letter row.shifted_letter
+in_name prompt name shift row =
+    with_name_typed prompt name shift row.plain row.letter row.shifted_letter
 
 -- what a key makes of a prompt, by what is typed
 abbrev pub prompt_step : Prompt → Typed → (shift : Bool) → Key → Option PromptStep
 prompt_step prompt typed.Nothing shift key = with_nothing prompt (row_of key).plain
 prompt_step prompt (typed.Digit digit) shift key = with_digit_typed prompt digit (row_of key).plain
-prompt_step prompt typed.Stack shift key = with_stack_typed prompt (row_of key).plain (row_of key).letter
+prompt_step prompt typed.Stack shift key =
+    with_stack_typed prompt (row_of key).plain (row_of key).letter
 prompt_step prompt typed.Point shift key = with_point_typed prompt (row_of key).plain
 prompt_step prompt (typed.Name name) shift key =
     in_name prompt name shift (row_of key)

@@ -1,5 +1,7 @@
--- Prompts: what each function takes for its parameter, and how the display shows what is typed of it.
-use Rattle.std.specs.Prelude.{ℕ, ◌+◌, ◌-◌, nat_le, Bool, true, false, ◌&&◌, ◌==◌, List, [], ◌∷◌, ◌++◌, Option, Some, None, if◌then◌else◌, codes}
+-- Prompts: what each function takes for its parameter, and how the display shows what is typed of
+-- it.
+use Rattle.std.specs.Prelude.{ℕ, ◌+◌, ◌-◌, nat_le, Bool, true, false, ◌&&◌, ◌==◌, List, [], ◌∷◌}
+use Rattle.std.specs.Prelude.{◌++◌, Option, Some, None, if◌then◌else◌, codes}
 use Rattle.h41_codes.specs.Canon.{canonical}
 use Rattle.h41_codes.specs.declared.functions.Branch.{Branch}
 use Rattle.h41_codes.specs.declared.functions.Branch.TheVariants as branches
@@ -37,29 +39,64 @@ pub record PromptRow : Type 0 where
 -- on registers
 abbrev pub register : List ℕ → ParameterFunction → PromptRow
 register name function =
-    record { name = name; lines = Parameter function; digits = 2; indirect = true; registers = true; named = false }
+    record {
+      name = name;
+      lines = Parameter function;
+      digits = 2;
+      indirect = true;
+      registers = true;
+      named = false;
+    }
 
 -- on flags
 abbrev pub flag : List ℕ → ParameterFunction → PromptRow
 flag name function =
-    record { name = name; lines = Parameter function; digits = 2; indirect = true; registers = false; named = false }
+    record {
+      name = name;
+      lines = Parameter function;
+      digits = 2;
+      indirect = true;
+      registers = false;
+      named = false;
+    }
 
 -- on a number of digits
 abbrev pub format : List ℕ → ParameterFunction → PromptRow
 format name function =
-    record { name = name; lines = Parameter function; digits = 1; indirect = true; registers = false; named = false }
+    record {
+      name = name;
+      lines = Parameter function;
+      digits = 1;
+      indirect = true;
+      registers = false;
+      named = false;
+    }
 
 -- to labels
 abbrev pub branching : List ℕ → Branch → PromptRow
 branching name branch =
-    record { name = name; lines = Branching branch; digits = 2; indirect = true; registers = false; named = true }
+    record {
+      name = name;
+      lines = Branching branch;
+      digits = 2;
+      indirect = true;
+      registers = false;
+      named = true;
+    }
 
 -- the table
 abbrev pub prompt_row : PromptFunction → PromptRow
 prompt_row prompts.Execute = branching (codes "XEQ") branches.Execute
 prompt_row prompts.GoTo = branching (codes "GTO") branches.GoTo
 prompt_row prompts.Label =
-    record { name = codes "LBL"; lines = Parameter functions.Label; digits = 2; indirect = false; registers = false; named = true }
+    record {
+      name = codes "LBL";
+      lines = Parameter functions.Label;
+      digits = 2;
+      indirect = false;
+      registers = false;
+      named = true;
+    }
 prompt_row prompts.Store = register (codes "STO") functions.Store
 prompt_row prompts.StoreAdd = register (codes "ST+") functions.StoreAdd
 prompt_row prompts.StoreSubtract = register (codes "ST-") functions.StoreSubtract
@@ -89,13 +126,16 @@ takes_stack function false = (prompt_row function).registers
 
 -- the line of a function and a parameter, in its shortest spelling
 abbrev pub line_with : Lines → Bool → ℕ → Line
-line_with (Parameter function) false parameter = canonical (lines.WithOperand function (Direct parameter))
-line_with (Parameter function) true parameter = canonical (lines.WithOperand function (Indirect parameter))
+line_with (Parameter function) false parameter =
+    canonical (lines.WithOperand function (Direct parameter))
+line_with (Parameter function) true parameter =
+    canonical (lines.WithOperand function (Indirect parameter))
 line_with (Branching branch) false parameter = canonical (lines.BranchTo branch 0 false parameter)
 line_with (Branching branch) true parameter = lines.BranchIndirect branch parameter
 
 abbrev pub parameter_line : PromptFunction → Bool → ℕ → Line
-parameter_line function indirect parameter = line_with (prompt_row function).lines indirect parameter
+parameter_line function indirect parameter =
+    line_with (prompt_row function).lines indirect parameter
 
 -- one letter A to J is a label of its program, which has a number: A is 102
 abbrev pub is_local_letter : ℕ → Bool
@@ -129,7 +169,8 @@ stack_register letter =
 
 -- what is typed of the parameter, as the display shows it
 abbrev pub typed_text : PromptFunction → Bool → Typed → List ℕ
-typed_text function indirect typed.Nothing = if wanted function indirect == 1 then codes " _" else codes " __"
+typed_text function indirect typed.Nothing =
+    if wanted function indirect == 1 then codes " _" else codes " __"
 typed_text function indirect (typed.Digit digit) = 0x20 ∷ (0x30 + value_of digit) ∷ 0x5F ∷ []
 typed_text function indirect typed.Stack = codes " ST _"
 typed_text function indirect typed.Point = codes " ._"

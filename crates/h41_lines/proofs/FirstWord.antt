@@ -1,5 +1,6 @@
 -- The first word of a line, and the words after it.
-use Rattle.std.proofs.Common.{inl, inr, not, suc, length-take, unwrap_or, ◌≡◌, ℕ, ◌+◌, ◌<◌, ◌≤◌, Bool, true, false, nat_lt, List, [], ◌∷◌, length, take, drop, get_or, Option, Some, None, refl, sym, ◌∙◌, ap, arith, filter}
+use Rattle.std.proofs.Common.{inl, inr, not, suc, length-take, unwrap_or, ◌≡◌, ℕ, ◌+◌, ◌<◌, ◌≤◌, Bool, true, false, nat_lt, List, [], ◌∷◌}
+use Rattle.std.proofs.Common.{length, take, drop, get_or, Option, Some, None, refl, sym, ◌∙◌, ap, arith, filter}
 use Rattle.std.specs.List.{slice_split, position, position_or_len, All}
 use Rattle.std.proofs.lemmas.Bool.{cases_Bool, lt-ltb, cond-true, cases_lt}
 use Rattle.std.proofs.lemmas.List.{drop_more, drop_all, take_all}
@@ -19,11 +20,15 @@ words_of-blank : (byte : ℕ) (line : List ℕ) → is_blank byte ≡ true → w
 words_of-blank byte line blank = ap words_of_parts (slice_split-cons_yes is_blank byte line blank)
 
 -- where the first byte that is no blank stands, by the first byte
-pub on_start-blank : (byte : ℕ) (line : List ℕ) → is_blank byte ≡ true → drop (position_or_len (λ b. not (is_blank b)) line) line ≡ drop (position_or_len (λ b. not (is_blank b)) (byte ∷ line)) (byte ∷ line)
+pub on_start-blank : (byte : ℕ) (line : List ℕ) → is_blank byte ≡ true
+    → drop (position_or_len (λ b. not (is_blank b)) line) line ≡ drop (position_or_len (λ b. not (is_blank b)) (byte ∷ line)) (byte ∷ line)
 on_start-blank byte line blank =
-    let e : 1 + position_or_len (λ b. not (is_blank b)) line ≡ suc (position_or_len (λ b. not (is_blank b)) line) = omega arith in rw (blank, e) refl
+    let e : 1 + position_or_len (λ b. not (is_blank b)) line ≡ suc (position_or_len (λ b. not (is_blank b)) line) =
+    omega arith in
+    rw (blank, e) refl
 
-pub on_start-other : (byte : ℕ) (line : List ℕ) → is_blank byte ≡ false → byte ∷ line ≡ drop (position_or_len (λ b. not (is_blank b)) (byte ∷ line)) (byte ∷ line)
+pub on_start-other : (byte : ℕ) (line : List ℕ) → is_blank byte ≡ false
+    → byte ∷ line ≡ drop (position_or_len (λ b. not (is_blank b)) (byte ∷ line)) (byte ∷ line)
 on_start-other byte line other = rw other refl
 
 -- the words begin at the first byte that is no blank
@@ -40,13 +45,17 @@ words_of-none line e =
     words_of-from_start line ∙ ap words_of (drop_all _ line (omega arith))
 
 -- the first word ends at the first blank
-words_of-at : (line : List ℕ) (n : ℕ) → n ≡ position_or_len is_blank line → n < length line → 0 < n → words_of line ≡ take n line ∷ words_of (drop n line)
+words_of-at : (line : List ℕ) (n : ℕ) → n ≡ position_or_len is_blank line → n < length line → 0 < n
+    → words_of line ≡ take n line ∷ words_of (drop n line)
 words_of-at line n here within some =
     let word : is_word (take n line) ≡ true = lt-ltb 0 (length (take n line)) (omega (arith, length-take {A = ℕ})) in
     let after : words_of (drop n line) ≡ words_of (drop (n + 1) line) =
-    ap words_of (drop_more line n 0 within) ∙ words_of-blank (get_or line n 0) (drop (n + 1) line) (rw here (passes_at_first is_blank line 0 (omega arith))) in
-    ap words_of_parts (slice_split_first is_blank line 0 (omega arith)) ∙ ap (λ (k : ℕ). words_of_parts (take k line ∷ slice_split is_blank (drop (k + 1) line))) (sym here)
-    ∙ cond-true (is_word (take n line)) (take n line ∷ words_of (drop (n + 1) line)) (words_of (drop (n + 1) line)) word ∙ ap (λ words. take n line ∷ words) (sym after)
+    ap words_of (drop_more line n 0 within)
+    ∙ words_of-blank (get_or line n 0) (drop (n + 1) line) (rw here (passes_at_first is_blank line 0 (omega arith))) in
+    ap words_of_parts (slice_split_first is_blank line 0 (omega arith))
+    ∙ ap (λ (k : ℕ). words_of_parts (take k line ∷ slice_split is_blank (drop (k + 1) line))) (sym here)
+    ∙ cond-true (is_word (take n line)) (take n line ∷ words_of (drop (n + 1) line)) (words_of (drop (n + 1) line)) word
+    ∙ ap (λ words. take n line ∷ words) (sym after)
 
 -- or with the line
 words_of-last : (line : List ℕ) → position_or_len is_blank line ≡ length line → 0 < length line → words_of line ≡ line ∷ []
@@ -62,19 +71,24 @@ words_of-front line n here some = elim (cases_lt n (length line)) [
       words_of-last line (omega arith) (omega arith) ∙ (λ i. sym (take_all n line past) i ∷ words_of (sym (drop_all n line past) i))
 ]
 
-starts : (line : List ℕ) (start : ℕ) → Some start ≡ position (λ byte. not (is_blank byte)) line → 0 < position_or_len is_blank (drop start line)
+starts : (line : List ℕ) (start : ℕ) → Some start ≡ position (λ byte. not (is_blank byte)) line
+    → 0 < position_or_len is_blank (drop start line)
 starts line start e =
     let at = position_some (λ byte. not (is_blank byte)) line start e in
-    let first : not (is_blank (get_or line start 0)) ≡ true = rw at.0 (passes_at_first (λ byte. not (is_blank byte)) line 0 (omega (arith, at.0, at.1))) in
+    let first : not (is_blank (get_or line start 0)) ≡ true =
+    rw at.0 (passes_at_first (λ byte. not (is_blank byte)) line 0 (omega (arith, at.0, at.1))) in
     rw (drop_more line start 0 at.1, first) (omega arith)
 
 -- the first word, and the words after it
-pub words_of-first : (line : List ℕ) (start n : ℕ) → Some start ≡ position (λ byte. not (is_blank byte)) line → n ≡ position_or_len is_blank (drop start line) → words_of line ≡ take n (drop start line) ∷ words_of (drop n (drop start line))
+pub words_of-first : (line : List ℕ) (start n : ℕ) → Some start ≡ position (λ byte. not (is_blank byte)) line
+    → n ≡ position_or_len is_blank (drop start line) → words_of line ≡ take n (drop start line) ∷ words_of (drop n (drop start line))
 words_of-first line start n e here =
     let at = position_some (λ byte. not (is_blank byte)) line start e in
-    words_of-from_start line ∙ ap (λ (k : ℕ). words_of (drop k line)) (sym at.0) ∙ words_of-front (drop start line) n here (omega (arith, starts line start e))
+    words_of-from_start line ∙ ap (λ (k : ℕ). words_of (drop k line)) (sym at.0)
+    ∙ words_of-front (drop start line) n here (omega (arith, starts line start e))
 
-pub word_end_is : (line : List ℕ) (found : Option ℕ) (n : ℕ) → found ≡ position is_blank line → n ≡ unwrap_or found (length line) → n ≡ position_or_len is_blank line
+pub word_end_is : (line : List ℕ) (found : Option ℕ) (n : ℕ) → found ≡ position is_blank line → n ≡ unwrap_or found (length line)
+    → n ≡ position_or_len is_blank line
 word_end_is line (Some end) n e here = here ∙ (position_some is_blank line end e).0
 word_end_is line None n e here = here ∙ sym (position_none is_blank line e)
 

@@ -1,5 +1,6 @@
 -- The hexadecimal digits of a number, read again.
-use Rattle.std.proofs.Common.{◌≡◌, ℕ, zero, suc, ◌+◌, ◌*◌, ◌/◌, ◌%◌, ◌^◌, ◌<◌, Bool, true, List, [], ◌∷◌, ◌++◌, length, ◌==◌, Some, refl, ap, ◌∙◌, arith, length-append}
+use Rattle.std.proofs.Common.{◌≡◌, ℕ, zero, suc, ◌+◌, ◌*◌, ◌/◌, ◌%◌, ◌^◌, ◌<◌, Bool, true, List, [], ◌∷◌, ◌++◌, length, ◌==◌, Some, refl}
+use Rattle.std.proofs.Common.{ap, ◌∙◌, arith, length-append}
 use Rattle.std.proofs.Math.Nat.{pow-suc}
 use Rattle.std.specs.Char.{is_digit, digit_value}
 use Rattle.std.specs.Fmt.{digit_glyph}
@@ -19,12 +20,17 @@ digit_of_glyph : passes_all (λ byte. is_digit byte 16)
 digit_of_glyph digit inside = agree_below_at (λ d. is_digit (digit_glyph true d) 16) (λ _. true) 16 digit refl inside
 
 value_of_glyph : (digit : ℕ) → digit < 16 → digit_value (digit_glyph true digit) ≡ digit
-value_of_glyph digit inside = eqb-true _ digit (agree_below_at (λ d. digit_value (digit_glyph true d) == d) (λ _. true) 16 digit refl inside)
+value_of_glyph digit inside =
+    eqb-true _ digit (agree_below_at (λ d. digit_value (digit_glyph true d) == d) (λ _. true) 16 digit refl inside)
 
 pub length-hexadecimal : (count number : ℕ) → length (hexadecimal_text count number) ≡ count
 length-hexadecimal zero number = refl
 length-hexadecimal (suc count) number =
-    omega (arith, length-append (hexadecimal_text count (number / 16)) (digit_glyph true (number % 16) ∷ []), length-hexadecimal count (number / 16))
+    omega (
+      arith,
+      length-append (hexadecimal_text count (number / 16)) (digit_glyph true (number % 16) ∷ []),
+      length-hexadecimal count (number / 16),
+    )
 
 pub all_hexadecimal : (test : ℕ → Bool) → passes_all test → (count number : ℕ) → list_all test (hexadecimal_text count number) ≡ true
 all_hexadecimal test each zero number = refl
@@ -32,7 +38,8 @@ all_hexadecimal test each (suc count) number =
     list_all-append test (hexadecimal_text count (number / 16)) (digit_glyph true (number % 16) ∷ [])
     ∙ and_from _ _ (all_hexadecimal test each count (number / 16)) (and_from _ _ (each (number % 16) (omega arith)) refl)
 
-value_after-append : (before : ℕ) (digits : List ℕ) (last : ℕ) → digits_value_after 16 before (digits ++ last ∷ []) ≡ digits_value_after 16 before digits * 16 + digit_value last
+value_after-append : (before : ℕ) (digits : List ℕ) (last : ℕ)
+    → digits_value_after 16 before (digits ++ last ∷ []) ≡ digits_value_after 16 before digits * 16 + digit_value last
 value_after-append before [] last = refl
 value_after-append before (digit ∷ digits) last = value_after-append (before * 16 + digit_value digit) digits last
 

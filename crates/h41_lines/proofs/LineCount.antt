@@ -20,7 +20,8 @@ count_byte byte [] = omega arith
 count_byte byte (part ∷ []) = let one = count_one (length (byte ∷ part) == 0) (byte ∷ part) in omega (arith, one)
 count_byte byte (part ∷ other ∷ parts) = omega arith
 
-count_next : (ends : Bool) (byte : ℕ) (parts : List (List ℕ)) → length (lines_of_parts (cond ends ([] ∷ parts) (onto_first byte parts))) ≤ length (lines_of_parts parts) + 1
+count_next : (ends : Bool) (byte : ℕ) (parts : List (List ℕ))
+    → length (lines_of_parts (cond ends ([] ∷ parts) (onto_first byte parts))) ≤ length (lines_of_parts parts) + 1
 count_next true byte parts = count_empty parts
 count_next false byte parts = count_byte byte parts
 

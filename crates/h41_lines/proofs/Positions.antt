@@ -7,7 +7,10 @@ use Rattle.std.proofs.lemmas.List.Sums.{prefix_len-le-length}
 -- where a place was found, it is the first one
 pub position_some : (p : ℕ → Bool) (xs : List ℕ) (n : ℕ) → Some n ≡ position p xs → (n ≡ position_or_len p xs) × (n < length xs)
 position_some p xs n e = elim (cases_Bool (nat_lt (position_or_len p xs) (length xs))) [
-  | inl found ↦ let at : n ≡ position_or_len p xs = let s : Some n ≡ Some (position_or_len p xs) = e ∙ cond-true _ _ _ found in cc in (at, omega (arith, ltb-true _ _ found))
+  | inl found ↦
+      let at : n ≡ position_or_len p xs =
+      let s : Some n ≡ Some (position_or_len p xs) = e ∙ cond-true _ _ _ found in cc in
+      (at, omega (arith, ltb-true _ _ found))
   | inr past ↦ let s : Some n ≡ None = e ∙ cond-false _ _ _ past in cc
 ]
 

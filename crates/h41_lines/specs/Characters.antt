@@ -1,5 +1,7 @@
--- Digits and characters as texts show them. That others than 20 to 7E show as \ and two digits is this project's own choice.
-use Rattle.std.specs.Prelude.{ℕ, ◌+◌, ◌/◌, ◌%◌, Bool, not, ◌&&◌, List, [], ◌∷◌, nat_le, ◌==◌, if◌then◌else◌}
+-- Digits and characters as texts show them. That others than 20 to 7E show as \ and two digits is
+-- this project's own choice.
+use Rattle.std.specs.Prelude.{ℕ, ◌+◌, ◌/◌, ◌%◌, Bool, not, ◌&&◌, List, [], ◌∷◌, nat_le, ◌==◌}
+use Rattle.std.specs.Prelude.{if◌then◌else◌}
 use Rattle.std.specs.List.{flat_map}
 use Rattle.h41_digits.specs.Register.{hexadecimal_text}
 

@@ -1,4 +1,5 @@
--- The hash of a word, by two numbers. It connects code with its tables of words; no rule speaks of it.
+-- The hash of a word, by two numbers. It connects code with its tables of words; no rule speaks of
+-- it.
 use Rattle.std.specs.Prelude.{ℕ, ◌+◌, ◌*◌, ◌/◌, ◌%◌, List, [], ◌∷◌}
 
 abbrev pub hash_from : ℕ → ℕ → List ℕ → ℕ

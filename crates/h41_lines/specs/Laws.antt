@@ -5,4 +5,6 @@ use Rattle.h41_lines.specs.Numbers.{hexadecimal}
 
 -- so many digits of a number that has no more are read as that number
 abbrev pub HexadecimalRoundTrip : Type 0
-HexadecimalRoundTrip = (count number : ℕ) → 0 < count → number < 16 ^ count → hexadecimal count count (hexadecimal_text count number) ≡ Some number
+HexadecimalRoundTrip =
+    (count number : ℕ) → 0 < count → number < 16 ^ count
+    → hexadecimal count count (hexadecimal_text count number) ≡ Some number

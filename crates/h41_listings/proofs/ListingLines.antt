@@ -1,5 +1,6 @@
 -- The lines of a text whose lines have no byte that would end them or be dropped.
-use Rattle.std.proofs.Common.{◌≡◌, ℕ, ◌-◌, ◌<◌, Bool, true, false, not, ◌&&◌, List, [], ◌∷◌, ◌++◌, length, nat_lt, ◌==◌, refl, ap, ◌∙◌, arith, All}
+use Rattle.std.proofs.Common.{◌≡◌, ℕ, ◌-◌, ◌<◌, Bool, true, false, not, ◌&&◌, List, [], ◌∷◌, ◌++◌, length, nat_lt, ◌==◌, refl, ap, ◌∙◌}
+use Rattle.std.proofs.Common.{arith, All}
 use Rattle.std.specs.Prelude.{slice_index}
 use Rattle.std.specs.List.{list_all, slice_split}
 use Rattle.std.specs.Str.Lines.{lines_of_parts, strip_carriage_return}
@@ -32,7 +33,8 @@ unstripped (first ∷ rest) plain =
     AllPass-from_list_all is_plain (first ∷ rest) plain (length (first ∷ rest) - 1) 0 (omega arith) in
     rw (not_below (slice_index (first ∷ rest) (length (first ∷ rest) - 1)) 13 at (omega arith)) refl
 
-lines_of_parts-cons : (part : List ℕ) (parts : List (List ℕ)) → 0 < length parts → lines_of_parts (part ∷ parts) ≡ strip_carriage_return part ∷ lines_of_parts parts
+lines_of_parts-cons : (part : List ℕ) (parts : List (List ℕ)) → 0 < length parts
+    → lines_of_parts (part ∷ parts) ≡ strip_carriage_return part ∷ lines_of_parts parts
 lines_of_parts-cons part [] some = absurd (omega arith)
 lines_of_parts-cons part (next ∷ more) some = refl
 
@@ -40,7 +42,8 @@ lines_of_parts-cons part (next ∷ more) some = refl
 pub lines-cons : (text rest : List ℕ) → list_all is_plain text ≡ true → lines (text ++ 10 ∷ rest) ≡ text ∷ lines rest
 lines-cons text rest plain =
     let newline : ℕ → Bool = λ byte. byte == 10 in
-    let none : All (λ byte. newline byte ≡ false) text = λ k d inside. not_below _ 10 (AllPass-from_list_all is_plain text plain k d inside) (omega arith) in
+    let none : All (λ byte. newline byte ≡ false) text =
+    λ k d inside. not_below _ 10 (AllPass-from_list_all is_plain text plain k d inside) (omega arith) in
     let parts = slice_split newline rest in
     ap lines_of_parts (slice_split_at newline text 10 rest none refl)
     ∙ lines_of_parts-cons text parts (omega (arith, length-slice_split newline rest))

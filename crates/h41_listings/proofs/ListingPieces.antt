@@ -1,5 +1,6 @@
 -- The lines of words say these words: piece by piece, and of one word or two.
-use Rattle.std.proofs.Common.{◌≡◌, ℕ, ◌+◌, ◌*◌, ◌/◌, ◌%◌, ◌<◌, true, false, ◌||◌, ◌==◌, List, [], ◌∷◌, ◌++◌, Option, Some, None, flat_map, refl, sym, ap, ◌∙◌, subst, arith, append_assoc, inl, inr}
+use Rattle.std.proofs.Common.{◌≡◌, ℕ, ◌+◌, ◌*◌, ◌/◌, ◌%◌, ◌<◌, true, false, ◌||◌, ◌==◌, List, [], ◌∷◌, ◌++◌, Option, Some, None, flat_map}
+use Rattle.std.proofs.Common.{refl, sym, ap, ◌∙◌, subst, arith, append_assoc, inl, inr}
 use Rattle.std.specs.Prelude.{codes}
 use Rattle.std.specs.List.{AllByRecursion}
 use Rattle.std.proofs.lemmas.Bool.{cases_Bool, cond_both, eqb-true, or_cases}
@@ -56,7 +57,8 @@ begins_two first two = elim (cases_Bool (first % 4 == 1 || first == 0x130)) [
 ]
 
 module _ (word_of_row : WordOfRow) (one_word_of_row : OneWordOfRow) (said_by_word : SaidByWord) where
-  reads_jump_pair : (first second : ℕ) → first < 1024 → second < 1024 → first % 4 ≡ 1 → Reads (instruction_text (row_of first) second) (first ∷ second ∷ [])
+  reads_jump_pair : (first second : ℕ) → first < 1024 → second < 1024 → first % 4 ≡ 1
+      → Reads (instruction_text (row_of first) second) (first ∷ second ∷ [])
   unfolding number_of
   reads_jump_pair first second first_fits second_fits jump =
       let low_fits : first / 4 < 256 = omega arith in
@@ -69,14 +71,17 @@ module _ (word_of_row : WordOfRow) (one_word_of_row : OneWordOfRow) (said_by_wor
       (subst (λ (words : List ℕ). Reads (instruction_text (LongJump (first / 4)) second) words) said
       (reads_jump (first / 4) (second_of second) low_fits high_fits))
 
-  reads_immediate_pair : (first second : ℕ) → second < 1024 → first ≡ 0x130 → Reads (instruction_text (row_of first) second) (first ∷ second ∷ [])
+  reads_immediate_pair : (first second : ℕ) → second < 1024 → first ≡ 0x130
+      → Reads (instruction_text (row_of first) second) (first ∷ second ∷ [])
   unfolding number_of
   reads_immediate_pair first second second_fits immediate =
       let row : row_of first ≡ LoadImmediate = (one_word_of_row LoadImmediate tt first).1 immediate in
       subst (λ r. Reads (instruction_text r second) (first ∷ second ∷ [])) (sym row)
-      (subst (λ (n : ℕ). Reads (instruction_text LoadImmediate second) (n ∷ second ∷ [])) (sym immediate) (reads_immediate second second_fits))
+      (subst (λ (n : ℕ). Reads (instruction_text LoadImmediate second) (n ∷ second ∷ []))
+      (sym immediate) (reads_immediate second second_fits))
 
-  reads_pair : (first second : ℕ) → first < 1024 → second < 1024 → (length_of first == 2) ≡ true → Reads (instruction_text (row_of first) second) (first ∷ second ∷ [])
+  reads_pair : (first second : ℕ) → first < 1024 → second < 1024 → (length_of first == 2) ≡ true
+      → Reads (instruction_text (row_of first) second) (first ∷ second ∷ [])
   reads_pair first second first_fits second_fits two = elim (or_cases (first % 4 == 1) (first == 0x130) (begins_two first two)) [
     | inl jump ↦ reads_jump_pair first second first_fits second_fits (eqb-true (first % 4) 1 jump)
     | inr immediate ↦ reads_immediate_pair first second second_fits (eqb-true first 0x130 immediate)
@@ -87,7 +92,8 @@ module _ (word_of_row : WordOfRow) (one_word_of_row : OneWordOfRow) (said_by_wor
   reads_pieces [] each = tt
   reads_pieces (first ∷ []) each = (reads_word word_of_row first each.0, tt)
   reads_pieces (first ∷ second ∷ rest) each =
-      cond_both (length_of first == 2) (with_second first second ∷ pieces rest) (alone first ∷ pieces (second ∷ rest)) (AllByRecursion ReadsPiece)
+      cond_both (length_of first == 2) (with_second first second ∷ pieces rest)
+      (alone first ∷ pieces (second ∷ rest)) (AllByRecursion ReadsPiece)
       (λ two. (reads_pair first second each.0 each.1.0 two, reads_pieces rest each.1.1))
       (λ one. (reads_word word_of_row first each.0, reads_pieces (second ∷ rest) each.1))
 
@@ -96,6 +102,7 @@ pub words_of_pieces : (words : List ℕ) → flat_map piece_words (pieces words)
 words_of_pieces [] = refl
 words_of_pieces (first ∷ []) = refl
 words_of_pieces (first ∷ second ∷ rest) =
-    cond_both (length_of first == 2) (with_second first second ∷ pieces rest) (alone first ∷ pieces (second ∷ rest)) (λ some. flat_map piece_words some ≡ first ∷ second ∷ rest)
+    cond_both (length_of first == 2) (with_second first second ∷ pieces rest)
+    (alone first ∷ pieces (second ∷ rest)) (λ some. flat_map piece_words some ≡ first ∷ second ∷ rest)
     (λ two. ap (λ words. first ∷ second ∷ words) (words_of_pieces rest))
     (λ one. ap (λ words. first ∷ words) (words_of_pieces (second ∷ rest)))

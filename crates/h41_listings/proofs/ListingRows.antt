@@ -1,5 +1,6 @@
 -- The line of each row, family by family, says the word of the row.
-use Rattle.std.proofs.Common.{◌≡◌, ℕ, ◌+◌, ◌<◌, pos, negsuc, Bool, true, false, not, ◌&&◌, nat_lt, ◌==◌, List, [], ◌∷◌, ◌++◌, length, Option, Some, None, refl, ap, arith}
+use Rattle.std.proofs.Common.{◌≡◌, ℕ, ◌+◌, ◌<◌, pos, negsuc, Bool, true, false, not, ◌&&◌, nat_lt, ◌==◌, List, [], ◌∷◌, ◌++◌, length}
+use Rattle.std.proofs.Common.{Option, Some, None, refl, ap, arith}
 use Rattle.std.specs.Prelude.{codes, bytes_eq}
 use Rattle.std.specs.Fmt.{decimal, digits}
 use Rattle.std.specs.List.{list_all}
@@ -10,15 +11,19 @@ use Rattle.h41_fields.specs.declared.field.Field.TheVariants.{AtPointer}
 use Rattle.h41_words.specs.declared.operation.Operation.{Operation}
 use Rattle.h41_words.specs.declared.rows.Condition.{Condition}
 use Rattle.h41_words.specs.declared.rows.Row.{Row}
-use Rattle.h41_words.specs.declared.rows.Row.TheVariants.{Arithmetic, ShortJump, ClearStatus, SetStatus, TestStatus, TestPointer, SetPointer, RotateRight, LoadDigit, Write, Read, LoadImmediate}
+use Rattle.h41_words.specs.declared.rows.Row.TheVariants.{Arithmetic, ShortJump, ClearStatus, SetStatus, TestStatus, TestPointer}
+use Rattle.h41_words.specs.declared.rows.Row.TheVariants.{SetPointer, RotateRight, LoadDigit, Write, Read, LoadImmediate}
 use Rattle.h41_words.specs.declared.second_word.LongJumpKind.{LongJumpKind}
 use Rattle.h41_words.specs.Mnemonics.{field_text, operation_text, long_jump_text, short_jump_text, displacement_text, row_text}
 use Rattle.h41_words.specs.WordTable.{number_of}
 use Rattle.h41_asm.specs.Operands.{field_in, number_in}
-use Rattle.h41_asm.specs.Statements.{is_in_reach, long_jump_words, one_word, said, takes_number, takes_field, takes_displacement, takes_address, takes_immediate, takes_constant}
+use Rattle.h41_asm.specs.Statements.{is_in_reach, long_jump_words, one_word, said, takes_number, takes_field, takes_displacement}
+use Rattle.h41_asm.specs.Statements.{takes_address, takes_immediate, takes_constant}
 use Rattle.h41_lines.proofs.HexadecimalDigits.{length-hexadecimal}
 use Rattle.h41_listings.proofs.ListingNumbers.{solid_hexadecimal, read_address, read_word, read_forward, read_backward}
-use Rattle.h41_listings.proofs.ListingTexts.{Reads, IsTaken, IsOperand, reads_operand, constant_taken, immediate_taken, long_jump_taken, short_jump_taken, operation_taken, clear_status_taken, set_status_taken, test_status_taken, test_pointer_taken, set_pointer_taken, rotate_taken, load_digit_taken, write_taken, read_taken}
+use Rattle.h41_listings.proofs.ListingTexts.{Reads, IsTaken, IsOperand, reads_operand, constant_taken, immediate_taken, long_jump_taken}
+use Rattle.h41_listings.proofs.ListingTexts.{short_jump_taken, operation_taken, clear_status_taken, set_status_taken, test_status_taken}
+use Rattle.h41_listings.proofs.ListingTexts.{test_pointer_taken, set_pointer_taken, rotate_taken, load_digit_taken, write_taken, read_taken}
 use Rattle.h41_listings.proofs.ListingWords.{is_solid}
 
 -- hexadecimal digits as operands
@@ -33,7 +38,8 @@ reads_constant word inside =
 
 pub reads_immediate : (word : ℕ) → word < 1024 → Reads (codes "LDI" ++ 32 ∷ hexadecimal_text 3 word) (number_of LoadImmediate ∷ word ∷ [])
 reads_immediate word inside =
-    reads_operand (codes "LDI") (hexadecimal_text 3 word) (number_of LoadImmediate ∷ word ∷ []) takes_immediate (immediate_taken (hexadecimal_text 3 word))
+    reads_operand (codes "LDI") (hexadecimal_text 3 word) (number_of LoadImmediate ∷ word ∷ [])
+    takes_immediate (immediate_taken (hexadecimal_text 3 word))
     (hexadecimal_operand 3 word (omega arith)) (rw (read_word word inside) refl)
 
 pub reads_long_jump : (condition : Condition) (kind : LongJumpKind) (address : ℕ) → address < 0x10000
@@ -49,7 +55,8 @@ pub reads_forward : (condition : Condition) (words : ℕ) → words < 64
 reads_forward condition words inside =
     let text = displacement_text (pos words) in
     let near : is_in_reach (pos words) ≡ true = agree_below_at (λ n. is_in_reach (pos n)) (λ _. true) 64 words refl inside in
-    reads_operand (short_jump_text condition) text (number_of (ShortJump condition (pos words)) ∷ []) (takes_displacement condition) (short_jump_taken condition text)
+    reads_operand (short_jump_text condition) text (number_of (ShortJump condition (pos words)) ∷ [])
+    (takes_displacement condition) (short_jump_taken condition text)
     (record { some = omega arith; solid = solid_hexadecimal 2 words }) (rw (read_forward words inside, near) refl)
 
 pub reads_backward : (condition : Condition) (words : ℕ) → words < 64
@@ -57,7 +64,8 @@ pub reads_backward : (condition : Condition) (words : ℕ) → words < 64
 reads_backward condition words inside =
     let text = displacement_text (negsuc words) in
     let near : is_in_reach (negsuc words) ≡ true = agree_below_at (λ n. is_in_reach (negsuc n)) (λ _. true) 64 words refl inside in
-    reads_operand (short_jump_text condition) text (number_of (ShortJump condition (negsuc words)) ∷ []) (takes_displacement condition) (short_jump_taken condition text)
+    reads_operand (short_jump_text condition) text (number_of (ShortJump condition (negsuc words)) ∷ [])
+    (takes_displacement condition) (short_jump_taken condition text)
     (record { some = omega arith; solid = solid_hexadecimal 2 (words + 1) }) (rw (read_backward words inside, near) refl)
 
 -- operations at a field
@@ -69,9 +77,11 @@ read_field : (field : Field) → field_in (field_text field) ≡ Some field
 read_field AtPointer = refl
 read_field field = refl
 
-pub reads_arithmetic : (operation : Operation) (field : Field) → Reads (row_text (Arithmetic operation field)) (number_of (Arithmetic operation field) ∷ [])
+pub reads_arithmetic : (operation : Operation) (field : Field)
+    → Reads (row_text (Arithmetic operation field)) (number_of (Arithmetic operation field) ∷ [])
 reads_arithmetic operation field =
-    reads_operand (operation_text operation) (field_text field) (number_of (Arithmetic operation field) ∷ []) (takes_field operation) (operation_taken operation (field_text field))
+    reads_operand (operation_text operation) (field_text field) (number_of (Arithmetic operation field) ∷ [])
+    (takes_field operation) (operation_taken operation (field_text field))
     (field_operand field) (rw (read_field field) refl)
 
 -- what a decimal number is as an operand, and which it is
@@ -110,7 +120,8 @@ read_digit number inside = just number _ (agree_below_at (λ n. is_just n (numbe
 
 read_register : (number : ℕ) → number < 15 → number_in 1 15 (decimal (number + 1)) ≡ Some (number + 1)
 unfolding digits
-read_register number inside = just (number + 1) _ (agree_below_at (λ n. is_just (n + 1) (number_in 1 15 (decimal (n + 1)))) (λ _. true) 15 number refl inside)
+read_register number inside =
+    just (number + 1) _ (agree_below_at (λ n. is_just (n + 1) (number_in 1 15 (decimal (n + 1)))) (λ _. true) 15 number refl inside)
 
 -- a mnemonic that takes a number
 reads_number : (name : List ℕ) (least count number : ℕ) (row : ℕ → Row) → IsTaken name (takes_number least count row) (decimal number)
@@ -120,31 +131,40 @@ reads_number name least count number row taken inside read =
     (ap (said (λ n. one_word (row n))) read)
 
 pub reads_clear_status : (bit : ℕ) → bit < 14 → Reads (row_text (ClearStatus bit)) (number_of (ClearStatus bit) ∷ [])
-reads_clear_status bit inside = reads_number (codes "CLRF") 0 14 bit (λ n. ClearStatus n) (clear_status_taken (decimal bit)) (omega arith) (read_place bit inside)
+reads_clear_status bit inside =
+    reads_number (codes "CLRF") 0 14 bit (λ n. ClearStatus n) (clear_status_taken (decimal bit)) (omega arith) (read_place bit inside)
 
 pub reads_set_status : (bit : ℕ) → bit < 14 → Reads (row_text (SetStatus bit)) (number_of (SetStatus bit) ∷ [])
-reads_set_status bit inside = reads_number (codes "SETF") 0 14 bit (λ n. SetStatus n) (set_status_taken (decimal bit)) (omega arith) (read_place bit inside)
+reads_set_status bit inside =
+    reads_number (codes "SETF") 0 14 bit (λ n. SetStatus n) (set_status_taken (decimal bit)) (omega arith) (read_place bit inside)
 
 pub reads_test_status : (bit : ℕ) → bit < 14 → Reads (row_text (TestStatus bit)) (number_of (TestStatus bit) ∷ [])
-reads_test_status bit inside = reads_number (codes "?FSET") 0 14 bit (λ n. TestStatus n) (test_status_taken (decimal bit)) (omega arith) (read_place bit inside)
+reads_test_status bit inside =
+    reads_number (codes "?FSET") 0 14 bit (λ n. TestStatus n) (test_status_taken (decimal bit)) (omega arith) (read_place bit inside)
 
 pub reads_test_pointer : (place : ℕ) → place < 14 → Reads (row_text (TestPointer place)) (number_of (TestPointer place) ∷ [])
-reads_test_pointer place inside = reads_number (codes "?R=") 0 14 place (λ n. TestPointer n) (test_pointer_taken (decimal place)) (omega arith) (read_place place inside)
+reads_test_pointer place inside =
+    reads_number (codes "?R=") 0 14 place (λ n. TestPointer n) (test_pointer_taken (decimal place)) (omega arith) (read_place place inside)
 
 pub reads_set_pointer : (place : ℕ) → place < 14 → Reads (row_text (SetPointer place)) (number_of (SetPointer place) ∷ [])
-reads_set_pointer place inside = reads_number (codes "R=") 0 14 place (λ n. SetPointer n) (set_pointer_taken (decimal place)) (omega arith) (read_place place inside)
+reads_set_pointer place inside =
+    reads_number (codes "R=") 0 14 place (λ n. SetPointer n) (set_pointer_taken (decimal place)) (omega arith) (read_place place inside)
 
 pub reads_rotate : (count : ℕ) → count < 14 → Reads (row_text (RotateRight count)) (number_of (RotateRight count) ∷ [])
-reads_rotate count inside = reads_number (codes "RCR") 0 14 count (λ n. RotateRight n) (rotate_taken (decimal count)) (omega arith) (read_place count inside)
+reads_rotate count inside =
+    reads_number (codes "RCR") 0 14 count (λ n. RotateRight n) (rotate_taken (decimal count)) (omega arith) (read_place count inside)
 
 pub reads_load_digit : (digit : ℕ) → digit < 16 → Reads (row_text (LoadDigit digit)) (number_of (LoadDigit digit) ∷ [])
-reads_load_digit digit inside = reads_number (codes "LD@R") 0 16 digit (λ n. LoadDigit n) (load_digit_taken (decimal digit)) inside (read_digit digit inside)
+reads_load_digit digit inside =
+    reads_number (codes "LD@R") 0 16 digit (λ n. LoadDigit n) (load_digit_taken (decimal digit)) inside (read_digit digit inside)
 
 pub reads_write : (register : ℕ) → register < 16 → Reads (row_text (Write register)) (number_of (Write register) ∷ [])
 reads_write register inside =
-    reads_number (codes "WRIT") 0 16 register (λ n. Write n) (write_taken (decimal register) (no_data register inside)) inside (read_digit register inside)
+    reads_number (codes "WRIT") 0 16 register (λ n. Write n)
+    (write_taken (decimal register) (no_data register inside)) inside (read_digit register inside)
 
 pub reads_read : (before : ℕ) → before < 15 → Reads (row_text (Read (before + 1))) (number_of (Read (before + 1)) ∷ [])
 reads_read before inside =
     let register : before + 1 < 16 = omega arith in
-    reads_number (codes "READ") 1 15 (before + 1) (λ n. Read n) (read_taken (decimal (before + 1)) (no_data (before + 1) register)) register (read_register before inside)
+    reads_number (codes "READ") 1 15 (before + 1) (λ n. Read n)
+    (read_taken (decimal (before + 1)) (no_data (before + 1) register)) register (read_register before inside)

@@ -1,5 +1,6 @@
 -- The listing of words as a source: its lines, and that they spell these words and no others.
-use Rattle.std.proofs.Common.{◌≡◌, ℕ, ◌+◌, ◌<◌, ◌≤◌, List, [], ◌∷◌, ◌++◌, length, map, flat_map, Option, Some, None, refl, sym, ap, ◌∙◌, subst, arith, append_assoc, ◌↔◌}
+use Rattle.std.proofs.Common.{◌≡◌, ℕ, ◌+◌, ◌<◌, ◌≤◌, List, [], ◌∷◌, ◌++◌, length, map, flat_map, Option, Some, None, refl, sym, ap, ◌∙◌}
+use Rattle.std.proofs.Common.{subst, arith, append_assoc, ◌↔◌}
 use Rattle.std.specs.Prelude.{Contains, IsSome, IfSome, bytes_eq, codes}
 use Rattle.std.specs.List.{AllByRecursion, IsDistinct, cons_option}
 use Rattle.std.proofs.lemmas.List.Elements.{recursion_from_All}
@@ -32,7 +33,8 @@ no_labels (piece ∷ rest) each =
     ap (λ label. cons_option label (labels_of (map source_line rest))) each.0.unlabelled ∙ no_labels rest each.1
 
 -- whatever the labels are, the lines spell the words of the pieces
-line_spells : (labels : Labels) (address : ℕ) (piece : Piece) → ReadsPiece piece → LineSpells labels address (source_line piece) (piece_words piece)
+line_spells : (labels : Labels) (address : ℕ) (piece : Piece) → ReadsPiece piece
+    → LineSpells labels address (source_line piece) (piece_words piece)
 line_spells labels address piece reads = record {
   label = subst (λ (label : Option (List ℕ)). IfSome label (λ name. labels name ≡ Some address)) (sym reads.unlabelled) tt;
   words = subst (λ read. SpellsRead labels address read (piece_words piece)) (sym reads.said) refl;
@@ -41,8 +43,13 @@ line_spells labels address piece reads = record {
 spells : (labels : Labels) (address : ℕ) (some : List Piece) → AllByRecursion ReadsPiece some
     → LinesSpell labels address (map source_line some) (flat_map piece_words some)
 spells labels address [] each = refl
-spells labels address (piece ∷ rest) each =
-    (piece_words piece, flat_map piece_words rest, refl, line_spells labels address piece each.0, spells labels (address + length (piece_words piece)) rest each.1)
+spells labels address (piece ∷ rest) each = (
+  piece_words piece,
+  flat_map piece_words rest,
+  refl,
+  line_spells labels address piece each.0,
+  spells labels (address + length (piece_words piece)) rest each.1,
+)
 
 -- and only these
 spells_only : (labels : Labels) (address : ℕ) (some : List Piece) (words : List ℕ) → AllByRecursion ReadsPiece some
@@ -57,7 +64,8 @@ module _ (word_of_row : WordOfRow) (one_word_of_row : OneWordOfRow) (said_by_wor
   each_reads : (words : List ℕ) → AllByRecursion (λ word. word < 1024) words → AllByRecursion ReadsPiece (pieces words)
   each_reads = reads_pieces word_of_row one_word_of_row said_by_word
 
-  assembles : (words : List ℕ) (origin : ℕ) → AllByRecursion (λ word. word < 1024) words → origin + length words ≤ 0x10000 → Assembles (spell words) origin words
+  assembles : (words : List ℕ) (origin : ℕ) → AllByRecursion (λ word. word < 1024) words → origin + length words ≤ 0x10000
+      → Assembles (spell words) origin words
   unfolding IsDistinct
   assembles words origin each fits =
       let reads = each_reads words each in
@@ -70,19 +78,24 @@ module _ (word_of_row : WordOfRow) (one_word_of_row : OneWordOfRow) (said_by_wor
         placed = (
           labels,
           record {
-            names = λ name. subst (λ (names : List (List ℕ)). IsSome (labels name) ↔ Contains names name) (sym none) ((λ some. absurd (cc)), (λ at. absurd (omega arith)));
+            names =
+                λ name. subst (λ (names : List (List ℕ)). IsSome (labels name) ↔ Contains names name)
+                (sym none) ((λ some. absurd (cc)), (λ at. absurd (omega arith)));
             within = λ name. tt;
             spelled = subst (λ own. LinesSpell labels origin (source_lines (spell words)) own) (words_of_pieces words)
-                (subst (λ some. LinesSpell labels origin some (flat_map piece_words (pieces words))) (sym lines) (spells labels origin (pieces words) reads));
+                (subst (λ some. LinesSpell labels origin some (flat_map piece_words (pieces words)))
+                (sym lines) (spells labels origin (pieces words) reads));
           },
         );
       }
 
-  assembles_only : (words : List ℕ) (origin : ℕ) (other : List ℕ) → AllByRecursion (λ word. word < 1024) words → Assembles (spell words) origin other → other ≡ words
+  assembles_only : (words : List ℕ) (origin : ℕ) (other : List ℕ) → AllByRecursion (λ word. word < 1024) words
+      → Assembles (spell words) origin other → other ≡ words
   assembles_only words origin other each assembled =
       let reads = each_reads words each in
       let labels = assembled.placed.0 in
-      let spelled = subst (λ some. LinesSpell labels origin some other) (lines_of_listing (pieces words) reads) assembled.placed.1.spelled in
+      let spelled =
+      subst (λ some. LinesSpell labels origin some other) (lines_of_listing (pieces words) reads) assembled.placed.1.spelled in
       spells_only labels origin (pieces words) other reads spelled ∙ words_of_pieces words
 
   pub listing_assembles : ListingAssembles

@@ -1,5 +1,6 @@
 -- The line of each word says that word: of a row of the listing, and of a word that stands for none.
-use Rattle.std.proofs.Common.{◌≡◌, ℕ, zero, suc, ◌+◌, ◌*◌, ◌<◌, ◌≤◌, ℤ, pos, negsuc, Bool, true, false, ◌==◌, List, [], ◌∷◌, ◌++◌, map, refl, subst, arith}
+use Rattle.std.proofs.Common.{◌≡◌, ℕ, zero, suc, ◌+◌, ◌*◌, ◌<◌, ◌≤◌, ℤ, pos, negsuc, Bool, true, false, ◌==◌, List, [], ◌∷◌, ◌++◌, map}
+use Rattle.std.proofs.Common.{refl, subst, arith}
 use Rattle.std.specs.List.{AllByRecursion, flat_map, range_with_len, list_all}
 use Rattle.std.proofs.lemmas.Bool.{cond_both, and_parts}
 use Rattle.h41_words.specs.declared.rows.Row.{Row}
@@ -14,7 +15,9 @@ use Rattle.h41_words.specs.Listing.{fields, operations, single_rows, displacemen
 use Rattle.h41_words.specs.Mnemonics.{row_text}
 use Rattle.h41_words.specs.WordTable.{number_of, numbered, row_in, row_of, word_table, WordOfRow}
 use Rattle.h41_asm.specs.Statements.{singles, takers}
-use Rattle.h41_listings.proofs.ListingRows.{reads_constant, reads_arithmetic, reads_forward, reads_backward, reads_clear_status, reads_set_status, reads_test_status, reads_test_pointer, reads_set_pointer, reads_rotate, reads_load_digit, reads_write, reads_read}
+use Rattle.h41_listings.proofs.ListingRows.{reads_constant, reads_arithmetic, reads_forward, reads_backward, reads_clear_status}
+use Rattle.h41_listings.proofs.ListingRows.{reads_set_status, reads_test_status, reads_test_pointer, reads_set_pointer, reads_rotate}
+use Rattle.h41_listings.proofs.ListingRows.{reads_load_digit, reads_write, reads_read}
 use Rattle.h41_listings.proofs.ListingTexts.{Reads}
 
 -- the line of a row says the word of the row
@@ -35,15 +38,18 @@ module _ {A : Type 0} (Holds : A → Type 0) where
   each_map f [] each = tt
   each_map f (x ∷ xs) each = (each.0, each_map f xs each.1)
 
-  each_flat_map : {B : Type 0} (f : B → List A) (xs : List B) → AllByRecursion (λ x. AllByRecursion Holds (f x)) xs → AllByRecursion Holds (flat_map f xs)
+  each_flat_map : {B : Type 0} (f : B → List A) (xs : List B) → AllByRecursion (λ x. AllByRecursion Holds (f x)) xs
+      → AllByRecursion Holds (flat_map f xs)
   each_flat_map f [] each = tt
   each_flat_map f (x ∷ xs) each = each_append (f x) (flat_map f xs) each.0 (each_flat_map f xs each.1)
 
   each_number : (f : ℕ → A) (first count : ℕ) → ((number : ℕ) → first ≤ number → number < first + count → Holds (f number))
       → AllByRecursion Holds (map f (range_with_len first count))
   each_number f first zero holds = tt
-  each_number f first (suc count) holds =
-      (holds first (omega arith) (omega arith), each_number f (first + 1) count (λ number low high. holds number (omega arith) (omega arith)))
+  each_number f first (suc count) holds = (
+    holds first (omega arith) (omega arith),
+    each_number f (first + 1) count (λ number low high. holds number (omega arith) (omega arith)),
+  )
 
   each_tested : (test : A → Bool) (xs : List A) → ((x : A) → test x ≡ true → Holds x) → list_all test xs ≡ true → AllByRecursion Holds xs
   each_tested test [] holds passes = tt
@@ -126,7 +132,8 @@ unfolding listed_rows
 listed =
     each_flat_map ReadsRow (λ family. family) families (
       each_flat_map ReadsRow (λ operation. map (λ field. rows.Arithmetic operation field) fields) operations
-          (each_always _ operations (λ operation. each_map ReadsRow (λ field. rows.Arithmetic operation field) fields (each_always _ fields (λ field. reads_arithmetic operation field)))),
+          (each_always _ operations (λ operation. each_map ReadsRow (λ field. rows.Arithmetic operation field)
+          fields (each_always _ fields (λ field. reads_arithmetic operation field)))),
       (
         each_number ReadsRow (λ n. rows.LongJump n) 0 256 (λ n low high. long_jump n (omega arith)),
         (
@@ -169,7 +176,8 @@ listed =
       ),
     )
 
-in_table : (some : List Row) (word : ℕ) → AllByRecursion ReadsRow some → ReadsRow (rows.Constant word) → ReadsRow (row_in (numbered some) word)
+in_table : (some : List Row) (word : ℕ) → AllByRecursion ReadsRow some → ReadsRow (rows.Constant word)
+    → ReadsRow (row_in (numbered some) word)
 in_table [] word each none = none
 in_table (row ∷ some) word each none =
     cond_both (number_of row == word) row (row_in (numbered some) word) ReadsRow (λ _. each.0) (λ _. in_table some word each.1 none)

@@ -9,13 +9,15 @@ use Rattle.h41_words.specs.declared.operation.Operation.{Operation}
 use Rattle.h41_words.specs.declared.operation.Operation.TheVariants.{ClearA}
 use Rattle.h41_words.specs.declared.rows.Condition.{Condition}
 use Rattle.h41_words.specs.declared.rows.Condition.TheVariants.{NoCarry, Carry}
-use Rattle.h41_words.specs.declared.rows.Row.TheVariants.{ClearStatus, SetStatus, TestStatus, TestPointer, SetPointer, RotateRight, LoadDigit, Write, Read}
+use Rattle.h41_words.specs.declared.rows.Row.TheVariants.{ClearStatus, SetStatus, TestStatus, TestPointer, SetPointer, RotateRight}
+use Rattle.h41_words.specs.declared.rows.Row.TheVariants.{LoadDigit, Write, Read}
 use Rattle.h41_words.specs.declared.second_word.LongJumpKind.{LongJumpKind}
 use Rattle.h41_words.specs.declared.second_word.LongJumpKind.TheVariants.{Execute, Go}
 use Rattle.h41_words.specs.Mnemonics.{operation_text, long_jump_text, short_jump_text}
 use Rattle.h41_asm.specs.declared.fault.SourceFault.TheVariants.{BadOperand}
 use Rattle.h41_asm.specs.SourceLines.{line_of, words_of}
-use Rattle.h41_asm.specs.Statements.{Words, Taking, reading, not_single, single_or_not, single_among, singles, takers, takes_field, takes_number, takes_address, takes_displacement, takes_immediate, takes_constant}
+use Rattle.h41_asm.specs.Statements.{Words, Taking, reading, not_single, single_or_not, single_among, singles, takers, takes_field}
+use Rattle.h41_asm.specs.Statements.{takes_number, takes_address, takes_displacement, takes_immediate, takes_constant}
 use Rattle.h41_listings.proofs.ListingLines.{is_plain}
 use Rattle.h41_listings.proofs.ListingWords.{is_solid, words_of-operand}
 
@@ -60,7 +62,8 @@ pub immediate_taken : (word : List ℕ) → IsTaken (codes "LDI") takes_immediat
 unfolding singles takers
 immediate_taken word = record { plain = refl; unlabelled = refl; said = refl }
 
-pub long_jump_taken : (condition : Condition) (kind : LongJumpKind) (word : List ℕ) → IsTaken (long_jump_text condition kind) (takes_address condition kind) word
+pub long_jump_taken : (condition : Condition) (kind : LongJumpKind) (word : List ℕ)
+    → IsTaken (long_jump_text condition kind) (takes_address condition kind) word
 unfolding singles takers
 long_jump_taken NoCarry Execute word = record { plain = refl; unlabelled = refl; said = refl }
 long_jump_taken Carry Execute word = record { plain = refl; unlabelled = refl; said = refl }

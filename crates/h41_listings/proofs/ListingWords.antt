@@ -1,5 +1,6 @@
 -- The words of a mnemonic and an operand behind a blank.
-use Rattle.std.proofs.Common.{◌≡◌, ℕ, ◌<◌, Bool, true, false, not, ◌&&◌, List, [], ◌∷◌, ◌++◌, length, nat_lt, ◌==◌, filter, refl, ap, ◌∙◌, arith, inl, inr}
+use Rattle.std.proofs.Common.{◌≡◌, ℕ, ◌<◌, Bool, true, false, not, ◌&&◌, List, [], ◌∷◌, ◌++◌, length, nat_lt, ◌==◌, filter, refl, ap, ◌∙◌}
+use Rattle.std.proofs.Common.{arith, inl, inr}
 use Rattle.std.specs.List.{list_all, onto_first}
 use Rattle.std.proofs.lemmas.Bool.{cases_Bool, and_parts, lt-ltb, cond_both, cond-true, not-true}
 use Rattle.std.proofs.lemmas.List.Elements.{filter-append}
@@ -10,7 +11,8 @@ use Rattle.h41_listings.proofs.ListingLines.{is_plain, not_below, not_special}
 abbrev pub is_solid : ℕ → Bool
 is_solid byte = is_plain byte && not (byte == 32)
 
-onto_first-append : (byte : ℕ) (parts others : List (List ℕ)) → 0 < length parts → onto_first byte (parts ++ others) ≡ onto_first byte parts ++ others
+onto_first-append : (byte : ℕ) (parts others : List (List ℕ)) → 0 < length parts
+    → onto_first byte (parts ++ others) ≡ onto_first byte parts ++ others
 onto_first-append byte [] others some = absurd (omega arith)
 onto_first-append byte (part ∷ parts) others some = refl
 
@@ -23,10 +25,12 @@ parts_some quoted [] = omega arith
 parts_some quoted (byte ∷ rest) =
     let others = parts_from (quoted_after quoted byte) rest in
     cond_both (not quoted && byte == 59) _ _ (λ parts. 0 < length parts) (λ _. omega arith)
-    (λ _. cond_both (not quoted && is_blank byte) ([] ∷ others) (onto_first byte others) (λ parts. 0 < length parts) (λ _. omega arith) (λ _. onto_first-some byte others))
+    (λ _. cond_both (not quoted && is_blank byte) ([] ∷ others) (onto_first byte others)
+    (λ parts. 0 < length parts) (λ _. omega arith) (λ _. onto_first-some byte others))
 
 -- the parts of a plain text with a blank behind it, and what follows
-parts-append : (name rest : List ℕ) → list_all is_plain name ≡ true → parts_from false (name ++ 32 ∷ rest) ≡ parts_from false name ++ parts_from false rest
+parts-append : (name rest : List ℕ) → list_all is_plain name ≡ true
+    → parts_from false (name ++ 32 ∷ rest) ≡ parts_from false name ++ parts_from false rest
 parts-append [] rest plain = refl
 parts-append (byte ∷ name) rest plain =
     let both = and_parts (is_plain byte) (list_all is_plain name) plain in
@@ -34,7 +38,9 @@ parts-append (byte ∷ name) rest plain =
     let behind = parts-append name rest both.1 in
     elim (cases_Bool (is_blank byte)) [
       | inl blank ↦ rw (special.0, special.1, blank) (ap (λ parts. [] ∷ parts) behind)
-      | inr other ↦ rw (special.0, special.1, other) (ap (onto_first byte) behind ∙ onto_first-append byte (parts_from false name) (parts_from false rest) (parts_some false name))
+      | inr other ↦
+          rw (special.0, special.1, other)
+          (ap (onto_first byte) behind ∙ onto_first-append byte (parts_from false name) (parts_from false rest) (parts_some false name))
     ]
 
 parts_solid : (word : List ℕ) → list_all is_solid word ≡ true → parts_from false word ≡ word ∷ []
@@ -43,7 +49,8 @@ parts_solid (byte ∷ word) solid =
     let both = and_parts (is_solid byte) (list_all is_solid word) solid in
     let here = and_parts (is_plain byte) (not (byte == 32)) both.0 in
     let special = not_special byte here.0 in
-    rw (special.0, special.1, not-true (byte == 32) here.1, not_below byte 9 here.0 (omega arith)) (ap (onto_first byte) (parts_solid word both.1))
+    rw (special.0, special.1, not-true (byte == 32) here.1, not_below byte 9 here.0 (omega arith))
+    (ap (onto_first byte) (parts_solid word both.1))
 
 words_solid : (word : List ℕ) → 0 < length word → list_all is_solid word ≡ true → words_of word ≡ word ∷ []
 words_solid word some solid =

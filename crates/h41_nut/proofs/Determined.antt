@@ -4,7 +4,9 @@ use Rattle.h41_fields.specs.FieldLaws.{PlacesAreOrdered}
 use Rattle.h41_arith.specs.DigitRule.{SumInto, DifferenceInto, zeros}
 use Rattle.h41_arith.specs.DigitRuleLaws.{SumIsDetermined, DifferenceIsDetermined, ComplementBorrows}
 use Rattle.h41_words.specs.declared.operation.Operation.{Operation}
-use Rattle.h41_words.specs.declared.operation.Operation.TheVariants.{AddBToA, AddCToA, IncrementA, SubtractBFromA, DecrementA, SubtractCFromA, DoubleC, AddAToC, IncrementC, SubtractCFromAToC, DecrementC, NegateC, ComplementC}
+use Rattle.h41_words.specs.declared.operation.Operation.TheVariants.{AddBToA, AddCToA, IncrementA, SubtractBFromA, DecrementA}
+use Rattle.h41_words.specs.declared.operation.Operation.TheVariants.{SubtractCFromA, DoubleC, AddAToC, IncrementC, SubtractCFromAToC}
+use Rattle.h41_words.specs.declared.operation.Operation.TheVariants.{DecrementC, NegateC, ComplementC}
 use Rattle.h41_words.specs.declared.rows.Row.{Row}
 use Rattle.h41_words.specs.declared.rows.Row.TheVariants.{Arithmetic}
 use Rattle.h41_words.specs.WordTable.{row_of}
@@ -31,10 +33,12 @@ module _ (ordered : PlacesAreOrdered) (sums : SumIsDetermined) (differences : Di
   one_sum : (base : ℕ) (into x y : List ℕ) (carry_in : Bool) (lo hi : ℕ) → lo ≤ hi → Single (SumInto base into x y carry_in lo hi)
   one_sum base into x y carry_in lo hi le z w carry other p q = sums base into x y z w carry_in carry other lo hi le p q
 
-  one_difference : (base : ℕ) (into x y : List ℕ) (borrow_in : Bool) (lo hi : ℕ) → lo ≤ hi → Single (DifferenceInto base into x y borrow_in lo hi)
+  one_difference : (base : ℕ) (into x y : List ℕ) (borrow_in : Bool) (lo hi : ℕ) → lo ≤ hi
+      → Single (DifferenceInto base into x y borrow_in lo hi)
   one_difference base into x y borrow_in lo hi le z w borrow other p q = differences base into x y z w borrow_in borrow other lo hi le p q
 
-  same_operates : (operation : Operation) (lo hi : ℕ) (s t u : Processor) → lo ≤ hi → Operates operation lo hi s t → Operates operation lo hi s u → t ≡ u
+  same_operates : (operation : Operation) (lo hi : ℕ) (s t u : Processor) → lo ≤ hi → Operates operation lo hi s t
+      → Operates operation lo hi s u → t ≡ u
   same_operates AddBToA lo hi s t u le p q = same_a _ s t u (one_sum _ s.a s.a s.b false lo hi le) p q
   same_operates AddCToA lo hi s t u le p q = same_a _ s t u (one_sum _ s.a s.a s.c false lo hi le) p q
   same_operates IncrementA lo hi s t u le p q = same_a _ s t u (one_sum _ s.a s.a zeros true lo hi le) p q

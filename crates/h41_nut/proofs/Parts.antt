@@ -1,5 +1,6 @@
 -- Some places of a register as a number.
-use Rattle.std.proofs.Common.{◌≡◌, ℕ, zero, suc, ◌+◌, ◌-◌, ◌*◌, ◌%◌, ◌^◌, ◌<◌, ◌≤◌, List, take, drop, slice_index, sym, ap, arith, inl, inr, ◌∙◌}
+use Rattle.std.proofs.Common.{◌≡◌, ℕ, zero, suc, ◌+◌, ◌-◌, ◌*◌, ◌%◌, ◌^◌, ◌<◌, ◌≤◌, List, take, drop, slice_index, sym, ap, arith, inl, inr}
+use Rattle.std.proofs.Common.{◌∙◌}
 use Rattle.std.proofs.Math.Nat.{pow-succ'}
 use Rattle.std.proofs.lemmas.Bool.{cases_lt}
 use Rattle.std.proofs.lemmas.List.{drop_more, get_or-take, take_all}
@@ -13,16 +14,19 @@ digit_at : (x : List ℕ) (place : ℕ) → IsRegister 14 x → place < 14 → s
 digit_at x place register inside = All-get_or (λ digit. digit < 16) x place 0 (omega (arith, register.size, inside)) register.each
 
 -- the lowest digit of a part, and those above it
-value_at : (x : List ℕ) (lo count : ℕ) → IsRegister 14 x → lo < 14 → value (take (suc count) (drop lo x)) ≡ slice_index x lo + 16 * value (take count (drop (lo + 1) x))
+value_at : (x : List ℕ) (lo count : ℕ) → IsRegister 14 x → lo < 14
+    → value (take (suc count) (drop lo x)) ≡ slice_index x lo + 16 * value (take count (drop (lo + 1) x))
 value_at x lo count register inside =
-    ap (λ d. value (take (suc count) d)) (drop_more x lo 0 (omega (arith, register.size, inside))) ∙ value-cons (slice_index x lo) (take count (drop (lo + 1) x))
+    ap (λ d. value (take (suc count) d)) (drop_more x lo 0 (omega (arith, register.size, inside)))
+    ∙ value-cons (slice_index x lo) (take count (drop (lo + 1) x))
 
 -- a part is below 16 to the power of the count of its places
 pub part-lt : (x : List ℕ) (lo count : ℕ) → IsRegister 14 x → lo + count ≤ 14 → value (take count (drop lo x)) < 16 ^ count
 part-lt x lo zero register inside = omega arith
 part-lt x lo (suc count) register inside =
     let above = part-lt x (lo + 1) count register (omega (arith, inside)) in
-    rw (value_at x lo count register (omega (arith, inside)), pow-succ' 16 count) (omega (arith, above, digit_at x lo register (omega (arith, inside))))
+    rw (value_at x lo count register (omega (arith, inside)), pow-succ' 16 count)
+    (omega (arith, above, digit_at x lo register (omega (arith, inside))))
 
 -- parts that hold the same number have the same digits
 same_part : (count a b k : ℕ) (x y : List ℕ) → IsRegister 14 x → IsRegister 14 y → a + count ≤ 14 → b + count ≤ 14
@@ -38,22 +42,28 @@ same_part (suc count) a b k x y p q in_x in_y held inside =
     elim (cases_lt k 1) [
       | inl first ↦ ap (slice_index x) (omega (arith, first)) ∙ own ∙ ap (slice_index y) (omega (arith, first))
       | inr later ↦
-          ap (slice_index x) (omega (arith, later)) ∙ same_part count (a + 1) (b + 1) (k - 1) x y p q (omega (arith, in_x)) (omega (arith, in_y)) rest (omega (arith, later, inside))
+          ap (slice_index x) (omega (arith, later))
+          ∙ same_part count (a + 1) (b + 1) (k - 1) x y p q (omega (arith, in_x))
+          (omega (arith, in_y)) rest (omega (arith, later, inside))
           ∙ ap (slice_index y) (omega (arith, later))
     ]
 
 -- a register made of the two parts of another one, each in the other's place
 pub exchanged_parts : (x stayed z : List ℕ) (digits : ℕ) → digits < 14 → IsRegister 14 x → IsRegister 14 stayed → IsRegister 14 z
     → value (take (14 - digits) (drop 0 stayed)) ≡ value (take (14 - digits) (drop digits x))
-    → value (take digits (drop (14 - digits) z)) ≡ value (take digits (drop 0 x)) → take (14 - digits) z ≡ take (14 - digits) stayed → z ≡ rotated x digits
+    → value (take digits (drop (14 - digits) z)) ≡ value (take digits (drop 0 x)) → take (14 - digits) z ≡ take (14 - digits) stayed
+    → z ≡ rotated x digits
 exchanged_parts x stayed z digits few from between register staying leaving below =
     by_place-is z (λ place. slice_index x ((place + digits) % 14)) register.size (λ place inside. elim (cases_lt place (14 - digits)) [
       | inl low ↦
           sym (get_or-take (14 - digits) z place 0 low) ∙ ap (λ d. slice_index d place) below ∙ get_or-take (14 - digits) stayed place 0 low
-          ∙ ap (slice_index stayed) (omega arith) ∙ same_part (14 - digits) 0 digits place stayed x between from (omega arith) (omega (arith, few)) staying low
+          ∙ ap (slice_index stayed) (omega arith)
+          ∙ same_part (14 - digits) 0 digits place stayed x between from (omega arith) (omega (arith, few)) staying low
           ∙ ap (slice_index x) (omega (arith, low))
       | inr high ↦
-          ap (slice_index z) (omega (arith, few, high)) ∙ same_part digits (14 - digits) 0 (place - (14 - digits)) z x register from (omega (arith, few)) (omega (arith, few)) leaving (omega (arith, few, high, inside))
+          ap (slice_index z) (omega (arith, few, high))
+          ∙ same_part digits (14 - digits) 0 (place - (14 - digits)) z x register from
+          (omega (arith, few)) (omega (arith, few)) leaving (omega (arith, few, high, inside))
           ∙ ap (slice_index x) (omega (arith, few, high, inside))
     ])
 

@@ -1,4 +1,5 @@
--- Addresses of words as the processor goes through them. Which of them are closed is this project's choice.
+-- Addresses of words as the processor goes through them. Which of them are closed is this project's
+-- choice.
 use Rattle.std.specs.Prelude.{ℕ, suc, ◌+◌, ◌-◌, ◌%◌, ℤ, pos, negsuc, Bool, not, ◌&&◌, ◌==◌}
 use Rattle.h41_pages.specs.Addresses.{is_system}
 

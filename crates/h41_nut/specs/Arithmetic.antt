@@ -1,11 +1,27 @@
--- The words that work on a field of A, B and C, from its first place to its last: each within the field, and other places
--- stay. The carry afterwards is the carry or borrow of the field's last place, the answer of a test, or none.
+-- The words that work on a field of A, B and C, from its first place to its last: each within the
+-- field, and other places stay. The carry afterwards is the carry or borrow of the field's last
+-- place, the answer of a test, or none.
 use Rattle.std.specs.Prelude.{◌≡◌, ℕ, Bool, true, false, List}
 use Rattle.h41_fields.specs.declared.field.Field.{Field}
 use Rattle.h41_fields.specs.Field.{first_place, last_place}
-use Rattle.h41_arith.specs.DigitRule.{SumInto, DifferenceInto, copied, shifted_left, shifted_right, is_less, is_different, is_nonzero, zeros}
+use Rattle.h41_arith.specs.DigitRule.{SumInto, DifferenceInto, copied, shifted_left, shifted_right}
+use Rattle.h41_arith.specs.DigitRule.{is_less, is_different, is_nonzero, zeros}
 use Rattle.h41_words.specs.declared.operation.Operation.{Operation}
-use Rattle.h41_words.specs.declared.operation.Operation.TheVariants.{ClearA, ClearB, ClearC, ExchangeAB, AToB, ExchangeAC, BToC, ExchangeBC, CToA, AddBToA, AddCToA, IncrementA, SubtractBFromA, DecrementA, SubtractCFromA, DoubleC, AddAToC, IncrementC, SubtractCFromAToC, DecrementC, NegateC, ComplementC, TestBNonzero, TestCNonzero, TestALessThanC, TestALessThanB, TestANonzero, TestADiffersFromC, ShiftRightA, ShiftRightB, ShiftRightC, ShiftLeftA}
+use Rattle.h41_words.specs.declared.operation.Operation.TheVariants.{ClearA, ClearB, ClearC}
+use Rattle.h41_words.specs.declared.operation.Operation.TheVariants.{ExchangeAB, AToB, ExchangeAC}
+use Rattle.h41_words.specs.declared.operation.Operation.TheVariants.{BToC, ExchangeBC, CToA}
+use Rattle.h41_words.specs.declared.operation.Operation.TheVariants.{AddBToA, AddCToA, IncrementA}
+use Rattle.h41_words.specs.declared.operation.Operation.TheVariants.{SubtractBFromA, DecrementA}
+use Rattle.h41_words.specs.declared.operation.Operation.TheVariants.{SubtractCFromA, DoubleC}
+use Rattle.h41_words.specs.declared.operation.Operation.TheVariants.{AddAToC, IncrementC}
+use Rattle.h41_words.specs.declared.operation.Operation.TheVariants.{SubtractCFromAToC, DecrementC}
+use Rattle.h41_words.specs.declared.operation.Operation.TheVariants.{NegateC, ComplementC}
+use Rattle.h41_words.specs.declared.operation.Operation.TheVariants.{TestBNonzero, TestCNonzero}
+use Rattle.h41_words.specs.declared.operation.Operation.TheVariants.{TestALessThanC, TestALessThanB}
+use Rattle.h41_words.specs.declared.operation.Operation.TheVariants.{TestANonzero}
+use Rattle.h41_words.specs.declared.operation.Operation.TheVariants.{TestADiffersFromC, ShiftRightA}
+use Rattle.h41_words.specs.declared.operation.Operation.TheVariants.{ShiftRightB, ShiftRightC}
+use Rattle.h41_words.specs.declared.operation.Operation.TheVariants.{ShiftLeftA}
 use Rattle.h41_nut.specs.declared.base.Base.{Base}
 use Rattle.h41_nut.specs.declared.base.Base.TheVariants.{Hexadecimal, Decimal}
 use Rattle.h41_nut.specs.Processor.{Processor}
@@ -39,17 +55,24 @@ Operates CToA lo hi s t = t ≡ record s { a = copied s.a s.c lo hi }
 Operates AddBToA lo hi s t = IntoA (SumInto (base_number s.base) s.a s.a s.b false lo hi) s t
 Operates AddCToA lo hi s t = IntoA (SumInto (base_number s.base) s.a s.a s.c false lo hi) s t
 Operates IncrementA lo hi s t = IntoA (SumInto (base_number s.base) s.a s.a zeros true lo hi) s t
-Operates SubtractBFromA lo hi s t = IntoA (DifferenceInto (base_number s.base) s.a s.a s.b false lo hi) s t
-Operates DecrementA lo hi s t = IntoA (DifferenceInto (base_number s.base) s.a s.a zeros true lo hi) s t
-Operates SubtractCFromA lo hi s t = IntoA (DifferenceInto (base_number s.base) s.a s.a s.c false lo hi) s t
+Operates SubtractBFromA lo hi s t =
+    IntoA (DifferenceInto (base_number s.base) s.a s.a s.b false lo hi) s t
+Operates DecrementA lo hi s t =
+    IntoA (DifferenceInto (base_number s.base) s.a s.a zeros true lo hi) s t
+Operates SubtractCFromA lo hi s t =
+    IntoA (DifferenceInto (base_number s.base) s.a s.a s.c false lo hi) s t
 -- C=C+C, C=A+C, C=C+1, C=A-C, C=C-1, C=0-C, C=-C-1
 Operates DoubleC lo hi s t = IntoC (SumInto (base_number s.base) s.c s.c s.c false lo hi) s t
 Operates AddAToC lo hi s t = IntoC (SumInto (base_number s.base) s.c s.a s.c false lo hi) s t
 Operates IncrementC lo hi s t = IntoC (SumInto (base_number s.base) s.c s.c zeros true lo hi) s t
-Operates SubtractCFromAToC lo hi s t = IntoC (DifferenceInto (base_number s.base) s.c s.a s.c false lo hi) s t
-Operates DecrementC lo hi s t = IntoC (DifferenceInto (base_number s.base) s.c s.c zeros true lo hi) s t
-Operates NegateC lo hi s t = IntoC (DifferenceInto (base_number s.base) s.c zeros s.c false lo hi) s t
-Operates ComplementC lo hi s t = IntoC (DifferenceInto (base_number s.base) s.c zeros s.c true lo hi) s t
+Operates SubtractCFromAToC lo hi s t =
+    IntoC (DifferenceInto (base_number s.base) s.c s.a s.c false lo hi) s t
+Operates DecrementC lo hi s t =
+    IntoC (DifferenceInto (base_number s.base) s.c s.c zeros true lo hi) s t
+Operates NegateC lo hi s t =
+    IntoC (DifferenceInto (base_number s.base) s.c zeros s.c false lo hi) s t
+Operates ComplementC lo hi s t =
+    IntoC (DifferenceInto (base_number s.base) s.c zeros s.c true lo hi) s t
 -- ?B#0, ?C#0, ?A<C, ?A<B, ?A#0, ?A#C
 Operates TestBNonzero lo hi s t = t ≡ record s { carry = is_nonzero s.b lo hi }
 Operates TestCNonzero lo hi s t = t ≡ record s { carry = is_nonzero s.c lo hi }
@@ -65,4 +88,5 @@ Operates ShiftLeftA lo hi s t = t ≡ record s { a = shifted_left s.a s.a lo hi 
 
 -- the same on the field that a word names
 abbrev pub OperatesOn : Operation → Field → Processor → Processor → Type 0
-OperatesOn operation field s t = Operates operation (first_place field s.p s.q s.active) (last_place field s.p s.q s.active) s t
+OperatesOn operation field s t =
+    Operates operation (first_place field s.p s.q s.active) (last_place field s.p s.q s.active) s t

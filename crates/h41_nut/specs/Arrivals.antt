@@ -1,4 +1,5 @@
--- Where the processor arrives: the address after its word, and the addresses at which no step arrives.
+-- Where the processor arrives: the address after its word, and the addresses at which no step
+-- arrives.
 use Rattle.std.specs.Prelude.{ℕ, Bool, false, Option}
 use Rattle.std.specs.Bool.{then_some}
 use Rattle.h41_nut.specs.Addresses.{address_after, is_closed}

@@ -1,6 +1,7 @@
--- Where the processor goes: jumps and returns, and the four return addresses. An empty stack gives 0000, and a fifth
--- address loses the oldest (this project's choice).
-use Rattle.std.specs.Prelude.{ℕ, ◌+◌, ◌*◌, ◌/◌, ℤ, Bool, true, false, not, [], ◌∷◌, ◌++◌, slice_index, take, drop, ◌&&◌, if◌then◌else◌}
+-- Where the processor goes: jumps and returns, and the four return addresses. An empty stack gives
+-- 0000, and a fifth address loses the oldest (this project's choice).
+use Rattle.std.specs.Prelude.{ℕ, ◌+◌, ◌*◌, ◌/◌, ℤ, Bool, true, false, not, [], ◌∷◌, ◌++◌}
+use Rattle.std.specs.Prelude.{slice_index, take, drop, ◌&&◌, if◌then◌else◌}
 use Rattle.h41_words.specs.declared.rows.Condition.{Condition}
 use Rattle.h41_words.specs.declared.rows.Condition.TheVariants.{NoCarry, Carry}
 use Rattle.h41_words.specs.declared.second_word.LongJumpKind.{LongJumpKind}
@@ -31,16 +32,23 @@ abbrev pub is_execute : LongJumpKind → Bool
 is_execute Execute = true
 is_execute Go = false
 
--- a long jump goes to the address of both words where it is taken; XQ then keeps the address after them
+-- a long jump goes to the address of both words where it is taken; XQ then keeps the address after
+-- them
 abbrev pub jump_target : ℕ → SecondWord → Processor → ℕ
-jump_target low_byte second s = if is_taken second.condition s.carry then second.high_byte * 256 + low_byte else address_after_both s
+jump_target low_byte second s =
+    if is_taken second.condition s.carry then second.high_byte * 256 + low_byte
+    else address_after_both s
 
 abbrev pub jump_change : SecondWord → Processor → Processor
-jump_change second s = if is_taken second.condition s.carry && is_execute second.kind then pushed (address_after_both s) s else s
+jump_change second s =
+    if is_taken second.condition s.carry && is_execute second.kind
+    then pushed (address_after_both s) s
+    else s
 
 -- a short jump goes by its displacement from the word's own address, where it is taken
 abbrev pub short_jump_target : Condition → ℤ → Processor → ℕ
-short_jump_target condition displacement s = if is_taken condition s.carry then displaced s.pc displacement else next_address s
+short_jump_target condition displacement s =
+    if is_taken condition s.carry then displaced s.pc displacement else next_address s
 
 -- a return goes to the newest return address, which it takes off, where it is taken
 abbrev pub return_target : Condition → Processor → ℕ

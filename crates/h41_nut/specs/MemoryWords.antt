@@ -11,8 +11,8 @@ use Rattle.h41_nut.specs.RegisterWords.{with_c, word_in_c, address_in_c, with_wo
 abbrev pub block_address : ℕ → Processor → ℕ
 block_address register s = s.selected / 16 * 16 + register
 
--- a selected address: RAM SLCT takes the low ten bits of C's digits 2 to 0, WRIT n and READ n keep their n as its low digit
--- (this project's choice)
+-- a selected address: RAM SLCT takes the low ten bits of C's digits 2 to 0, WRIT n and READ n keep
+-- their n as its low digit (this project's choice)
 abbrev pub selecting : ℕ → Processor → Processor
 selecting address s = record s { selected = address }
 
@@ -36,11 +36,13 @@ with_c_at ram address s = with_register ram address s.c
 abbrev pub with_c_in_block : RegisterMap → ℕ → Processor → RegisterMap
 with_c_in_block ram register s = with_c_at ram (block_address register s) s
 
--- FETCH S&X: the word at the address in C; 000 where no page is plugged there (this project's choice)
+-- FETCH S&X: the word at the address in C; 000 where no page is plugged there (this project's
+-- choice)
 abbrev pub with_fetched_word : PageMap → Processor → Processor
 with_fetched_word pages s = with_word_in_c (word_or_zero (fetched pages (address_in_c s))) s
 
--- FETCH S&X reads no word of the system's pages (8), and WROM writes none that is not writable (12); both with C's address
+-- FETCH S&X reads no word of the system's pages (8), and WROM writes none that is not writable
+-- (12); both with C's address
 abbrev pub refusal_to_fetch : Processor → Option WordRefusal
 refusal_to_fetch s = system_refusal (address_in_c s)
 

@@ -1,4 +1,5 @@
--- The words of the two pointers and of the status bits. Pointers count 13 to 0 upwards and 0 to 13 downwards.
+-- The words of the two pointers and of the status bits. Pointers count 13 to 0 upwards and 0 to 13
+-- downwards.
 use Rattle.std.specs.Prelude.{ℕ, ◌+◌, ◌-◌, ◌*◌, ◌/◌, ◌%◌, ◌^◌, Bool, ◌==◌, if◌then◌else◌}
 use Rattle.std.specs.Int.{bit_at}
 use Rattle.h41_fields.specs.declared.field.Pointer.{Pointer}
@@ -29,9 +30,11 @@ place_below place = if place == 0 then 13 else place - 1
 abbrev pub is_status_set : ℕ → Processor → Bool
 is_status_set bit s = bit_at s.status bit == 1
 
--- a status bit set or clear: its weight is taken off where it counts, and added where it is to be set
+-- a status bit set or clear: its weight is taken off where it counts, and added where it is to be
+-- set
 abbrev pub with_status : ℕ → Bool → Processor → Processor
-with_status bit on s = record s { status = s.status - bit_at s.status bit * 2 ^ bit + (if on then 2 ^ bit else 0) }
+with_status bit on s =
+    record s { status = s.status - bit_at s.status bit * 2 ^ bit + (if on then 2 ^ bit else 0) }
 
 -- the status bits S0 to S7 as a byte, and the status bits with another byte there
 abbrev pub status_byte : Processor → ℕ

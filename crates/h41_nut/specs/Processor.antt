@@ -33,7 +33,8 @@ pub record Processor : Type 0 where
   -- whether the display is on
   pub display : Bool
 
--- the state before the first call: all zero, but for the address at which a function ends and the display, which is on
+-- the state before the first call: all zero, but for the address at which a function ends and the
+-- display, which is on
 abbrev pub initial : Processor
 initial = record {
   a = replicate 14 0;
@@ -55,7 +56,9 @@ initial = record {
   display = true;
 }
 
--- the state in which a function begins at an address (this project's choice): all zero as at first, the newest return
--- address that of a function's end, the other three 0000; the display stays as it is
+-- the state in which a function begins at an address (this project's choice): all zero as at first,
+-- the newest return address that of a function's end, the other three 0000; the display stays as it
+-- is
 abbrev pub entered : Processor → ℕ → Processor
-entered s address = record initial { pc = address; returns = end_of_function ∷ 0 ∷ 0 ∷ 0 ∷ []; display = s.display }
+entered s address =
+    record initial { pc = address; returns = end_of_function ∷ 0 ∷ 0 ∷ 0 ∷ []; display = s.display }

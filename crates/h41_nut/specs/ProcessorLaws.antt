@@ -19,9 +19,11 @@ StatusIsRead = (s : Processor) (bit : ℕ) (on : Bool) → is_status_set bit (wi
 -- and no other status bit changes with it
 abbrev pub OtherStatusStays : Type 0
 OtherStatusStays =
-    (s : Processor) (bit other : ℕ) (on : Bool) → other ≢ bit → is_status_set other (with_status bit on s) ≡ is_status_set other s
+    (s : Processor) (bit other : ℕ) (on : Bool) → other ≢ bit
+    → is_status_set other (with_status bit on s) ≡ is_status_set other s
 
 -- C=-C-1 always sets the carry
 abbrev pub ComplementSetsCarry : Type 0
 ComplementSetsCarry =
-    (s t : Nut) (field : Field) → row_of (word_of s) ≡ Arithmetic ComplementC field → Micro s t → t.processor.carry ≡ true
+    (s t : Nut) (field : Field) → row_of (word_of s) ≡ Arithmetic ComplementC field → Micro s t
+    → t.processor.carry ≡ true

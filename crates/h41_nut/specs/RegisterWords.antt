@@ -1,22 +1,30 @@
 -- The words that load, copy and rotate registers. Those of G and of the key
 -- (C=KEY, GOTO KEY, ?KEY, CLRKEY) are this project's choice.
-use Rattle.std.specs.Prelude.{ℕ, Bool, ◌+◌, ◌*◌, ◌/◌, ◌%◌, List, [], ◌∷◌, map, slice_index, slice_set}
+use Rattle.std.specs.Prelude.{ℕ, Bool, ◌+◌, ◌*◌, ◌/◌, ◌%◌, List, [], ◌∷◌, map, slice_index}
+use Rattle.std.specs.Prelude.{slice_set}
 use Rattle.std.specs.Int.RustNames.{bit_and, bit_or}
 use Rattle.std.specs.List.{range_with_len}
 use Rattle.h41_digits.specs.Register.{byte_at, set_byte}
 use Rattle.h41_words.specs.declared.rows.RegisterTransfer.{RegisterTransfer}
-use Rattle.h41_words.specs.declared.rows.RegisterTransfer.TheVariants.{CToG, GToC, ExchangeCG, CToM, MToC, ExchangeCM, StatusToT, TToStatus, ExchangeStatusT, CToStatus, StatusToC, ExchangeCStatus, CToN, NToC, ExchangeCN}
+use Rattle.h41_words.specs.declared.rows.RegisterTransfer.TheVariants.{CToG, GToC, ExchangeCG, CToM}
+use Rattle.h41_words.specs.declared.rows.RegisterTransfer.TheVariants.{MToC, ExchangeCM, StatusToT}
+use Rattle.h41_words.specs.declared.rows.RegisterTransfer.TheVariants.{TToStatus, ExchangeStatusT}
+use Rattle.h41_words.specs.declared.rows.RegisterTransfer.TheVariants.{CToStatus, StatusToC}
+use Rattle.h41_words.specs.declared.rows.RegisterTransfer.TheVariants.{ExchangeCStatus, CToN, NToC}
+use Rattle.h41_words.specs.declared.rows.RegisterTransfer.TheVariants.{ExchangeCN}
 use Rattle.h41_ram.specs.RegisterMap.{zeros}
 use Rattle.h41_words.specs.Counts.{word_count}
 use Rattle.h41_nut.specs.declared.base.Base.{Base}
 use Rattle.h41_nut.specs.Jumps.{newest_return, popped, pushed}
 use Rattle.h41_nut.specs.Processor.{Processor}
-use Rattle.h41_nut.specs.Pointers.{pointer_of, with_pointer_down, place_above, status_byte, with_status_byte}
+use Rattle.h41_nut.specs.Pointers.{pointer_of, with_pointer_down, place_above, status_byte}
+use Rattle.h41_nut.specs.Pointers.{with_status_byte}
 
 -- a register with digits from a place up, the lowest first
 abbrev pub with_digits : List ℕ → ℕ → List ℕ → List ℕ
 with_digits register place [] = register
-with_digits register place (digit ∷ digits) = with_digits (slice_set register place digit) (place + 1) digits
+with_digits register place (digit ∷ digits) =
+    with_digits (slice_set register place digit) (place + 1) digits
 
 -- the digits of a byte, of a word and of an address, the lowest first
 abbrev pub byte_digits : ℕ → List ℕ
@@ -34,7 +42,8 @@ word_in_c s = (slice_index s.c 0 + 16 * slice_index s.c 1 + 256 * slice_index s.
 
 -- the address that C holds, in its digits 6 to 3
 abbrev pub address_in_c : Processor → ℕ
-address_in_c s = slice_index s.c 3 + 16 * slice_index s.c 4 + 256 * slice_index s.c 5 + 4096 * slice_index s.c 6
+address_in_c s =
+    slice_index s.c 3 + 16 * slice_index s.c 4 + 256 * slice_index s.c 5 + 4096 * slice_index s.c 6
 
 -- another C
 abbrev pub with_c : List ℕ → Processor → Processor
@@ -62,15 +71,20 @@ with_key_in_c key s = with_c (with_digits s.c 3 (byte_digits key)) s
 abbrev pub with_digit_loaded : ℕ → Processor → Processor
 with_digit_loaded digit s = with_pointer_down (with_c (slice_set s.c (pointer_of s) digit) s)
 
--- the byte of C at the pointer: its low digit stands there, its high digit one place above, at 13 in place 0
+-- the byte of C at the pointer: its low digit stands there, its high digit one place above, at 13
+-- in place 0
 abbrev pub byte_at_pointer : Processor → ℕ
-byte_at_pointer s = slice_index s.c (pointer_of s) + 16 * slice_index s.c (place_above (pointer_of s))
+byte_at_pointer s =
+    slice_index s.c (pointer_of s) + 16 * slice_index s.c (place_above (pointer_of s))
 
 abbrev pub with_byte_at_pointer : ℕ → Processor → Processor
 with_byte_at_pointer byte s =
-    with_c (slice_set (slice_set s.c (pointer_of s) (byte % 16)) (place_above (pointer_of s)) (byte / 16)) s
+    with_c
+    (slice_set (slice_set s.c (pointer_of s) (byte % 16)) (place_above (pointer_of s)) (byte / 16))
+    s
 
--- copies and exchanges of whole registers; the status bits take part with S7 to S0, and C then with its digits 1 and 0
+-- copies and exchanges of whole registers; the status bits take part with S7 to S0, and C then with
+-- its digits 1 and 0
 abbrev pub transferred : RegisterTransfer → Processor → Processor
 transferred CToG s = record s { g = byte_at_pointer s }
 transferred GToC s = with_byte_at_pointer s.g s
@@ -86,7 +100,8 @@ transferred TToStatus s = with_status_byte s.t s
 transferred ExchangeStatusT s = record (with_status_byte s.t s) { t = status_byte s }
 transferred CToStatus s = with_status_byte (byte_at s.c 0) s
 transferred StatusToC s = record s { c = set_byte s.c 0 (status_byte s) }
-transferred ExchangeCStatus s = record (with_status_byte (byte_at s.c 0) s) { c = set_byte s.c 0 (status_byte s) }
+transferred ExchangeCStatus s =
+    record (with_status_byte (byte_at s.c 0) s) { c = set_byte s.c 0 (status_byte s) }
 
 -- a register with a digit for each of its 14 places
 abbrev pub by_place : (ℕ → ℕ) → List ℕ

@@ -1,6 +1,8 @@
--- One step of the processor: the first refusal there is, or none, and where there is none the change that the word makes.
--- What the words do is HP's; what is refused, and in which order, is this project's choice.
-use Rattle.std.specs.Prelude.{◌≡◌, ℕ, Bool, true, false, not, ◌==◌, Option, Some, None, Result, OnOk, OnErr}
+-- One step of the processor: the first refusal there is, or none, and where there is none the
+-- change that the word makes. What the words do is HP's; what is refused, and in which order, is
+-- this project's choice.
+use Rattle.std.specs.Prelude.{◌≡◌, ℕ, Bool, true, false, not, ◌==◌, Option, Some, None, Result}
+use Rattle.std.specs.Prelude.{OnOk, OnErr}
 use Rattle.std.specs.Option.{option_or}
 use Rattle.std.specs.Result.{result_err}
 use Rattle.h41_words.specs.declared.rows.Row.{Row}
@@ -14,7 +16,8 @@ use Rattle.h41_nut.specs.declared.base.Base.TheVariants.{Hexadecimal, Decimal}
 use Rattle.h41_nut.specs.declared.keys.Keys.{Keys}
 use Rattle.h41_nut.specs.declared.refusal.WordRefusal.{WordRefusal}
 use Rattle.h41_nut.specs.declared.refusal.WordRefusal.TheVariants.{WordNotInProfile, Asleep}
-use Rattle.h41_nut.specs.Arrivals.{next_address, address_after_both, arrival_refusal, at_address, gone_on}
+use Rattle.h41_nut.specs.Arrivals.{next_address, address_after_both, arrival_refusal, at_address}
+use Rattle.h41_nut.specs.Arrivals.{gone_on}
 use Rattle.h41_nut.specs.Jumps as jumps
 use Rattle.h41_nut.specs.MemoryWords as memory
 use Rattle.h41_nut.specs.PageWords.{fetched, word_or_zero}
@@ -31,7 +34,8 @@ pub record Nut : Type 0 where
   pub keys : Keys
 
 abbrev pub nut_of : Processor → RegisterMap → PageMap → Keys → Nut
-nut_of processor ram pages keys = record { processor = processor; ram = ram; pages = pages; keys = keys }
+nut_of processor ram pages keys =
+    record { processor = processor; ram = ram; pages = pages; keys = keys }
 
 -- the word of the step, and the word after it
 abbrev pub word_of : Nut → ℕ
@@ -43,9 +47,11 @@ second_word s = word_or_zero (fetched s.pages (next_address s.processor))
 -- where the step goes
 abbrev pub goes_to : Row → Nut → ℕ
 -- ?NC XQ and the like: to the address of both words, where the carry is as the second word says
-goes_to (rows.LongJump low_byte) s = jumps.jump_target low_byte (second_of (second_word s)) s.processor
+goes_to (rows.LongJump low_byte) s =
+    jumps.jump_target low_byte (second_of (second_word s)) s.processor
 -- JNC and JC: by the displacement from the word's own address, where the carry is as the word says
-goes_to (rows.ShortJump condition displacement) s = jumps.short_jump_target condition displacement s.processor
+goes_to (rows.ShortJump condition displacement) s =
+    jumps.short_jump_target condition displacement s.processor
 -- ?C RTN, ?NC RTN and RTN: to the newest return address
 goes_to (rows.ReturnIf condition) s = jumps.return_target condition s.processor
 goes_to rows.Return s = jumps.newest_return s.processor
@@ -75,7 +81,8 @@ answer row s = false
 -- the registers of the processor after a word, but for the address, the carry and arithmetic
 abbrev pub registers_after : Row → Nut → Processor
 -- XQ, where it is taken: the address after both words becomes the newest return address
-registers_after (rows.LongJump low_byte) s = jumps.jump_change (second_of (second_word s)) s.processor
+registers_after (rows.LongJump low_byte) s =
+    jumps.jump_change (second_of (second_word s)) s.processor
 -- CLRF n, SETF n and ST=0
 registers_after (rows.ClearStatus bit) s = pointers.with_status bit false s.processor
 registers_after (rows.SetStatus bit) s = pointers.with_status bit true s.processor
@@ -118,7 +125,8 @@ registers_after (rows.Read register) s = memory.with_register_in_c s.ram registe
 registers_after rows.ReadData s = memory.with_selected_in_c s.ram s.processor
 registers_after row s = s.processor
 
--- the memory after a word: WRIT DATA writes C to the selected register, WRIT n to register n of the selected block
+-- the memory after a word: WRIT DATA writes C to the selected register, WRIT n to register n of the
+-- selected block
 abbrev pub ram_after : Row → Nut → RegisterMap
 ram_after rows.WriteData s = memory.with_c_at s.ram s.processor.selected s.processor
 ram_after (rows.Write register) s = memory.with_c_in_block s.ram register s.processor
@@ -143,14 +151,16 @@ after row s = record {
   keys = keys_after row s;
 }
 
--- what a row does: arithmetic by the digit rule, which a relation states; all else is a function of the state
+-- what a row does: arithmetic by the digit rule, which a relation states; all else is a function of
+-- the state
 abbrev pub Effect : Row → Nut → Nut → Type 0
 Effect (rows.Arithmetic operation field) s t =
-    OperatesOn operation field (gone_on s.processor) t.processor × (t ≡ record s { processor = t.processor })
+    OperatesOn operation field (gone_on s.processor) t.processor
+    × (t ≡ record s { processor = t.processor })
 Effect row s t = t ≡ after row s
 
--- why a word itself is refused, with its address: no instruction; a bank (7); a peripheral that is selected (10); the
--- processor goes to sleep (11)
+-- why a word itself is refused, with its address: no instruction; a bank (7); a peripheral that is
+-- selected (10); the processor goes to sleep (11)
 abbrev pub word_refusal : Row → Nut → Option WordRefusal
 word_refusal (rows.Constant word) s = Some (unheld.constant_refusal word s.processor.pc)
 word_refusal (rows.EnableBank bank) s = Some (WordNotInProfile s.processor.pc)
@@ -170,8 +180,8 @@ data_refusal rows.FetchWord s = memory.refusal_to_fetch s.processor
 data_refusal rows.WriteRom s = memory.refusal_to_write s.pages s.processor
 data_refusal row s = None
 
--- the first refusal of a row that was fetched: of the word itself, of the fetch of its second word, of what it reads or
--- writes, of the arrival
+-- the first refusal of a row that was fetched: of the word itself, of the fetch of its second word,
+-- of what it reads or writes, of the arrival
 abbrev pub row_refusal : Row → Nut → Option WordRefusal
 row_refusal row s =
     option_or (word_refusal row s)
@@ -181,7 +191,8 @@ row_refusal row s =
 
 -- the first refusal of a step, or none: of the fetch of the word, of its row
 abbrev pub refused : Nut → Option WordRefusal
-refused s = option_or (result_err (fetched s.pages s.processor.pc)) (row_refusal (row_of (word_of s)) s)
+refused s =
+    option_or (result_err (fetched s.pages s.processor.pc)) (row_refusal (row_of (word_of s)) s)
 
 -- the change that a step makes, which is there only where it is not refused
 pub record Micro (s t : Nut) : Type 0 where
@@ -189,13 +200,16 @@ pub record Micro (s t : Nut) : Type 0 where
   pub effect : Effect (row_of (word_of s)) s t
 
 -- from s to t with an answer: refused for this reason and then not changed, or with this change
-pub record RefusesOr {T : Type 0} (reason : Option WordRefusal) (Change : Nut → Nut → Type 0) (result : Result T WordRefusal) (s t : Nut) : Type 0 where
+pub record RefusesOr {T : Type 0} (reason : Option WordRefusal) (Change : Nut → Nut → Type 0)
+    (result : Result T WordRefusal) (s t : Nut) : Type 0 where
   pub refusal : result_err result ≡ reason
   pub change : OnOk result (Change s t)
   pub stays : OnErr result (t ≡ s)
 
--- a step was answered: refused as `refused` says and then without a change, or with the change `Micro`; from the processor,
--- the memory, the pages and the keyboard before it to those after it
-abbrev pub Stepped : {T : Type 0} → Result T WordRefusal → Processor → RegisterMap → PageMap → Keys → Processor → RegisterMap → PageMap → Keys → Type 0
+-- a step was answered: refused as `refused` says and then without a change, or with the change
+-- `Micro`; from the processor, the memory, the pages and the keyboard before it to those after it
+abbrev pub Stepped : {T : Type 0} → Result T WordRefusal → Processor → RegisterMap → PageMap → Keys
+    → Processor → RegisterMap → PageMap → Keys → Type 0
 Stepped result cpu ram pages keys cpu' ram' pages' keys' =
-    RefusesOr (refused (nut_of cpu ram pages keys)) Micro result (nut_of cpu ram pages keys) (nut_of cpu' ram' pages' keys')
+    RefusesOr (refused (nut_of cpu ram pages keys)) Micro result
+    (nut_of cpu ram pages keys) (nut_of cpu' ram' pages' keys')

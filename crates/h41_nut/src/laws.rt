@@ -1,6 +1,7 @@
 //! Laws of the processor's step: each is the contract of a function with nothing to do but to call the laws it rests on.
 
-ghost use Rattle.h41_nut.specs.ProcessorLaws.{MicroIsDetermined, StatusIsRead, OtherStatusStays, ComplementSetsCarry};
+ghost use Rattle.h41_nut.specs.ProcessorLaws.{MicroIsDetermined, StatusIsRead, OtherStatusStays};
+ghost use Rattle.h41_nut.specs.ProcessorLaws.{ComplementSetsCarry};
 
 use h41_arith::laws::{complement_borrows, difference_is_determined, sum_is_determined};
 use h41_fields::laws::places_are_ordered;

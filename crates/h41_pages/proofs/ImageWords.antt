@@ -5,7 +5,8 @@ use Rattle.h41_pages.specs.Images.{word_bytes, image_bytes, word_in_bytes, first
 use Rattle.h41_pages.proofs.Ranges.{up_to, up_to-zero}
 
 -- one more word
-pub bytes_more : (words : List ℕ) (index : ℕ) → index < length words → image_bytes (take (index + 1) words) ≡ image_bytes (take index words) ++ word_bytes (get_or words index 0)
+pub bytes_more : (words : List ℕ) (index : ℕ) → index < length words
+    → image_bytes (take (index + 1) words) ≡ image_bytes (take index words) ++ word_bytes (get_or words index 0)
 bytes_more words index below =
     ap image_bytes (take_at_read words index 0 below).1 ∙ flat_map-append word_bytes (take index words) (get_or words index 0 ∷ [])
 

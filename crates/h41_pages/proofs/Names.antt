@@ -11,18 +11,25 @@ same_name : (name : Option (List ℕ)) → name ≡ option_map (λ rest. [] ++ r
 same_name None = refl
 same_name (Some name) = refl
 
-joined : (name : List ℕ) (next : ℕ) → (rest : Option (List ℕ)) → option_map (λ rest. name ++ rest) (option_map (λ rest. next ∷ rest) rest) ≡ option_map (λ rest. (name ++ next ∷ []) ++ rest) rest
+joined : (name : List ℕ) (next : ℕ) → (rest : Option (List ℕ))
+    → option_map (λ rest. name ++ rest) (option_map (λ rest. next ∷ rest) rest) ≡ option_map (λ rest. (name ++ next ∷ []) ++ rest) rest
 joined name next None = refl
 joined name next (Some rest) = ap Some (sym (append_assoc name (next ∷ []) rest))
 
 pub name_begins : (words : List ℕ) → spelled words ≡ going_on [] words
 name_begins words = same_name (spelled words)
 
-pub name_goes_on : (name : List ℕ) (word : ℕ) (words : List ℕ) → is_last word ≡ false → going_on name (word ∷ words) ≡ going_on (name ++ character word ∷ []) words
+pub name_goes_on : (name : List ℕ) (word : ℕ) (words : List ℕ) → is_last word ≡ false
+    → going_on name (word ∷ words) ≡ going_on (name ++ character word ∷ []) words
 name_goes_on name word words fails =
-    ap (λ b. option_map (λ rest. name ++ rest) (cond b (Some (character word ∷ [])) (option_map (λ rest. character word ∷ rest) (spelled words)))) fails
+    ap (λ b.
+    option_map (λ rest. name ++ rest) (cond b (Some (character word ∷ [])) (option_map (λ rest. character word ∷ rest) (spelled words))))
+    fails
     ∙ joined name (character word) (spelled words)
 
-pub name_ends : (name : List ℕ) (word : ℕ) (words : List ℕ) → is_last word ≡ true → going_on name (word ∷ words) ≡ Some (name ++ character word ∷ [])
+pub name_ends : (name : List ℕ) (word : ℕ) (words : List ℕ) → is_last word ≡ true
+    → going_on name (word ∷ words) ≡ Some (name ++ character word ∷ [])
 name_ends name word words passes =
-    ap (λ b. option_map (λ rest. name ++ rest) (cond b (Some (character word ∷ [])) (option_map (λ rest. character word ∷ rest) (spelled words)))) passes
+    ap (λ b.
+    option_map (λ rest. name ++ rest) (cond b (Some (character word ∷ [])) (option_map (λ rest. character word ∷ rest) (spelled words))))
+    passes

@@ -1,5 +1,6 @@
 -- A change at one page, seen at it and at others.
-use Rattle.std.proofs.Common.{◌≡◌, ◌≢◌, ℕ, ◌<◌, ◌≤◌, false, List, [], Option, None, Err, if◌then◌else◌, length, arith, refl, ap, ◌∙◌, get_or-set_other, get_or-set_same, slice_set, slice_index_or}
+use Rattle.std.proofs.Common.{◌≡◌, ◌≢◌, ℕ, ◌<◌, ◌≤◌, false, List, [], Option, None, Err, if◌then◌else◌, length, arith, refl, ap, ◌∙◌}
+use Rattle.std.proofs.Common.{get_or-set_other, get_or-set_same, slice_set, slice_index_or}
 use Rattle.h41_words.specs.declared.rows.Bank.{Bank}
 use Rattle.h41_words.specs.declared.rows.Bank.TheVariants.{First, Second, Third, Fourth}
 use Rattle.h41_pages.specs.Addresses.{page_of, is_system}
@@ -42,8 +43,8 @@ bank_below Third = omega arith
 bank_below Fourth = omega arith
 
 -- a fetch in a page that may be plugged is of its chosen image
-pub fetch_at : (pages : PageMap) (page offset : ℕ) (image : Option PageImage) → first_page ≤ page → offset < page_size → chosen_image pages page ≡ image
-    → fetched pages (address_in page offset) ≡ word_in (address_in page offset) image
+pub fetch_at : (pages : PageMap) (page offset : ℕ) (image : Option PageImage) → first_page ≤ page → offset < page_size
+    → chosen_image pages page ≡ image → fetched pages (address_in page offset) ≡ word_in (address_in page offset) image
 unfolding fetched
 fetch_at pages page offset image first below here =
     let address = address_in page offset in

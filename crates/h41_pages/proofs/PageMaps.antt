@@ -1,5 +1,7 @@
 -- Each change leaves pages as pages are.
-use Rattle.std.proofs.Common.{◌≡◌, ◌≢◌, ◌⊎◌, ℕ, zero, suc, ◌+◌, ◌<◌, ◌≤◌, Bool, true, false, List, [], ◌∷◌, Option, Some, None, length, replicate, arith, refl, sym, ap, subst, ◌∙◌, inl, inr, get_or-set_other, get_or-set_same, length-set, slice_set, slice_index_or}
+use Rattle.std.proofs.Common.{◌≡◌, ◌≢◌, ◌⊎◌, ℕ, zero, suc, ◌+◌, ◌<◌, ◌≤◌, Bool, true, false, List, [], ◌∷◌, Option, Some, None, length}
+use Rattle.std.proofs.Common.{replicate, arith, refl, sym, ap, subst, ◌∙◌, inl, inr, get_or-set_other, get_or-set_same, length-set}
+use Rattle.std.proofs.Common.{slice_set, slice_index_or}
 use Rattle.std.specs.Prelude.{IfSome, ◌==◌, is_some, not, option_map}
 use Rattle.std.specs.Bool.{then_some}
 use Rattle.std.specs.Option.{option_or}
@@ -10,7 +12,9 @@ use Rattle.std.proofs.Math.ListN.{get_or-eq_default}
 use Rattle.h41_words.specs.declared.rows.Bank.{Bank}
 use Rattle.h41_words.specs.declared.rows.Bank.TheVariants.{First, Second, Third, Fourth}
 use Rattle.h41_pages.specs.Addresses.{page_size, page_of, offset_of, is_pluggable}
-use Rattle.h41_pages.specs.PageMap.{PageMap, PageImage, IsHeldImage, IsPageMap, no_banks, no_pages, banks_at, image_at, bank_place, bank_numbered, chosen_at, chosen_image, is_held, is_image, is_writable, plug_refusal, plugged, rewritten, write_refusal, written}
+use Rattle.h41_pages.specs.PageMap.{PageMap, PageImage, IsHeldImage, IsPageMap, no_banks, no_pages, banks_at, image_at, bank_place}
+use Rattle.h41_pages.specs.PageMap.{bank_numbered, chosen_at, chosen_image, is_held, is_image, is_writable, plug_refusal, plugged}
+use Rattle.h41_pages.specs.PageMap.{rewritten, write_refusal, written}
 use Rattle.h41_pages.specs.declared.refusal.PlugRefusal.TheVariants as plugs
 use Rattle.h41_pages.proofs.OtherPages.{other_banks, own_banks, other_chosen, own_image, bank_below}
 
@@ -23,21 +27,22 @@ other_image : (banks : List (Option PageImage)) (image : Option PageImage) (plac
     → slice_index_or (slice_set banks place image) other None ≡ slice_index_or banks other None
 other_image banks image place other different = rw get_or-set_other refl
 
-image_held : (page : ℕ) (banks : List (Option PageImage)) (image : Option PageImage) (place at : ℕ) → place < length banks → HoldsImages page banks
-    → IfSome image (IsHeldImage page place) → (at ≡ place) ⊎ (at ≢ place) → IfSome (slice_index_or (slice_set banks place image) at None) (IsHeldImage page at)
+image_held : (page : ℕ) (banks : List (Option PageImage)) (image : Option PageImage) (place at : ℕ) → place < length banks
+    → HoldsImages page banks → IfSome image (IsHeldImage page place) → (at ≡ place) ⊎ (at ≢ place)
+    → IfSome (slice_index_or (slice_set banks place image) at None) (IsHeldImage page at)
 image_held page banks image place at below each held (inl same) =
     subst (λ k. IfSome (slice_index_or (slice_set banks place image) k None) (IsHeldImage page k)) (sym same)
     (subst (λ i. IfSome i (IsHeldImage page place)) (sym (own_image banks image place below)) held)
 image_held page banks image place at below each held (inr apart) =
     subst (λ i. IfSome i (IsHeldImage page at)) (sym (other_image banks image place at apart)) (each at)
 
-pub bank_changed : (page : ℕ) (banks : List (Option PageImage)) (image : Option PageImage) (place : ℕ) → place < length banks → HoldsImages page banks
-    → IfSome image (IsHeldImage page place) → HoldsImages page (slice_set banks place image)
+pub bank_changed : (page : ℕ) (banks : List (Option PageImage)) (image : Option PageImage) (place : ℕ) → place < length banks
+    → HoldsImages page banks → IfSome image (IsHeldImage page place) → HoldsImages page (slice_set banks place image)
 bank_changed page banks image place below each held = λ at. image_held page banks image place at below each held (cases_eq at place)
 
 -- among pages of which one has other banks
-banks_sized : (pages : PageMap) (banks : List (Option PageImage)) (page other : ℕ) → IsPageMap pages → page < 16 → length banks ≡ 4 → other < 16
-    → (other ≡ page) ⊎ (other ≢ page) → length (slice_index_or (slice_set pages.images page banks) other []) ≡ 4
+banks_sized : (pages : PageMap) (banks : List (Option PageImage)) (page other : ℕ) → IsPageMap pages → page < 16 → length banks ≡ 4
+    → other < 16 → (other ≡ page) ⊎ (other ≢ page) → length (slice_index_or (slice_set pages.images page banks) other []) ≡ 4
 banks_sized pages banks page other is below size inside (inl same) =
     ap (λ k. length (slice_index_or (slice_set pages.images page banks) k [])) same
     ∙ ap length (own_banks pages.images banks page (omega (arith, is.images, below))) ∙ size
@@ -53,8 +58,8 @@ banks_held pages banks page other is below each (inr apart) =
     subst (HoldsImages other) (sym (other_banks pages.images banks page other apart)) (is.each other)
 
 -- pages with other banks at a page
-pub page_changed : (pages : PageMap) (page : ℕ) (banks : List (Option PageImage)) → IsPageMap pages → page < 16 → length banks ≡ 4 → HoldsImages page banks
-    → IsPageMap (record pages { images = slice_set pages.images page banks })
+pub page_changed : (pages : PageMap) (page : ℕ) (banks : List (Option PageImage)) → IsPageMap pages → page < 16 → length banks ≡ 4
+    → HoldsImages page banks → IsPageMap (record pages { images = slice_set pages.images page banks })
 page_changed pages page banks is below size each = record {
   images = length-set pages.images page banks ∙ is.images;
   banks = λ other inside. banks_sized pages banks page other is below size inside (cases_eq other page);
@@ -65,7 +70,8 @@ page_changed pages page banks is below size each = record {
 
 -- pages with another image at a page's bank
 pub image_changed : (pages : PageMap) (page place : ℕ) (image : Option PageImage) → IsPageMap pages → page < 16 → place < 4
-    → IfSome image (IsHeldImage page place) → IsPageMap (record pages { images = slice_set pages.images page (slice_set (banks_at pages page) place image) })
+    → IfSome image (IsHeldImage page place)
+    → IsPageMap (record pages { images = slice_set pages.images page (slice_set (banks_at pages page) place image) })
 image_changed pages page place image is below inside held =
     let size : length (banks_at pages page) ≡ 4 = is.banks page below in
     page_changed pages page (slice_set (banks_at pages page) place image) is below
@@ -93,7 +99,8 @@ chosen_first chosen page other below each (inl same) =
     own_chosen chosen page below = rw get_or-set_same refl
 chosen_first chosen page other below each (inr apart) = other_chosen chosen First page other apart ∙ each other
 
-pub choice_changed : (pages : PageMap) (page : ℕ) → IsPageMap pages → page < 16 → IsPageMap (record pages { chosen = slice_set pages.chosen page First })
+pub choice_changed : (pages : PageMap) (page : ℕ) → IsPageMap pages → page < 16
+    → IsPageMap (record pages { chosen = slice_set pages.chosen page First })
 choice_changed pages page is below = record {
   images = is.images;
   banks = is.banks;
@@ -143,18 +150,22 @@ place_of_some : (page place : ℕ) (image : Option PageImage) → IfSome image (
 place_of_some page place None held some = let no : false ≡ true = some in absurd (cc)
 place_of_some page place (Some image) held some = held_place page place held.held
 
-pub plugged_is_first : (pages : PageMap) (page : ℕ) (bank : Bank) → IsPageMap pages → is_some (image_at pages page bank) ≡ true → bank ≡ First
-plugged_is_first pages page bank is some = first_bank bank (place_of_some page (bank_place bank) (image_at pages page bank) (is.each page (bank_place bank)) some)
+pub plugged_is_first : (pages : PageMap) (page : ℕ) (bank : Bank) → IsPageMap pages → is_some (image_at pages page bank) ≡ true
+    → bank ≡ First
+plugged_is_first pages page bank is some =
+    first_bank bank (place_of_some page (bank_place bank) (image_at pages page bank) (is.each page (bank_place bank)) some)
 
 -- words of which one is changed are still those of an image
-fits_set : (fits : ℕ → Bool) (words : List ℕ) (offset word : ℕ) → list_all fits words ≡ true → fits word ≡ true → list_all fits (slice_set words offset word) ≡ true
+fits_set : (fits : ℕ → Bool) (words : List ℕ) (offset word : ℕ) → list_all fits words ≡ true → fits word ≡ true
+    → list_all fits (slice_set words offset word) ≡ true
 fits_set fits [] offset word all fit = refl
 fits_set fits (first ∷ words) zero word all fit = rw fit (and_parts (fits first) (list_all fits words) all).1
 fits_set fits (first ∷ words) (suc offset) word all fit =
     let both = and_parts (fits first) (list_all fits words) all in
     rw (both.0) (fits_set fits words offset word both.1 fit)
 
-pub image_rewritten : (words : List ℕ) (offset word : ℕ) → is_image words ≡ true → word < 0x400 → is_image (slice_set words offset word) ≡ true
+pub image_rewritten : (words : List ℕ) (offset word : ℕ) → is_image words ≡ true → word < 0x400
+    → is_image (slice_set words offset word) ≡ true
 image_rewritten words offset word image small =
     let both = and_parts (length words == page_size) (list_all _ words) image in
     rw (length-set words offset word, both.0) (fits_set _ words offset word both.1 (grind arith))
@@ -187,49 +198,72 @@ plugged_held pages page number writable words none =
 -- a word of an image is changed where it stands, as the code reaches it
 pub image_held_with : (page place : ℕ) (image : PageImage) (offset word : ℕ) → IsHeldImage page place image → word < 0x400
     → IsHeldImage page place (record image { words = slice_set image.words offset word })
-image_held_with page place image offset word held small = record { held = held.held; words = image_rewritten image.words offset word held.words small }
+image_held_with page place image offset word held small =
+    record { held = held.held; words = image_rewritten image.words offset word held.words small }
 
 pub row_is : (images : List (List (Option PageImage))) (chosen : List Bank) (page : ℕ) (row d : List (Option PageImage))
-    → IsPageMap (record { images = images; chosen = chosen }) → page < 16 → row ≡ slice_index_or images page d → row ≡ slice_index_or images page []
+    → IsPageMap (record { images = images; chosen = chosen }) → page < 16 → row ≡ slice_index_or images page d
+    → row ≡ slice_index_or images page []
 row_is images chosen page row d is below read = read ∙ get_or_default images page d [] (omega (arith, is.images, below))
 
 -- words plugged, as the code reaches their place
-pub plugged_as : (images : List (List (Option PageImage))) (chosen : List Bank) (page number : ℕ) (writable : Bool) (words : List ℕ) (from place : ℕ) (row : List (Option PageImage)) (image : PageImage)
-    → from ≡ page → row ≡ slice_index_or images from [] → place ≡ bank_place (bank_numbered number) → image ≡ record { words = words; writable = writable }
-    → record { images = slice_set images from (slice_set row place (Some image)); chosen = chosen } ≡ plugged (record { images = images; chosen = chosen }) page number writable words
+pub plugged_as : (images : List (List (Option PageImage))) (chosen : List Bank) (page number : ℕ)
+    (writable : Bool) (words : List ℕ) (from place : ℕ) (row : List (Option PageImage)) (image : PageImage)
+    → from ≡ page → row ≡ slice_index_or images from [] → place ≡ bank_place (bank_numbered number)
+    → image ≡ record { words = words; writable = writable }
+    → record { images = slice_set images from (slice_set row place (Some image)); chosen = chosen }
+    ≡ plugged (record { images = images; chosen = chosen }) page number writable words
 plugged_as images chosen page number writable words from place row image at read bank made =
     let here : row ≡ slice_index_or images page [] = read ∙ ap (λ i. slice_index_or images i []) at in
     ap (λ i. record { images = slice_set images i (slice_set row place (Some image)); chosen = chosen }) at
     ∙ ap (λ r. record { images = slice_set images page (slice_set r place (Some image)); chosen = chosen }) here
     ∙ ap (λ k. record { images = slice_set images page (slice_set (slice_index_or images page []) k (Some image)); chosen = chosen }) bank
-    ∙ ap (λ i. record { images = slice_set images page (slice_set (slice_index_or images page []) (bank_place (bank_numbered number)) (Some i)); chosen = chosen }) made
+    ∙ ap (λ i. record {
+      images = slice_set images page (slice_set (slice_index_or images page []) (bank_place (bank_numbered number)) (Some i));
+      chosen = chosen;
+    })
+    made
 
 -- a word written in the image of the chosen bank, as the code reaches it
-pub chosen_as : (images : List (List (Option PageImage))) (chosen : List Bank) (address from place : ℕ) (row : List (Option PageImage)) (image : PageImage) → from ≡ page_of address
-    → row ≡ slice_index_or images from [] → place ≡ bank_place (slice_index_or chosen from First) → slice_index_or row place None ≡ Some image
-    → chosen_image (record { images = images; chosen = chosen }) (page_of address) ≡ Some image
+pub chosen_as : (images : List (List (Option PageImage))) (chosen : List Bank)
+    (address from place : ℕ) (row : List (Option PageImage)) (image : PageImage)
+    → from ≡ page_of address → row ≡ slice_index_or images from [] → place ≡ bank_place (slice_index_or chosen from First)
+    → slice_index_or row place None ≡ Some image → chosen_image (record { images = images; chosen = chosen }) (page_of address) ≡ Some image
 chosen_as images chosen address from place row image at read bank found =
     ap (chosen_image (record { images = images; chosen = chosen })) (sym at)
-    ∙ ap (λ r. slice_index_or r (bank_place (slice_index_or chosen from First)) None) (sym read) ∙ ap (λ k. slice_index_or row k None) (sym bank) ∙ found
+    ∙ ap (λ r. slice_index_or r (bank_place (slice_index_or chosen from First)) None) (sym read)
+    ∙ ap (λ k. slice_index_or row k None) (sym bank) ∙ found
 
-pub written_as : (images : List (List (Option PageImage))) (chosen : List Bank) (address word from place : ℕ) (row : List (Option PageImage)) (image made : PageImage)
-    → from ≡ page_of address → row ≡ slice_index_or images from [] → place ≡ bank_place (slice_index_or chosen from First) → slice_index_or row place None ≡ Some image
-    → made ≡ rewritten (offset_of address) word image
-    → record { images = slice_set images from (slice_set row place (Some made)); chosen = chosen } ≡ written (record { images = images; chosen = chosen }) address word
+pub written_as : (images : List (List (Option PageImage))) (chosen : List Bank)
+    (address word from place : ℕ) (row : List (Option PageImage)) (image made : PageImage)
+    → from ≡ page_of address → row ≡ slice_index_or images from [] → place ≡ bank_place (slice_index_or chosen from First)
+    → slice_index_or row place None ≡ Some image → made ≡ rewritten (offset_of address) word image
+    → record { images = slice_set images from (slice_set row place (Some made)); chosen = chosen }
+    ≡ written (record { images = images; chosen = chosen }) address word
 unfolding written
 written_as images chosen address word from place row image made at read bank found new =
     let page = page_of address in
     let here : row ≡ slice_index_or images page [] = read ∙ ap (λ i. slice_index_or images i []) at in
     let its_bank : place ≡ bank_place (slice_index_or chosen page First) = bank ∙ ap (λ i. bank_place (slice_index_or chosen i First)) at in
-    let its_image = ap Some new ∙ ap (option_map (rewritten (offset_of address) word)) (sym (chosen_as images chosen address from place row image at read bank found)) in
+    let its_image =
+    ap Some new
+    ∙ ap (option_map (rewritten (offset_of address) word))
+    (sym (chosen_as images chosen address from place row image at read bank found)) in
     ap (λ i. record { images = slice_set images i (slice_set row place (Some made)); chosen = chosen }) at
     ∙ ap (λ r. record { images = slice_set images page (slice_set r place (Some made)); chosen = chosen }) here
-    ∙ ap (λ k. record { images = slice_set images page (slice_set (slice_index_or images page []) k (Some made)); chosen = chosen }) its_bank
-    ∙ ap (λ i. record { images = slice_set images page (slice_set (slice_index_or images page []) (bank_place (slice_index_or chosen page First)) i); chosen = chosen }) its_image
+    ∙ ap (λ k. record { images = slice_set images page (slice_set (slice_index_or images page []) k (Some made)); chosen = chosen })
+    its_bank
+    ∙ ap (λ i. record {
+      images = slice_set images page (slice_set (slice_index_or images page []) (bank_place (slice_index_or chosen page First)) i);
+      chosen = chosen;
+    })
+    its_image
 
-pub accepted_as : (pages : PageMap) (address : ℕ) (image : PageImage) → chosen_image pages (page_of address) ≡ Some image → image.writable ≡ true → write_refusal pages address ≡ None
+pub accepted_as : (pages : PageMap) (address : ℕ) (image : PageImage) → chosen_image pages (page_of address) ≡ Some image
+    → image.writable ≡ true → write_refusal pages address ≡ None
 accepted_as pages address image here writable =
-    ap (λ i. then_some (not (is_writable i)) (record { address = address })) here ∙ ap (λ w. then_some (not w) (record { address = address })) writable
+    ap (λ i. then_some (not (is_writable i)) (record { address = address })) here
+    ∙ ap (λ w. then_some (not w) (record { address = address })) writable
 
 -- the image at a bank with another word
 rewritten_held : (page place offset word : ℕ) (image : Option PageImage) → word < 0x400 → IfSome image (IsHeldImage page place)
@@ -237,10 +271,12 @@ rewritten_held : (page place offset word : ℕ) (image : Option PageImage) → w
 rewritten_held page place offset word None small held = tt
 rewritten_held page place offset word (Some image) small held = image_held_with page place image offset word held small
 
-pub word_changed : (pages : PageMap) (address word : ℕ) → IsPageMap pages → page_of address < 16 → word < 0x400 → IsPageMap (written pages address word)
+pub word_changed : (pages : PageMap) (address word : ℕ) → IsPageMap pages → page_of address < 16 → word < 0x400
+    → IsPageMap (written pages address word)
 unfolding written
 word_changed pages address word is below small =
     let page = page_of address in
     let place = bank_place (chosen_at pages page) in
-    image_changed pages page place (option_map (rewritten (offset_of address) word) (chosen_image pages page)) is below (bank_below (chosen_at pages page))
+    image_changed pages page place (option_map (rewritten (offset_of address) word) (chosen_image pages page))
+    is below (bank_below (chosen_at pages page))
     (rewritten_held page place (offset_of address) word (chosen_image pages page) small (is.each page place))

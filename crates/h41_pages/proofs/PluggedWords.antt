@@ -12,9 +12,11 @@ word_plugged pages page number offset writable words whole first last below chos
     let image : PageImage = record { words = words; writable = writable } in
     let place = bank_place (bank_numbered number) in
     let page_below : page < length pages.images = omega (arith, whole.images, last) in
-    let bank_is_there : place < length (banks_at pages page) = omega (arith, whole.banks page (omega (arith, last)), bank_below (bank_numbered number)) in
+    let bank_is_there : place < length (banks_at pages page) =
+    omega (arith, whole.banks page (omega (arith, last)), bank_below (bank_numbered number)) in
     let here = ap (image_at (plugged pages page number writable words) page) chosen
-    ∙ ap (λ banks. slice_index_or banks place None) (own_banks pages.images (slice_set (banks_at pages page) place (Some image)) page page_below)
+    ∙ ap (λ banks. slice_index_or banks place None)
+    (own_banks pages.images (slice_set (banks_at pages page) place (Some image)) page page_below)
     ∙ own_image (banks_at pages page) (Some image) place bank_is_there in
     fetch_at (plugged pages page number writable words) page offset (Some image) first below here
     ∙ ap (λ at. Ok (slice_index words at)) (offset_in page offset below)
@@ -32,7 +34,9 @@ none_of Fourth = refl
 pub page_emptied : UnpluggedIsEmpty
 page_emptied pages page offset whole first last below =
     let page_below : page < length pages.images = omega (arith, whole.images, last) in
-    let here = ap (λ banks. slice_index_or banks (bank_place (chosen_at (unplugged pages page) page)) None) (own_banks pages.images no_banks page page_below)
+    let here =
+    ap (λ banks. slice_index_or banks (bank_place (chosen_at (unplugged pages page) page)) None)
+    (own_banks pages.images no_banks page page_below)
     ∙ none_of (chosen_at (unplugged pages page) page) in
     fetch_at (unplugged pages page) page offset None first below here
 

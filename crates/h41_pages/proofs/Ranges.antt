@@ -1,5 +1,6 @@
 -- Numbers in a row that a loop takes one at a time: what is left of a list, a search or a test behind the one taken.
-use Rattle.std.proofs.Common.{◌≡◌, ℕ, suc, ◌+◌, ◌-◌, ◌<◌, ◌≤◌, Bool, true, false, List, [], ◌∷◌, ◌++◌, Some, None, cond, arith, ap, ◌∙◌, map}
+use Rattle.std.proofs.Common.{◌≡◌, ℕ, suc, ◌+◌, ◌-◌, ◌<◌, ◌≤◌, Bool, true, false, List, [], ◌∷◌, ◌++◌, Some, None, cond, arith, ap, ◌∙◌}
+use Rattle.std.proofs.Common.{map}
 use Rattle.std.specs.List.{range_with_len, find, flat_map}
 use Rattle.h41_pages.specs.FunctionTables.{all_pages}
 
@@ -36,7 +37,8 @@ map-step f low high below = ap (map f) (up_to-step low high below)
 pub map-none : {X : Type 0} → (f : ℕ → X) (low high : ℕ) → high ≤ low → map f (up_to low high) ≡ []
 map-none f low high above = ap (map f) (up_to-none low high above)
 
-pub flat_map-step : {X : Type 0} → (f : ℕ → List X) (low high : ℕ) → low < high → flat_map f (up_to low high) ≡ f low ++ flat_map f (up_to (low + 1) high)
+pub flat_map-step : {X : Type 0} → (f : ℕ → List X) (low high : ℕ) → low < high
+    → flat_map f (up_to low high) ≡ f low ++ flat_map f (up_to (low + 1) high)
 flat_map-step f low high below = ap (flat_map f) (up_to-step low high below)
 
 pub flat_map-none : {X : Type 0} → (f : ℕ → List X) (low high : ℕ) → high ≤ low → flat_map f (up_to low high) ≡ []

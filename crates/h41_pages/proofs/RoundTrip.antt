@@ -8,13 +8,16 @@ cons_with : {X : Type 0} {x y : X} {xs ys : List X} → x ≡ y → xs ≡ ys �
 cons_with {x = x} {ys = ys} first others = ap (λ rest. x ∷ rest) others ∙ ap (λ head. head ∷ ys) first
 
 -- two bytes more move a word by one
-place_shifted : (high low : ℕ) (rest : List ℕ) (place other : ℕ) → other ≡ suc (suc place) → slice_index (high ∷ low ∷ rest) other ≡ slice_index rest place
+place_shifted : (high low : ℕ) (rest : List ℕ) (place other : ℕ) → other ≡ suc (suc place)
+    → slice_index (high ∷ low ∷ rest) other ≡ slice_index rest place
 place_shifted high low rest place other same = ap (slice_index (high ∷ low ∷ rest)) same
 
 word_shifted : (high low : ℕ) (rest : List ℕ) (offset : ℕ) → word_in_bytes (high ∷ low ∷ rest) (offset + 1) ≡ word_in_bytes rest offset
 word_shifted high low rest offset =
-    ap (λ byte. byte * 256 + slice_index (high ∷ low ∷ rest) (2 * (offset + 1) + 1)) (place_shifted high low rest (2 * offset) (2 * (offset + 1)) (omega arith))
-    ∙ ap (λ byte. slice_index rest (2 * offset) * 256 + byte) (place_shifted high low rest (2 * offset + 1) (2 * (offset + 1) + 1) (omega arith))
+    ap (λ byte. byte * 256 + slice_index (high ∷ low ∷ rest) (2 * (offset + 1) + 1))
+    (place_shifted high low rest (2 * offset) (2 * (offset + 1)) (omega arith))
+    ∙ ap (λ byte. slice_index rest (2 * offset) * 256 + byte)
+    (place_shifted high low rest (2 * offset + 1) (2 * (offset + 1) + 1) (omega arith))
 
 words_shifted : (high low : ℕ) (rest : List ℕ) (from count : ℕ)
     → map (word_in_bytes (high ∷ low ∷ rest)) (range_with_len (from + 1) count) ≡ map (word_in_bytes rest) (range_with_len from count)

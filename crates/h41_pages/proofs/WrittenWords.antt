@@ -1,5 +1,7 @@
 -- What is fetched after a word was written.
-use Rattle.std.proofs.Common.{◌≡◌, ◌≢◌, ◌⊎◌, ℕ, ◌+◌, ◌<◌, ◌≤◌, Bool, true, false, not, List, Option, Some, None, Ok, Err, if◌then◌else◌, length, arith, refl, sym, ap, subst, ◌∙◌, inl, inr, get_or-set_same, get_or-set_other, slice_set, slice_index, slice_index_or}
+use Rattle.std.proofs.Common.{◌≡◌, ◌≢◌, ◌⊎◌, ℕ, ◌+◌, ◌<◌, ◌≤◌, Bool, true, false, not, List, Option, Some, None, Ok, Err, if◌then◌else◌}
+use Rattle.std.proofs.Common.{length, arith, refl, sym, ap, subst, ◌∙◌, inl, inr, get_or-set_same, get_or-set_other, slice_set, slice_index}
+use Rattle.std.proofs.Common.{slice_index_or}
 use Rattle.std.specs.Prelude.{IfSome, ◌==◌, nat_le, option_map}
 use Rattle.std.specs.Bool.{then_some}
 use Rattle.std.specs.List.{list_all}
@@ -8,7 +10,8 @@ use Rattle.std.proofs.lemmas.Bool.Decides.{nat_tests}
 use Rattle.std.proofs.lemmas.List.{set_past}
 use Rattle.h41_pages.specs.Addresses.{page_of, offset_of, page_size, is_pluggable, is_system}
 use Rattle.h41_pages.specs.PageLaws.{WrittenIsFetched, WritingKeepsOthers}
-use Rattle.h41_pages.specs.PageMap.{PageMap, PageImage, IsHeldImage, IsPageMap, banks_at, chosen_at, chosen_image, bank_place, is_held, is_image, is_writable, fetched, word_in, rewritten, written}
+use Rattle.h41_pages.specs.PageMap.{PageMap, PageImage, IsHeldImage, IsPageMap, banks_at, chosen_at, chosen_image, bank_place, is_held}
+use Rattle.h41_pages.specs.PageMap.{is_image, is_writable, fetched, word_in, rewritten, written}
 use Rattle.h41_pages.specs.declared.refusal.FetchRefusal.TheVariants.{SystemRom}
 use Rattle.h41_pages.specs.declared.refusal.ReadOnly.{ReadOnly}
 use Rattle.h41_pages.proofs.OtherPages.{same_fetch, other_banks, own_banks, own_image, bank_below}
@@ -16,7 +19,8 @@ use Rattle.h41_pages.proofs.OtherPages.{same_fetch, other_banks, own_banks, own_
 -- the image that is chosen is one that is held
 chosen_held : (pages : PageMap) (page : ℕ) (image : PageImage) → IsPageMap pages → chosen_image pages page ≡ Some image
     → IsHeldImage page (bank_place (chosen_at pages page)) image
-chosen_held pages page image is here = subst (λ i. IfSome i (IsHeldImage page (bank_place (chosen_at pages page)))) here (is.each page (bank_place (chosen_at pages page)))
+chosen_held pages page image is here =
+    subst (λ i. IfSome i (IsHeldImage page (bank_place (chosen_at pages page)))) here (is.each page (bank_place (chosen_at pages page)))
 
 pub pluggable : (page place : ℕ) → is_held page (place + 1) ≡ true → (4 ≤ page) × (page ≤ 15)
 pluggable page place held =
@@ -34,22 +38,25 @@ image_size words image = eqb-true (length words) page_size (and_parts (length wo
 
 -- the image that is chosen behind a write
 chosen_after : (pages : PageMap) (address word : ℕ) → IsPageMap pages → page_of address < 16
-    → chosen_image (written pages address word) (page_of address) ≡ option_map (rewritten (offset_of address) word) (chosen_image pages (page_of address))
+    → chosen_image (written pages address word) (page_of address)
+    ≡ option_map (rewritten (offset_of address) word) (chosen_image pages (page_of address))
 unfolding written
 chosen_after pages address word is below =
     let page = page_of address in
     let place = bank_place (chosen_at pages page) in
     let size : length (banks_at pages page) ≡ 4 = is.banks page below in
     let image = option_map (rewritten (offset_of address) word) (chosen_image pages page) in
-    ap (λ banks. slice_index_or banks place None) (own_banks pages.images (slice_set (banks_at pages page) place image) page (omega (arith, is.images, below)))
+    ap (λ banks. slice_index_or banks place None)
+    (own_banks pages.images (slice_set (banks_at pages page) place image) page (omega (arith, is.images, below)))
     ∙ own_image (banks_at pages page) image place (omega (arith, size, bank_below (chosen_at pages page)))
 
 -- a fetch outside the system's pages
-fetched_in : (pages : PageMap) (address : ℕ) (image : Option PageImage) → is_system address ≡ false → chosen_image pages (page_of address) ≡ image
-    → fetched pages address ≡ word_in address image
+fetched_in : (pages : PageMap) (address : ℕ) (image : Option PageImage) → is_system address ≡ false
+    → chosen_image pages (page_of address) ≡ image → fetched pages address ≡ word_in address image
 unfolding fetched
 fetched_in pages address image held here =
-    ap (λ system. if system then Err (SystemRom address) else word_in address (chosen_image pages (page_of address))) held ∙ ap (word_in address) here
+    ap (λ system. if system then Err (SystemRom address) else word_in address (chosen_image pages (page_of address))) held
+    ∙ ap (word_in address) here
 
 outside_system : (address : ℕ) → 4 ≤ page_of address → is_system address ≡ false
 outside_system address above = let high : 0x4000 ≤ address = omega (arith, above) in grind (arith, nat_tests)
@@ -58,8 +65,8 @@ accepted_writable : (writable : Bool) (reason : ReadOnly) → then_some (not wri
 accepted_writable true reason none = refl
 accepted_writable false reason none = cc
 
-of_image : (pages : PageMap) (address word : ℕ) (image : Option PageImage) → IsPageMap pages → chosen_image pages (page_of address) ≡ image → is_writable image ≡ true
-    → fetched (written pages address word) address ≡ Ok word
+of_image : (pages : PageMap) (address word : ℕ) (image : Option PageImage) → IsPageMap pages → chosen_image pages (page_of address) ≡ image
+    → is_writable image ≡ true → fetched (written pages address word) address ≡ Ok word
 of_image pages address word None is here writable = let no : false ≡ true = writable in absurd (cc)
 of_image pages address word (Some image) is here writable =
     let held = chosen_held pages (page_of address) image is here in
@@ -83,10 +90,12 @@ other_word : (address offset word : ℕ) (image : Option PageImage) → offset_o
 other_word address offset word None apart = refl
 other_word address offset word (Some image) apart = ap Ok (same_word image.words (offset_of address) offset word apart)
   where
-    same_word : (words : List ℕ) (other offset word : ℕ) → other ≢ offset → slice_index (slice_set words offset word) other ≡ slice_index words other
+    same_word : (words : List ℕ) (other offset word : ℕ) → other ≢ offset
+        → slice_index (slice_set words offset word) other ≡ slice_index words other
     same_word words other offset word apart = rw get_or-set_other refl
 
-beyond : (pages : PageMap) (at word address : ℕ) → length pages.images ≤ page_of at → fetched (written pages at word) address ≡ fetched pages address
+beyond : (pages : PageMap) (at word address : ℕ) → length pages.images ≤ page_of at
+    → fetched (written pages at word) address ≡ fetched pages address
 unfolding written
 beyond pages at word address above =
     ap (λ images. fetched (record pages { images = images }) address) (set_past pages.images (page_of at) _ above)
@@ -98,11 +107,12 @@ in_same_page pages at word address is same apart (inl below) =
     let here = ap (chosen_image (written pages at word)) same ∙ chosen_after pages at word is below
     ∙ ap (λ page. option_map (rewritten (offset_of at) word) (chosen_image pages page)) (sym same) in
     ap (λ image. if is_system address then Err (SystemRom address) else word_in address image) here
-    ∙ ap (λ answer. if is_system address then Err (SystemRom address) else answer) (other_word address (offset_of at) word (chosen_image pages (page_of address)) apart)
+    ∙ ap (λ answer. if is_system address then Err (SystemRom address) else answer)
+    (other_word address (offset_of at) word (chosen_image pages (page_of address)) apart)
 in_same_page pages at word address is same apart (inr above) = beyond pages at word address (omega (arith, is.images, above))
 
-by_page : (pages : PageMap) (at word address : ℕ) → IsPageMap pages → address ≢ at → (page_of address ≡ page_of at) ⊎ (page_of address ≢ page_of at)
-    → fetched (written pages at word) address ≡ fetched pages address
+by_page : (pages : PageMap) (at word address : ℕ) → IsPageMap pages → address ≢ at
+    → (page_of address ≡ page_of at) ⊎ (page_of address ≢ page_of at) → fetched (written pages at word) address ≡ fetched pages address
 unfolding written
 by_page pages at word address is apart (inl same) =
     in_same_page pages at word address is same (λ equal. apart (omega (arith, same, equal))) (cases_lt (page_of at) 16)

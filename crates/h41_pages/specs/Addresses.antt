@@ -1,4 +1,5 @@
--- Where words stand: sixteen pages of 4,096 words. Which pages are the system's, and so not held, is this project's choice.
+-- Where words stand: sixteen pages of 4,096 words. Which pages are the system's, and so not held,
+-- is this project's choice.
 use Rattle.std.specs.Prelude.{ℕ, ◌/◌, ◌%◌, ◌-◌, Bool, ◌&&◌, nat_lt, nat_le}
 use Rattle.h41_words.specs.Counts.{word_count}
 
@@ -23,7 +24,8 @@ is_pluggable page = nat_le first_page page && nat_le page last_page
 abbrev pub first_address : ℕ
 first_address = 0x4000
 
--- the page of an address, its first hexadecimal digit, and the place of its word there, the other three
+-- the page of an address, its first hexadecimal digit, and the place of its word there, the other
+-- three
 abbrev pub page_of : ℕ → ℕ
 page_of address = address / page_size
 

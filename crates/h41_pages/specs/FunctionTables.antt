@@ -1,7 +1,10 @@
--- The functions of a module, as HP's modules list them: word 0 of a page is its XROM number, word 1 how many entries it
--- has, and two words an entry follow. A microcode function's name stands before the words of the function. All of it is
--- read in bank 1. What counts as a name, and what a number or a count out of range means, are this project's choices.
-use Rattle.std.specs.Prelude.{ℕ, ◌+◌, ◌-◌, ◌*◌, ◌/◌, ◌%◌, ◌^◌, ◌<◌, ◌≤◌, Bool, false, ◌&&◌, List, [], ◌∷◌, map, find, min, slice_index, nat_lt, nat_le, ◌==◌, bytes_eq, if◌then◌else◌, Option, Some, None, option_map, option_and_then}
+-- The functions of a module, as HP's modules list them: word 0 of a page is its XROM number, word 1
+-- how many entries it has, and two words an entry follow. A microcode function's name stands before
+-- the words of the function. All of it is read in bank 1. What counts as a name, and what a number
+-- or a count out of range means, are this project's choices.
+use Rattle.std.specs.Prelude.{ℕ, ◌+◌, ◌-◌, ◌*◌, ◌/◌, ◌%◌, ◌^◌, ◌<◌, ◌≤◌, Bool, false, ◌&&◌, List}
+use Rattle.std.specs.Prelude.{[], ◌∷◌, map, find, min, slice_index, nat_lt, nat_le, ◌==◌, bytes_eq}
+use Rattle.std.specs.Prelude.{if◌then◌else◌, Option, Some, None, option_map, option_and_then}
 use Rattle.std.specs.Bool.{then_some}
 use Rattle.std.specs.List.{flat_map, range_with_len}
 use Rattle.std.specs.Option.{option_map_or}
@@ -11,12 +14,14 @@ use Rattle.h41_pages.specs.PageMap.{PageMap, PageImage, image_at}
 use Rattle.h41_pages.specs.declared.functions.Entry.{Entry}
 use Rattle.h41_pages.specs.declared.functions.Function.{Function}
 
--- a page's number, and how many entries it has: none where its number is not 1 to 31 or its count is above 64
+-- a page's number, and how many entries it has: none where its number is not 1 to 31 or its count
+-- is above 64
 abbrev pub number_in : List ℕ → ℕ
 number_in words = slice_index words 0
 
 abbrev pub has_functions : List ℕ → Bool
-has_functions words = nat_le 1 (number_in words) && nat_le (number_in words) 31 && nat_le (slice_index words 1) 64
+has_functions words =
+    nat_le 1 (number_in words) && nat_le (number_in words) 31 && nat_le (slice_index words 1) 64
 
 abbrev pub entry_count : List ℕ → ℕ
 entry_count words = if has_functions words then slice_index words 1 else 0
@@ -32,11 +37,13 @@ second_word words entry = slice_index words (3 + 2 * entry)
 abbrev pub is_keystroke : List ℕ → ℕ → Bool
 is_keystroke words entry = first_word words entry / 2 ^ 9 % 2 == 1
 
--- the low four bits of the first and the low byte of the second are the offset where the function stands
+-- the low four bits of the first and the low byte of the second are the offset where the function
+-- stands
 abbrev pub entry_offset : List ℕ → ℕ → ℕ
 entry_offset words entry = first_word words entry % 16 * 256 + second_word words entry % 256
 
--- the words before an offset of a page, the nearest first, of which the eleven nearest can hold a name
+-- the words before an offset of a page, the nearest first, of which the eleven nearest can hold a
+-- name
 abbrev pub word_before : List ℕ → ℕ → ℕ → ℕ
 word_before words offset distance = slice_index words (offset - 1 - distance)
 
@@ -51,20 +58,24 @@ character word = if nat_lt (word % 64) 0x20 then word % 64 + 0x40 else word % 64
 abbrev pub is_last : ℕ → Bool
 is_last word = word / 2 ^ 7 % 2 == 1
 
--- the name that words spell: the characters up to the one that is marked as the last, and none where none is marked
+-- the name that words spell: the characters up to the one that is marked as the last, and none
+-- where none is marked
 abbrev pub spelled : List ℕ → Option (List ℕ)
 spelled [] = None
 spelled (word ∷ words) =
-    if is_last word then Some (character word ∷ []) else option_map (λ name. character word ∷ name) (spelled words)
+    if is_last word then Some (character word ∷ [])
+    else option_map (λ name. character word ∷ name) (spelled words)
 
 -- the name of an entry: that before a microcode function; keystroke code has none yet
 abbrev pub entry_name : List ℕ → ℕ → Option (List ℕ)
 entry_name words entry =
-    if is_keystroke words entry then None else spelled (words_before words (entry_offset words entry))
+    if is_keystroke words entry then None
+    else spelled (words_before words (entry_offset words entry))
 
 -- an entry as a function: its two numbers, and its name
 abbrev pub function_in : List ℕ → ℕ → Function
-function_in words entry = record { number = number_in words; entry = entry; name = entry_name words entry }
+function_in words entry =
+    record { number = number_in words; entry = entry; name = entry_name words entry }
 
 -- the pages in order
 unfoldable pub all_pages : List ℕ
@@ -78,7 +89,8 @@ abbrev pub first_image : PageMap → ℕ → Option PageImage
 first_image pages page = image_at pages page First
 
 abbrev pub functions_at : PageMap → ℕ → List Function
-functions_at pages page = option_map_or (λ image. functions_of image.words) (first_image pages page) []
+functions_at pages page =
+    option_map_or (λ image. functions_of image.words) (first_image pages page) []
 
 abbrev pub functions : PageMap → List Function
 functions pages = flat_map (functions_at pages) all_pages
@@ -107,15 +119,20 @@ is_numbered number image = option_map_or (λ plugged. number_in plugged.words ==
 abbrev pub page_numbered : PageMap → ℕ → Option ℕ
 page_numbered pages number = find (λ page. is_numbered number (first_image pages page)) all_pages
 
--- an entry of a page: the address of its function, and whether that is keystroke code; none past the page's count
+-- an entry of a page: the address of its function, and whether that is keystroke code; none past
+-- the page's count
 abbrev pub entry_of : ℕ → ℕ → PageImage → Option Entry
 entry_of page entry image =
     then_some (nat_lt entry (entry_count image.words))
-    (record { address = page * page_size + entry_offset image.words entry; keystroke = is_keystroke image.words entry })
+    (record {
+      address = page * page_size + entry_offset image.words entry;
+      keystroke = is_keystroke image.words entry;
+    })
 
 abbrev pub entry_on : PageMap → ℕ → ℕ → Option Entry
 entry_on pages page entry = option_and_then (entry_of page entry) (first_image pages page)
 
 -- the entry with these two numbers: that of the lowest page with the first
 abbrev pub entry_at : PageMap → ℕ → ℕ → Option Entry
-entry_at pages number entry = option_and_then (λ page. entry_on pages page entry) (page_numbered pages number)
+entry_at pages number entry =
+    option_and_then (λ page. entry_on pages page entry) (page_numbered pages number)

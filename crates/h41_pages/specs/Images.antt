@@ -1,5 +1,7 @@
 -- Images as bytes: two bytes a word, the high byte first, the words in the order of their offsets.
-use Rattle.std.specs.Prelude.{◌≡◌, ◌⊎◌, ℕ, ◌+◌, ◌*◌, ◌/◌, ◌%◌, Bool, not, ◌&&◌, List, [], ◌∷◌, map, length, slice_index, is_none, nat_le, ◌==◌, Option, Some, None, IfSome}
+use Rattle.std.specs.Prelude.{◌≡◌, ◌⊎◌, ℕ, ◌+◌, ◌*◌, ◌/◌, ◌%◌, Bool, not, ◌&&◌, List, [], ◌∷◌, map}
+use Rattle.std.specs.Prelude.{length, slice_index, is_none, nat_le, ◌==◌, Option, Some, None}
+use Rattle.std.specs.Prelude.{IfSome}
 use Rattle.std.specs.Bool.{then_some}
 use Rattle.std.specs.List.{flat_map, list_all, range_with_len}
 use Rattle.std.specs.Option.{option_or}
@@ -56,7 +58,8 @@ read_refusal bytes = then_some (not (is_image_bytes bytes)) reads.BadImage
 -- this is why bytes are not read; memory that was refused comes last
 abbrev pub RefusesRead : List ℕ → read.ReadRefusal → Type 0
 RefusesRead bytes refusal =
-    (read_refusal bytes ≡ Some refusal) ⊎ ((read_refusal bytes ≡ None) × (refusal ≡ reads.OutOfMemory))
+    (read_refusal bytes ≡ Some refusal)
+    ⊎ ((read_refusal bytes ≡ None) × (refusal ≡ reads.OutOfMemory))
 
 -- why an image is not written: 1 where the page or the bank is not held, 3 where it is not plugged
 abbrev pub image_refusal : PageMap → ℕ → ℕ → Option image.ImageRefusal
@@ -73,4 +76,5 @@ RefusesImage pages page number refusal =
 -- these are the bytes of the image at a page's bank
 abbrev pub IsImageAt : PageMap → ℕ → ℕ → List ℕ → Type 0
 IsImageAt pages page number bytes =
-    IfSome (image_at pages page (bank_numbered number)) (λ plugged. bytes ≡ image_bytes plugged.words)
+    IfSome (image_at pages page (bank_numbered number))
+    (λ plugged. bytes ≡ image_bytes plugged.words)

@@ -1,23 +1,30 @@
 -- What follows from the definitions of pages and images alone.
-use Rattle.std.specs.Prelude.{◌≡◌, ◌≢◌, ℕ, ◌+◌, ◌*◌, ◌<◌, ◌≤◌, Bool, true, List, slice_index, IfSome, None, Ok, Err}
+use Rattle.std.specs.Prelude.{◌≡◌, ◌≢◌, ℕ, ◌+◌, ◌*◌, ◌<◌, ◌≤◌, Bool, true, List, slice_index}
+use Rattle.std.specs.Prelude.{IfSome, None, Ok, Err}
 use Rattle.h41_words.specs.declared.rows.Bank.{Bank}
 use Rattle.h41_pages.specs.Addresses.{page_size, first_page, last_page, page_of}
-use Rattle.h41_pages.specs.PageMap.{PageMap, IsPageMap, image_at, chosen_at, bank_numbered, is_image, plugged, unplugged, with_chosen, fetched, write_refusal, written}
+use Rattle.h41_pages.specs.PageMap.{PageMap, IsPageMap, image_at, chosen_at, bank_numbered}
+use Rattle.h41_pages.specs.PageMap.{is_image, plugged, unplugged, with_chosen, fetched}
+use Rattle.h41_pages.specs.PageMap.{write_refusal, written}
 use Rattle.h41_pages.specs.Images.{image_bytes, words_in, read_refusal, IsImageAt}
 use Rattle.h41_pages.specs.declared.refusal.FetchRefusal.TheVariants.{EmptyPage}
 
--- the image round trip: an image that is written is read as the same words, and its bytes are never refused
+-- the image round trip: an image that is written is read as the same words, and its bytes are never
+-- refused
 abbrev pub ImageRoundTrip : Type 0
 ImageRoundTrip = (words : List ℕ) → is_image words ≡ true → words_in (image_bytes words) ≡ words
 
 abbrev pub ImageIsRead : Type 0
 ImageIsRead = (words : List ℕ) → is_image words ≡ true → read_refusal (image_bytes words) ≡ None
 
--- so the bytes of the image at a page's bank are read as the words that are plugged there, and not refused
+-- so the bytes of the image at a page's bank are read as the words that are plugged there, and not
+-- refused
 abbrev pub PluggedImageIsRead : Type 0
 PluggedImageIsRead =
-    (pages : PageMap) (page number : ℕ) (bytes : List ℕ) → IsPageMap pages → IsImageAt pages page number bytes
-    → IfSome (image_at pages page (bank_numbered number)) (λ image. (read_refusal bytes ≡ None) × (words_in bytes ≡ image.words))
+    (pages : PageMap) (page number : ℕ) (bytes : List ℕ) → IsPageMap pages
+    → IsImageAt pages page number bytes
+    → IfSome (image_at pages page (bank_numbered number))
+    (λ image. (read_refusal bytes ≡ None) × (words_in bytes ≡ image.words))
 
 -- the address of an offset in a page
 abbrev pub address_in : ℕ → ℕ → ℕ
@@ -27,20 +34,24 @@ address_in page offset = page * page_size + offset
 abbrev pub PluggedIsFetched : Type 0
 PluggedIsFetched =
     (pages : PageMap) (page number offset : ℕ) (writable : Bool) (words : List ℕ) → IsPageMap pages
-    → first_page ≤ page → page ≤ last_page → offset < page_size → chosen_at pages page ≡ bank_numbered number
-    → fetched (plugged pages page number writable words) (address_in page offset) ≡ Ok (slice_index words offset)
+    → first_page ≤ page → page ≤ last_page → offset < page_size
+    → chosen_at pages page ≡ bank_numbered number
+    → fetched (plugged pages page number writable words) (address_in page offset)
+    ≡ Ok (slice_index words offset)
 
 -- a page that is unplugged is empty
 abbrev pub UnpluggedIsEmpty : Type 0
 UnpluggedIsEmpty =
     (pages : PageMap) (page offset : ℕ) → IsPageMap pages
     → first_page ≤ page → page ≤ last_page → offset < page_size
-    → fetched (unplugged pages page) (address_in page offset) ≡ Err (EmptyPage (address_in page offset))
+    → fetched (unplugged pages page) (address_in page offset)
+    ≡ Err (EmptyPage (address_in page offset))
 
 -- a page that a call does not name stays
 abbrev pub PluggingKeepsOthers : Type 0
 PluggingKeepsOthers =
-    (pages : PageMap) (page number : ℕ) (writable : Bool) (words : List ℕ) (address : ℕ) → page_of address ≢ page
+    (pages : PageMap) (page number : ℕ) (writable : Bool) (words : List ℕ) (address : ℕ)
+    → page_of address ≢ page
     → fetched (plugged pages page number writable words) address ≡ fetched pages address
 
 abbrev pub UnpluggingKeepsOthers : Type 0
@@ -62,5 +73,6 @@ WrittenIsFetched =
 -- and every other address stays, in the same page too
 abbrev pub WritingKeepsOthers : Type 0
 WritingKeepsOthers =
-    (pages : PageMap) (written_address word address : ℕ) → IsPageMap pages → address ≢ written_address
+    (pages : PageMap) (written_address word address : ℕ) → IsPageMap pages
+    → address ≢ written_address
     → fetched (written pages written_address word) address ≡ fetched pages address

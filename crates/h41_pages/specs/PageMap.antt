@@ -1,14 +1,19 @@
--- The pages of the address space: a finite map from page, bank and offset to words, the banks whose words microcode may
--- write, and the bank that is chosen at each page; when plugging, unplugging, reading and writing are refused, and what
--- they change. Which pages and banks are held, and in which order refusals are asked, are this project's choices.
-use Rattle.std.specs.Prelude.{◌≡◌, ◌⊎◌, ℕ, ◌+◌, ◌<◌, Bool, true, false, not, ◌&&◌, List, [], length, slice_index, slice_index_or, slice_set, drop, replicate, nat_le, ◌==◌, if◌then◌else◌, is_some, IfSome, Option, Some, None, Result, Ok, Err, option_map}
+-- The pages of the address space: a finite map from page, bank and offset to words, the banks whose
+-- words microcode may write, and the bank that is chosen at each page; when plugging, unplugging,
+-- reading and writing are refused, and what they change. Which pages and banks are held, and in
+-- which order refusals are asked, are this project's choices.
+use Rattle.std.specs.Prelude.{◌≡◌, ◌⊎◌, ℕ, ◌+◌, ◌<◌, Bool, true, false, not, ◌&&◌, List, [], length}
+use Rattle.std.specs.Prelude.{slice_index, slice_index_or, slice_set, drop, replicate, nat_le, ◌==◌}
+use Rattle.std.specs.Prelude.{if◌then◌else◌, is_some, IfSome, Option, Some, None, Result, Ok, Err}
+use Rattle.std.specs.Prelude.{option_map}
 use Rattle.std.specs.Bool.{then_some}
 use Rattle.std.specs.List.{list_all, list_any}
 use Rattle.std.specs.Option.{option_or, option_map_or}
 use Rattle.std.specs.Result.{result_err}
 use Rattle.h41_words.specs.declared.rows.Bank.{Bank}
 use Rattle.h41_words.specs.declared.rows.Bank.TheVariants.{First, Second, Third, Fourth}
-use Rattle.h41_pages.specs.Addresses.{page_count, page_size, last_word, page_of, offset_of, is_pluggable, is_system}
+use Rattle.h41_pages.specs.Addresses.{page_count, page_size, last_word, page_of, offset_of}
+use Rattle.h41_pages.specs.Addresses.{is_pluggable, is_system}
 use Rattle.h41_pages.specs.declared.refusal.FetchRefusal.{FetchRefusal}
 use Rattle.h41_pages.specs.declared.refusal.FetchRefusal.TheVariants.{SystemRom, EmptyPage}
 use Rattle.h41_pages.specs.declared.refusal.ReadOnly.{ReadOnly}
@@ -17,14 +22,16 @@ use Rattle.h41_pages.specs.declared.refusal.PlugRefusal.TheVariants as plugs
 use Rattle.h41_pages.specs.declared.refusal.UnplugRefusal as unplug
 use Rattle.h41_pages.specs.declared.refusal.UnplugRefusal.TheVariants as unplugs
 
--- what is plugged at a page's bank: its 4,096 words by their offset, and whether microcode may write them
+-- what is plugged at a page's bank: its 4,096 words by their offset, and whether microcode may
+-- write them
 pub record PageImage : Type 0 where
   pub words : List ℕ
   pub writable : Bool
 
 -- the pages
 pub record PageMap : Type 0 where
-  -- for each of the sixteen pages, and there for each of its four banks, the image where one is plugged
+  -- for each of the sixteen pages, and there for each of its four banks, the image where one is
+  -- plugged
   pub images : List (List (Option PageImage))
   -- the bank that is chosen at each page
   pub chosen : List Bank
@@ -38,7 +45,9 @@ no_pages = record { images = replicate page_count no_banks; chosen = replicate p
 
 -- the bank with a number, 1 to 4, and its place among the banks of a page
 abbrev pub bank_numbered : ℕ → Bank
-bank_numbered number = if number == 1 then First else if number == 2 then Second else if number == 3 then Third else Fourth
+bank_numbered number =
+    if number == 1 then First
+    else if number == 2 then Second else if number == 3 then Third else Fourth
 
 abbrev pub bank_place : Bank → ℕ
 bank_place First = 0
@@ -67,27 +76,34 @@ chosen_image pages page = image_at pages page (chosen_at pages page)
 -- the pages with another image at a page's bank
 abbrev pub with_image : PageMap → ℕ → Bank → Option PageImage → PageMap
 with_image pages page bank image =
-    record pages { images = slice_set pages.images page (slice_set (banks_at pages page) (bank_place bank) image) }
+    record pages {
+      images =
+          slice_set pages.images page (slice_set (banks_at pages page) (bank_place bank) image);
+    }
 
 -- the words of an image: 4,096 of them, none above 3FF
 abbrev pub is_image : List ℕ → Bool
 is_image words = length words == page_size && list_all (λ word. nat_le word last_word) words
 
--- an image at a place among the banks of a page: that page and that bank are held, and it has the words of an image
+-- an image at a place among the banks of a page: that page and that bank are held, and it has the
+-- words of an image
 pub record IsHeldImage (page place : ℕ) (image : PageImage) : Type 0 where
   pub held : is_held page (place + 1) ≡ true
   pub words : is_image image.words ≡ true
 
--- What pages are, at any time: sixteen, each with four banks, of which one is chosen. What is plugged is an image, at a page
--- and a bank that are held; and so the first bank is chosen everywhere.
+-- What pages are, at any time: sixteen, each with four banks, of which one is chosen. What is
+-- plugged is an image, at a page and a bank that are held; and so the first bank is chosen
+-- everywhere.
 pub record IsPageMap (pages : PageMap) : Type 0 where
   pub images : length pages.images ≡ page_count
   pub banks : (page : ℕ) → page < page_count → length (banks_at pages page) ≡ 4
   pub chosen : length pages.chosen ≡ page_count
-  pub each : (page place : ℕ) → IfSome (slice_index_or (banks_at pages page) place None) (IsHeldImage page place)
+  pub each : (page place : ℕ)
+      → IfSome (slice_index_or (banks_at pages page) place None) (IsHeldImage page place)
   pub first : (page : ℕ) → chosen_at pages page ≡ First
 
--- why words are not plugged: 1 where the page or the bank is not held, 2 where it is plugged, 4 where they are no image
+-- why words are not plugged: 1 where the page or the bank is not held, 2 where it is plugged, 4
+-- where they are no image
 abbrev pub plug_refusal : PageMap → ℕ → ℕ → List ℕ → Option plug.PlugRefusal
 plug_refusal pages page number words =
     option_or (then_some (not (is_held page number)) plugs.NoSuchPage)
@@ -103,7 +119,8 @@ RefusesPlug pages page number words refusal =
 -- the pages with these words plugged at a page's bank
 abbrev pub plugged : PageMap → ℕ → ℕ → Bool → List ℕ → PageMap
 plugged pages page number writable words =
-    with_image pages page (bank_numbered number) (Some (record { words = words; writable = writable }))
+    with_image pages page (bank_numbered number)
+    (Some (record { words = words; writable = writable }))
 
 -- why a page is not unplugged: 1 where it is not 4 to F, 3 where none of its banks is plugged
 abbrev pub unplug_refusal : PageMap → ℕ → Option unplug.UnplugRefusal
@@ -114,26 +131,32 @@ unplug_refusal pages page =
 -- the pages with all banks of a page taken out, which is as at the start then
 abbrev pub unplugged : PageMap → ℕ → PageMap
 unplugged pages page =
-    record { images = slice_set pages.images page no_banks; chosen = slice_set pages.chosen page First }
+    record {
+      images = slice_set pages.images page no_banks;
+      chosen = slice_set pages.chosen page First;
+    }
 
 -- the pages with a bank of a page chosen; one that is not plugged is not chosen
 abbrev pub with_chosen : PageMap → ℕ → Bank → PageMap
 with_chosen pages page bank =
-    if is_some (image_at pages page bank) then record pages { chosen = slice_set pages.chosen page bank } else pages
+    if is_some (image_at pages page bank)
+    then record pages { chosen = slice_set pages.chosen page bank }
+    else pages
 
 -- the pages with bank 1 chosen everywhere
 abbrev pub with_first_banks : PageMap → PageMap
 with_first_banks pages = record pages { chosen = replicate page_count First }
 
--- the word that is fetched at an address: 8 in the system's pages, which are not held, 9 where the chosen bank of the
--- address's page is not plugged
+-- the word that is fetched at an address: 8 in the system's pages, which are not held, 9 where the
+-- chosen bank of the address's page is not plugged
 abbrev pub word_in : ℕ → Option PageImage → Result ℕ FetchRefusal
 word_in address None = Err (EmptyPage address)
 word_in address (Some image) = Ok (slice_index image.words (offset_of address))
 
 unfoldable pub fetched : PageMap → ℕ → Result ℕ FetchRefusal
 fetched pages address =
-    if is_system address then Err (SystemRom address) else word_in address (chosen_image pages (page_of address))
+    if is_system address then Err (SystemRom address)
+    else word_in address (chosen_image pages (page_of address))
 
 -- why none is fetched there, and the words of the chosen bank from there to the page's end
 abbrev pub fetch_refusal : PageMap → ℕ → Option FetchRefusal
@@ -141,15 +164,19 @@ fetch_refusal pages address = result_err (fetched pages address)
 
 abbrev pub words_from : PageMap → ℕ → List ℕ
 words_from pages address =
-    option_map_or (λ image. drop (offset_of address) image.words) (chosen_image pages (page_of address)) []
+    option_map_or (λ image. drop (offset_of address) image.words)
+    (chosen_image pages (page_of address)) []
 
 -- whether microcode may write the words of an image: it is plugged, and as writable
 abbrev pub is_writable : Option PageImage → Bool
 is_writable image = option_map_or (λ plugged. plugged.writable) image false
 
--- a word is written where the chosen bank of its address's page is plugged as writable, and else refused as 12
+-- a word is written where the chosen bank of its address's page is plugged as writable, and else
+-- refused as 12
 abbrev pub write_refusal : PageMap → ℕ → Option ReadOnly
-write_refusal pages address = then_some (not (is_writable (chosen_image pages (page_of address)))) (record { address = address })
+write_refusal pages address =
+    then_some (not (is_writable (chosen_image pages (page_of address))))
+    (record { address = address })
 
 -- an image with another word at an offset
 abbrev pub rewritten : ℕ → ℕ → PageImage → PageImage

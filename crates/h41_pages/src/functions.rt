@@ -1,7 +1,8 @@
 //! The functions that modules list: word 0 of a page is its XROM number, word 1 how many entries it has, and two words an
 //! entry follow. All of it is read in bank 1.
 
-ghost use Rattle.std.specs.Prelude.{◌≡◌, ◌<◌, ◌≤◌, ◌+◌, ◌++◌, find, option_map, IfOk, IfSome, OnOk, Some, length, slice_index};
+ghost use Rattle.std.specs.Prelude.{◌≡◌, ◌<◌, ◌≤◌, ◌+◌, ◌++◌, find, option_map, IfOk, IfSome, OnOk};
+ghost use Rattle.std.specs.Prelude.{Some, length, slice_index};
 ghost use Rattle.h41_words.specs.Counts.{word_count};
 ghost use Rattle.h41_pages.specs.AddedFunctions.{AddsAt, AddsOf};
 ghost use Rattle.h41_pages.specs.Addresses.{page_size};

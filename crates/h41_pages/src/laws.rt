@@ -1,7 +1,10 @@
 //! Laws of pages and images: each is the contract of a function with next to nothing to do.
 
 ghost use Rattle.h41_pages.specs.PageMap.{IsPageMap};
-ghost use Rattle.h41_pages.specs.PageLaws.{ImageRoundTrip, ImageIsRead, PluggedImageIsRead, PluggedIsFetched, UnpluggedIsEmpty, PluggingKeepsOthers, UnpluggingKeepsOthers, ChoosingKeepsOthers, WrittenIsFetched, WritingKeepsOthers};
+ghost use Rattle.h41_pages.specs.PageLaws.{ImageRoundTrip, ImageIsRead, PluggedImageIsRead};
+ghost use Rattle.h41_pages.specs.PageLaws.{PluggedIsFetched, UnpluggedIsEmpty, PluggingKeepsOthers};
+ghost use Rattle.h41_pages.specs.PageLaws.{UnpluggingKeepsOthers, ChoosingKeepsOthers};
+ghost use Rattle.h41_pages.specs.PageLaws.{WrittenIsFetched, WritingKeepsOthers};
 
 use crate::pages::Pages;
 

@@ -1,6 +1,7 @@
 //! The pages of the address space.
 
-ghost use Rattle.std.specs.Prelude.{◌≡◌, ◌<◌, ◌≤◌, None, IfOk, IfErr, IfNone, OnOk, OnErr, All, length, is_some, option_copied};
+ghost use Rattle.std.specs.Prelude.{◌≡◌, ◌<◌, ◌≤◌, None, IfOk, IfErr, IfNone, OnOk, OnErr, All};
+ghost use Rattle.std.specs.Prelude.{length, is_some, option_copied};
 ghost use Rattle.std.specs.List.{list_any};
 ghost use Rattle.std.specs.Result.{result_err};
 ghost use Rattle.h41_words.specs.Counts.{word_count};
@@ -36,7 +37,8 @@ impl Model for Pages {
 
     ghost view = { λ all. record { images = all.images.items; chosen = all.chosen } };
 
-    ghost invariant = { λ all. IsPages (record { images = all.images.items; chosen = all.chosen }) all.space };
+    ghost invariant = { λ all.
+        IsPages (record { images = all.images.items; chosen = all.chosen }) all.space };
 }
 
 impl Pages {
@@ -68,7 +70,7 @@ impl Pages {
     ) -> Result<(), PlugRefusal>
         ensures accepted { OnOk result (spec.plug_refusal self.old page bank words.now ≡ None) }
         ensures change { OnOk result (self.new ≡ plugged self.old page bank writable words.now) }
-        ensures err { OnErr result (self.new ≡ self.old) }
+        ensures unchanged { OnErr result (self.new ≡ self.old) }
         ensures refusal { IfErr result (spec.RefusesPlug self.old page bank words.now) }
     {
         if let Some(refusal) = self.plug_refusal(page, bank, words) {
@@ -103,7 +105,7 @@ impl Pages {
     pub fn unplug(&mut self, page: u8) -> Result<(), UnplugRefusal>
         ensures refusal { result_err result ≡ spec.unplug_refusal self.old page }
         ensures ok { OnOk result (self.new ≡ spec.unplugged self.old page) }
-        ensures err { OnErr result (self.new ≡ self.old) }
+        ensures unchanged { OnErr result (self.new ≡ self.old) }
     {
         if !is_pluggable(page) {
             return Err(UnplugRefusal::NoSuchPage);
@@ -169,7 +171,7 @@ impl Pages {
     pub fn write(&mut self, address: u16, word: Word) -> Result<(), ReadOnly>
         ensures refusal { result_err result ≡ spec.write_refusal self.old address }
         ensures ok { OnOk result (self.new ≡ spec.written self.old address word) }
-        ensures err { OnErr result (self.new ≡ self.old) }
+        ensures unchanged { OnErr result (self.new ≡ self.old) }
     {
         let page = page_of(address);
         let bank = bank_place(self.chosen[page]);

@@ -1,5 +1,6 @@
 -- A line of one byte or two that stands where a line is looked for is the first, and no END.
-use Rattle.std.proofs.Common.{◌≡◌, ◌≢◌, ℕ, ◌+◌, ◌-◌, ◌<◌, List, [], ◌∷◌, map, min, length, true, false, Option, Some, None, IfSome, Ok, Result, inl, inr, refl, sym, subst, ap, ◌∙◌, arith}
+use Rattle.std.proofs.Common.{◌≡◌, ◌≢◌, ℕ, ◌+◌, ◌-◌, ◌<◌, List, [], ◌∷◌, map, min, length, true, false, Option, Some, None, IfSome, Ok}
+use Rattle.std.proofs.Common.{Result, inl, inr, refl, sym, subst, ap, ◌∙◌, arith}
 use Rattle.std.specs.List.{range_with_len}
 use Rattle.h41_codes.specs.ByteGrammar.{spelling, Begins, Spells}
 use Rattle.h41_codes.specs.ByteLaws.{NumberBegins, OneLine}
@@ -103,12 +104,15 @@ module _ (one : OneLine) (numbers : NumberBegins) (memory : RegisterMap) (sound 
       let begins : Begins (bytes_seen memory at (at + 2)) line 2 = subst (λ (bytes : List ℕ). Begins bytes line 2) seen pair in
       let answer : Result (Line × ℕ) BrokenProgram = Ok (line, 2) in
       looked_first one memory sound at at last last (bytes_seen memory at last) looked_two answer
-      (seen_narrow one numbers memory at (at + 2) last first line 2 (omega (arith, before)) (omega (arith, before)) is (two_no_number first two) begins)
+      (seen_narrow one numbers memory at (at + 2) last first line 2 (omega (arith, before))
+      (omega (arith, before)) is (two_no_number first two) begins)
       line 2 (at + 2) refl refl
 
-pub two_bytes_found : (one : OneLine) (numbers : NumberBegins) (memory : RegisterMap) (sound : is_sound memory ≡ true) (at last first second : ℕ)
-    → last ≡ final_position memory → last + 3 ≡ byte_count memory → at + 1 < last → first ≡ program_byte memory at → second ≡ program_byte memory (at + 1)
-    → (found : Option Line) → IfSome found (λ line. IsTwoBytes first × Spells (first ∷ second ∷ []) line) → IfSome found (λ line. HasThere memory at 2 line)
+pub two_bytes_found : (one : OneLine) (numbers : NumberBegins) (memory : RegisterMap)
+    (sound : is_sound memory ≡ true) (at last first second : ℕ)
+    → last ≡ final_position memory → last + 3 ≡ byte_count memory → at + 1 < last → first ≡ program_byte memory at
+    → second ≡ program_byte memory (at + 1) → (found : Option Line)
+    → IfSome found (λ line. IsTwoBytes first × Spells (first ∷ second ∷ []) line) → IfSome found (λ line. HasThere memory at 2 line)
 two_bytes_found one numbers memory sound at last first second last_is count before is next None none = tt
 two_bytes_found one numbers memory sound at last first second last_is count before is next (Some line) found =
     two_bytes_first one numbers memory sound at last first second last_is count before is next found.0 line found.1

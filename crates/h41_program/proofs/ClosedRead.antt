@@ -1,5 +1,6 @@
 -- What closing the last program leaves is read.
-use Rattle.std.proofs.Common.{◌≡◌, Bool, true, false, List, [], ◌∷◌, ◌++◌, refl, sym, ◌∙◌, ap, subst, inl, inr, All, Option, Some, None, Result, Ok, Err}
+use Rattle.std.proofs.Common.{◌≡◌, Bool, true, false, List, [], ◌∷◌, ◌++◌, refl, sym, ◌∙◌, ap, subst, inl, inr, All, Option, Some, None}
+use Rattle.std.proofs.Common.{Result, Ok, Err}
 use Rattle.std.specs.Prelude.{OnOk, not, if◌then◌else◌}
 use Rattle.std.specs.Option.{option_map, option_map_or}
 use Rattle.std.proofs.lemmas.Bool.{cases_Bool}
@@ -41,7 +42,8 @@ ends_with [] (first ∷ rest) inner same =
     ([], rw last refl, refl)
 ends_with (line ∷ lines) (first ∷ rest) inner same =
     let here = same_first first.line line (lines_of rest) (lines ++ FinalEnd 0 0 ∷ []) same in
-    let more = ends_with lines rest (others_inner line lines inner) (same_rest first.line line (lines_of rest) (lines ++ FinalEnd 0 0 ∷ []) same) in
+    let more =
+    ends_with lines rest (others_inner line lines inner) (same_rest first.line line (lines_of rest) (lines ++ FinalEnd 0 0 ∷ []) same) in
     let running : is_final_end first.line ≡ false = ap is_final_end here ∙ not_final line (first_inner line lines inner).inner in (
       first ∷ more.0,
       rw running (ap (λ (o : Option (List ListedLine)). option_map (λ lines. first ∷ lines) o) more.1),
@@ -59,20 +61,34 @@ closed_shut lines = closed_shut_by (is_open lines) lines refl
 refused_is_not_done : (refusal : ProgramRefusal) → ◌≡◌ {A = Result (Unit {0}) ProgramRefusal} (Ok tt) (Err refusal) → ⊥
 refused_is_not_done refusal same = cc
 
-was_written : (old left : RegisterMap) (outcome : Result RegisterMap ProgramRefusal) → HasOutcome {A = Unit {0}} old left (Ok tt) (answered tt outcome) → outcome ≡ Ok left
+was_written : (old left : RegisterMap) (outcome : Result RegisterMap ProgramRefusal)
+    → HasOutcome {A = Unit {0}} old left (Ok tt) (answered tt outcome) → outcome ≡ Ok left
 was_written old left (Ok memory) has = ap (λ (m : RegisterMap). Ok m) (sym has.1)
 was_written old left (Err refusal) has = absurd (refused_is_not_done refusal has.0)
 
-module _ (again : ByteRoundTrip) (old left : RegisterMap) (lines before : List ListedLine) (sound : is_sound old ≡ true) (from : LinesFrom old 0 lines)
+module _ (again : ByteRoundTrip) (old left : RegisterMap) (lines before : List ListedLine)
+    (sound : is_sound old ≡ true) (from : LinesFrom old 0 lines)
     (own : before_end lines ≡ Some before) where
   leaves_lines : (b : Bool) → is_open (lines_of before) ≡ b
-      → HasOutcome {A = Unit {0}} old left (Ok tt) (if b then answered tt (written old (closed (lines_of before))) else Ok (old, tt)) → LeavesClosed old left
+      → HasOutcome {A = Unit {0}} old left (Ok tt) (if b then answered tt (written old (closed (lines_of before))) else Ok (old, tt))
+      → LeavesClosed old left
   leaves_lines true wants has =
       let all = closed (lines_of before) in
-      let inner = closed_inner (lines_of before) (before_inner (program_bytes old) (final_position old) 0 lines before (from.sound sound) own) in
+      let inner =
+      closed_inner (lines_of before) (before_inner (program_bytes old) (final_position old) 0 lines before (from.sound sound) own) in
       let read = written_read again old left all sound inner (was_written old left (written old all) has) in
       let after = ends_with all read.0 inner read.2 in
-      record { lines = lines; before = before; listed = read.0; after = after.0; from = from; own = own; read = read.1; all = after.1; same = after.2 }
+      record {
+        lines = lines;
+        before = before;
+        listed = read.0;
+        after = after.0;
+        from = from;
+        own = own;
+        read = read.1;
+        all = after.1;
+        same = after.2;
+      }
   leaves_lines false stands has =
       let stays : closed (lines_of before) ≡ lines_of before = rw stands refl in
       record {
@@ -87,10 +103,12 @@ module _ (again : ByteRoundTrip) (old left : RegisterMap) (lines before : List L
         same = sym stays;
       }
 
-leaves_behind : ByteRoundTrip → (old left : RegisterMap) (lines : List ListedLine) (before : Option (List ListedLine)) → is_sound old ≡ true → LinesFrom old 0 lines
-    → before_end lines ≡ before → HasOutcome {A = Unit {0}} old left (Ok tt) (close_behind old before) → LeavesClosed old left
+leaves_behind : ByteRoundTrip → (old left : RegisterMap) (lines : List ListedLine) (before : Option (List ListedLine)) → is_sound old ≡ true
+    → LinesFrom old 0 lines → before_end lines ≡ before → HasOutcome {A = Unit {0}} old left (Ok tt) (close_behind old before)
+    → LeavesClosed old left
 leaves_behind again old left lines None sound from own has = absurd (refused_is_not_done BrokenProgram has.0)
-leaves_behind again old left lines (Some before) sound from own has = leaves_lines again old left lines before sound from own (is_open (lines_of before)) refl has
+leaves_behind again old left lines (Some before) sound from own has =
+    leaves_lines again old left lines before sound from own (is_open (lines_of before)) refl has
 
 -- memory that is not sound is not closed
 pub close_read : ByteRoundTrip → CloseIsRead
@@ -103,6 +121,7 @@ close_read again old left closes = elim (cases_Bool (is_sound old)) [
       absurd (refused_is_not_done BrokenProgram refused.0)
 ]
 
-pub close_leaves : CloseIsRead → (old left : RegisterMap) (result : Result (Unit {0}) ProgramRefusal) → Closes old left result → OnOk result (LeavesClosed old left)
+pub close_leaves : CloseIsRead → (old left : RegisterMap) (result : Result (Unit {0}) ProgramRefusal) → Closes old left result
+    → OnOk result (LeavesClosed old left)
 close_leaves read old left (Ok done) closes = read old left closes
 close_leaves read old left (Err refusal) closes = tt

@@ -18,7 +18,8 @@ use Rattle.h41_program.proofs.Outcomes.{written_outcome}
 use Rattle.h41_program.proofs.Cases.{not_both, same_error}
 
 -- whether lines want an END
-pub open_test : (packer : Packer) (lines : List Line) (answer : Bool) → Packs packer lines → answer ≡ option_map_or (λ line. not (is_end line)) packer.last false → answer ≡ is_open lines
+pub open_test : (packer : Packer) (lines : List Line) (answer : Bool) → Packs packer lines
+    → answer ≡ option_map_or (λ line. not (is_end line)) packer.last false → answer ≡ is_open lines
 open_test packer lines answer packs is = is ∙ ap (λ (o : Option Line). option_map_or (λ line. not (is_end line)) o false) packs.last
 
 -- whether the last program is open, by its packed lines
@@ -43,11 +44,13 @@ closed_none old lines other = rw other (refl, refl)
 
 pub closed_some : (old left : RegisterMap) (result : Result (Unit {0}) ProgramRefusal) (lines : List Line) → is_open lines ≡ true
     → HasOutcome old left result (answered tt (written old (closed lines))) → HasOutcome old left result (close_outcome old lines)
-closed_some old left result lines some has = subst (λ (b : Bool). HasOutcome old left result (if b then answered tt (written old (closed lines)) else Ok (old, tt))) (sym some) has
+closed_some old left result lines some has =
+    subst (λ (b : Bool). HasOutcome old left result (if b then answered tt (written old (closed lines)) else Ok (old, tt))) (sym some) has
 
-pub close_ok : (old left : RegisterMap) (before : Option (List ListedLine)) (first : Result Packer ProgramRefusal) (packer : Packer) (result : Result (Unit {0}) ProgramRefusal)
-    → MatchOption before (first ≡ Err BrokenProgram) (λ listed. IsOkAnd first (λ held. Packs held (lines_of listed))) → first ≡ Ok packer → WritesClosed packer old left result
-    → HasOutcome old left result (close_behind old before)
+pub close_ok : (old left : RegisterMap) (before : Option (List ListedLine))
+    (first : Result Packer ProgramRefusal) (packer : Packer) (result : Result (Unit {0}) ProgramRefusal)
+    → MatchOption before (first ≡ Err BrokenProgram) (λ listed. IsOkAnd first (λ held. Packs held (lines_of listed))) → first ≡ Ok packer
+    → WritesClosed packer old left result → HasOutcome old left result (close_behind old before)
 close_ok old left None first packer result matches ok closes = absurd (not_both first packer BrokenProgram ok matches)
 close_ok old left (Some listed) first packer result matches ok closes =
     closes (lines_of listed) (subst (λ (r : Result Packer ProgramRefusal). IsOkAnd r (λ held. Packs held (lines_of listed))) ok matches)
@@ -55,7 +58,8 @@ close_ok old left (Some listed) first packer result matches ok closes =
 pub close_err : (old : RegisterMap) (before : Option (List ListedLine)) (first : Result Packer ProgramRefusal) (refusal : ProgramRefusal)
     → MatchOption before (first ≡ Err BrokenProgram) (λ listed. IsOkAnd first (λ held. Packs held (lines_of listed))) → first ≡ Err refusal
     → HasOutcome {A = Unit {0}} old old (Err refusal) (close_behind old before)
-close_err old None first refusal matches err = (ap (λ (why : ProgramRefusal). Err why) (same_error first refusal BrokenProgram err matches), refl)
+close_err old None first refusal matches err =
+    (ap (λ (why : ProgramRefusal). Err why) (same_error first refusal BrokenProgram err matches), refl)
 close_err old (Some listed) first refusal matches err =
     absurd (subst (λ (r : Result Packer ProgramRefusal). IsOkAnd r (λ held. Packs held (lines_of listed))) err matches)
 
@@ -65,10 +69,12 @@ outcome_sound : (b : Bool) (old left : RegisterMap) (result : Result (Unit {0}) 
 outcome_sound true old left result lines sound has = written_outcome old left result tt lines sound has
 outcome_sound false old left result lines sound has = subst (λ (m : RegisterMap). is_sound m ≡ true) (sym has.1) sound
 
-behind_sound : (old left : RegisterMap) (result : Result (Unit {0}) ProgramRefusal) (before : Option (List ListedLine)) → is_sound old ≡ true
-    → HasOutcome old left result (close_behind old before) → is_sound left ≡ true
+behind_sound : (old left : RegisterMap) (result : Result (Unit {0}) ProgramRefusal) (before : Option (List ListedLine))
+    → is_sound old ≡ true → HasOutcome old left result (close_behind old before) → is_sound left ≡ true
 behind_sound old left result None sound has = subst (λ (m : RegisterMap). is_sound m ≡ true) (sym has.1) sound
-behind_sound old left result (Some lines) sound has = outcome_sound (is_open (lines_of lines)) old left result (closed (lines_of lines)) sound has
+behind_sound old left result (Some lines) sound has =
+    outcome_sound (is_open (lines_of lines)) old left result (closed (lines_of lines)) sound has
 
-pub close_sound : (old left : RegisterMap) (result : Result (Unit {0}) ProgramRefusal) → is_sound old ≡ true → Closes old left result → is_sound left ≡ true
+pub close_sound : (old left : RegisterMap) (result : Result (Unit {0}) ProgramRefusal) → is_sound old ≡ true → Closes old left result
+    → is_sound left ≡ true
 close_sound old left result sound closes = behind_sound old left result (before_end closes.0) sound closes.2

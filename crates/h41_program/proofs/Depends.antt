@@ -6,7 +6,8 @@ use Rattle.std.proofs.lemmas.List.FromFn.{get_or-map-range_with_len, length-map-
 use Rattle.h41_digits.specs.Register.{byte_at}
 use Rattle.h41_ram.specs.RegisterMap.{RegisterMap, register_at, curtain_of, end_of, constant_of, is_sound, is_final_end, three_digits}
 use Rattle.h41_program.specs.declared.listed_line.ListedLine.{ListedLine}
-use Rattle.h41_program.specs.Dependence.{AgreeOnProgram, AnswersDepend, SoundnessDepends, ListsDepend, FirstsDepend, NonesDepend, LineDepends, NextDepends, LocalDepends, ProgramDepends}
+use Rattle.h41_program.specs.Dependence.{AgreeOnProgram, AnswersDepend, SoundnessDepends, ListsDepend, FirstsDepend, NonesDepend}
+use Rattle.h41_program.specs.Dependence.{LineDepends, NextDepends, LocalDepends, ProgramDepends}
 use Rattle.h41_program.specs.Lines.{is_final_end as ends_list}
 use Rattle.h41_program.specs.ProgramBytes.{byte_count, program_byte, program_bytes, final_position}
 use Rattle.h41_program.specs.ProgramLines.{behind, FirstFrom, IsFirst, NoneFrom, Reads}
@@ -40,7 +41,8 @@ module _ (memory other : RegisterMap) (agree : AgreeOnProgram memory other) wher
       let size = agree.size in
       let last : register_at memory (end_of memory) ≡ register_at other (end_of other) =
       agree.program (end_of memory) (omega arith) order ∙ ap (register_at other) same_end in
-      sound_by other (sym same_constant ∙ constant memory sound) (omega (arith, low, same_end)) (omega (arith, order, same_end, same_curtain)) (omega (arith, high, size, same_curtain))
+      sound_by other (sym same_constant ∙ constant memory sound) (omega (arith, low, same_end))
+      (omega (arith, order, same_end, same_curtain)) (omega (arith, high, size, same_curtain))
       (ap is_final_end (sym last) ∙ ends memory sound)
 
   same_count : byte_count memory ≡ byte_count other
@@ -63,11 +65,13 @@ module _ (memory other : RegisterMap) (agree : AgreeOnProgram memory other) wher
       (λ p inside.
       get_or-map-range_with_len (program_byte memory) 0 (byte_count memory) p p 0 (omega (arith, own, inside)) (omega arith)
       ∙ same_byte p (omega (arith, own, inside))
-      ∙ sym (get_or-map-range_with_len (program_byte other) 0 (byte_count other) p p 0 (omega (arith, own, inside, same_count)) (omega arith)))
+      ∙ sym
+      (get_or-map-range_with_len (program_byte other) 0 (byte_count other) p p 0 (omega (arith, own, inside, same_count)) (omega arith)))
 
   -- what holds of the bytes of one holds of those of the other
   carried : (P : List ℕ → ℕ → Type 0) → P (program_bytes memory) (final_position memory) → P (program_bytes other) (final_position other)
-  carried P holds = subst (λ (n : ℕ). P (program_bytes other) n) same_final (subst (λ (bytes : List ℕ). P bytes (final_position memory)) same_bytes holds)
+  carried P holds =
+      subst (λ (n : ℕ). P (program_bytes other) n) same_final (subst (λ (bytes : List ℕ). P bytes (final_position memory)) same_bytes holds)
 
 same_test : (b c : Bool) → (b ≡ true → c ≡ true) → (c ≡ true → b ≡ true) → b ≡ c
 same_test true c there back = sym (there refl)
@@ -99,7 +103,8 @@ line memory other at (Err refusal) agree answers = (answers.0, nones memory othe
 abbrev BehindIn : List ℕ → ℕ → ListedLine → ℕ → Type 0
 BehindIn bytes final first position =
     MatchBool (ends_list first.line) (position ≡ first.position)
-    (((second : ListedLine) × FirstFrom bytes final (behind first) second × (position ≡ second.position)) ⊎ (NoneFrom bytes final (behind first) × (position ≡ behind first)))
+    (((second : ListedLine) × FirstFrom bytes final (behind first) second × (position ≡ second.position))
+    ⊎ (NoneFrom bytes final (behind first) × (position ≡ behind first)))
 
 pub next : NextDepends
 next memory other at (Ok position) agree answers = (

@@ -1,5 +1,6 @@
 -- There is never a second first line, list of lines, outcome or answer.
-use Rattle.std.proofs.Common.{◌≡◌, ℕ, ◌<◌, Bool, List, [], ◌∷◌, length, get_or, refl, sym, ◌∙◌, ap, subst, arith, inl, inr, Option, Some, None, Result}
+use Rattle.std.proofs.Common.{◌≡◌, ℕ, ◌<◌, Bool, List, [], ◌∷◌, length, get_or, refl, sym, ◌∙◌, ap, subst, arith, inl, inr, Option, Some}
+use Rattle.std.proofs.Common.{None, Result}
 use Rattle.std.specs.Prelude.{MatchBool}
 use Rattle.std.proofs.lemmas.Bool.{cases_lt, cases_Bool}
 use Rattle.h41_codes.specs.ByteGrammar.{spelling, Begins}
@@ -8,7 +9,8 @@ use Rattle.h41_codes.specs.declared.line.Line.{Line}
 use Rattle.h41_ram.specs.RegisterMap.{RegisterMap, is_sound}
 use Rattle.h41_program.specs.declared.listed_line.ListedLine.{ListedLine}
 use Rattle.h41_program.specs.declared.refusal.ProgramRefusal.{ProgramRefusal}
-use Rattle.h41_program.specs.Edits.{before_end, count_before, edit_outcome, PlacesAreDetermined, load_outcome, loaded_of, ChangeGives, LoadsBehind}
+use Rattle.h41_program.specs.Edits.{before_end, count_before, edit_outcome, PlacesAreDetermined, load_outcome, loaded_of, ChangeGives}
+use Rattle.h41_program.specs.Edits.{LoadsBehind}
 use Rattle.h41_program.specs.Lines.{is_final_end}
 use Rattle.h41_program.specs.ProgramBytes.{program_bytes, final_position}
 use Rattle.h41_program.specs.ProgramLaws.{EditsAreDetermined, FirstIsDetermined, ListsAreDetermined, LoadsAreDetermined}
@@ -17,17 +19,18 @@ use Rattle.h41_program.proofs.FirstLines.{first_inside, first_byte, only_null}
 use Rattle.h41_program.proofs.Windows.{begins_least}
 
 -- no first line stands where another one passes over nulls
-not_before : OneLine → (bytes : List ℕ) (final at : ℕ) (first other : ListedLine) → FirstFrom bytes final at first → FirstFrom bytes final at other
-    → first.position < other.position → ⊥
+not_before : OneLine → (bytes : List ℕ) (final at : ℕ) (first other : ListedLine) → FirstFrom bytes final at first
+    → FirstFrom bytes final at other → first.position < other.position → ⊥
 not_before one bytes final at first other is is_other before =
     let taken = line_bytes bytes final first.position in
     let size = length (spelling first.line) in
     let least = begins_least taken first.line size is.begins in
-    let null : get_or taken 0 0 ≡ 0 = first_byte bytes final first.position (first_inside bytes final at first is) ∙ is_other.nulls first.position is.from before in
+    let null : get_or taken 0 0 ≡ 0 =
+    first_byte bytes final first.position (first_inside bytes final at first is) ∙ is_other.nulls first.position is.from before in
     is.not_null (only_null one taken first.line size (omega (arith, least, is.begins.inside)) null is.begins)
 
-same_position : OneLine → (bytes : List ℕ) (final at : ℕ) (first other : ListedLine) → FirstFrom bytes final at first → FirstFrom bytes final at other
-    → first.position ≡ other.position
+same_position : OneLine → (bytes : List ℕ) (final at : ℕ) (first other : ListedLine) → FirstFrom bytes final at first
+    → FirstFrom bytes final at other → first.position ≡ other.position
 same_position one bytes final at first other is is_other = elim (cases_lt first.position other.position) [
   | inl before ↦ absurd (not_before one bytes final at first other is is_other before)
   | inr rest ↦ elim (cases_lt other.position first.position) [
@@ -41,11 +44,14 @@ first_determined one bytes final at first other is is_other =
     let here = same_position one bytes final at first other is is_other in
     let begins : Begins (line_bytes bytes final first.position) other.line (length (spelling other.line)) =
     subst (λ (n : ℕ). Begins (line_bytes bytes final n) other.line (length (spelling other.line))) (sym here) is_other.begins in
-    let line = (one (line_bytes bytes final first.position) first.line other.line (length (spelling first.line)) (length (spelling other.line)) is.begins begins).0 in
+    let line =
+    (one (line_bytes bytes final first.position) first.line other.line
+    (length (spelling first.line)) (length (spelling other.line)) is.begins begins).0 in
     (λ i. record { position = here i; line = line i })
 
 module _ (one : OneLine) (bytes : List ℕ) (final : ℕ) where
-  pub read_determined : (at : ℕ) (lines others : List ListedLine) → Reads bytes final at lines → Reads bytes final at others → lines ≡ others
+  pub read_determined : (at : ℕ) (lines others : List ListedLine) → Reads bytes final at lines → Reads bytes final at others
+      → lines ≡ others
   read_determined at [] [] reads again = refl
   read_determined at [] (other ∷ others) reads again = absurd (reads other again.0)
   read_determined at (first ∷ rest) [] reads again = absurd (again first reads.0)
@@ -53,15 +59,20 @@ module _ (one : OneLine) (bytes : List ℕ) (final : ℕ) where
       let same = first_determined one bytes final at first other reads.0 again.0 in
       let rests : rest ≡ others = elim (cases_Bool (is_final_end first.line)) [
         | inl last ↦
-            let final_rest : rest ≡ [] = subst (λ (b : Bool). MatchBool b (rest ≡ []) (Reads bytes final (behind first) rest)) last reads.1 in
+            let final_rest : rest ≡ [] =
+            subst (λ (b : Bool). MatchBool b (rest ≡ []) (Reads bytes final (behind first) rest)) last reads.1 in
             let final_others : others ≡ [] =
-            subst (λ (b : Bool). MatchBool b (others ≡ []) (Reads bytes final (behind other) others)) (ap (λ (l : ListedLine). is_final_end l.line) (sym same) ∙ last) again.1 in
+            subst (λ (b : Bool). MatchBool b (others ≡ []) (Reads bytes final (behind other) others))
+            (ap (λ (l : ListedLine). is_final_end l.line) (sym same) ∙ last) again.1 in
             final_rest ∙ sym final_others
         | inr running ↦
-            let more : Reads bytes final (behind first) rest = subst (λ (b : Bool). MatchBool b (rest ≡ []) (Reads bytes final (behind first) rest)) running reads.1 in
+            let more : Reads bytes final (behind first) rest =
+            subst (λ (b : Bool). MatchBool b (rest ≡ []) (Reads bytes final (behind first) rest)) running reads.1 in
             let others_more : Reads bytes final (behind other) others =
-            subst (λ (b : Bool). MatchBool b (others ≡ []) (Reads bytes final (behind other) others)) (ap (λ (l : ListedLine). is_final_end l.line) (sym same) ∙ running) again.1 in
-            read_determined (behind first) rest others more (subst (λ (l : ListedLine). Reads bytes final (behind l) others) (sym same) others_more)
+            subst (λ (b : Bool). MatchBool b (others ≡ []) (Reads bytes final (behind other) others))
+            (ap (λ (l : ListedLine). is_final_end l.line) (sym same) ∙ running) again.1 in
+            read_determined (behind first) rest others more
+            (subst (λ (l : ListedLine). Reads bytes final (behind l) others) (sym same) others_more)
       ] in
       ap (λ (l : ListedLine). l ∷ rest) same ∙ ap (λ (l : List ListedLine). other ∷ l) rests
 
@@ -71,7 +82,8 @@ lists_determined one memory at lines others from again = elim (cases_Bool (is_so
   | inr lost ↦ from.lost lost ∙ sym (again.lost lost)
 ]
 
-loads_behind_determined : OneLine → (memory : RegisterMap) (bytes : List ℕ) (before : Option (List ListedLine)) (outcome other : Result (RegisterMap × ℕ) ProgramRefusal)
+loads_behind_determined : OneLine
+    → (memory : RegisterMap) (bytes : List ℕ) (before : Option (List ListedLine)) (outcome other : Result (RegisterMap × ℕ) ProgramRefusal)
     → LoadsBehind memory bytes before outcome → LoadsBehind memory bytes before other → outcome ≡ other
 loads_behind_determined one memory bytes None outcome other loads again = loads ∙ sym again
 loads_behind_determined one memory bytes (Some lines) outcome other loads again =
@@ -84,7 +96,9 @@ loads_determined one memory bytes outcome other loads again =
     loads_behind_determined one memory bytes (before_end again.0) outcome other
     (subst (λ (lines : List ListedLine). LoadsBehind memory bytes (before_end lines) outcome) same loads.2) again.2
 
-changes_determined : OneLine → (memory : RegisterMap) (change : ListedLine → List Line) (position : ℕ) (outcome other : Result (RegisterMap × Unit {0}) ProgramRefusal)
+changes_determined : OneLine
+    → (memory : RegisterMap) (change : ListedLine → List Line) (position : ℕ)
+    (outcome other : Result (RegisterMap × Unit {0}) ProgramRefusal)
     → ChangeGives memory change position outcome → ChangeGives memory change position other → outcome ≡ other
 changes_determined one memory change position outcome other gives again =
     let same = lists_determined one memory 0 gives.0 again.0 gives.1 again.1 in

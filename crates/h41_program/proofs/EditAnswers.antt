@@ -1,5 +1,6 @@
 -- What a change that was made answers.
-use Rattle.std.proofs.Common.{◌≡◌, ℕ, zero, suc, Bool, true, false, List, [], ◌∷◌, ◌++◌, refl, sym, ◌∙◌, ap, subst, inl, inr, Option, Some, None, Result, Ok, Err}
+use Rattle.std.proofs.Common.{◌≡◌, ℕ, zero, suc, Bool, true, false, List, [], ◌∷◌, ◌++◌, refl, sym, ◌∙◌, ap, subst, inl, inr, Option, Some}
+use Rattle.std.proofs.Common.{None, Result, Ok, Err}
 use Rattle.std.specs.Prelude.{◌&&◌, is_some, slice_get}
 use Rattle.std.specs.List.{flat_map}
 use Rattle.std.specs.Option.{option_map}
@@ -17,7 +18,8 @@ use Rattle.h41_program.specs.declared.listed_line.ListedLine.{ListedLine}
 use Rattle.h41_program.specs.declared.reading.Found.{Found}
 use Rattle.h41_program.specs.declared.refusal.ProgramRefusal.{ProgramRefusal}
 use Rattle.h41_program.specs.declared.refusal.ProgramRefusal.TheVariants.{BrokenProgram}
-use Rattle.h41_program.specs.Edits.{AnswersChanged, Edits, LeavesChanged, Stands, StandsBefore, StandsNew, before_end, changed_outcome, count_before, edit_outcome, has_line_at, lines_of, position_in_front, position_behind}
+use Rattle.h41_program.specs.Edits.{AnswersChanged, Edits, LeavesChanged, Stands, StandsBefore, StandsNew, before_end, changed_outcome}
+use Rattle.h41_program.specs.Edits.{count_before, edit_outcome, has_line_at, lines_of, position_in_front, position_behind}
 use Rattle.h41_program.specs.private.EditSteps.{Counts, changed, listed_of}
 use Rattle.h41_program.specs.ProgramLaws.{IsInner}
 use Rattle.h41_program.specs.ProgramBytes.{program_bytes, final_position}
@@ -26,7 +28,8 @@ use Rattle.h41_program.specs.Rewriting.{HasOutcome}
 use Rattle.h41_program.specs.Searches.{position_of}
 use Rattle.h41_program.proofs.Determined.{first_determined, lists_determined}
 use Rattle.h41_program.proofs.Inner.{KeepsInner, inserted_inner, replaced_inner}
-use Rattle.h41_program.proofs.NewLines.{Begins, Keeps, get_first, inserted_begins, inserted_keeps, new_there, replaced_begins, replaced_keeps}
+use Rattle.h41_program.proofs.NewLines.{Begins, Keeps, get_first, inserted_begins, inserted_keeps, new_there, replaced_begins}
+use Rattle.h41_program.proofs.NewLines.{replaced_keeps}
 use Rattle.h41_program.proofs.Outcomes.{edit_read}
 use Rattle.h41_program.proofs.Sound.{and_second}
 
@@ -50,7 +53,9 @@ edit_had old new change at edits = elim edits.1 [
   | inl edit ↦
       let outcome : HasOutcome old new (Ok tt) (edit_outcome old (change edit.0.position) edit.0.position edit.2.0) =
       subst (λ (o : Result (RegisterMap × Unit {0}) ProgramRefusal). HasOutcome old new (Ok tt) o) edit.2.2 edits.2 in
-      let reached = was_made (is_some (before_end edit.2.0) && has_line_at edit.0.position edit.2.0) old new (flat_map (change edit.0.position) edit.2.0) outcome in
+      let reached =
+      was_made (is_some (before_end edit.2.0) && has_line_at edit.0.position edit.2.0)
+      old new (flat_map (change edit.0.position) edit.2.0) outcome in
       record {
         first = edit.0;
         lines = edit.2.0;
@@ -75,7 +80,8 @@ pub record HasNew (listed : List ListedLine) (count : ℕ) (line : Line) : Type 
   pub got : slice_get listed count ≡ Some there
   pub same : there.line ≡ line
 
-of_line : (listed : List ListedLine) (count : ℕ) (line : Line) (o : Option ListedLine) → slice_get listed count ≡ o → option_map (λ each. each.line) o ≡ Some line → HasNew listed count line
+of_line : (listed : List ListedLine) (count : ℕ) (line : Line) (o : Option ListedLine) → slice_get listed count ≡ o
+    → option_map (λ each. each.line) o ≡ Some line → HasNew listed count line
 of_line listed count line None is same = absurd (none-some line same)
 of_line listed count line (Some there) is same = record { there = there; got = is; same = same_Some there.line line same }
 
@@ -98,40 +104,50 @@ put_there line Instead inner = record {
 }
 
 -- such a change leaves the line where as many lines are before it
-pub record LeavesNew (old : RegisterMap) (change : ℕ → ListedLine → List Line) (at : ℕ) (new : RegisterMap) (count : ℕ) (line : Line) : Type 0 where
+pub record LeavesNew (old : RegisterMap) (change : ℕ → ListedLine → List Line)
+    (at : ℕ) (new : RegisterMap) (count : ℕ) (line : Line) : Type 0 where
   pub leaves : LeavesChanged old change at new
   pub has : HasNew leaves.listed count line
 
-module _ (again : ByteRoundTrip) (one : OneLine) (old new : RegisterMap) (change : ℕ → ListedLine → List Line) (at count : ℕ) (line : Line) where
-  pub leaves_new : is_sound old ≡ true → PutsAt line change → Edits old new change at (Ok tt) → Counts old at count → LeavesNew old change at new count line
+module _ (again : ByteRoundTrip) (one : OneLine) (old new : RegisterMap)
+    (change : ℕ → ListedLine → List Line) (at count : ℕ) (line : Line) where
+  pub leaves_new : is_sound old ≡ true → PutsAt line change → Edits old new change at (Ok tt) → Counts old at count
+      → LeavesNew old change at new count line
   leaves_new sound puts edits counts =
       let leaves = edit_read again old new change at (Ok tt) sound puts.inner edits in
       let had = edit_had old new change at edits in
       let place = leaves.first.position in
       let first = first_determined one (program_bytes old) (final_position old) at had.first leaves.first had.stands leaves.stands in
       let lines = lists_determined one old 0 had.lines leaves.lines had.from leaves.from in
-      let counted = first_determined one (program_bytes old) (final_position old) at counts.first leaves.first counts.stands leaves.stands in
+      let counted =
+      first_determined one (program_bytes old) (final_position old) at counts.first leaves.first counts.stands leaves.stands in
       let counted_lines = lists_determined one old 0 counts.lines leaves.lines counts.from leaves.from in
       let has : has_line_at place leaves.lines ≡ true =
-      ap (λ (l : List ListedLine). has_line_at place l) (sym lines) ∙ ap (λ (l : ListedLine). has_line_at l.position had.lines) (sym first) ∙ had.has in
+      ap (λ (l : List ListedLine). has_line_at place l) (sym lines) ∙ ap (λ (l : ListedLine). has_line_at l.position had.lines) (sym first)
+      ∙ had.has in
       let number : count ≡ count_before place leaves.lines =
       counts.is ∙ ap (λ (l : ListedLine). count_before l.position counts.lines) counted ∙ ap (count_before place) counted_lines in
       let there =
-      new_there (program_bytes old) (final_position old) place line (change place) (puts.begins place) (puts.keeps place) 0 leaves.lines (leaves.from.sound sound) has in
+      new_there (program_bytes old) (final_position old) place line (change place)
+      (puts.begins place) (puts.keeps place) 0 leaves.lines (leaves.from.sound sound) has in
       let all : slice_get (lines_of leaves.listed) count ≡ Some line =
-      ap (λ (l : List Line). slice_get l count) leaves.same ∙ ap (slice_get (flat_map (change place) leaves.lines ++ FinalEnd 0 0 ∷ [])) number
+      ap (λ (l : List Line). slice_get l count) leaves.same
+      ∙ ap (slice_get (flat_map (change place) leaves.lines ++ FinalEnd 0 0 ∷ [])) number
       ∙ get_front (flat_map (change place) leaves.lines) (FinalEnd 0 0 ∷ []) (count_before place leaves.lines) line there in
       record {
         leaves = leaves;
-        has = of_line leaves.listed count line (slice_get leaves.listed count) refl (sym (slice_get-map (λ (each : ListedLine). each.line) leaves.listed count) ∙ all);
+        has =
+            of_line leaves.listed count line (slice_get leaves.listed count) refl
+            (sym (slice_get-map (λ (each : ListedLine). each.line) leaves.listed count) ∙ all);
       }
 
   -- it stands at its own position
-  pub stands_there : is_sound new ≡ true → (left : LeavesNew old change at new count line) (found : ListedLine) → Some found ≡ slice_get left.leaves.listed count
-      → Stands new line found.position
+  pub stands_there : is_sound new ≡ true → (left : LeavesNew old change at new count line) (found : ListedLine)
+      → Some found ≡ slice_get left.leaves.listed count → Stands new line found.position
   stands_there sound left found is =
       let there = left.has.there in
-      let first = get_first (program_bytes new) (final_position new) 0 left.leaves.listed count there (left.leaves.read.sound sound) left.has.got in
+      let first =
+      get_first (program_bytes new) (final_position new) 0 left.leaves.listed count there (left.leaves.read.sound sound) left.has.got in
       subst (λ (l : ListedLine). Stands new line l.position) (sym (same_Some found there (is ∙ left.has.got)))
       (subst (λ (l : Line). Stands new l there.position) left.has.same first)
 
@@ -141,8 +157,10 @@ some_found None listed is = absurd (none-some listed is)
 some_found (Some found) listed is = refl
 
 -- the answers
-module _ (old new : RegisterMap) (at count : ℕ) (counts : Counts old at count) (listed : List ListedLine) (read : LinesFrom new 0 listed) where
-  answers_changed : {A : Type 0} (answer : ℕ → List ListedLine → A) (result : A) → result ≡ answer count listed → AnswersChanged answer old at new result
+module _ (old new : RegisterMap) (at count : ℕ) (counts : Counts old at count)
+    (listed : List ListedLine) (read : LinesFrom new 0 listed) where
+  answers_changed : {A : Type 0} (answer : ℕ → List ListedLine → A) (result : A) → result ≡ answer count listed
+      → AnswersChanged answer old at new result
   answers_changed answer result is = record {
     first = counts.first;
     lines = counts.lines;

@@ -1,5 +1,6 @@
 -- The list changed line after line.
-use Rattle.std.proofs.Common.{◌≡◌, ℕ, Bool, true, false, List, [], ◌∷◌, ◌++◌, refl, sym, ◌∙◌, ap, subst, inl, inr, append-nil, append_assoc, Result, Ok, Err}
+use Rattle.std.proofs.Common.{◌≡◌, ℕ, Bool, true, false, List, [], ◌∷◌, ◌++◌, refl, sym, ◌∙◌, ap, subst, inl, inr, append-nil, append_assoc}
+use Rattle.std.proofs.Common.{Result, Ok, Err}
 use Rattle.std.specs.Prelude.{◌&&◌, ◌||◌, ◌==◌, is_some, IsOkAnd, MatchBool, if◌then◌else◌}
 use Rattle.std.specs.List.{flat_map}
 use Rattle.std.proofs.lemmas.Grind.{flat_map-append}
@@ -27,12 +28,14 @@ or_false : (b : Bool) → (b || false) ≡ b
 or_false true = refl
 or_false false = refl
 
-pub has_line_at-more : (place : ℕ) (before : List ListedLine) (listed : ListedLine) → has_line_at place (before ++ listed ∷ []) ≡ (has_line_at place before || (listed.position == place))
+pub has_line_at-more : (place : ℕ) (before : List ListedLine) (listed : ListedLine)
+    → has_line_at place (before ++ listed ∷ []) ≡ (has_line_at place before || (listed.position == place))
 has_line_at-more place before listed =
     list_any-append (λ each. each.position == place) before (listed ∷ [])
     ∙ ap (λ (b : Bool). has_line_at place before || b) (or_false (listed.position == place))
 
-pub changed-more : (change : ListedLine → List Line) (before : List ListedLine) (listed : ListedLine) → flat_map change (before ++ listed ∷ []) ≡ flat_map change before ++ change listed
+pub changed-more : (change : ListedLine → List Line) (before : List ListedLine) (listed : ListedLine)
+    → flat_map change (before ++ listed ∷ []) ≡ flat_map change before ++ change listed
 changed-more change before listed =
     flat_map-append change before (listed ∷ []) ∙ ap (λ (l : List Line). flat_map change before ++ l) (append-nil (change listed))
 
@@ -63,7 +66,8 @@ made_other (Put line Instead) false listed other = sym (own_line-other listed ot
 made_other Delete true listed other = refl
 made_other Delete false listed other = sym (own_line-other listed other)
 
-made_final : (change : Change) (here : Bool) (listed : ListedLine) → is_final_end listed.line ≡ true → new_part here change ≡ made change here listed
+made_final : (change : Change) (here : Bool) (listed : ListedLine) → is_final_end listed.line ≡ true
+    → new_part here change ≡ made change here listed
 made_final (Put line Before) true listed final = ap (λ (l : List Line). line ∷ l) (sym (own_line-final listed final))
 made_final (Put line Before) false listed final = sym (own_line-final listed final)
 made_final (Put line Instead) true listed final = refl
@@ -72,8 +76,8 @@ made_final Delete true listed final = refl
 made_final Delete false listed final = sym (own_line-final listed final)
 
 -- one more line, and .END.
-pub one_packs : (packer : Packer) (change : Change) (place : ℕ) (before : List ListedLine) (listed : ListedLine) (here kept : Bool) → here ≡ (listed.position == place)
-    → kept ≡ is_kept here change → is_final_end listed.line ≡ false
+pub one_packs : (packer : Packer) (change : Change) (place : ℕ) (before : List ListedLine) (listed : ListedLine) (here kept : Bool)
+    → here ≡ (listed.position == place) → kept ≡ is_kept here change → is_final_end listed.line ≡ false
     → Packs packer ((flat_map (changed change place) before ++ new_part here change) ++ line_if kept listed.line)
     → Packs packer (flat_map (changed change place) (before ++ listed ∷ []))
 one_packs packer change place before listed here kept is keeps other packs =
@@ -85,8 +89,9 @@ one_packs packer change place before listed here kept is keeps other packs =
     ∙ sym (changed-more (changed change place) before listed))
     packs
 
-pub last_packs : (packer : Packer) (change : Change) (place : ℕ) (before : List ListedLine) (listed : ListedLine) (here : Bool) → here ≡ (listed.position == place)
-    → is_final_end listed.line ≡ true → Packs packer (flat_map (changed change place) before ++ new_part here change)
+pub last_packs : (packer : Packer) (change : Change) (place : ℕ) (before : List ListedLine) (listed : ListedLine) (here : Bool)
+    → here ≡ (listed.position == place) → is_final_end listed.line ≡ true
+    → Packs packer (flat_map (changed change place) before ++ new_part here change)
     → Packs packer (flat_map (changed change place) (before ++ listed ∷ []))
 last_packs packer change place before listed here is final packs =
     subst (λ (l : List Line). Packs packer l)
@@ -96,23 +101,27 @@ last_packs packer change place before listed here is final packs =
     packs
 
 -- the list was read so far, and each line changed
-pub record Changed (bytes : List ℕ) (final : ℕ) (packer : Packer) (met : Bool) (change : ListedLine → List Line) (place at : ℕ) (before : List ListedLine) : Type 0 where
+pub record Changed (bytes : List ℕ) (final : ℕ) (packer : Packer) (met : Bool)
+    (change : ListedLine → List Line) (place at : ℕ) (before : List ListedLine) : Type 0 where
   pub read : UpTo bytes final 0 before at
   pub packs : Packs packer (flat_map change before)
   pub found : met ≡ has_line_at place before
 
 -- the outcome of the test
 by_test : (b : Bool) (packer : Packer) (lines : List Line) → Packs packer lines
-    → MatchBool b (IsOkAnd {E = ProgramRefusal} (if b then Ok packer else Err BrokenProgram) (λ held. Packs held lines)) (◌≡◌ {A = Result Packer ProgramRefusal} (if b then Ok packer else Err BrokenProgram) (Err BrokenProgram))
+    → MatchBool b (IsOkAnd {E = ProgramRefusal} (if b then Ok packer else Err BrokenProgram) (λ held. Packs held lines))
+    (◌≡◌ {A = Result Packer ProgramRefusal} (if b then Ok packer else Err BrokenProgram) (Err BrokenProgram))
 by_test true packer lines packs = packs
 by_test false packer lines packs = refl
 
 -- .END. is met
-pub changed_final : (bytes : List ℕ) (final at next : ℕ) (packer : Packer) (met : Bool) (change : ListedLine → List Line) (place : ℕ) (before lines : List ListedLine) (listed : ListedLine)
+pub changed_final : (bytes : List ℕ) (final at next : ℕ) (packer : Packer) (met : Bool)
+    (change : ListedLine → List Line) (place : ℕ) (before lines : List ListedLine) (listed : ListedLine)
     → UpTo bytes final 0 before at → IsFirst bytes final at listed next → is_final_end listed.line ≡ true
     → Packs packer (flat_map change (before ++ listed ∷ [])) → met ≡ has_line_at place (before ++ listed ∷ []) → Reads bytes final 0 lines
     → (result : Result Packer ProgramRefusal) → result ≡ (if met then Ok packer else Err BrokenProgram)
-    → MatchBool (is_some (before_end lines) && has_line_at place lines) (IsOkAnd result (λ held. Packs held (flat_map change lines))) (result ≡ Err BrokenProgram)
+    → MatchBool (is_some (before_end lines) && has_line_at place lines)
+    (IsOkAnd result (λ held. Packs held (flat_map change lines))) (result ≡ Err BrokenProgram)
 changed_final bytes final at next packer met change place before lines listed upto is last packs found reads result test =
     let all = ends_final bytes final 0 at next before lines listed upto is last reads in
     let end = before_end-final bytes final 0 at before listed upto last in
@@ -121,53 +130,67 @@ changed_final bytes final at next packer met change place before lines listed up
 -- no more line is met
 pub changed_none : (bytes : List ℕ) (final at : ℕ) (change : ListedLine → List Line) (place : ℕ) (before lines : List ListedLine)
     → UpTo bytes final 0 before at → NoneFrom bytes final at → Reads bytes final 0 lines
-    → MatchBool (is_some (before_end lines) && has_line_at place lines) (IsOkAnd {E = ProgramRefusal} (Err BrokenProgram) (λ held. Packs held (flat_map change lines))) (◌≡◌ {A = Result Packer ProgramRefusal} (Err BrokenProgram) (Err BrokenProgram))
+    → MatchBool (is_some (before_end lines) && has_line_at place lines)
+    (IsOkAnd {E = ProgramRefusal} (Err BrokenProgram) (λ held. Packs held (flat_map change lines)))
+    (◌≡◌ {A = Result Packer ProgramRefusal} (Err BrokenProgram) (Err BrokenProgram))
 changed_none bytes final at change place before lines upto none reads =
     let end = ap before_end (ends_none bytes final 0 at before lines upto none reads) ∙ before_end-none bytes final 0 at before upto in
     rw end refl
 
 -- the changed lines are written
-pub changed_written : (old new : RegisterMap) (change : ListedLine → List Line) (place : ℕ) (lines : List ListedLine) (result : Result Packer ProgramRefusal) (packer : Packer) (wrote : Result (Unit {0}) ProgramRefusal)
-    (b : Bool) → MatchBool b (IsOkAnd result (λ held. Packs held (flat_map change lines))) (result ≡ Err BrokenProgram) → result ≡ Ok packer
+pub changed_written : (old new : RegisterMap) (change : ListedLine → List Line) (place : ℕ) (lines : List ListedLine)
+    (result : Result Packer ProgramRefusal) (packer : Packer) (wrote : Result (Unit {0}) ProgramRefusal) (b : Bool)
+    → MatchBool b (IsOkAnd result (λ held. Packs held (flat_map change lines))) (result ≡ Err BrokenProgram) → result ≡ Ok packer
     → ((all : List Line) → Packs packer all → HasOutcome old new wrote (answered tt (written old all)))
     → HasOutcome old new wrote (changed_outcome b old (flat_map change lines))
 changed_written old new change place lines result packer wrote true matches ok writes =
-    writes (flat_map change lines) (subst (λ (r : Result Packer ProgramRefusal). IsOkAnd r (λ held. Packs held (flat_map change lines))) ok matches)
-changed_written old new change place lines result packer wrote false matches ok writes = absurd (not_both result packer BrokenProgram ok matches)
+    writes (flat_map change lines)
+    (subst (λ (r : Result Packer ProgramRefusal). IsOkAnd r (λ held. Packs held (flat_map change lines))) ok matches)
+changed_written old new change place lines result packer wrote false matches ok writes =
+    absurd (not_both result packer BrokenProgram ok matches)
 
-pub changed_refused : (old : RegisterMap) (change : ListedLine → List Line) (lines : List ListedLine) (result : Result Packer ProgramRefusal) (refusal : ProgramRefusal)
-    (b : Bool) → MatchBool b (IsOkAnd result (λ held. Packs held (flat_map change lines))) (result ≡ Err BrokenProgram) → result ≡ Err refusal
+pub changed_refused : (old : RegisterMap) (change : ListedLine → List Line) (lines : List ListedLine)
+    (result : Result Packer ProgramRefusal) (refusal : ProgramRefusal) (b : Bool)
+    → MatchBool b (IsOkAnd result (λ held. Packs held (flat_map change lines))) (result ≡ Err BrokenProgram) → result ≡ Err refusal
     → HasOutcome {A = Unit {0}} old old (Err refusal) (changed_outcome b old (flat_map change lines))
 changed_refused old change lines result refusal true matches err =
     absurd (subst (λ (r : Result Packer ProgramRefusal). IsOkAnd r (λ held. Packs held (flat_map change lines))) err matches)
 changed_refused old change lines result refusal false matches err = (same_refusal result refusal err matches, refl)
   where
-    same_refusal : (result : Result Packer ProgramRefusal) (refusal : ProgramRefusal) → result ≡ Err refusal → result ≡ Err BrokenProgram → ◌≡◌ {A = Result (Unit {0}) ProgramRefusal} (Err refusal) (Err BrokenProgram)
+    same_refusal : (result : Result Packer ProgramRefusal) (refusal : ProgramRefusal) → result ≡ Err refusal → result ≡ Err BrokenProgram
+        → ◌≡◌ {A = Result (Unit {0}) ProgramRefusal} (Err refusal) (Err BrokenProgram)
     same_refusal result refusal one other = let e : refusal ≡ BrokenProgram = cc in ap (λ (r : ProgramRefusal). Err r) e
 
 -- the list is changed, or not
 module _ (old : RegisterMap) (change : ℕ → ListedLine → List Line) (at : ℕ) where
-  pub edit_none : (result : Result ℕ ProgramRefusal) (refusal : ProgramRefusal) → AnswersFirst old at (Err refusal) → result ≡ Err refusal → Edits old old change at (done result)
+  pub edit_none : (result : Result ℕ ProgramRefusal) (refusal : ProgramRefusal) → AnswersFirst old at (Err refusal) → result ≡ Err refusal
+      → Edits old old change at (done result)
   edit_none result refusal none is = (Err BrokenProgram, inr (none.1, refl), (ap done is ∙ ap (λ (r : ProgramRefusal). Err r) none.0, refl))
 
-  module _ (first : ListedLine) (stands : FirstFrom (program_bytes old) (final_position old) at first) (packed : Result Packer ProgramRefusal)
+  module _ (first : ListedLine) (stands : FirstFrom (program_bytes old) (final_position old) at first)
+      (packed : Result Packer ProgramRefusal)
       (packs : PacksChanged old (change first.position) first.position packed) where
     abbrev reached : Bool
     reached = is_some (before_end packs.0) && has_line_at first.position packs.0
 
-    pub edit_refused : (result : Result ℕ ProgramRefusal) (refusal : ProgramRefusal) → packed ≡ Err refusal → result ≡ Err refusal → Edits old old change at (done result)
+    pub edit_refused : (result : Result ℕ ProgramRefusal) (refusal : ProgramRefusal) → packed ≡ Err refusal → result ≡ Err refusal
+        → Edits old old change at (done result)
     edit_refused result refusal err is = (
       edit_outcome old (change first.position) first.position packs.0,
       inl (first, stands, (packs.0, packs.1, refl)),
-      subst (λ (r : Result (Unit {0}) ProgramRefusal). HasOutcome old old r (changed_outcome reached old (flat_map (change first.position) packs.0))) (sym (ap done is))
+      subst (λ (r : Result (Unit {0}) ProgramRefusal).
+          HasOutcome old old r (changed_outcome reached old (flat_map (change first.position) packs.0)))
+          (sym (ap done is))
           (changed_refused old (change first.position) packs.0 packed refusal reached packs.2 err),
     )
 
-    pub edit_written : (new : RegisterMap) (packer : Packer) (wrote result : Result (Unit {0}) ProgramRefusal) → packed ≡ Ok packer → Writes packer old new wrote → wrote ≡ result
-        → Edits old new change at result
+    pub edit_written : (new : RegisterMap) (packer : Packer) (wrote result : Result (Unit {0}) ProgramRefusal) → packed ≡ Ok packer
+        → Writes packer old new wrote → wrote ≡ result → Edits old new change at result
     edit_written new packer wrote result ok writes is = (
       edit_outcome old (change first.position) first.position packs.0,
       inl (first, stands, (packs.0, packs.1, refl)),
-      subst (λ (r : Result (Unit {0}) ProgramRefusal). HasOutcome old new r (changed_outcome reached old (flat_map (change first.position) packs.0))) is
+      subst (λ (r : Result (Unit {0}) ProgramRefusal).
+          HasOutcome old new r (changed_outcome reached old (flat_map (change first.position) packs.0)))
+          is
           (changed_written old new (change first.position) first.position packs.0 packed packer wrote reached packs.2 ok writes),
     )

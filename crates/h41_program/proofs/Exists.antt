@@ -1,5 +1,6 @@
 -- There is a list of lines from each position on.
-use Rattle.std.proofs.Common.{◌≡◌, ◌⊎◌, ℕ, zero, suc, ◌+◌, ◌-◌, ◌<◌, ◌≤◌, Bool, List, [], ◌∷◌, length, take, drop, get_or, refl, sym, ◌∙◌, ap, subst, arith, inl, inr, length-take, length-drop}
+use Rattle.std.proofs.Common.{◌≡◌, ◌⊎◌, ℕ, zero, suc, ◌+◌, ◌-◌, ◌<◌, ◌≤◌, Bool, List, [], ◌∷◌, length, take, drop, get_or, refl, sym, ◌∙◌}
+use Rattle.std.proofs.Common.{ap, subst, arith, inl, inr, length-take, length-drop}
 use Rattle.std.specs.Prelude.{MatchBool}
 use Rattle.std.proofs.lemmas.Bool.{cases_lt, cases_Bool, true≢false}
 use Rattle.h41_codes.specs.ByteGrammar.{spelling, Begins}
@@ -27,14 +28,17 @@ no_more : (bytes : List ℕ) (final position : ℕ) → position ≤ final → l
 no_more bytes final position inside above = elim (cases_lt position final) [
   | inl before ↦
       ap length (line_bytes-below bytes final position before)
-      ∙ let all : length (take (final - position) (drop position bytes)) ≡ 0 = omega (arith, above, length-take (final - position) (drop position bytes), length-drop position bytes) in all
+      ∙ let all : length (take (final - position) (drop position bytes)) ≡ 0 =
+      omega (arith, above, length-take (final - position) (drop position bytes), length-drop position bytes) in all
   | inr last ↦
       let same : position ≡ final = omega (arith, inside, last) in
-      ap length (ap (line_bytes bytes final) same ∙ line_bytes-at bytes final) ∙ let all : length (drop final bytes) ≡ 0 = omega (arith, above, same, length-drop final bytes) in all
+      ap length (ap (line_bytes bytes final) same ∙ line_bytes-at bytes final) ∙ let all : length (drop final bytes) ≡ 0 =
+      omega (arith, above, same, length-drop final bytes) in all
 ]
 
 -- where a line begins further on there is a byte to take
-byte_to_take : (bytes : List ℕ) (final at from : ℕ) (first : ListedLine) → FirstFrom bytes final from first → at < first.position → 1 ≤ length (line_bytes bytes final at)
+byte_to_take : (bytes : List ℕ) (final at from : ℕ) (first : ListedLine) → FirstFrom bytes final from first → at < first.position
+    → 1 ≤ length (line_bytes bytes final at)
 byte_to_take bytes final at from first is before =
     let inside = first_inside bytes final from first is in
     let least = begins_least (line_bytes bytes final first.position) first.line (length (spelling first.line)) is.begins in
@@ -83,11 +87,13 @@ module _ (one : OneLine) (tells : LineOrNone) (bytes : List ℕ) (final : ℕ) w
   abbrev taken : ℕ → List ℕ
   taken at = line_bytes bytes final at
 
-  begins_here : (at : ℕ) (first : ListedLine) → FirstFrom bytes final at first → first.position ≡ at → Begins (taken at) first.line (length (spelling first.line))
+  begins_here : (at : ℕ) (first : ListedLine) → FirstFrom bytes final at first → first.position ≡ at
+      → Begins (taken at) first.line (length (spelling first.line))
   begins_here at first is here = subst (λ (n : ℕ). Begins (taken n) first.line (length (spelling first.line))) here is.begins
 
   -- a line begins at the position
-  line_here : (at count : ℕ) (line : Line) → Begins (taken at) line count → (line ≡ Null → ⊥) → FirstFrom bytes final at (record { position = at; line = line })
+  line_here : (at count : ℕ) (line : Line) → Begins (taken at) line count → (line ≡ Null → ⊥)
+      → FirstFrom bytes final at (record { position = at; line = line })
   line_here at count line begins other = record {
     from = omega arith;
     nulls = λ k low high. absurd (omega (arith, low, high));
@@ -96,9 +102,12 @@ module _ (one : OneLine) (tells : LineOrNone) (bytes : List ℕ) (final : ℕ) w
   }
 
   -- a null begins at the position
-  null_here : (at count : ℕ) (line : Line) → Begins (taken at) line count → line ≡ Null → (first : ListedLine) → FirstFrom bytes final at first → at < first.position
+  null_here : (at count : ℕ) (line : Line) → Begins (taken at) line count → line ≡ Null → (first : ListedLine)
+      → FirstFrom bytes final at first → at < first.position
   null_here at count line begins null first is = elim (here_or_further at first is) [
-    | inl here ↦ absurd (is.not_null ((one (taken at) first.line line (length (spelling first.line)) count (begins_here at first is here) begins).0 ∙ null))
+    | inl here ↦
+        absurd
+        (is.not_null ((one (taken at) first.line line (length (spelling first.line)) count (begins_here at first is here) begins).0 ∙ null))
     | inr before ↦ before
   ]
 
@@ -147,13 +156,24 @@ module _ (one : OneLine) (tells : LineOrNone) (bytes : List ℕ) (final : ℕ) w
     | inr none ↦ ([], none)
     | inl first ↦ elim (cases_Bool (ends first.0.line)) [
       | inl last ↦
-          let none : ◌≡◌ {A = List ListedLine} [] [] = refl in
-          (first.0 ∷ [], (first.1, subst (λ (b : Bool). MatchBool b (◌≡◌ {A = List ListedLine} [] []) (ReadsTo ends bytes final (behind first.0) [])) (sym last) none))
+          let none : ◌≡◌ {A = List ListedLine} [] [] = refl in (
+            first.0 ∷ [],
+            (
+              first.1,
+              subst (λ (b : Bool). MatchBool b (◌≡◌ {A = List ListedLine} [] []) (ReadsTo ends bytes final (behind first.0) []))
+                  (sym last) none,
+            ),
+          )
       | inr running ↦
           let least = begins_least (taken first.0.position) first.0.line (length (spelling first.0.line)) first.1.begins in
           let from = first.1.from in
-          let rest = reads_some ends n (behind first.0) (omega (arith, past, least, from)) in
-          (first.0 ∷ rest.0, (first.1, subst (λ (b : Bool). MatchBool b (rest.0 ≡ []) (ReadsTo ends bytes final (behind first.0) rest.0)) (sym running) rest.1))
+          let rest = reads_some ends n (behind first.0) (omega (arith, past, least, from)) in (
+            first.0 ∷ rest.0,
+            (
+              first.1,
+              subst (λ (b : Bool). MatchBool b (rest.0 ≡ []) (ReadsTo ends bytes final (behind first.0) rest.0)) (sym running) rest.1,
+            ),
+          )
     ]
   ]
 

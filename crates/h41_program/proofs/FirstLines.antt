@@ -1,5 +1,6 @@
 -- The first line from a position on: what is known once nulls were passed over.
-use Rattle.std.proofs.Common.{◌≡◌, ◌≢◌, ℕ, ◌-◌, ◌<◌, ◌≤◌, true, false, List, [], ◌∷◌, ◌++◌, length, drop, get_or, refl, sym, ◌∙◌, ap, subst, arith, inl, inr}
+use Rattle.std.proofs.Common.{◌≡◌, ◌≢◌, ℕ, ◌-◌, ◌<◌, ◌≤◌, true, false, List, [], ◌∷◌, ◌++◌, length, drop, get_or, refl, sym, ◌∙◌, ap, subst}
+use Rattle.std.proofs.Common.{arith, inl, inr}
 use Rattle.std.specs.Prelude.{nat_lt, ◌==◌, slice_range}
 use Rattle.std.proofs.lemmas.List.{get_or-drop, get_or-take, length-drop, length-take, take-append-drop}
 use Rattle.std.proofs.lemmas.Bool.{cases_lt}
@@ -14,7 +15,8 @@ use Rattle.h41_program.specs.ProgramLines.{line_bytes, FirstFrom, behind}
 use Rattle.h41_program.proofs.Windows.{begins_count, begins_least}
 
 -- the three cases of the bytes that a line may take
-pub line_bytes-below : (bytes : List ℕ) (final position : ℕ) → position < final → line_bytes bytes final position ≡ slice_range bytes position final
+pub line_bytes-below : (bytes : List ℕ) (final position : ℕ) → position < final
+    → line_bytes bytes final position ≡ slice_range bytes position final
 line_bytes-below bytes final position below =
     let test : nat_lt position final ≡ true = grind (arith, nat_tests) in
     rw test refl
@@ -42,12 +44,14 @@ nothing line count begins =
 pub first_inside : (bytes : List ℕ) (final at : ℕ) (first : ListedLine) → FirstFrom bytes final at first → first.position ≤ final
 first_inside bytes final at first is = elim (cases_lt final first.position) [
   | inl above ↦ absurd (nothing first.line (length (spelling first.line))
-      (subst (λ (rest : List ℕ). Begins rest first.line (length (spelling first.line))) (line_bytes-above bytes final first.position above) is.begins))
+      (subst (λ (rest : List ℕ). Begins rest first.line (length (spelling first.line)))
+      (line_bytes-above bytes final first.position above) is.begins))
   | inr below ↦ below
 ]
 
 -- the first byte that a line may take is that of its position
-pub first_byte : (bytes : List ℕ) (final position : ℕ) → position ≤ final → get_or (line_bytes bytes final position) 0 0 ≡ get_or bytes position 0
+pub first_byte : (bytes : List ℕ) (final position : ℕ) → position ≤ final
+    → get_or (line_bytes bytes final position) 0 0 ≡ get_or bytes position 0
 first_byte bytes final position inside = elim (cases_lt position final) [
   | inl below ↦
       ap (λ (rest : List ℕ). get_or rest 0 0) (line_bytes-below bytes final position below)
@@ -62,7 +66,8 @@ first_byte bytes final position inside = elim (cases_lt position final) [
 ]
 
 -- before the final bytes there is a byte to take
-pub some_byte : (bytes : List ℕ) (final position : ℕ) → position < final → final ≤ length bytes → 1 ≤ length (line_bytes bytes final position)
+pub some_byte : (bytes : List ℕ) (final position : ℕ) → position < final → final ≤ length bytes
+    → 1 ≤ length (line_bytes bytes final position)
 some_byte bytes final position below inside =
     rw (line_bytes-below bytes final position below)
     (omega (arith, length-take (final - position) (drop position bytes), length-drop position bytes))
@@ -77,7 +82,8 @@ null_begins (byte ∷ bytes) some null = record {
 }
 
 -- and with no other line
-pub only_null : OneLine → (bytes : List ℕ) (line : Line) (count : ℕ) → 1 ≤ length bytes → get_or bytes 0 0 ≡ 0 → Begins bytes line count → line ≡ Null
+pub only_null : OneLine → (bytes : List ℕ) (line : Line) (count : ℕ) → 1 ≤ length bytes → get_or bytes 0 0 ≡ 0 → Begins bytes line count
+    → line ≡ Null
 only_null one bytes line count some null begins = (one bytes line Null count 1 begins (null_begins bytes some null)).0
 
 -- nulls were passed over up to a position
@@ -89,7 +95,8 @@ pub record Passed (bytes : List ℕ) (final at position : ℕ) : Type 0 where
   pub inside : final ≤ length bytes
 
 -- the first line stands there, and nowhere else
-pub stands_there : OneLine → (bytes : List ℕ) (final at position : ℕ) → Passed bytes final at position → (first : ListedLine) → FirstFrom bytes final at first → first.position ≡ position
+pub stands_there : OneLine → (bytes : List ℕ) (final at position : ℕ) → Passed bytes final at position → (first : ListedLine)
+    → FirstFrom bytes final at first → first.position ≡ position
 stands_there one bytes final at position passed first is = elim (cases_lt first.position position) [
   | inl before ↦
       let below : first.position < final = omega (arith, before, passed.to) in
@@ -110,8 +117,9 @@ null_byte bytes line count begins null =
     ap (λ (all : List ℕ). get_or all 0 0) (sym (take-append-drop count bytes) ∙ ap (λ front. front ++ drop count bytes) begins.spells.same)
     ∙ (law.null_begins line (drop count bytes) begins.spells.valid).1 null
 
-pub found_first : (bytes : List ℕ) (final at position : ℕ) (line : Line) (count : ℕ) → Passed bytes final at position → get_or bytes position 0 ≢ 0
-    → Begins (line_bytes bytes final position) line count → FirstFrom bytes final at (record { position = position; line = line })
+pub found_first : (bytes : List ℕ) (final at position : ℕ) (line : Line) (count : ℕ) → Passed bytes final at position
+    → get_or bytes position 0 ≢ 0 → Begins (line_bytes bytes final position) line count
+    → FirstFrom bytes final at (record { position = position; line = line })
 found_first bytes final at position line count passed other begins =
     let size = begins_count (line_bytes bytes final position) line count begins in
     let here : get_or (line_bytes bytes final position) 0 0 ≢ 0 = λ null. other (sym (first_byte bytes final position passed.to) ∙ null) in

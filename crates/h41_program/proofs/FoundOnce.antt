@@ -10,13 +10,15 @@ use Rattle.h41_program.specs.declared.refusal.ProgramRefusal.{ProgramRefusal}
 use Rattle.h41_program.specs.Lines.{is_final_end}
 use Rattle.h41_program.specs.ProgramBytes.{program_bytes, final_position}
 use Rattle.h41_program.specs.ProgramLines.{FirstFrom, LinesFrom, PositionBehind, PositionFrom, Reads, behind, line_of, next_of}
-use Rattle.h41_program.specs.SearchLaws.{AnswersAreDetermined, LineIsDetermined, LineIsOfList, LocalIsDetermined, NextIsDetermined, NextIsOfList, ProgramIsDetermined}
+use Rattle.h41_program.specs.SearchLaws.{AnswersAreDetermined, LineIsDetermined, LineIsOfList, LocalIsDetermined, NextIsDetermined}
+use Rattle.h41_program.specs.SearchLaws.{NextIsOfList, ProgramIsDetermined}
 use Rattle.h41_program.specs.Searches.{label_in, position_of, start_in, up_to_end}
 use Rattle.h41_program.proofs.Determined.{first_determined, lists_determined}
 use Rattle.h41_program.proofs.Walks.{last_rest, more_rest, no_rest}
 
 pub answers : {A : Type 0} → OneLine → AnswersAreDetermined A
-answers one memory answer at result other is again = is.2 ∙ ap answer (lists_determined one memory at is.0 again.0 is.1 again.1) ∙ sym again.2
+answers one memory answer at result other is again =
+    is.2 ∙ ap answer (lists_determined one memory at is.0 again.0 is.1 again.1) ∙ sym again.2
 
 pub program : {A : Type 0} → OneLine → ProgramIsDetermined A
 program one memory answer at result other is again =
@@ -43,7 +45,8 @@ one_line one memory at (Err refusal) (Ok other) none is = absurd (none.1 other i
 one_line one memory at (Err refusal) (Err other) none again = ap (λ (why : ProgramRefusal). Err why) (none.0 ∙ sym again.0)
 
 -- and so is the position of the next
-same_from : OneLine → (memory : RegisterMap) (at position other : ℕ) → PositionFrom memory at position → PositionFrom memory at other → position ≡ other
+same_from : OneLine → (memory : RegisterMap) (at position other : ℕ) → PositionFrom memory at position → PositionFrom memory at other
+    → position ≡ other
 same_from one memory at position other from again = elim from [
   | inl first ↦ elim again [
     | inl second ↦
@@ -80,17 +83,18 @@ module _ (one : OneLine) (memory : RegisterMap) (at : ℕ) where
   abbrev final : ℕ
   final = final_position memory
 
-  ok_line : (first : ListedLine) (lines : List ListedLine) → FirstFrom bytes final at first → Reads bytes final at lines → Ok first ≡ line_of lines
+  ok_line : (first : ListedLine) (lines : List ListedLine) → FirstFrom bytes final at first → Reads bytes final at lines
+      → Ok first ≡ line_of lines
   ok_line first [] is reads = absurd (reads first is)
   ok_line first (other ∷ rest) is reads = ap (λ (l : ListedLine). Ok l) (first_determined one bytes final at first other is reads.0)
 
   -- and the position behind it
-  behind_final : (first : ListedLine) (rest : List ListedLine) (position : ℕ) → is_final_end first.line ≡ true → rest ≡ [] → position ≡ first.position
-      → Ok position ≡ next_of (first ∷ rest)
+  behind_final : (first : ListedLine) (rest : List ListedLine) (position : ℕ) → is_final_end first.line ≡ true → rest ≡ []
+      → position ≡ first.position → Ok position ≡ next_of (first ∷ rest)
   behind_final first rest position last none same = rw (none, last) (ap (λ (n : ℕ). Ok n) same)
 
-  behind_other : (first : ListedLine) (rest : List ListedLine) (position : ℕ) → is_final_end first.line ≡ false → Reads bytes final (behind first) rest
-      → PositionFrom memory (behind first) position → Ok position ≡ next_of (first ∷ rest)
+  behind_other : (first : ListedLine) (rest : List ListedLine) (position : ℕ) → is_final_end first.line ≡ false
+      → Reads bytes final (behind first) rest → PositionFrom memory (behind first) position → Ok position ≡ next_of (first ∷ rest)
   behind_other first [] position other reads from = elim from [
     | inl second ↦ absurd (reads second.0 second.1)
     | inr none ↦ rw other (ap (λ (n : ℕ). Ok n) none.1)
@@ -102,8 +106,8 @@ module _ (one : OneLine) (memory : RegisterMap) (at : ℕ) where
     | inr none ↦ absurd (none.0 next reads.0)
   ]
 
-  ok_next : (first : ListedLine) (position : ℕ) (lines : List ListedLine) → FirstFrom bytes final at first → PositionBehind memory first position → Reads bytes final at lines
-      → Ok position ≡ next_of lines
+  ok_next : (first : ListedLine) (position : ℕ) (lines : List ListedLine) → FirstFrom bytes final at first
+      → PositionBehind memory first position → Reads bytes final at lines → Ok position ≡ next_of lines
   ok_next first position [] is follows reads = absurd (reads first is)
   ok_next first position (other ∷ rest) is follows reads =
       let same = first_determined one bytes final at first other is reads.0 in
@@ -120,9 +124,12 @@ module _ (one : OneLine) (memory : RegisterMap) (at : ℕ) where
 pub line : OneLine → LineIsOfList
 line one memory at (Ok first) lines sound answers from = ok_line one memory at first lines answers (from.sound sound)
 line one memory at (Err refusal) lines sound answers from =
-    ap (λ (why : ProgramRefusal). Err why) answers.0 ∙ sym (ap line_of (no_rest (program_bytes memory) (final_position memory) at lines answers.1 (from.sound sound)))
+    ap (λ (why : ProgramRefusal). Err why) answers.0
+    ∙ sym (ap line_of (no_rest (program_bytes memory) (final_position memory) at lines answers.1 (from.sound sound)))
 
 pub next : OneLine → NextIsOfList
-next one memory at (Ok position) lines sound answers from = ok_next one memory at answers.0 position lines answers.1 answers.2 (from.sound sound)
+next one memory at (Ok position) lines sound answers from =
+    ok_next one memory at answers.0 position lines answers.1 answers.2 (from.sound sound)
 next one memory at (Err refusal) lines sound answers from =
-    ap (λ (why : ProgramRefusal). Err why) answers.0 ∙ sym (ap next_of (no_rest (program_bytes memory) (final_position memory) at lines answers.1 (from.sound sound)))
+    ap (λ (why : ProgramRefusal). Err why) answers.0
+    ∙ sym (ap next_of (no_rest (program_bytes memory) (final_position memory) at lines answers.1 (from.sound sound)))

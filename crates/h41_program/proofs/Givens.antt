@@ -1,5 +1,6 @@
 -- The lines of bytes that are given.
-use Rattle.std.proofs.Common.{◌≡◌, ◌≢◌, ℕ, ◌+◌, ◌-◌, ◌<◌, ◌≤◌, List, length, drop, get_or, sym, ◌∙◌, ap, subst, arith, inl, inr, Result, Ok, Err}
+use Rattle.std.proofs.Common.{◌≡◌, ◌≢◌, ℕ, ◌+◌, ◌-◌, ◌<◌, ◌≤◌, List, length, drop, get_or, sym, ◌∙◌, ap, subst, arith, inl, inr, Result, Ok}
+use Rattle.std.proofs.Common.{Err}
 use Rattle.std.proofs.lemmas.List.{take_all, length-drop}
 use Rattle.std.proofs.lemmas.Bool.{cases_lt}
 use Rattle.h41_codes.specs.ByteGrammar.{spelling, Begins, AnswersLine}
@@ -13,9 +14,12 @@ use Rattle.h41_program.proofs.Memory.{ok_line, no_error}
 use Rattle.h41_program.proofs.Windows.{begins_count, begins_least}
 
 -- all bytes from a position on can be taken
-pub line_bytes-all : (bytes : List ℕ) (position : ℕ) → position ≤ length bytes → line_bytes bytes (length bytes) position ≡ drop position bytes
+pub line_bytes-all : (bytes : List ℕ) (position : ℕ) → position ≤ length bytes
+    → line_bytes bytes (length bytes) position ≡ drop position bytes
 line_bytes-all bytes position inside = elim (cases_lt position (length bytes)) [
-  | inl before ↦ line_bytes-below bytes (length bytes) position before ∙ take_all (length bytes - position) (drop position bytes) (omega (arith, length-drop position bytes))
+  | inl before ↦
+      line_bytes-below bytes (length bytes) position before
+      ∙ take_all (length bytes - position) (drop position bytes) (omega (arith, length-drop position bytes))
   | inr above ↦
       let same : position ≡ length bytes = omega arith in
       ap (line_bytes bytes (length bytes)) same ∙ line_bytes-at bytes (length bytes) ∙ ap (λ n. drop n bytes) (sym same)
@@ -34,9 +38,11 @@ module _ {E : Type 0} (one : OneLine) (bytes : List ℕ) (at p : ℕ) (from : at
   taken_other first is =
       let here = stands_there one bytes (length bytes) at p passed first is in
       let begins = subst (λ (n : ℕ). Begins (line_bytes bytes (length bytes) n) first.line (length (spelling first.line))) here is.begins in
-      (answer first.line (length (spelling first.line))).1 (subst (λ (rest : List ℕ). Begins rest first.line (length (spelling first.line))) same begins)
+      (answer first.line (length (spelling first.line))).1
+      (subst (λ (rest : List ℕ). Begins rest first.line (length (spelling first.line))) same begins)
 
-  pub taken_first : (line : Line) (size : ℕ) → result ≡ Ok (line, size) → BytesHaveFirst bytes at (record { position = p; line = line; behind = p + size })
+  pub taken_first : (line : Line) (size : ℕ) → result ≡ Ok (line, size)
+      → BytesHaveFirst bytes at (record { position = p; line = line; behind = p + size })
   taken_first line size is =
       let begins = (answer line size).0 is in
       let taken = subst (λ (rest : List ℕ). Begins rest line size) (sym same) begins in

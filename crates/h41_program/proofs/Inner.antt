@@ -1,5 +1,6 @@
 -- Lines that programs can have.
-use Rattle.std.proofs.Common.{◌≢◌, ◌≡◌, ℕ, Bool, true, false, List, [], ◌∷◌, ◌++◌, refl, sym, ◌∙◌, ap, subst, arith, inl, inr, All, Option, Some, None}
+use Rattle.std.proofs.Common.{◌≢◌, ◌≡◌, ℕ, Bool, true, false, List, [], ◌∷◌, ◌++◌, refl, sym, ◌∙◌, ap, subst, arith, inl, inr, All, Option}
+use Rattle.std.proofs.Common.{Some, None}
 use Rattle.std.specs.Prelude.{◌||◌, if◌then◌else◌}
 use Rattle.std.specs.Option.{option_map}
 use Rattle.std.proofs.lemmas.Bool.{cases_Bool, true≢false}
@@ -10,7 +11,8 @@ use Rattle.h41_codes.specs.ByteGrammar.{IsLine}
 use Rattle.h41_codes.specs.declared.line.Line.{Line}
 use Rattle.h41_codes.specs.declared.line.Line.TheVariants.{End, FinalEnd, Null}
 use Rattle.h41_program.specs.declared.listed_line.ListedLine.{ListedLine}
-use Rattle.h41_program.specs.Edits.{own_line, with_inserted, with_replaced, without_deleted, lines_of, before_end, closed, is_open, without_end}
+use Rattle.h41_program.specs.Edits.{own_line, with_inserted, with_replaced, without_deleted, lines_of, before_end, closed, is_open}
+use Rattle.h41_program.specs.Edits.{without_end}
 use Rattle.h41_program.specs.Lines.{is_end, is_final_end, is_inner}
 use Rattle.h41_program.specs.ProgramLaws.{IsInner}
 use Rattle.h41_program.specs.ProgramLines.{FirstFrom, Reads, behind}
@@ -32,12 +34,14 @@ not_final (FinalEnd link marks) is = sym is
 not_final line is = refl
 
 -- a line that is read is inner where it is not .END.
-pub read_inner : (bytes : List ℕ) (final at : ℕ) (first : ListedLine) → FirstFrom bytes final at first → is_final_end first.line ≡ false → IsInner first.line
+pub read_inner : (bytes : List ℕ) (final at : ℕ) (first : ListedLine) → FirstFrom bytes final at first → is_final_end first.line ≡ false
+    → IsInner first.line
 read_inner bytes final at first is other = record { valid = is.begins.spells.valid; inner = inner_kind first.line is.not_null other }
 
 -- the lines before .END.
 module _ (bytes : List ℕ) (final : ℕ) where
-  pub before_inner : (at : ℕ) (lines before : List ListedLine) → Reads bytes final at lines → before_end lines ≡ Some before → All IsInner (lines_of before)
+  pub before_inner : (at : ℕ) (lines before : List ListedLine) → Reads bytes final at lines → before_end lines ≡ Some before
+      → All IsInner (lines_of before)
   before_inner at [] before reads own = absurd (none-some before own)
   before_inner at (first ∷ rest) before reads own = elim (cases_Bool (is_final_end first.line)) [
     | inl last ↦
@@ -46,11 +50,14 @@ module _ (bytes : List ℕ) (final : ℕ) where
     | inr other ↦
         let more : before_end (first ∷ rest) ≡ option_map (λ lines. first ∷ lines) (before_end rest) = rw other refl in
         by_rest (before_end rest) first before (read_inner bytes final at first reads.0 other)
-        (λ found is. before_inner (behind first) rest found (more_rest bytes final (behind first) (is_final_end first.line) rest other reads.1) is) (sym more ∙ own)
+        (λ found is.
+        before_inner (behind first) rest found (more_rest bytes final (behind first) (is_final_end first.line) rest other reads.1) is)
+        (sym more ∙ own)
   ]
     where
       by_rest : (o : Option (List ListedLine)) (first : ListedLine) (before : List ListedLine) → IsInner first.line
-          → ((found : List ListedLine) → o ≡ Some found → All IsInner (lines_of found)) → option_map (λ lines. first ∷ lines) o ≡ Some before → All IsInner (lines_of before)
+          → ((found : List ListedLine) → o ≡ Some found → All IsInner (lines_of found))
+          → option_map (λ lines. first ∷ lines) o ≡ Some before → All IsInner (lines_of before)
       by_rest None first before inner each own = absurd (none-some before own)
       by_rest (Some found) first before inner each own =
           subst (λ (l : List ListedLine). All IsInner (lines_of l)) (same_Some (first ∷ found) before own)
@@ -61,17 +68,20 @@ module _ (bytes : List ℕ) (final : ℕ) where
   loaded_inner at [] reads = All-nil IsInner
   loaded_inner at (first ∷ []) reads = chosen (is_end first.line) first.line (λ other. read_inner bytes final at first reads.0 other)
     where
-      chosen : (b : Bool) (line : Line) → (is_final_end line ≡ false → IsInner line) → All IsInner (if b || is_final_end line then [] else line ∷ [])
+      chosen : (b : Bool) (line : Line) → (is_final_end line ≡ false → IsInner line)
+          → All IsInner (if b || is_final_end line then [] else line ∷ [])
       chosen true line inner = All-nil IsInner
       chosen false line inner = elim (cases_Bool (is_final_end line)) [
         | inl last ↦ rw last (All-nil IsInner)
         | inr other ↦ rw other (All-cons IsInner line [] (inner other) (All-nil IsInner))
       ]
   loaded_inner at (first ∷ second ∷ rest) reads = elim (cases_Bool (is_final_end first.line)) [
-    | inl last ↦ absurd (not_empty second rest (last_rest bytes final (behind first) (is_final_end first.line) (second ∷ rest) last reads.1))
+    | inl last ↦
+        absurd (not_empty second rest (last_rest bytes final (behind first) (is_final_end first.line) (second ∷ rest) last reads.1))
     | inr other ↦
         All-cons IsInner first.line (without_end (lines_of (second ∷ rest))) (read_inner bytes final at first reads.0 other)
-        (loaded_inner (behind first) (second ∷ rest) (more_rest bytes final (behind first) (is_final_end first.line) (second ∷ rest) other reads.1))
+        (loaded_inner (behind first) (second ∷ rest)
+        (more_rest bytes final (behind first) (is_final_end first.line) (second ∷ rest) other reads.1))
   ]
 
 -- an END is inner
@@ -96,10 +106,12 @@ KeepsInner change = (listed : ListedLine) → IsLine listed.line → listed.line
 own_inner : (listed : ListedLine) → IsLine listed.line → listed.line ≢ Null → All IsInner (own_line listed)
 own_inner listed valid some = elim (cases_Bool (is_final_end listed.line)) [
   | inl last ↦ rw last (All-nil IsInner)
-  | inr other ↦ rw other (All-cons IsInner listed.line [] (record { valid = valid; inner = inner_kind listed.line some other }) (All-nil IsInner))
+  | inr other ↦
+      rw other (All-cons IsInner listed.line [] (record { valid = valid; inner = inner_kind listed.line some other }) (All-nil IsInner))
 ]
 
-chosen_inner : (b : Bool) (line : Line) (others : List Line) → IsInner line → All IsInner others → All IsInner (if b then line ∷ [] else others)
+chosen_inner : (b : Bool) (line : Line) (others : List Line) → IsInner line → All IsInner others
+    → All IsInner (if b then line ∷ [] else others)
 chosen_inner true line others inner all = All-cons IsInner line [] inner (All-nil IsInner)
 chosen_inner false line others inner all = all
 
@@ -113,13 +125,14 @@ inserted_inner line position inner listed valid some =
     (chosen_inner (listed.position == position) line [] inner (All-nil IsInner)) (own_inner listed valid some)
 
 pub replaced_inner : (line : Line) (position : ℕ) → IsInner line → KeepsInner (with_replaced line position)
-replaced_inner line position inner listed valid some = chosen_inner (listed.position == position) line (own_line listed) inner (own_inner listed valid some)
+replaced_inner line position inner listed valid some =
+    chosen_inner (listed.position == position) line (own_line listed) inner (own_inner listed valid some)
 
 pub deleted_inner : (position : ℕ) → KeepsInner (without_deleted position)
 deleted_inner position listed valid some = left_inner (listed.position == position) (own_line listed) (own_inner listed valid some)
 
-pub changed_inner : (bytes : List ℕ) (final : ℕ) (change : ListedLine → List Line) → KeepsInner change → (at : ℕ) (lines : List ListedLine) → Reads bytes final at lines
-    → All IsInner (flat_map change lines)
+pub changed_inner : (bytes : List ℕ) (final : ℕ) (change : ListedLine → List Line) → KeepsInner change → (at : ℕ) (lines : List ListedLine)
+    → Reads bytes final at lines → All IsInner (flat_map change lines)
 changed_inner bytes final change keeps at [] reads = All-nil IsInner
 changed_inner bytes final change keeps at (first ∷ rest) reads =
     All-append IsInner (change first) (flat_map change rest) (keeps first reads.0.begins.spells.valid reads.0.not_null)
@@ -127,5 +140,7 @@ changed_inner bytes final change keeps at (first ∷ rest) reads =
       | inl last ↦
           let none = last_rest bytes final (behind first) (is_final_end first.line) rest last reads.1 in
           subst (λ (l : List ListedLine). All IsInner (flat_map change l)) (sym none) (All-nil IsInner)
-      | inr other ↦ changed_inner bytes final change keeps (behind first) rest (more_rest bytes final (behind first) (is_final_end first.line) rest other reads.1)
+      | inr other ↦
+          changed_inner bytes final change keeps (behind first) rest
+          (more_rest bytes final (behind first) (is_final_end first.line) rest other reads.1)
     ])

@@ -10,7 +10,8 @@ use Rattle.h41_program.specs.ProgramLines.{FirstFrom, Reads, behind}
 use Rattle.h41_program.proofs.Cases.{not_empty}
 
 -- a first line is the first from its own position on
-own_first : (bytes : List ℕ) (final at : ℕ) (first : ListedLine) → FirstFrom bytes final at first → FirstFrom bytes final first.position first
+own_first : (bytes : List ℕ) (final at : ℕ) (first : ListedLine) → FirstFrom bytes final at first
+    → FirstFrom bytes final first.position first
 own_first bytes final at first is = record {
   from = omega arith;
   nulls = λ k low high. absurd (omega (arith, low, high));
@@ -18,16 +19,21 @@ own_first bytes final at first is = record {
   not_null = is.not_null;
 }
 
-pub own_reads : (bytes : List ℕ) (final at : ℕ) (first : ListedLine) (rest : List ListedLine) → Reads bytes final at (first ∷ rest) → Reads bytes final first.position (first ∷ rest)
+pub own_reads : (bytes : List ℕ) (final at : ℕ) (first : ListedLine) (rest : List ListedLine) → Reads bytes final at (first ∷ rest)
+    → Reads bytes final first.position (first ∷ rest)
 own_reads bytes final at first rest reads = (own_first bytes final at first reads.0, reads.1)
 
-rest_reads : (bytes : List ℕ) (final at : ℕ) (first second : ListedLine) (rest : List ListedLine) → Reads bytes final at (first ∷ second ∷ rest) → Reads bytes final (behind first) (second ∷ rest)
+rest_reads : (bytes : List ℕ) (final at : ℕ) (first second : ListedLine) (rest : List ListedLine)
+    → Reads bytes final at (first ∷ second ∷ rest) → Reads bytes final (behind first) (second ∷ rest)
 rest_reads bytes final at first second rest reads = elim (cases_Bool (is_final_end first.line)) [
   | inl last ↦
       let none : ◌≡◌ {A = List ListedLine} (second ∷ rest) [] =
-      subst (λ (b : Bool). MatchBool b (◌≡◌ {A = List ListedLine} (second ∷ rest) []) (Reads bytes final (behind first) (second ∷ rest))) last reads.1 in
+      subst (λ (b : Bool). MatchBool b (◌≡◌ {A = List ListedLine} (second ∷ rest) []) (Reads bytes final (behind first) (second ∷ rest)))
+      last reads.1 in
       absurd (not_empty second rest none)
-  | inr other ↦ subst (λ (b : Bool). MatchBool b (◌≡◌ {A = List ListedLine} (second ∷ rest) []) (Reads bytes final (behind first) (second ∷ rest))) other reads.1
+  | inr other ↦
+      subst (λ (b : Bool). MatchBool b (◌≡◌ {A = List ListedLine} (second ∷ rest) []) (Reads bytes final (behind first) (second ∷ rest)))
+      other reads.1
 ]
 
 pub from_own : StandsForItsLine

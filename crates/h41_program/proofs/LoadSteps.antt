@@ -1,5 +1,6 @@
 -- The steps of a load, one after the other.
-use Rattle.std.proofs.Common.{◌≡◌, ℕ, ◌+◌, ◌<◌, ◌≤◌, inl, inr, List, ◌++◌, length, refl, sym, ◌∙◌, ap, subst, arith, Option, Some, None, Result, Ok, Err}
+use Rattle.std.proofs.Common.{◌≡◌, ℕ, ◌+◌, ◌<◌, ◌≤◌, inl, inr, List, ◌++◌, length, refl, sym, ◌∙◌, ap, subst, arith, Option, Some, None}
+use Rattle.std.proofs.Common.{Result, Ok, Err}
 use Rattle.std.specs.Prelude.{MatchOption, IsOkAnd}
 use Rattle.std.proofs.lemmas.Bool.{cases_Bool, cases_lt}
 use Rattle.h41_codes.specs.declared.line.Line.{Line}
@@ -18,41 +19,49 @@ use Rattle.h41_program.proofs.Rooms.{written-none}
 use Rattle.h41_program.proofs.Cases.{not_both, same_error}
 
 -- an answer in the place of another
-gives_ok : {A : Type 0} (old new : RegisterMap) (result : Result (Unit {0}) ProgramRefusal) (answer : A) (outcome : Result RegisterMap ProgramRefusal) → result ≡ Ok tt
-    → HasOutcome old new result (answered tt outcome) → HasOutcome old new (Ok answer) (answered answer outcome)
+gives_ok : {A : Type 0} (old new : RegisterMap) (result : Result (Unit {0}) ProgramRefusal)
+    (answer : A) (outcome : Result RegisterMap ProgramRefusal)
+    → result ≡ Ok tt → HasOutcome old new result (answered tt outcome) → HasOutcome old new (Ok answer) (answered answer outcome)
 gives_ok old new result answer (Ok memory) ok gives = (refl, gives.1)
 gives_ok old new result answer (Err refusal) ok gives = absurd (not_both result tt refusal ok gives.0)
 
-gives_err : {A : Type 0} (old new : RegisterMap) (result : Result (Unit {0}) ProgramRefusal) (refusal : ProgramRefusal) (given : Result A ProgramRefusal) (answer : A) (outcome : Result RegisterMap ProgramRefusal)
-    → result ≡ Err refusal → given ≡ Err refusal → HasOutcome old new result (answered tt outcome) → HasOutcome old new given (answered answer outcome)
+gives_err : {A : Type 0} (old new : RegisterMap) (result : Result (Unit {0}) ProgramRefusal) (refusal : ProgramRefusal)
+    (given : Result A ProgramRefusal) (answer : A) (outcome : Result RegisterMap ProgramRefusal)
+    → result ≡ Err refusal → given ≡ Err refusal → HasOutcome old new result (answered tt outcome)
+    → HasOutcome old new given (answered answer outcome)
 gives_err old new result refusal given answer (Ok memory) err same gives = absurd (not_both result tt refusal gives.0 err)
 gives_err old new result refusal given answer (Err other) err same gives =
     (same ∙ ap (λ (e : ProgramRefusal). Err e) (same_error result refusal other err gives.0), gives.1)
 
 -- lines of which the first ones are too many are refused
-too_many : (memory : RegisterMap) (lines more : List Line) → curtain_of memory ≤ main_start + 320 → 2237 < length (packed lines) → written memory (lines ++ more) ≡ Err NoRoom
+too_many : (memory : RegisterMap) (lines more : List Line) → curtain_of memory ≤ main_start + 320 → 2237 < length (packed lines)
+    → written memory (lines ++ more) ≡ Err NoRoom
 too_many memory lines more small many =
     let less = packed-less lines more in
-    let above = no_room (length (packed (lines ++ more))) (length (packing (lines ++ more))) (omega (arith, many, less)) (sym (length-packing (lines ++ more))) in
+    let above =
+    no_room (length (packed (lines ++ more))) (length (packing (lines ++ more)))
+    (omega (arith, many, less)) (sym (length-packing (lines ++ more))) in
     written-none memory (lines ++ more) (omega (arith, small, above))
 
 -- where the lines begin that were loaded
-begins_there : (memory : RegisterMap) (packer : Packer) (lines more : List Line) (after : RegisterMap) (start : ℕ) → curtain_of memory ≤ main_start + 320 → Packs packer lines
-    → start ≡ length packer.bytes.items → written memory (lines ++ more) ≡ Ok after → start ≡ length (packed lines)
+begins_there : (memory : RegisterMap) (packer : Packer) (lines more : List Line) (after : RegisterMap) (start : ℕ)
+    → curtain_of memory ≤ main_start + 320 → Packs packer lines → start ≡ length packer.bytes.items
+    → written memory (lines ++ more) ≡ Ok after → start ≡ length (packed lines)
 begins_there memory packer lines more after start small packs is done = elim (cases_Bool packer.full) [
   | inl mark ↦ absurd (not_both (written memory (lines ++ more)) after NoRoom done (too_many memory lines more small (packs.full mark)))
   | inr room ↦ is ∙ ap length (packs.held room)
 ]
 
 -- lines that are written
-was_written : (old new : RegisterMap) (result : Result (Unit {0}) ProgramRefusal) (outcome : Result RegisterMap ProgramRefusal) → result ≡ Ok tt
-    → HasOutcome old new result (answered tt outcome) → (after : RegisterMap) × (outcome ≡ Ok after)
+was_written : (old new : RegisterMap) (result : Result (Unit {0}) ProgramRefusal) (outcome : Result RegisterMap ProgramRefusal)
+    → result ≡ Ok tt → HasOutcome old new result (answered tt outcome) → (after : RegisterMap) × (outcome ≡ Ok after)
 was_written old new result (Ok memory) ok gives = (memory, refl)
 was_written old new result (Err refusal) ok gives = absurd (not_both result tt refusal ok gives.0)
 
-gives_start : (old new : RegisterMap) (result : Result (Unit {0}) ProgramRefusal) (start place : ℕ) (outcome : Result RegisterMap ProgramRefusal) → result ≡ Ok tt
-    → ((after : RegisterMap) → outcome ≡ Ok after → start ≡ place)
-    → HasOutcome old new result (answered tt outcome) → HasOutcome old new (Ok start) (answered place outcome)
+gives_start : (old new : RegisterMap) (result : Result (Unit {0}) ProgramRefusal)
+    (start place : ℕ) (outcome : Result RegisterMap ProgramRefusal)
+    → result ≡ Ok tt → ((after : RegisterMap) → outcome ≡ Ok after → start ≡ place) → HasOutcome old new result (answered tt outcome)
+    → HasOutcome old new (Ok start) (answered place outcome)
 gives_start old new result start place (Ok memory) ok same gives = (ap (λ (n : ℕ). Ok n) (same memory refl), gives.1)
 gives_start old new result start place (Err refusal) ok same gives = absurd (not_both result tt refusal ok gives.0)
 
@@ -61,46 +70,60 @@ abbrev pub outcome_of : RegisterMap → Option (List ListedLine) → Option (Lis
 outcome_of memory None loaded = Err BrokenProgram
 outcome_of memory (Some lines) loaded = load_outcome memory lines loaded
 
-pub loads_behind : (memory : RegisterMap) (bytes : List ℕ) (before : Option (List ListedLine)) (given : List ListedLine) → Reads bytes (length bytes) 0 given
-    → LoadsBehind memory bytes before (outcome_of memory before (loaded_of bytes given))
+pub loads_behind : (memory : RegisterMap) (bytes : List ℕ) (before : Option (List ListedLine)) (given : List ListedLine)
+    → Reads bytes (length bytes) 0 given → LoadsBehind memory bytes before (outcome_of memory before (loaded_of bytes given))
 loads_behind memory bytes None given reads = refl
 loads_behind memory bytes (Some lines) given reads = (given, reads, refl)
 
 -- the list of memory does not reach .END.
-pub load_broken : (memory : RegisterMap) (bytes : List ℕ) (first : Result Packer ProgramRefusal) (before : Option (List ListedLine)) (refusal : ProgramRefusal) (answer : Result ℕ ProgramRefusal)
-    → MatchOption before (first ≡ Err BrokenProgram) (λ listed. IsOkAnd first (λ held. Packs held (lines_of listed))) → first ≡ Err refusal → answer ≡ Err refusal
-    → LoadsBehind memory bytes before (Err BrokenProgram) × (answer ≡ Err BrokenProgram)
-load_broken memory bytes first None refusal answer is err same = (refl, same ∙ ap (λ (e : ProgramRefusal). Err e) (same_error first refusal BrokenProgram err is))
+pub load_broken : (memory : RegisterMap) (bytes : List ℕ) (first : Result Packer ProgramRefusal)
+    (before : Option (List ListedLine)) (refusal : ProgramRefusal) (answer : Result ℕ ProgramRefusal)
+    → MatchOption before (first ≡ Err BrokenProgram) (λ listed. IsOkAnd first (λ held. Packs held (lines_of listed))) → first ≡ Err refusal
+    → answer ≡ Err refusal → LoadsBehind memory bytes before (Err BrokenProgram) × (answer ≡ Err BrokenProgram)
+load_broken memory bytes first None refusal answer is err same =
+    (refl, same ∙ ap (λ (e : ProgramRefusal). Err e) (same_error first refusal BrokenProgram err is))
 load_broken memory bytes first (Some listed) refusal answer is err same =
     absurd (subst (λ (r : Result Packer ProgramRefusal). IsOkAnd r (λ held. Packs held (lines_of listed))) err is)
 
 -- what is known of a load when the lines of memory were packed
-pub record Loading (before : Option (List ListedLine)) (loaded : Option (List Line)) (first : Result Packer ProgramRefusal) (packer closed_packer new : Packer) (put : Result (Unit {0}) ProgramRefusal) : Type 0 where
+pub record Loading (before : Option (List ListedLine)) (loaded : Option (List Line)) (first : Result Packer ProgramRefusal)
+    (packer closed_packer new : Packer) (put : Result (Unit {0}) ProgramRefusal) : Type 0 where
   pub program : MatchOption before (first ≡ Err BrokenProgram) (λ listed. IsOkAnd first (λ held. Packs held (lines_of listed)))
   pub begun : first ≡ Ok packer
   pub closes : (lines : List Line) → Packs packer lines → Packs closed_packer (closed lines)
-  pub puts : (front : List Line) → Packs closed_packer front → MatchOption loaded (put ≡ Err BrokenProgram) (λ lines. (put ≡ Ok tt) × Packs new (front ++ lines))
+  pub puts : (front : List Line) → Packs closed_packer front
+      → MatchOption loaded (put ≡ Err BrokenProgram) (λ lines. (put ≡ Ok tt) × Packs new (front ++ lines))
 
-module _ (memory after : RegisterMap) (first : Result Packer ProgramRefusal) (packer closed_packer new : Packer) (put : Result (Unit {0}) ProgramRefusal) where
-  packs_closed : (listed : List ListedLine) (loaded : Option (List Line)) → Loading (Some listed) loaded first packer closed_packer new put → Packs closed_packer (closed (lines_of listed))
+module _ (memory after : RegisterMap) (first : Result Packer ProgramRefusal)
+    (packer closed_packer new : Packer) (put : Result (Unit {0}) ProgramRefusal) where
+  packs_closed : (listed : List ListedLine) (loaded : Option (List Line)) → Loading (Some listed) loaded first packer closed_packer new put
+      → Packs closed_packer (closed (lines_of listed))
   packs_closed listed loaded is =
       let ok : IsOkAnd {E = ProgramRefusal} (Ok packer) (λ held. Packs held (lines_of listed)) =
       subst (λ (r : Result Packer ProgramRefusal). IsOkAnd r (λ held. Packs held (lines_of listed))) is.begun is.program in
       is.closes (lines_of listed) ok
 
   -- given bytes are refused
-  pub load_refused : (before : Option (List ListedLine)) (loaded : Option (List Line)) (refusal : ProgramRefusal) (answer : Result ℕ ProgramRefusal) → Loading before loaded first packer closed_packer new put
-      → put ≡ Err refusal → answer ≡ Err refusal → HasOutcome memory memory answer (outcome_of memory before loaded)
+  pub load_refused : (before : Option (List ListedLine)) (loaded : Option (List Line))
+      (refusal : ProgramRefusal) (answer : Result ℕ ProgramRefusal)
+      → Loading before loaded first packer closed_packer new put → put ≡ Err refusal → answer ≡ Err refusal
+      → HasOutcome memory memory answer (outcome_of memory before loaded)
   load_refused None loaded refusal answer is err same = absurd (not_both first packer BrokenProgram is.begun is.program)
-  load_refused (Some listed) None refusal answer is err same =
-      (same ∙ ap (λ (e : ProgramRefusal). Err e) (same_error put refusal BrokenProgram err (is.puts (closed (lines_of listed)) (packs_closed listed None is))), refl)
+  load_refused (Some listed) None refusal answer is err same = (
+    same
+        ∙ ap (λ (e : ProgramRefusal). Err e)
+        (same_error put refusal BrokenProgram err (is.puts (closed (lines_of listed)) (packs_closed listed None is))),
+    refl,
+  )
   load_refused (Some listed) (Some lines) refusal answer is err same =
       absurd (not_both put tt refusal (is.puts (closed (lines_of listed)) (packs_closed listed (Some lines) is)).0 err)
 
   -- the lines have no room
-  pub load_unwritten : (before : Option (List ListedLine)) (loaded : Option (List Line)) (wrote : Result (Unit {0}) ProgramRefusal) (refusal : ProgramRefusal) (answer : Result ℕ ProgramRefusal)
+  pub load_unwritten : (before : Option (List ListedLine)) (loaded : Option (List Line))
+      (wrote : Result (Unit {0}) ProgramRefusal) (refusal : ProgramRefusal) (answer : Result ℕ ProgramRefusal)
       → Loading before loaded first packer closed_packer new put → put ≡ Ok tt → wrote ≡ Err refusal → answer ≡ Err refusal
-      → ((lines : List Line) → Packs new lines → HasOutcome memory after wrote (answered tt (written memory lines))) → HasOutcome memory after answer (outcome_of memory before loaded)
+      → ((lines : List Line) → Packs new lines → HasOutcome memory after wrote (answered tt (written memory lines)))
+      → HasOutcome memory after answer (outcome_of memory before loaded)
   load_unwritten None loaded wrote refusal answer is ok err same writes = absurd (not_both first packer BrokenProgram is.begun is.program)
   load_unwritten (Some listed) None wrote refusal answer is ok err same writes =
       absurd (not_both put tt BrokenProgram ok (is.puts (closed (lines_of listed)) (packs_closed listed None is)))
@@ -110,20 +133,25 @@ module _ (memory after : RegisterMap) (first : Result Packer ProgramRefusal) (pa
       (writes (all ++ lines) (is.puts all (packs_closed listed (Some lines) is)).1)
 
   -- the lines were written
-  pub load_written : (before : Option (List ListedLine)) (loaded : Option (List Line)) (wrote : Result (Unit {0}) ProgramRefusal) (start : ℕ)
-      → Loading before loaded first packer closed_packer new put → put ≡ Ok tt → wrote ≡ Ok tt → start ≡ length closed_packer.bytes.items → curtain_of memory ≤ main_start + 320
-      → ((lines : List Line) → Packs new lines → HasOutcome memory after wrote (answered tt (written memory lines))) → HasOutcome memory after (Ok start) (outcome_of memory before loaded)
+  pub load_written : (before : Option (List ListedLine)) (loaded : Option (List Line))
+      (wrote : Result (Unit {0}) ProgramRefusal) (start : ℕ)
+      → Loading before loaded first packer closed_packer new put → put ≡ Ok tt → wrote ≡ Ok tt → start ≡ length closed_packer.bytes.items
+      → curtain_of memory ≤ main_start + 320
+      → ((lines : List Line) → Packs new lines → HasOutcome memory after wrote (answered tt (written memory lines)))
+      → HasOutcome memory after (Ok start) (outcome_of memory before loaded)
   load_written None loaded wrote start is ok done same small writes = absurd (not_both first packer BrokenProgram is.begun is.program)
   load_written (Some listed) None wrote start is ok done same small writes =
       absurd (not_both put tt BrokenProgram ok (is.puts (closed (lines_of listed)) (packs_closed listed None is)))
   load_written (Some listed) (Some lines) wrote start is ok done same small writes =
       let all = closed (lines_of listed) in
       gives_start memory after wrote start (length (packed all)) (written memory (all ++ lines)) done
-      (λ memory_after room. begins_there memory closed_packer all lines memory_after start small (packs_closed listed (Some lines) is) same room)
+      (λ memory_after room.
+      begins_there memory closed_packer all lines memory_after start small (packs_closed listed (Some lines) is) same room)
       (writes (all ++ lines) (is.puts all (packs_closed listed (Some lines) is)).1)
 
   pub load_bound : (before : Option (List ListedLine)) (loaded : Option (List Line)) (wrote : Result (Unit {0}) ProgramRefusal) (start : ℕ)
-      → Loading before loaded first packer closed_packer new put → put ≡ Ok tt → wrote ≡ Ok tt → start ≡ length closed_packer.bytes.items → curtain_of memory ≤ main_start + 320
+      → Loading before loaded first packer closed_packer new put → put ≡ Ok tt → wrote ≡ Ok tt → start ≡ length closed_packer.bytes.items
+      → curtain_of memory ≤ main_start + 320
       → ((lines : List Line) → Packs new lines → HasOutcome memory after wrote (answered tt (written memory lines))) → start ≤ 2237
   load_bound None loaded wrote start is ok done same small writes = absurd (not_both first packer BrokenProgram is.begun is.program)
   load_bound (Some listed) None wrote start is ok done same small writes =

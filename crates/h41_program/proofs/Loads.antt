@@ -1,5 +1,6 @@
 -- Lines that are loaded, of which the last may be dropped.
-use Rattle.std.proofs.Common.{◌≡◌, ℕ, ◌≤◌, Bool, true, false, List, [], ◌∷◌, ◌++◌, length, drop, refl, sym, ◌∙◌, ap, subst, arith, append_assoc, append-nil, Option, Some, None, Result, Ok, Err}
+use Rattle.std.proofs.Common.{◌≡◌, ℕ, ◌≤◌, Bool, true, false, List, [], ◌∷◌, ◌++◌, length, drop, refl, sym, ◌∙◌, ap, subst, arith}
+use Rattle.std.proofs.Common.{append_assoc, append-nil, Option, Some, None, Result, Ok, Err}
 use Rattle.std.specs.Prelude.{◌||◌, ◌==◌, if◌then◌else◌, MatchOption, IsOkAnd}
 use Rattle.std.specs.List.{list_all}
 use Rattle.h41_program.specs.declared.given.Taken.{Taken}
@@ -44,7 +45,8 @@ dropped_or true line = refl
 dropped_or false line = refl
 
 -- the last is no .END.
-pub without_end-kept : (lines : List Line) → ((line : Line) → last_line lines ≡ Some line → is_final_end line ≡ false) → without_end lines ≡ but_last lines ++ kept_option (last_line lines)
+pub without_end-kept : (lines : List Line) → ((line : Line) → last_line lines ≡ Some line → is_final_end line ≡ false)
+    → without_end lines ≡ but_last lines ++ kept_option (last_line lines)
 without_end-kept [] other = refl
 without_end-kept (line ∷ []) other = rw (other line refl) (kept_or (is_end line) line)
 without_end-kept (line ∷ next ∷ lines) other = ap (λ (l : List Line). line ∷ l) (without_end-kept (next ∷ lines) other)
@@ -55,7 +57,8 @@ without_end-final [] line final = rw final (dropped_or (is_end line) line)
 without_end-final (one ∷ []) line final = ap (λ (l : List Line). one ∷ l) (without_end-final [] line final)
 without_end-final (one ∷ next ∷ lines) line final = ap (λ (l : List Line). one ∷ l) (without_end-final (next ∷ lines) line final)
 
-pub lines_of-more : (before : List ListedLine) (listed : ListedLine) → lines_of (before ++ listed ∷ []) ≡ lines_of before ++ listed.line ∷ []
+pub lines_of-more : (before : List ListedLine) (listed : ListedLine)
+    → lines_of (before ++ listed ∷ []) ≡ lines_of before ++ listed.line ∷ []
 lines_of-more [] listed = refl
 lines_of-more (one ∷ before) listed = ap (λ (l : List Line). one.line ∷ l) (lines_of-more before listed)
 
@@ -74,21 +77,26 @@ pub record Loaded (bytes : List ℕ) (old new : Packer) (pending : Option Line) 
   pub packs : (front : List Line) → Packs old front → Packs new (front ++ but_last (lines_of before))
 
 -- the lines of memory are packed where .END. is met
-pub packed_lines : (bytes : List ℕ) (final at : ℕ) (before : List ListedLine) (listed : ListedLine) (packer : Packer) → UpTo bytes final 0 before at
-    → is_final_end listed.line ≡ true → Packs packer (lines_of before)
-    → MatchOption (before_end (before ++ listed ∷ [])) (◌≡◌ {A = Result Packer ProgramRefusal} (Ok packer) (Err BrokenProgram)) (λ each. IsOkAnd {E = ProgramRefusal} (Ok packer) (λ held. Packs held (lines_of each)))
+pub packed_lines : (bytes : List ℕ) (final at : ℕ) (before : List ListedLine) (listed : ListedLine) (packer : Packer)
+    → UpTo bytes final 0 before at → is_final_end listed.line ≡ true → Packs packer (lines_of before)
+    → MatchOption (before_end (before ++ listed ∷ [])) (◌≡◌ {A = Result Packer ProgramRefusal} (Ok packer) (Err BrokenProgram))
+    (λ each. IsOkAnd {E = ProgramRefusal} (Ok packer) (λ held. Packs held (lines_of each)))
 packed_lines bytes final at before listed packer upto last packs =
     let all = before_end-final bytes final 0 at before listed upto last in
-    subst (λ (o : Option (List ListedLine)). MatchOption o (◌≡◌ {A = Result Packer ProgramRefusal} (Ok packer) (Err BrokenProgram)) (λ each. IsOkAnd {E = ProgramRefusal} (Ok packer) (λ held. Packs held (lines_of each)))) (sym all) packs
+    subst (λ (o : Option (List ListedLine)). MatchOption o (◌≡◌ {A = Result Packer ProgramRefusal} (Ok packer) (Err BrokenProgram))
+    (λ each. IsOkAnd {E = ProgramRefusal} (Ok packer) (λ held. Packs held (lines_of each))))
+    (sym all) packs
 
 -- one more line is taken: the one that was pending is put
-pub loaded_more : (bytes : List ℕ) (old mid new : Packer) (pending : Option Line) (at : ℕ) (before : List ListedLine) (taken : Taken) → Loaded bytes old mid pending at before
-    → BytesHaveFirst bytes at taken → is_final_end taken.line ≡ false → ((front : List Line) → Packs mid front → Packs new (front ++ listed_option pending))
+pub loaded_more : (bytes : List ℕ) (old mid new : Packer) (pending : Option Line) (at : ℕ) (before : List ListedLine) (taken : Taken)
+    → Loaded bytes old mid pending at before → BytesHaveFirst bytes at taken → is_final_end taken.line ≡ false
+    → ((front : List Line) → Packs mid front → Packs new (front ++ listed_option pending))
     → Loaded bytes old new (Some taken.line) taken.behind (before ++ (record { position = taken.position; line = taken.line }) ∷ [])
 loaded_more bytes old mid new pending at before taken loaded is other puts =
     let listed : ListedLine = record { position = taken.position; line = taken.line } in
     let lines = lines_of before in
-    let again : but_last lines ++ listed_option pending ≡ lines = ap (λ (o : Option Line). but_last lines ++ listed_option o) loaded.last ∙ with_last lines in
+    let again : but_last lines ++ listed_option pending ≡ lines =
+    ap (λ (o : Option Line). but_last lines ++ listed_option o) loaded.last ∙ with_last lines in
     record {
       read = up_to_more bytes (length bytes) 0 at taken.behind before listed loaded.read is other;
       end = end_of_lines-more before listed ∙ sym is.behind;
@@ -99,12 +107,15 @@ loaded_more bytes old mid new pending at before taken loaded is other puts =
           (ap is_final_end (sym here) ∙ other, subst IsLine here is.first.begins.spells.valid);
       packs = λ front packs.
           let put = puts (front ++ but_last lines) (loaded.packs front packs) in
-          subst (λ (l : List Line). Packs new (front ++ l)) (sym (ap but_last (lines_of-more before listed) ∙ but_last-more lines taken.line))
-          (subst (λ (l : List Line). Packs new (front ++ l)) again (subst (λ (l : List Line). Packs new l) (append_assoc front (but_last lines) (listed_option pending)) put));
+          subst (λ (l : List Line). Packs new (front ++ l))
+          (sym (ap but_last (lines_of-more before listed) ∙ but_last-more lines taken.line))
+          (subst (λ (l : List Line). Packs new (front ++ l)) again
+          (subst (λ (l : List Line). Packs new l) (append_assoc front (but_last lines) (listed_option pending)) put));
     }
 
 -- what the bytes to be loaded have, by a test of what is left
-loaded_by : (bytes : List ℕ) (at : ℕ) (given : List ListedLine) (lines : List Line) → end_of_lines given ≡ at → without_end (lines_of given) ≡ lines
+loaded_by : (bytes : List ℕ) (at : ℕ) (given : List ListedLine) (lines : List Line) → end_of_lines given ≡ at
+    → without_end (lines_of given) ≡ lines
     → loaded_of bytes given ≡ (if list_all (λ byte. byte == 0) (drop at bytes) then Some lines else None)
 loaded_by bytes at given lines end same =
     ap (λ (n : ℕ). if list_all (λ byte. byte == 0) (drop n bytes) then Some (without_end (lines_of given)) else None) end
@@ -112,30 +123,38 @@ loaded_by bytes at given lines end same =
 
 -- the outcome of such a test
 pub tested : (b : Bool) (lines : List Line) (front : List Line) (new : Packer) → (b ≡ true → Packs new (front ++ lines))
-    → MatchOption (if b then Some lines else None) (◌≡◌ {A = Result (Unit {0}) ProgramRefusal} (if b then Ok tt else Err BrokenProgram) (Err BrokenProgram))
+    → MatchOption (if b then Some lines else None)
+    (◌≡◌ {A = Result (Unit {0}) ProgramRefusal} (if b then Ok tt else Err BrokenProgram) (Err BrokenProgram))
     (λ loaded. (◌≡◌ {A = Result (Unit {0}) ProgramRefusal} (if b then Ok tt else Err BrokenProgram) (Ok tt)) × Packs new (front ++ loaded))
 tested true lines front new packs = (refl, packs refl)
 tested false lines front new packs = refl
 
 -- .END. is met
-pub loaded_final : (bytes : List ℕ) (old mid new : Packer) (pending : Option Line) (at : ℕ) (before : List ListedLine) (taken : Taken) (front : List Line) → Loaded bytes old mid pending at before
-    → BytesHaveFirst bytes at taken → is_final_end taken.line ≡ true → ((front : List Line) → Packs mid front → Packs new (front ++ listed_option pending))
-    → Packs old front
-    → (loaded_of bytes (before ++ (record { position = taken.position; line = taken.line }) ∷ []) ≡ (if list_all (λ byte. byte == 0) (drop taken.behind bytes) then Some (lines_of before) else None)) × Packs new (front ++ lines_of before)
+pub loaded_final : (bytes : List ℕ) (old mid new : Packer) (pending : Option Line)
+    (at : ℕ) (before : List ListedLine) (taken : Taken) (front : List Line)
+    → Loaded bytes old mid pending at before → BytesHaveFirst bytes at taken → is_final_end taken.line ≡ true
+    → ((front : List Line) → Packs mid front → Packs new (front ++ listed_option pending)) → Packs old front
+    → (loaded_of bytes (before ++ (record { position = taken.position; line = taken.line }) ∷ [])
+    ≡ (if list_all (λ byte. byte == 0) (drop taken.behind bytes) then Some (lines_of before) else None))
+    × Packs new (front ++ lines_of before)
 loaded_final bytes old mid new pending at before taken front loaded is last puts packs =
     let listed : ListedLine = record { position = taken.position; line = taken.line } in
     let lines = lines_of before in
     let end = end_of_lines-more before listed ∙ sym is.behind in
     let same = ap without_end (lines_of-more before listed) ∙ without_end-final lines taken.line last in
-    let again : but_last lines ++ listed_option pending ≡ lines = ap (λ (o : Option Line). but_last lines ++ listed_option o) loaded.last ∙ with_last lines in
+    let again : but_last lines ++ listed_option pending ≡ lines =
+    ap (λ (o : Option Line). but_last lines ++ listed_option o) loaded.last ∙ with_last lines in
     let put = puts (front ++ but_last lines) (loaded.packs front packs) in (
       loaded_by bytes taken.behind (before ++ listed ∷ []) lines end same,
-      subst (λ (l : List Line). Packs new (front ++ l)) again (subst (λ (l : List Line). Packs new l) (append_assoc front (but_last lines) (listed_option pending)) put),
+      subst (λ (l : List Line). Packs new (front ++ l)) again
+          (subst (λ (l : List Line). Packs new l) (append_assoc front (but_last lines) (listed_option pending)) put),
     )
 
 -- no more line is met
-pub loaded_none : (bytes : List ℕ) (old mid : Packer) (pending : Option Line) (at : ℕ) (before : List ListedLine) → Loaded bytes old mid pending at before
-    → loaded_of bytes before ≡ (if list_all (λ byte. byte == 0) (drop at bytes) then Some (but_last (lines_of before) ++ kept_option pending) else None)
+pub loaded_none : (bytes : List ℕ) (old mid : Packer) (pending : Option Line) (at : ℕ) (before : List ListedLine)
+    → Loaded bytes old mid pending at before
+    → loaded_of bytes before
+    ≡ (if list_all (λ byte. byte == 0) (drop at bytes) then Some (but_last (lines_of before) ++ kept_option pending) else None)
 loaded_none bytes old mid pending at before loaded =
     let lines = lines_of before in
     let same = without_end-kept lines (λ line is. (loaded.line line (loaded.last ∙ is)).0)

@@ -1,5 +1,6 @@
 -- The lines of sound memory.
-use Rattle.std.proofs.Common.{◌≡◌, ◌≢◌, ℕ, ◌+◌, ◌-◌, ◌<◌, ◌≤◌, true, List, map, min, length, take, drop, get_or, sym, ◌∙◌, ap, subst, arith, inl, inr, Result, Ok, Err}
+use Rattle.std.proofs.Common.{◌≡◌, ◌≢◌, ℕ, ◌+◌, ◌-◌, ◌<◌, ◌≤◌, true, List, map, min, length, take, drop, get_or, sym, ◌∙◌, ap, subst, arith}
+use Rattle.std.proofs.Common.{inl, inr, Result, Ok, Err}
 use Rattle.std.specs.Prelude.{slice_range}
 use Rattle.std.specs.List.{range_with_len}
 use Rattle.std.proofs.lemmas.List.FromFn.{get_or-map-range_with_len, length-map-range_with_len, take-map-range_with_len}
@@ -17,12 +18,14 @@ use Rattle.h41_program.proofs.Sound.{final_byte}
 use Rattle.h41_program.proofs.Windows.{drop-map-range, take-window, begins_count, begins_least, begins_in, begins_out}
 
 -- the bytes that are looked at
-pub window_bytes : (f : ℕ → ℕ) (n final p limit : ℕ) → n ≡ final + 3 → p ≤ final → (p < final → limit ≡ final) → (p ≡ final → limit ≡ final + 3)
+pub window_bytes : (f : ℕ → ℕ) (n final p limit : ℕ) → n ≡ final + 3 → p ≤ final → (p < final → limit ≡ final)
+    → (p ≡ final → limit ≡ final + 3)
     → take 18 (line_bytes (map f (range_with_len 0 n)) final p) ≡ map f (range_with_len p (min 18 (limit - p)))
 window_bytes f n final p limit count inside below last = elim (cases_lt p final) [
   | inl before ↦
       let size : final - p ≡ limit - p = ap (λ m. m - p) (sym (below before)) in
-      ap (take 18) (line_bytes-below (map f (range_with_len 0 n)) final p before ∙ ap (take (final - p)) (drop-map-range f n p (omega arith))
+      ap (take 18)
+      (line_bytes-below (map f (range_with_len 0 n)) final p before ∙ ap (take (final - p)) (drop-map-range f n p (omega arith))
       ∙ take-map-range_with_len f p (n - p) (final - p) (omega arith))
       ∙ take-window f p (final - p) ∙ ap (λ m. map f (range_with_len p (min 18 m))) size
   | inr above ↦
@@ -50,31 +53,36 @@ passed_nulls memory at p count from to nulls stop = record {
 }
 
 -- the byte behind them is no null, since .END. ends memory
-pub stops_there : (memory : RegisterMap) (p : ℕ) → is_sound memory ≡ true → final_position memory + 3 ≡ byte_count memory → p ≤ final_position memory
-    → (p < final_position memory → program_byte memory p ≢ 0) → get_or (program_bytes memory) p 0 ≢ 0
+pub stops_there : (memory : RegisterMap) (p : ℕ) → is_sound memory ≡ true → final_position memory + 3 ≡ byte_count memory
+    → p ≤ final_position memory → (p < final_position memory → program_byte memory p ≢ 0) → get_or (program_bytes memory) p 0 ≢ 0
 stops_there memory p sound count to stop = λ null. elim (cases_lt p (final_position memory)) [
   | inl before ↦ stop before (sym (byte_there memory p (omega (arith, count, to))) ∙ null)
   | inr above ↦
       let same : p ≡ final_position memory = omega (arith, above, to) in
-      let here : program_byte memory (final_position memory) ≡ 0 = ap (program_byte memory) (sym same) ∙ sym (byte_there memory p (omega (arith, count, to))) ∙ null in
+      let here : program_byte memory (final_position memory) ≡ 0 =
+      ap (program_byte memory) (sym same) ∙ sym (byte_there memory p (omega (arith, count, to))) ∙ null in
       let high = final_byte memory sound in
       absurd (omega (arith, here, high))
 ]
 
 -- a line takes no more bytes than there are
-line_takes : (bytes : List ℕ) (final p : ℕ) (line : Line) (size : ℕ) → p ≤ final → final ≤ length bytes → Begins (line_bytes bytes final p) line size → p + size ≤ length bytes
+line_takes : (bytes : List ℕ) (final p : ℕ) (line : Line) (size : ℕ) → p ≤ final → final ≤ length bytes
+    → Begins (line_bytes bytes final p) line size → p + size ≤ length bytes
 line_takes bytes final p line size inside all begins = elim (cases_lt p final) [
   | inl before ↦
-      let taken : size ≤ length (slice_range bytes p final) = subst (λ (rest : List ℕ). size ≤ length rest) (line_bytes-below bytes final p before) begins.inside in
+      let taken : size ≤ length (slice_range bytes p final) =
+      subst (λ (rest : List ℕ). size ≤ length rest) (line_bytes-below bytes final p before) begins.inside in
       omega (arith, taken, length-take (final - p) (drop p bytes), length-drop p bytes)
   | inr above ↦
       let same : p ≡ final = omega arith in
-      let taken : size ≤ length (drop final bytes) = subst (λ (rest : List ℕ). size ≤ length rest) (ap (line_bytes bytes final) same ∙ line_bytes-at bytes final) begins.inside in
+      let taken : size ≤ length (drop final bytes) =
+      subst (λ (rest : List ℕ). size ≤ length rest) (ap (line_bytes bytes final) same ∙ line_bytes-at bytes final) begins.inside in
       omega (arith, taken, length-drop final bytes)
 ]
 
 -- an answer tells one line
-pub ok_line : {E : Type 0} (one other : Line) (size count : ℕ) → ◌≡◌ {A = Result (Line × ℕ) E} (Ok (one, size)) (Ok (other, count)) → one ≡ other
+pub ok_line : {E : Type 0} (one other : Line) (size count : ℕ) → ◌≡◌ {A = Result (Line × ℕ) E} (Ok (one, size)) (Ok (other, count))
+    → one ≡ other
 ok_line one other size count same =
     let pair : (one, size) ≡ (other, count) = cc in
     ap (λ (answer : Line × ℕ). answer.0) pair
@@ -83,7 +91,8 @@ pub no_error : {E : Type 0} (answer : Line × ℕ) (error : E) → ◌≡◌ {A 
 no_error answer error same = cc
 
 -- a line that was decoded is the first one
-module _ {E : Type 0} (one : OneLine) (memory : RegisterMap) (sound : is_sound memory ≡ true) (count : final_position memory + 3 ≡ byte_count memory)
+module _ {E : Type 0} (one : OneLine) (memory : RegisterMap)
+    (sound : is_sound memory ≡ true) (count : final_position memory + 3 ≡ byte_count memory)
     (at p : ℕ) (passed : Passed (program_bytes memory) (final_position memory) at p) (other : get_or (program_bytes memory) p 0 ≢ 0)
     (window : List ℕ) (same : take 18 (line_bytes (program_bytes memory) (final_position memory) p) ≡ window)
     (result : Result (Line × ℕ) E) (answer : AnswersLine result window) where
@@ -94,13 +103,16 @@ module _ {E : Type 0} (one : OneLine) (memory : RegisterMap) (sound : is_sound m
   decoded line size is =
       begins_out taken line size (subst (λ (bytes : List ℕ). Begins bytes line size) (sym same) ((answer line size).0 is))
 
-  pub decoded_other : (first : ListedLine) → FirstFrom (program_bytes memory) (final_position memory) at first → result ≡ Ok (first.line, length (spelling first.line))
+  pub decoded_other : (first : ListedLine) → FirstFrom (program_bytes memory) (final_position memory) at first
+      → result ≡ Ok (first.line, length (spelling first.line))
   decoded_other first is =
       let here = stands_there one (program_bytes memory) (final_position memory) at p passed first is in
       let begins : Begins taken first.line (length (spelling first.line)) =
-      subst (λ (n : ℕ). Begins (line_bytes (program_bytes memory) (final_position memory) n) first.line (length (spelling first.line))) here is.begins in
+      subst (λ (n : ℕ). Begins (line_bytes (program_bytes memory) (final_position memory) n) first.line (length (spelling first.line)))
+      here is.begins in
       (answer first.line (length (spelling first.line))).1
-      (subst (λ (bytes : List ℕ). Begins bytes first.line (length (spelling first.line))) same (begins_in taken first.line (length (spelling first.line)) begins))
+      (subst (λ (bytes : List ℕ). Begins bytes first.line (length (spelling first.line)))
+      same (begins_in taken first.line (length (spelling first.line)) begins))
 
   line_inside : (line : Line) (size : ℕ) → Begins taken line size → p + size ≤ length (program_bytes memory)
   line_inside line size begins = line_takes (program_bytes memory) (final_position memory) p line size passed.to passed.inside begins

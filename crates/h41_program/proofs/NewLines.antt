@@ -1,5 +1,6 @@
 -- The new line of a changed list: as many lines stand before it as stood before its place.
-use Rattle.std.proofs.Common.{◌≡◌, ℕ, zero, suc, ◌<◌, ◌≤◌, Bool, true, false, List, [], ◌∷◌, ◌++◌, refl, sym, ◌∙◌, ap, subst, arith, inl, inr, Some}
+use Rattle.std.proofs.Common.{◌≡◌, ℕ, zero, suc, ◌<◌, ◌≤◌, Bool, true, false, List, [], ◌∷◌, ◌++◌, refl, sym, ◌∙◌, ap, subst, arith, inl}
+use Rattle.std.proofs.Common.{inr, Some}
 use Rattle.std.specs.Prelude.{◌==◌, ◌||◌, slice_get}
 use Rattle.std.specs.List.{flat_map}
 use Rattle.std.proofs.lemmas.Bool.{cases_Bool, true≢false}
@@ -25,7 +26,8 @@ abbrev pub Begins : ℕ → Line → (ListedLine → List Line) → Type 0
 Begins place line change = (listed : ListedLine) → (listed.position == place) ≡ true → (rest : List Line) × (change listed ≡ line ∷ rest)
 
 abbrev pub Keeps : ℕ → (ListedLine → List Line) → Type 0
-Keeps place change = (listed : ListedLine) → (listed.position == place) ≡ false → is_final_end listed.line ≡ false → change listed ≡ listed.line ∷ []
+Keeps place change =
+    (listed : ListedLine) → (listed.position == place) ≡ false → is_final_end listed.line ≡ false → change listed ≡ listed.line ∷ []
 
 pub inserted_begins : (line : Line) (place : ℕ) → Begins place line (with_inserted line place)
 inserted_begins line place listed here = (own_line listed, rw here refl)
@@ -40,7 +42,8 @@ pub replaced_keeps : (line : Line) (place : ℕ) → Keeps place (with_replaced 
 replaced_keeps line place listed other running = rw (other, running) refl
 
 module _ (bytes : List ℕ) (final place : ℕ) where
-  in_rest : (first : ListedLine) (rest : List ListedLine) → has_line_at place (first ∷ rest) ≡ true → (first.position == place) ≡ false → has_line_at place rest ≡ true
+  in_rest : (first : ListedLine) (rest : List ListedLine) → has_line_at place (first ∷ rest) ≡ true → (first.position == place) ≡ false
+      → has_line_at place rest ≡ true
   in_rest first rest has other = subst (λ (b : Bool). (b || has_line_at place rest) ≡ true) other has
 
   not_none : (rest : List ListedLine) → rest ≡ [] → has_line_at place rest ≡ true → ⊥
@@ -54,24 +57,34 @@ module _ (bytes : List ℕ) (final place : ℕ) where
       elim (cases_Bool (first.position == place)) [
         | inl here ↦ let same = same_of first.position place here in omega (arith, from, same)
         | inr other ↦ elim (cases_Bool (is_final_end first.line)) [
-          | inl last ↦ absurd (not_none rest (last_rest bytes final (behind first) (is_final_end first.line) rest last reads.1) (in_rest first rest has other))
+          | inl last ↦
+              absurd (not_none rest (last_rest bytes final (behind first) (is_final_end first.line) rest last reads.1)
+              (in_rest first rest has other))
           | inr running ↦
-              let onward = has_from (behind first) rest (more_rest bytes final (behind first) (is_final_end first.line) rest running reads.1) (in_rest first rest has other) in
+              let onward =
+              has_from (behind first) rest (more_rest bytes final (behind first) (is_final_end first.line) rest running reads.1)
+              (in_rest first rest has other) in
               omega (arith, from, onward)
         ]
       ]
 
   -- the new line has as many lines before it
-  pub new_there : (line : Line) (change : ListedLine → List Line) → Begins place line change → Keeps place change → (at : ℕ) (lines : List ListedLine)
-      → Reads bytes final at lines → has_line_at place lines ≡ true → slice_get (flat_map change lines) (count_before place lines) ≡ Some line
+  pub new_there : (line : Line) (change : ListedLine → List Line) → Begins place line change → Keeps place change
+      → (at : ℕ) (lines : List ListedLine) → Reads bytes final at lines → has_line_at place lines ≡ true
+      → slice_get (flat_map change lines) (count_before place lines) ≡ Some line
   new_there line change begins keeps at [] reads has = absurd (not_none [] refl has)
   new_there line change begins keeps at (first ∷ rest) reads has = elim (cases_Bool (first.position == place)) [
     | inl here ↦
         let same = same_of first.position place here in
-        let none = none_before bytes final place first.position (first ∷ rest) (λ next is. let from = is.from in omega (arith, same, from)) (own_reads bytes final at first rest reads) in
-        ap (slice_get (flat_map change (first ∷ rest))) none ∙ ap (λ (l : List Line). slice_get (l ++ flat_map change rest) 0) (begins first here).1
+        let none =
+        none_before bytes final place first.position (first ∷ rest)
+        (λ next is. let from = is.from in omega (arith, same, from)) (own_reads bytes final at first rest reads) in
+        ap (slice_get (flat_map change (first ∷ rest))) none
+        ∙ ap (λ (l : List Line). slice_get (l ++ flat_map change rest) 0) (begins first here).1
     | inr other ↦ elim (cases_Bool (is_final_end first.line)) [
-      | inl last ↦ absurd (not_none rest (last_rest bytes final (behind first) (is_final_end first.line) rest last reads.1) (in_rest first rest has other))
+      | inl last ↦
+          absurd
+          (not_none rest (last_rest bytes final (behind first) (is_final_end first.line) rest last reads.1) (in_rest first rest has other))
       | inr running ↦
           let more = more_rest bytes final (behind first) (is_final_end first.line) rest running reads.1 in
           let onward = has_from (behind first) rest more (in_rest first rest has other) in
@@ -85,14 +98,16 @@ module _ (bytes : List ℕ) (final place : ℕ) where
 
 -- a line of the list stands at its own position
 module _ (bytes : List ℕ) (final : ℕ) where
-  pub get_first : (at : ℕ) (lines : List ListedLine) (count : ℕ) (found : ListedLine) → Reads bytes final at lines → slice_get lines count ≡ Some found
-      → FirstFrom bytes final found.position found
+  pub get_first : (at : ℕ) (lines : List ListedLine) (count : ℕ) (found : ListedLine) → Reads bytes final at lines
+      → slice_get lines count ≡ Some found → FirstFrom bytes final found.position found
   get_first at [] count found reads is = absurd (none-some found is)
   get_first at (first ∷ rest) zero found reads is =
-      subst (λ (l : ListedLine). FirstFrom bytes final l.position l) (same_Some first found is) (own_reads bytes final at first rest reads).0
+      subst (λ (l : ListedLine). FirstFrom bytes final l.position l)
+      (same_Some first found is) (own_reads bytes final at first rest reads).0
   get_first at (first ∷ rest) (suc count) found reads is = elim (cases_Bool (is_final_end first.line)) [
     | inl last ↦
         let none = last_rest bytes final (behind first) (is_final_end first.line) rest last reads.1 in
         absurd (none-some found (sym (ap (λ (l : List ListedLine). slice_get l count) none) ∙ is))
-    | inr running ↦ get_first (behind first) rest count found (more_rest bytes final (behind first) (is_final_end first.line) rest running reads.1) is
+    | inr running ↦
+        get_first (behind first) rest count found (more_rest bytes final (behind first) (is_final_end first.line) rest running reads.1) is
   ]

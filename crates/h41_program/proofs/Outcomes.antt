@@ -1,5 +1,6 @@
 -- What calls leave is sound, and is read again.
-use Rattle.std.proofs.Common.{◌∙◌, ◌≡◌, ℕ, Bool, true, false, List, [], ◌++◌, length, drop, All, refl, sym, ap, subst, inl, inr, Option, Some, None, Result, Ok, Err}
+use Rattle.std.proofs.Common.{◌∙◌, ◌≡◌, ℕ, Bool, true, false, List, [], ◌++◌, length, drop, All, refl, sym, ap, subst, inl, inr, Option}
+use Rattle.std.proofs.Common.{Some, None, Result, Ok, Err}
 use Rattle.std.specs.Prelude.{◌==◌, ◌&&◌, is_some, OnOk, if◌then◌else◌}
 use Rattle.std.specs.List.{flat_map, list_all}
 use Rattle.std.proofs.lemmas.Bool.{cases_Bool}
@@ -10,7 +11,8 @@ use Rattle.h41_ram.specs.RegisterMap.{RegisterMap, is_sound}
 use Rattle.h41_program.specs.declared.listed_line.ListedLine.{ListedLine}
 use Rattle.h41_program.specs.declared.refusal.ProgramRefusal.{ProgramRefusal}
 use Rattle.h41_program.specs.declared.refusal.ProgramRefusal.TheVariants.{BrokenProgram}
-use Rattle.h41_program.specs.Edits.{lines_of, before_end, closed, answered, changed_outcome, edit_outcome, end_of_lines, has_line_at, LeavesChanged, load_outcome, loaded_of, without_end, Edits, Loads, LoadsBehind}
+use Rattle.h41_program.specs.Edits.{lines_of, before_end, closed, answered, changed_outcome, edit_outcome, end_of_lines, has_line_at}
+use Rattle.h41_program.specs.Edits.{LeavesChanged, load_outcome, loaded_of, without_end, Edits, Loads, LoadsBehind}
 use Rattle.h41_program.specs.Packing.{packed}
 use Rattle.h41_program.specs.ProgramBytes.{program_bytes, final_position}
 use Rattle.h41_program.specs.ProgramLaws.{IsInner, HasLines, LeavesLoaded, LoadIsRead}
@@ -25,13 +27,16 @@ refused_sound : {A : Type 0} (old new : RegisterMap) (result : Result A ProgramR
     → HasOutcome old new result (Err refusal) → is_sound new ≡ true
 refused_sound old new result refusal sound has = subst (λ (m : RegisterMap). is_sound m ≡ true) (sym has.1) sound
 
-answered_sound : {A : Type 0} (old new : RegisterMap) (result : Result A ProgramRefusal) (answer : A) (outcome : Result RegisterMap ProgramRefusal) → is_sound old ≡ true
-    → ((m : RegisterMap) → outcome ≡ Ok m → is_sound m ≡ true) → HasOutcome old new result (answered answer outcome) → is_sound new ≡ true
-answered_sound old new result answer (Ok memory) sound each has = subst (λ (m : RegisterMap). is_sound m ≡ true) (sym has.1) (each memory refl)
+answered_sound : {A : Type 0} (old new : RegisterMap) (result : Result A ProgramRefusal)
+    (answer : A) (outcome : Result RegisterMap ProgramRefusal)
+    → is_sound old ≡ true → ((m : RegisterMap) → outcome ≡ Ok m → is_sound m ≡ true) → HasOutcome old new result (answered answer outcome)
+    → is_sound new ≡ true
+answered_sound old new result answer (Ok memory) sound each has =
+    subst (λ (m : RegisterMap). is_sound m ≡ true) (sym has.1) (each memory refl)
 answered_sound old new result answer (Err refusal) sound each has = refused_sound old new result refusal sound has
 
-pub written_outcome : {A : Type 0} (old new : RegisterMap) (result : Result A ProgramRefusal) (answer : A) (lines : List Line) → is_sound old ≡ true
-    → HasOutcome old new result (answered answer (written old lines)) → is_sound new ≡ true
+pub written_outcome : {A : Type 0} (old new : RegisterMap) (result : Result A ProgramRefusal) (answer : A) (lines : List Line)
+    → is_sound old ≡ true → HasOutcome old new result (answered answer (written old lines)) → is_sound new ≡ true
 written_outcome old new result answer lines sound has =
     answered_sound old new result answer (written old lines) sound (λ m done. written_sound old m lines sound done) has
 
@@ -41,46 +46,55 @@ changed_sound : (b : Bool) (old new : RegisterMap) (result : Result (Unit {0}) P
 changed_sound true old new result lines sound has = written_outcome old new result tt lines sound has
 changed_sound false old new result lines sound has = refused_sound old new result BrokenProgram sound has
 
-pub edit_sound : (old new : RegisterMap) (change : ℕ → ListedLine → List Line) (at : ℕ) (result : Result (Unit {0}) ProgramRefusal) → is_sound old ≡ true
-    → Edits old new change at result → is_sound new ≡ true
+pub edit_sound : (old new : RegisterMap) (change : ℕ → ListedLine → List Line) (at : ℕ) (result : Result (Unit {0}) ProgramRefusal)
+    → is_sound old ≡ true → Edits old new change at result → is_sound new ≡ true
 edit_sound old new change at result sound edits = elim edits.1 [
   | inl edit ↦
       let has : HasOutcome old new result (edit_outcome old (change edit.0.position) edit.0.position edit.2.0) =
       subst (λ (outcome : Result (RegisterMap × Unit {0}) ProgramRefusal). HasOutcome old new result outcome) edit.2.2 edits.2 in
-      changed_sound (is_some (before_end edit.2.0) && has_line_at edit.0.position edit.2.0) old new result (flat_map (change edit.0.position) edit.2.0) sound has
+      changed_sound (is_some (before_end edit.2.0) && has_line_at edit.0.position edit.2.0)
+      old new result (flat_map (change edit.0.position) edit.2.0) sound has
   | inr none ↦
       refused_sound old new result BrokenProgram sound
       (subst (λ (outcome : Result (RegisterMap × Unit {0}) ProgramRefusal). HasOutcome old new result outcome) none.1 edits.2)
 ]
 
 -- a load
-loaded_sound : (old new : RegisterMap) (lines : List ListedLine) (loaded : Option (List Line)) (result : Result ℕ ProgramRefusal) → is_sound old ≡ true
-    → HasOutcome old new result (load_outcome old lines loaded) → is_sound new ≡ true
+loaded_sound : (old new : RegisterMap) (lines : List ListedLine) (loaded : Option (List Line)) (result : Result ℕ ProgramRefusal)
+    → is_sound old ≡ true → HasOutcome old new result (load_outcome old lines loaded) → is_sound new ≡ true
 loaded_sound old new lines None result sound has = refused_sound old new result BrokenProgram sound has
 loaded_sound old new lines (Some loaded) result sound has =
     written_outcome old new result (length (packed (closed (lines_of lines)))) (closed (lines_of lines) ++ loaded) sound has
 
-behind_sound : (old new : RegisterMap) (bytes : List ℕ) (before : Option (List ListedLine)) (outcome : Result (RegisterMap × ℕ) ProgramRefusal) (result : Result ℕ ProgramRefusal)
+behind_sound : (old new : RegisterMap) (bytes : List ℕ) (before : Option (List ListedLine))
+    (outcome : Result (RegisterMap × ℕ) ProgramRefusal) (result : Result ℕ ProgramRefusal)
     → is_sound old ≡ true → LoadsBehind old bytes before outcome → HasOutcome old new result outcome → is_sound new ≡ true
 behind_sound old new bytes None outcome result sound loads has =
-    refused_sound old new result BrokenProgram sound (subst (λ (o : Result (RegisterMap × ℕ) ProgramRefusal). HasOutcome old new result o) loads has)
+    refused_sound old new result BrokenProgram sound
+    (subst (λ (o : Result (RegisterMap × ℕ) ProgramRefusal). HasOutcome old new result o) loads has)
 behind_sound old new bytes (Some lines) outcome result sound loads has =
-    loaded_sound old new lines (loaded_of bytes loads.0) result sound (subst (λ (o : Result (RegisterMap × ℕ) ProgramRefusal). HasOutcome old new result o) loads.2 has)
+    loaded_sound old new lines (loaded_of bytes loads.0) result sound
+    (subst (λ (o : Result (RegisterMap × ℕ) ProgramRefusal). HasOutcome old new result o) loads.2 has)
 
-pub load_sound : (old new : RegisterMap) (bytes : List ℕ) (result : Result ℕ ProgramRefusal) → is_sound old ≡ true → Loads old new bytes result → is_sound new ≡ true
+pub load_sound : (old new : RegisterMap) (bytes : List ℕ) (result : Result ℕ ProgramRefusal) → is_sound old ≡ true
+    → Loads old new bytes result → is_sound new ≡ true
 load_sound old new bytes result sound loads = behind_sound old new bytes (before_end loads.1.0) loads.0 result sound loads.1.2 loads.2
 
 -- what a load leaves
-refused_is_not_done : (new : RegisterMap) (start : ℕ) (refusal : ProgramRefusal) → ◌≡◌ {A = Result (RegisterMap × ℕ) ProgramRefusal} (Ok (new, start)) (Err refusal) → ⊥
+refused_is_not_done : (new : RegisterMap) (start : ℕ) (refusal : ProgramRefusal)
+    → ◌≡◌ {A = Result (RegisterMap × ℕ) ProgramRefusal} (Ok (new, start)) (Err refusal) → ⊥
 refused_is_not_done new start refusal same = cc
 
-pair_of : (new other : RegisterMap) (start begin : ℕ) → ◌≡◌ {A = Result (RegisterMap × ℕ) ProgramRefusal} (Ok (new, start)) (Ok (other, begin)) → (other ≡ new) × (begin ≡ start)
+pair_of : (new other : RegisterMap) (start begin : ℕ)
+    → ◌≡◌ {A = Result (RegisterMap × ℕ) ProgramRefusal} (Ok (new, start)) (Ok (other, begin)) → (other ≡ new) × (begin ≡ start)
 pair_of new other start begin same =
     let pair : (other, begin) ≡ (new, start) = cc in
     (ap (λ (p : RegisterMap × ℕ). p.0) pair, ap (λ (p : RegisterMap × ℕ). p.1) pair)
 
-was_written : (new : RegisterMap) (start answer : ℕ) (outcome : Result RegisterMap ProgramRefusal) → Ok (new, start) ≡ answered answer outcome → (outcome ≡ Ok new) × (answer ≡ start)
-was_written new start answer (Ok memory) same = let both = pair_of new memory start answer same in (ap (λ (m : RegisterMap). Ok m) both.0, both.1)
+was_written : (new : RegisterMap) (start answer : ℕ) (outcome : Result RegisterMap ProgramRefusal)
+    → Ok (new, start) ≡ answered answer outcome → (outcome ≡ Ok new) × (answer ≡ start)
+was_written new start answer (Ok memory) same =
+    let both = pair_of new memory start answer same in (ap (λ (m : RegisterMap). Ok m) both.0, both.1)
 was_written new start answer (Err refusal) same = absurd (refused_is_not_done new start refusal same)
 
 -- lines that bytes have to be loaded are inner
@@ -88,21 +102,24 @@ tested : (b : Bool) (lines loaded : List Line) → (if b then Some lines else No
 tested true lines loaded same = same_Some lines loaded same
 tested false lines loaded same = absurd (none-some loaded same)
 
-inner_of : (bytes : List ℕ) (given : List ListedLine) (loaded : List Line) → Reads bytes (length bytes) 0 given → loaded_of bytes given ≡ Some loaded → All IsInner loaded
+inner_of : (bytes : List ℕ) (given : List ListedLine) (loaded : List Line) → Reads bytes (length bytes) 0 given
+    → loaded_of bytes given ≡ Some loaded → All IsInner loaded
 inner_of bytes given loaded reads taken =
     subst (λ (lines : List Line). All IsInner lines)
     (tested (list_all (λ byte. byte == 0) (drop (end_of_lines given) bytes)) (without_end (lines_of given)) loaded taken)
     (loaded_inner bytes (length bytes) 0 given reads)
 
 module _ (again : ByteRoundTrip) (memory new : RegisterMap) (bytes : List ℕ) (start : ℕ) (sound : is_sound memory ≡ true) where
-  leaves_joined : (lines before given : List ListedLine) (loaded : Option (List Line)) → LinesFrom memory 0 lines → before_end lines ≡ Some before → Reads bytes (length bytes) 0 given
-      → loaded_of bytes given ≡ loaded → Ok (new, start) ≡ load_outcome memory before loaded → LeavesLoaded memory bytes new start
+  leaves_joined : (lines before given : List ListedLine) (loaded : Option (List Line)) → LinesFrom memory 0 lines
+      → before_end lines ≡ Some before → Reads bytes (length bytes) 0 given → loaded_of bytes given ≡ loaded
+      → Ok (new, start) ≡ load_outcome memory before loaded → LeavesLoaded memory bytes new start
   leaves_joined lines before given None from own reads taken same = absurd (refused_is_not_done new start BrokenProgram same)
   leaves_joined lines before given (Some loaded) from own reads taken same =
       let front = closed (lines_of before) in
       let done = was_written new start (length (packed front)) (written memory (front ++ loaded)) same in
       let inner = inner_of bytes given loaded reads taken in
-      let own_inner = closed_inner (lines_of before) (before_inner (program_bytes memory) (final_position memory) 0 lines before (from.sound sound) own) in
+      let own_inner =
+      closed_inner (lines_of before) (before_inner (program_bytes memory) (final_position memory) 0 lines before (from.sound sound) own) in
       record {
         lines = lines;
         before = before;
@@ -119,7 +136,8 @@ module _ (again : ByteRoundTrip) (memory new : RegisterMap) (bytes : List ℕ) (
   leaves_behind : (lines : List ListedLine) (before : Option (List ListedLine)) → LinesFrom memory 0 lines → before_end lines ≡ before
       → LoadsBehind memory bytes before (Ok (new, start)) → LeavesLoaded memory bytes new start
   leaves_behind lines None from own loads = absurd (refused_is_not_done new start BrokenProgram loads)
-  leaves_behind lines (Some before) from own loads = leaves_joined lines before loads.0 (loaded_of bytes loads.0) from own loads.1 refl loads.2
+  leaves_behind lines (Some before) from own loads =
+      leaves_joined lines before loads.0 (loaded_of bytes loads.0) from own loads.1 refl loads.2
 
 -- memory that is not sound takes no load
 lost_end : (lines : List ListedLine) → lines ≡ [] → before_end lines ≡ None
@@ -130,31 +148,39 @@ load_read again memory new bytes start loads = elim (cases_Bool (is_sound memory
   | inl sound ↦ leaves_behind again memory new bytes start sound loads.0 (before_end loads.0) loads.1 refl loads.2
   | inr lost ↦
       let refused : Ok (new, start) ≡ Err BrokenProgram =
-      subst (λ (before : Option (List ListedLine)). LoadsBehind memory bytes before (Ok (new, start))) (lost_end loads.0 (loads.1.lost lost)) loads.2 in
+      subst (λ (before : Option (List ListedLine)). LoadsBehind memory bytes before (Ok (new, start)))
+      (lost_end loads.0 (loads.1.lost lost)) loads.2 in
       absurd (refused_is_not_done new start BrokenProgram refused)
 ]
 
 -- what an edit leaves
-written_reads : ByteRoundTrip → (old left : RegisterMap) (result : Result (Unit {0}) ProgramRefusal) (lines : List Line) (outcome : Result RegisterMap ProgramRefusal)
-    → is_sound old ≡ true → All IsInner lines → written old lines ≡ outcome → HasOutcome old left result (answered tt outcome) → OnOk result (HasLines left 0 lines)
+written_reads : ByteRoundTrip
+    → (old left : RegisterMap) (result : Result (Unit {0}) ProgramRefusal) (lines : List Line) (outcome : Result RegisterMap ProgramRefusal)
+    → is_sound old ≡ true → All IsInner lines → written old lines ≡ outcome → HasOutcome old left result (answered tt outcome)
+    → OnOk result (HasLines left 0 lines)
 written_reads again old left result lines (Ok memory) sound inner is has =
     rw has.0 (written_read again old left lines sound inner (is ∙ ap (λ (m : RegisterMap). Ok m) (sym has.1)))
 written_reads again old left result lines (Err refusal) sound inner is has = rw has.0 tt
 
-changed_reads : ByteRoundTrip → (b : Bool) (old left : RegisterMap) (result : Result (Unit {0}) ProgramRefusal) (lines : List Line) → is_sound old ≡ true → All IsInner lines
-    → HasOutcome old left result (changed_outcome b old lines) → OnOk result (HasLines left 0 lines)
-changed_reads again true old left result lines sound inner has = written_reads again old left result lines (written old lines) sound inner refl has
+changed_reads : ByteRoundTrip → (b : Bool) (old left : RegisterMap) (result : Result (Unit {0}) ProgramRefusal) (lines : List Line)
+    → is_sound old ≡ true → All IsInner lines → HasOutcome old left result (changed_outcome b old lines)
+    → OnOk result (HasLines left 0 lines)
+changed_reads again true old left result lines sound inner has =
+    written_reads again old left result lines (written old lines) sound inner refl has
 changed_reads again false old left result lines sound inner has = rw has.0 tt
 
-leaves : (old left : RegisterMap) (change : ℕ → ListedLine → List Line) (at : ℕ) (result : Result (Unit {0}) ProgramRefusal) (first : ListedLine) (lines : List ListedLine)
-    → FirstFrom (program_bytes old) (final_position old) at first → LinesFrom old 0 lines → OnOk result (HasLines left 0 (flat_map (change first.position) lines))
-    → OnOk result (LeavesChanged old change at left)
+leaves : (old left : RegisterMap) (change : ℕ → ListedLine → List Line) (at : ℕ)
+    (result : Result (Unit {0}) ProgramRefusal) (first : ListedLine) (lines : List ListedLine)
+    → FirstFrom (program_bytes old) (final_position old) at first → LinesFrom old 0 lines
+    → OnOk result (HasLines left 0 (flat_map (change first.position) lines)) → OnOk result (LeavesChanged old change at left)
 leaves old left change at (Ok done) first lines stands from has =
     record { first = first; lines = lines; listed = has.0; stands = stands; from = from; read = has.1; same = has.2 }
 leaves old left change at (Err refusal) first lines stands from has = tt
 
-pub edit_read : ByteRoundTrip → (old left : RegisterMap) (change : ℕ → ListedLine → List Line) (at : ℕ) (result : Result (Unit {0}) ProgramRefusal) → is_sound old ≡ true
-    → ((position : ℕ) → KeepsInner (change position)) → Edits old left change at result → OnOk result (LeavesChanged old change at left)
+pub edit_read : ByteRoundTrip
+    → (old left : RegisterMap) (change : ℕ → ListedLine → List Line) (at : ℕ) (result : Result (Unit {0}) ProgramRefusal)
+    → is_sound old ≡ true → ((position : ℕ) → KeepsInner (change position)) → Edits old left change at result
+    → OnOk result (LeavesChanged old change at left)
 edit_read again old left change at result sound keeps edits = elim edits.1 [
   | inl edit ↦
       let own = change edit.0.position in
@@ -163,7 +189,8 @@ edit_read again old left change at result sound keeps edits = elim edits.1 [
       subst (λ (outcome : Result (RegisterMap × Unit {0}) ProgramRefusal). HasOutcome old left result outcome) edit.2.2 edits.2 in
       let inner = changed_inner (program_bytes old) (final_position old) own (keeps edit.0.position) 0 lines (edit.2.1.sound sound) in
       leaves old left change at result edit.0 lines edit.1 edit.2.1
-      (changed_reads again (is_some (before_end lines) && has_line_at edit.0.position lines) old left result (flat_map own lines) sound inner has)
+      (changed_reads again (is_some (before_end lines) && has_line_at edit.0.position lines)
+      old left result (flat_map own lines) sound inner has)
   | inr none ↦
       let has : HasOutcome old left result (Err BrokenProgram) =
       subst (λ (outcome : Result (RegisterMap × Unit {0}) ProgramRefusal). HasOutcome old left result outcome) none.1 edits.2 in

@@ -1,5 +1,6 @@
 -- Lines put one behind the other.
-use Rattle.std.proofs.Common.{◌≡◌, ℕ, ◌+◌, ◌/◌, ◌<◌, ◌≤◌, List, [], ◌∷◌, ◌++◌, length, replicate, refl, sym, ◌∙◌, ap, arith, inl, inr, append_assoc, append-nil, length-append, true≢false, Some}
+use Rattle.std.proofs.Common.{◌≡◌, ℕ, ◌+◌, ◌/◌, ◌<◌, ◌≤◌, List, [], ◌∷◌, ◌++◌, length, replicate, refl, sym, ◌∙◌, ap, arith, inl, inr}
+use Rattle.std.proofs.Common.{append_assoc, append-nil, length-append, true≢false, Some}
 use Rattle.std.proofs.lemmas.Bool.{cases_Bool}
 use Rattle.std.proofs.lemmas.List.{length-replicate}
 use Rattle.h41_codes.specs.ByteGrammar.{spelling}
@@ -15,7 +16,8 @@ last_line-more (one ∷ []) line = refl
 last_line-more (one ∷ next ∷ lines) line = last_line-more (next ∷ lines) line
 
 -- one more line is parted from the last
-pub packed-more : (lines : List Line) (line : Line) → packed (lines ++ line ∷ []) ≡ packed lines ++ parting (is_number line) (last_line lines) ++ spelling line
+pub packed-more : (lines : List Line) (line : Line)
+    → packed (lines ++ line ∷ []) ≡ packed lines ++ parting (is_number line) (last_line lines) ++ spelling line
 packed-more [] line = simp append-nil
 packed-more (one ∷ []) line = simp (append-nil, append_assoc)
 packed-more (one ∷ next ∷ lines) line =
@@ -35,7 +37,13 @@ packed-join (one ∷ next ∷ lines) line rest =
 pub packed-less : (lines others : List Line) → length (packed lines) ≤ length (packed (lines ++ others))
 packed-less [] others = omega arith
 packed-less (line ∷ []) others =
-    omega (arith, length-append (spelling line ++ []) [], length-append (spelling line) [], length-append (spelling line ++ gap line others) (packed others), length-append (spelling line) (gap line others))
+    omega (
+      arith,
+      length-append (spelling line ++ []) [],
+      length-append (spelling line) [],
+      length-append (spelling line ++ gap line others) (packed others),
+      length-append (spelling line) (gap line others),
+    )
 packed-less (line ∷ next ∷ lines) others =
     omega (
       arith,
@@ -45,8 +53,8 @@ packed-less (line ∷ next ∷ lines) others =
     )
 
 -- a line was put behind others
-pub puts : (old mid new : Packer) (line : Line) (lines : List Line) → Packs old lines → Pushes old mid (parting (is_number line) old.last) → Pushes mid new (spelling line)
-    → Packs (record { bytes = new.bytes; full = new.full; last = Some line }) (lines ++ line ∷ [])
+pub puts : (old mid new : Packer) (line : Line) (lines : List Line) → Packs old lines → Pushes old mid (parting (is_number line) old.last)
+    → Pushes mid new (spelling line) → Packs (record { bytes = new.bytes; full = new.full; last = Some line }) (lines ++ line ∷ [])
 puts old mid new line lines packs parts pushes =
     let front = packed lines in
     let middle = parting (is_number line) (last_line lines) in
@@ -58,7 +66,10 @@ puts old mid new line lines packs parts pushes =
       held = λ room.
           let second = pushes.held room in
           let first = parts.held second.0 in
-          second.1 ∙ ap (λ (bytes : List ℕ). bytes ++ spelling line) (first.1 ∙ ap (λ (bytes : List ℕ). bytes ++ parting (is_number line) old.last) (packs.held first.0) ∙ ap (λ (bytes : List ℕ). front ++ bytes) same)
+          second.1
+          ∙ ap (λ (bytes : List ℕ). bytes ++ spelling line)
+          (first.1 ∙ ap (λ (bytes : List ℕ). bytes ++ parting (is_number line) old.last) (packs.held first.0)
+          ∙ ap (λ (bytes : List ℕ). front ++ bytes) same)
           ∙ sym all;
       full = λ mark. elim (cases_Bool mid.full) [
         | inl middle_full ↦ elim (cases_Bool old.full) [
@@ -88,7 +99,8 @@ puts old mid new line lines packs parts pushes =
 pub length-packing : (lines : List Line) → length (packing lines) ≡ length (packed lines) + filler (length (packed lines)) + 3
 length-packing lines =
     length-append (packed lines ++ replicate (filler (length (packed lines))) 0) written_end
-    ∙ ap (λ n. n + 3) (length-append (packed lines) (replicate (filler (length (packed lines))) 0) ∙ ap (λ n. length (packed lines) + n) (length-replicate (filler (length (packed lines))) 0))
+    ∙ ap (λ n. n + 3) (length-append (packed lines) (replicate (filler (length (packed lines))) 0)
+    ∙ ap (λ n. length (packed lines) + n) (length-replicate (filler (length (packed lines))) 0))
 
 -- too many bytes have no room
 pub no_room : (count registers : ℕ) → 2237 < count → count + filler count + 3 ≡ registers → 320 < registers / 7

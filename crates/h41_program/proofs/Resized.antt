@@ -1,12 +1,14 @@
 -- Memory with another number of data registers: its program moved as it was, and it is sound.
-use Rattle.std.proofs.Common.{◌≡◌, ℕ, ◌+◌, ◌-◌, ◌/◌, ◌%◌, ◌<◌, ◌≤◌, true, false, List, length, get_or-set_same, refl, sym, ◌∙◌, ap, subst, arith, inl, inr, Result, Ok, Err}
+use Rattle.std.proofs.Common.{◌≡◌, ℕ, ◌+◌, ◌-◌, ◌/◌, ◌%◌, ◌<◌, ◌≤◌, true, false, List, length, get_or-set_same, refl, sym, ◌∙◌, ap, subst}
+use Rattle.std.proofs.Common.{arith, inl, inr, Result, Ok, Err}
 use Rattle.std.specs.Prelude.{nat_lt}
 use Rattle.std.proofs.lemmas.Bool.{cases_Bool}
 use Rattle.std.proofs.lemmas.Bool.Decides.{nat_tests}
 use Rattle.std.proofs.lemmas.List.{ext_get_or}
 use Rattle.std.proofs.lemmas.List.FromFn.{get_or-map-range_with_len, length-map-range_with_len}
 use Rattle.h41_digits.specs.Register.{byte_at}
-use Rattle.h41_ram.specs.RegisterMap.{RegisterMap, main_start, zeros, register_at, c_of, curtain_of, end_of, constant_of, is_sound, is_final_end, three_digits, with_three_places}
+use Rattle.h41_ram.specs.RegisterMap.{RegisterMap, main_start, zeros, register_at, c_of, curtain_of, end_of, constant_of, is_sound}
+use Rattle.h41_ram.specs.RegisterMap.{is_final_end, three_digits, with_three_places}
 use Rattle.h41_program.specs.declared.refusal.ProgramRefusal.{ProgramRefusal}
 use Rattle.h41_program.specs.declared.refusal.ProgramRefusal.TheVariants.{NoRoom, SizeTooLarge}
 use Rattle.h41_program.specs.ProgramBytes.{byte_count, program_byte, program_bytes, final_position}
@@ -50,7 +52,9 @@ module _ (memory : RegisterMap) (sound : is_sound memory ≡ true) (size : ℕ) 
   curtain_new =
       ap (λ (c : List ℕ). three_digits c 3) c_new ∙ three_below with_curtain 11 (moved_statistics memory size) 3 (omega arith)
       ∙ three_again with_end 3 (moved_curtain memory size)
-      (let long = c_long memory sound in let same = length-three_places (c_of memory) 0 (moved_end memory size) in omega (arith, long, same))
+      (let long =
+      c_long memory sound in
+      let same = length-three_places (c_of memory) 0 (moved_end memory size) in omega (arith, long, same))
 
   constant_new : constant_of new ≡ 0x169
   constant_new =
@@ -70,7 +74,8 @@ module _ (memory : RegisterMap) (sound : is_sound memory ≡ true) (size : ℕ) 
       let under = below_test address (moved_curtain memory size) below in
       let read : register_at new address ≡ resized_register memory size address =
       main_at new address (omega (arith, from, room, order))
-      ∙ get_or-map-range_with_len (resized_register memory size) main_start (length memory.main) (address - main_start) address zeros (omega (arith, from, below, room, order)) (omega (arith, from, room, order)) in
+      ∙ get_or-map-range_with_len (resized_register memory size) main_start (length memory.main) (address - main_start)
+      address zeros (omega (arith, from, below, room, order)) (omega (arith, from, room, order)) in
       read ∙ chosen address above under
     where
       chosen : (address : ℕ) → nat_lt address (moved_end memory size) ≡ false → nat_lt address (moved_curtain memory size) ≡ true
@@ -82,8 +87,10 @@ module _ (memory : RegisterMap) (sound : is_sound memory ≡ true) (size : ℕ) 
       let order = (bounds memory sound).order in
       let back : moved_end memory size + end_of memory - moved_end memory size ≡ end_of memory = omega arith in
       let register : register_at new (end_of new) ≡ register_at memory (end_of memory) =
-      ap (register_at new) end_new ∙ own_register (moved_end memory size) (omega arith) (omega (arith, order, room)) ∙ ap (register_at memory) back in
-      sound_by new constant_new (omega (arith, end_new, order, room)) (omega (arith, end_new, curtain_new, order, room)) (omega (arith, curtain_new, top_new))
+      ap (register_at new) end_new ∙ own_register (moved_end memory size) (omega arith) (omega (arith, order, room))
+      ∙ ap (register_at memory) back in
+      sound_by new constant_new (omega (arith, end_new, order, room))
+      (omega (arith, end_new, curtain_new, order, room)) (omega (arith, curtain_new, top_new))
       (ap is_final_end register ∙ ends memory sound)
 
   pub size_count : byte_count new ≡ byte_count memory
@@ -109,7 +116,8 @@ module _ (memory : RegisterMap) (sound : is_sound memory ≡ true) (size : ℕ) 
       (λ p inside.
       get_or-map-range_with_len (program_byte new) 0 (byte_count new) p p 0 (omega (arith, all, inside)) (omega arith)
       ∙ byte_new p (omega (arith, all, inside, size_count))
-      ∙ sym (get_or-map-range_with_len (program_byte memory) 0 (byte_count memory) p p 0 (omega (arith, all, inside, size_count)) (omega arith)))
+      ∙ sym
+      (get_or-map-range_with_len (program_byte memory) 0 (byte_count memory) p p 0 (omega (arith, all, inside, size_count)) (omega arith)))
 
 -- what is known of a size that is taken
 pub record Fits (memory : RegisterMap) (size : ℕ) (after : RegisterMap) : Type 0 where
@@ -117,19 +125,27 @@ pub record Fits (memory : RegisterMap) (size : ℕ) (after : RegisterMap) : Type
   pub room : main_start + curtain_of memory ≤ moved_curtain memory size + end_of memory
   pub same : after ≡ resized memory size
 
-refused_is_not_done : (after : RegisterMap × Unit {0}) (refusal : ProgramRefusal) → ◌≡◌ {A = Result (RegisterMap × Unit {0}) ProgramRefusal} (Err refusal) (Ok after) → ⊥
+refused_is_not_done : (after : RegisterMap × Unit {0}) (refusal : ProgramRefusal)
+    → ◌≡◌ {A = Result (RegisterMap × Unit {0}) ProgramRefusal} (Err refusal) (Ok after) → ⊥
 refused_is_not_done after refusal same = cc
 
-same_memory : (one other : RegisterMap) → ◌≡◌ {A = Result (RegisterMap × Unit {0}) ProgramRefusal} (Ok (one, tt)) (Ok (other, tt)) → other ≡ one
+same_memory : (one other : RegisterMap) → ◌≡◌ {A = Result (RegisterMap × Unit {0}) ProgramRefusal} (Ok (one, tt)) (Ok (other, tt))
+    → other ≡ one
 same_memory one other same =
     let pair : ◌≡◌ {A = RegisterMap × Unit {0}} (other, tt) (one, tt) = cc in
     ap (λ (p : RegisterMap × Unit {0}). p.0) pair
 
-pub fits_outcome : (memory after : RegisterMap) (size : ℕ) → Fits memory size after → HasOutcome {A = Unit {0}} memory after (Ok tt) (size_outcome memory size)
+pub fits_outcome : (memory after : RegisterMap) (size : ℕ) → Fits memory size after
+    → HasOutcome {A = Unit {0}} memory after (Ok tt) (size_outcome memory size)
 fits_outcome memory after size fits =
     let done : size_outcome memory size ≡ Ok (resized memory size, tt) =
-    rw (below_test size (length memory.main) fits.small, above_test (moved_curtain memory size + end_of memory) (main_start + curtain_of memory) fits.room) refl in
-    subst (λ (o : Result (RegisterMap × Unit {0}) ProgramRefusal). HasOutcome {A = Unit {0}} memory after (Ok tt) o) (sym done) (refl, fits.same)
+    rw (
+      below_test size (length memory.main) fits.small,
+      above_test (moved_curtain memory size + end_of memory) (main_start + curtain_of memory) fits.room,
+    )
+    refl in
+    subst (λ (o : Result (RegisterMap × Unit {0}) ProgramRefusal). HasOutcome {A = Unit {0}} memory after (Ok tt) o)
+    (sym done) (refl, fits.same)
 
 pub size_fits : (memory after : RegisterMap) (size : ℕ) → size_outcome memory size ≡ Ok (after, tt) → Fits memory size after
 size_fits memory after size done = elim (cases_Bool (nat_lt size (length memory.main))) [
@@ -150,8 +166,9 @@ size_fits memory after size done = elim (cases_Bool (nat_lt size (length memory.
       absurd (refused_is_not_done (after, tt) SizeTooLarge (sym refused ∙ done))
 ]
 
-size_sound_by : (old left : RegisterMap) (size : ℕ) (result : Result (Unit {0}) ProgramRefusal) (outcome : Result (RegisterMap × Unit {0}) ProgramRefusal) → is_sound old ≡ true
-    → size_outcome old size ≡ outcome → HasOutcome old left result outcome → is_sound left ≡ true
+size_sound_by : (old left : RegisterMap) (size : ℕ) (result : Result (Unit {0}) ProgramRefusal)
+    (outcome : Result (RegisterMap × Unit {0}) ProgramRefusal)
+    → is_sound old ≡ true → size_outcome old size ≡ outcome → HasOutcome old left result outcome → is_sound left ≡ true
 size_sound_by old left size result (Ok after) sound is has =
     let fits = size_fits old after.0 size is in
     subst (λ (m : RegisterMap). is_sound m ≡ true) (sym (has.1 ∙ fits.same)) (size_sound old sound size fits.small fits.room)
@@ -166,6 +183,7 @@ size_lines memory new size at lines sound done from =
     let fits = size_fits memory new size done in
     let after = resized memory size in
     let reads = subst (λ (n : ℕ). Reads (program_bytes after) n at lines) (sym (size_final memory sound size fits.small fits.room))
-    (subst (λ (bytes : List ℕ). Reads bytes (final_position memory) at lines) (sym (size_bytes memory sound size fits.small fits.room)) (from.sound sound)) in
+    (subst (λ (bytes : List ℕ). Reads bytes (final_position memory) at lines)
+    (sym (size_bytes memory sound size fits.small fits.room)) (from.sound sound)) in
     subst (λ (m : RegisterMap). LinesFrom m at lines) (sym fits.same)
     (from_reads after at lines (size_sound memory sound size fits.small fits.room) reads)

@@ -1,10 +1,12 @@
 -- Memory whose program was written anew: its addresses, its bytes, and that it is sound.
-use Rattle.std.proofs.Common.{◌≡◌, ℕ, zero, suc, ◌+◌, ◌-◌, ◌*◌, ◌/◌, ◌%◌, ◌<◌, ◌≤◌, true, false, List, length, get_or, get_or-set_same, refl, sym, ◌∙◌, ap, arith}
+use Rattle.std.proofs.Common.{◌≡◌, ℕ, zero, suc, ◌+◌, ◌-◌, ◌*◌, ◌/◌, ◌%◌, ◌<◌, ◌≤◌, true, false, List, length, get_or, get_or-set_same}
+use Rattle.std.proofs.Common.{refl, sym, ◌∙◌, ap, arith}
 use Rattle.std.specs.Prelude.{nat_lt}
 use Rattle.std.proofs.lemmas.List.{ext_get_or}
 use Rattle.std.proofs.lemmas.List.FromFn.{get_or-map-range_with_len, length-map-range_with_len}
 use Rattle.h41_digits.specs.Register.{byte_at}
-use Rattle.h41_ram.specs.RegisterMap.{RegisterMap, main_start, top_of, zeros, register_at, c_of, curtain_of, end_of, constant_of, is_sound, is_final_end, three_digits, with_three_places}
+use Rattle.h41_ram.specs.RegisterMap.{RegisterMap, main_start, top_of, zeros, register_at, c_of, curtain_of, end_of, constant_of, is_sound}
+use Rattle.h41_ram.specs.RegisterMap.{is_final_end, three_digits, with_three_places}
 use Rattle.h41_program.specs.ProgramBytes.{byte_count, program_byte, program_bytes, final_position}
 use Rattle.h41_program.specs.Rewriting.{end_after, program_register, rewritten, rewritten_register}
 use Rattle.h41_program.proofs.Addresses.{c_long, c_there, sound_by, three_above, three_again}
@@ -16,22 +18,29 @@ halves : (byte : ℕ) → byte / 16 * 16 + byte % 16 ≡ byte
 halves byte = omega arith
 
 -- a register of bytes has them again
-pub byte_again : (bytes : List ℕ) (below k p : ℕ) → k < 7 → p ≡ 7 * below + k → byte_at (program_register bytes below) (6 - k) ≡ get_or bytes p 0
+pub byte_again : (bytes : List ℕ) (below k p : ℕ) → k < 7 → p ≡ 7 * below + k
+    → byte_at (program_register bytes below) (6 - k) ≡ get_or bytes p 0
 byte_again bytes below zero p inside same = halves (get_or bytes (7 * below) 0) ∙ ap (λ i. get_or bytes i 0) (omega arith)
 byte_again bytes below (suc zero) p inside same = halves (get_or bytes (7 * below + 1) 0) ∙ ap (λ i. get_or bytes i 0) (sym same)
 byte_again bytes below (suc (suc zero)) p inside same = halves (get_or bytes (7 * below + 2) 0) ∙ ap (λ i. get_or bytes i 0) (sym same)
-byte_again bytes below (suc (suc (suc zero))) p inside same = halves (get_or bytes (7 * below + 3) 0) ∙ ap (λ i. get_or bytes i 0) (sym same)
-byte_again bytes below (suc (suc (suc (suc zero)))) p inside same = halves (get_or bytes (7 * below + 4) 0) ∙ ap (λ i. get_or bytes i 0) (sym same)
-byte_again bytes below (suc (suc (suc (suc (suc zero))))) p inside same = halves (get_or bytes (7 * below + 5) 0) ∙ ap (λ i. get_or bytes i 0) (sym same)
-byte_again bytes below (suc (suc (suc (suc (suc (suc zero)))))) p inside same = halves (get_or bytes (7 * below + 6) 0) ∙ ap (λ i. get_or bytes i 0) (sym same)
+byte_again bytes below (suc (suc (suc zero))) p inside same =
+    halves (get_or bytes (7 * below + 3) 0) ∙ ap (λ i. get_or bytes i 0) (sym same)
+byte_again bytes below (suc (suc (suc (suc zero)))) p inside same =
+    halves (get_or bytes (7 * below + 4) 0) ∙ ap (λ i. get_or bytes i 0) (sym same)
+byte_again bytes below (suc (suc (suc (suc (suc zero))))) p inside same =
+    halves (get_or bytes (7 * below + 5) 0) ∙ ap (λ i. get_or bytes i 0) (sym same)
+byte_again bytes below (suc (suc (suc (suc (suc (suc zero)))))) p inside same =
+    halves (get_or bytes (7 * below + 6) 0) ∙ ap (λ i. get_or bytes i 0) (sym same)
 byte_again bytes below (suc (suc (suc (suc (suc (suc (suc k))))))) p inside same = absurd (omega arith)
 
 -- a register that ends with .END.
-end_register : (bytes : List ℕ) (below : ℕ) → get_or bytes (7 * below + 4) 0 ≡ 0xC0 → get_or bytes (7 * below + 6) 0 ≡ 0x20 → is_final_end (program_register bytes below) ≡ true
+end_register : (bytes : List ℕ) (below : ℕ) → get_or bytes (7 * below + 4) 0 ≡ 0xC0 → get_or bytes (7 * below + 6) 0 ≡ 0x20
+    → is_final_end (program_register bytes below) ≡ true
 end_register bytes below first last = rw (first, last) refl
 
 -- the register at an address of main memory
-pub main_at : (memory : RegisterMap) (address : ℕ) → main_start ≤ address → register_at memory address ≡ get_or memory.main (address - main_start) zeros
+pub main_at : (memory : RegisterMap) (address : ℕ) → main_start ≤ address
+    → register_at memory address ≡ get_or memory.main (address - main_start) zeros
 main_at memory address from =
     let status : nat_lt address 0x010 ≡ false = above_test address 0x010 (omega (arith, from)) in
     let main : nat_lt address main_start ≡ false = above_test address main_start from in
@@ -41,10 +50,12 @@ main_register : (memory : RegisterMap) (bytes : List ℕ) (address : ℕ) → ma
     → register_at (rewritten memory bytes) address ≡ rewritten_register memory bytes address
 main_register memory bytes address from below =
     main_at (rewritten memory bytes) address from
-    ∙ get_or-map-range_with_len (rewritten_register memory bytes) main_start (length memory.main) (address - main_start) address zeros (omega (arith, from, below)) (omega (arith, from))
+    ∙ get_or-map-range_with_len (rewritten_register memory bytes) main_start (length memory.main)
+    (address - main_start) address zeros (omega (arith, from, below)) (omega (arith, from))
 
 -- bytes that fill registers, and have room
-module _ (memory : RegisterMap) (sound : is_sound memory ≡ true) (bytes : List ℕ) (count : ℕ) (size : length bytes ≡ 7 * count) (some : 1 ≤ count)
+module _ (memory : RegisterMap) (sound : is_sound memory ≡ true) (bytes : List ℕ)
+    (count : ℕ) (size : length bytes ≡ 7 * count) (some : 1 ≤ count)
     (room : main_start + count ≤ curtain_of memory) where
   abbrev new : RegisterMap
   new = rewritten memory bytes
@@ -65,7 +76,8 @@ module _ (memory : RegisterMap) (sound : is_sound memory ≡ true) (bytes : List
 
   constant_new : constant_of new ≡ 0x169
   constant_new =
-      ap (λ (c : List ℕ). three_digits c 6) c_new ∙ three_above (c_of memory) 0 (end_after memory bytes) 6 (omega arith) ∙ constant memory sound
+      ap (λ (c : List ℕ). three_digits c 6) c_new ∙ three_above (c_of memory) 0 (end_after memory bytes) 6 (omega arith)
+      ∙ constant memory sound
 
   top_new : length new.main ≡ length memory.main
   top_new = length-map-range_with_len (rewritten_register memory bytes) main_start (length memory.main)
@@ -75,14 +87,17 @@ module _ (memory : RegisterMap) (sound : is_sound memory ≡ true) (bytes : List
   own_register below inside =
       let high = (bounds memory sound).high in
       let address = curtain_of memory - 1 - below in
-      let above : nat_lt address (end_after memory bytes) ≡ false = above_test address (end_after memory bytes) (omega (arith, end, inside, room)) in
+      let above : nat_lt address (end_after memory bytes) ≡ false =
+      above_test address (end_after memory bytes) (omega (arith, end, inside, room)) in
       let under : nat_lt address (curtain_of memory) ≡ true = below_test address (curtain_of memory) (omega (arith, inside, room)) in
       let back : curtain_of memory - 1 - address ≡ below = omega (arith, inside, room) in
       main_register memory bytes address (omega (arith, inside, room)) (omega (arith, inside, room, high))
       ∙ chosen above under ∙ ap (program_register bytes) back
     where
-      chosen : nat_lt (curtain_of memory - 1 - below) (end_after memory bytes) ≡ false → nat_lt (curtain_of memory - 1 - below) (curtain_of memory) ≡ true
-          → rewritten_register memory bytes (curtain_of memory - 1 - below) ≡ program_register bytes (curtain_of memory - 1 - (curtain_of memory - 1 - below))
+      chosen : nat_lt (curtain_of memory - 1 - below) (end_after memory bytes) ≡ false
+          → nat_lt (curtain_of memory - 1 - below) (curtain_of memory) ≡ true
+          → rewritten_register memory bytes (curtain_of memory - 1 - below)
+          ≡ program_register bytes (curtain_of memory - 1 - (curtain_of memory - 1 - below))
       chosen above under = rw (above, under) refl
 
   pub count_new : byte_count new ≡ length bytes
@@ -98,7 +113,8 @@ module _ (memory : RegisterMap) (sound : is_sound memory ≡ true) (bytes : List
   program_new =
       let all = length-map-range_with_len (program_byte new) 0 (byte_count new) in
       ext_get_or 0 (program_bytes new) bytes (all ∙ count_new)
-      (λ p inside. get_or-map-range_with_len (program_byte new) 0 (byte_count new) p p 0 (omega (arith, all, inside)) (omega arith) ∙ byte_new p (omega (arith, all, inside, count_new)))
+      (λ p inside. get_or-map-range_with_len (program_byte new) 0 (byte_count new) p p 0 (omega (arith, all, inside)) (omega arith)
+      ∙ byte_new p (omega (arith, all, inside, count_new)))
 
   pub final_new : final_position new ≡ length bytes - 3
   final_new = ap (λ n. n - 3) count_new
@@ -109,6 +125,9 @@ module _ (memory : RegisterMap) (sound : is_sound memory ≡ true) (bytes : List
       let here : curtain_of memory - 1 - (count - 1) ≡ end_of new = omega (arith, end_new, some, room) in
       let one : length bytes - 3 ≡ 7 * (count - 1) + 4 = omega (arith, size, some) in
       let three : length bytes - 1 ≡ 7 * (count - 1) + 6 = omega (arith, size, some) in
-      let register : register_at new (end_of new) ≡ program_register bytes (count - 1) = ap (register_at new) (sym here) ∙ own_register (count - 1) (omega (arith, some)) in
-      sound_by new constant_new (omega (arith, end_new, room)) (omega (arith, end_new, curtain_new, some, room)) (omega (arith, curtain_new, top_new, high))
-      (ap is_final_end register ∙ end_register bytes (count - 1) (ap (λ i. get_or bytes i 0) (sym one) ∙ first) (ap (λ i. get_or bytes i 0) (sym three) ∙ last))
+      let register : register_at new (end_of new) ≡ program_register bytes (count - 1) =
+      ap (register_at new) (sym here) ∙ own_register (count - 1) (omega (arith, some)) in
+      sound_by new constant_new (omega (arith, end_new, room))
+      (omega (arith, end_new, curtain_new, some, room)) (omega (arith, curtain_new, top_new, high))
+      (ap is_final_end register
+      ∙ end_register bytes (count - 1) (ap (λ i. get_or bytes i 0) (sym one) ∙ first) (ap (λ i. get_or bytes i 0) (sym three) ∙ last))

@@ -1,5 +1,6 @@
 -- Whether there is room for lines.
-use Rattle.std.proofs.Common.{◌≡◌, ◌⊎◌, ℕ, ◌+◌, ◌*◌, ◌/◌, ◌<◌, ◌≤◌, true, false, List, length, replicate, ◌++◌, refl, ◌∙◌, ap, arith, inl, inr, Ok, Err}
+use Rattle.std.proofs.Common.{◌≡◌, ◌⊎◌, ℕ, ◌+◌, ◌*◌, ◌/◌, ◌<◌, ◌≤◌, true, false, List, length, replicate, ◌++◌, refl, ◌∙◌, ap, arith, inl}
+use Rattle.std.proofs.Common.{inr, Ok, Err}
 use Rattle.std.specs.Prelude.{nat_lt}
 use Rattle.std.proofs.lemmas.Bool.{cases_Bool}
 use Rattle.std.proofs.lemmas.Bool.Decides.{nat_tests}
@@ -13,12 +14,14 @@ use Rattle.h41_program.specs.Rewriting.{written, rewritten}
 use Rattle.h41_program.proofs.Packings.{length-packing}
 
 -- the test of room
-pub written-none : (memory : RegisterMap) (lines : List Line) → curtain_of memory < main_start + length (packing lines) / 7 → written memory lines ≡ Err NoRoom
+pub written-none : (memory : RegisterMap) (lines : List Line) → curtain_of memory < main_start + length (packing lines) / 7
+    → written memory lines ≡ Err NoRoom
 written-none memory lines above =
     let test : nat_lt (curtain_of memory) (main_start + length (packing lines) / 7) ≡ true = grind (arith, nat_tests) in
     rw test refl
 
-pub written-some : (memory : RegisterMap) (lines : List Line) → main_start + length (packing lines) / 7 ≤ curtain_of memory → written memory lines ≡ Ok (rewritten memory (packing lines))
+pub written-some : (memory : RegisterMap) (lines : List Line) → main_start + length (packing lines) / 7 ≤ curtain_of memory
+    → written memory lines ≡ Ok (rewritten memory (packing lines))
 written-some memory lines inside =
     let test : nat_lt (curtain_of memory) (main_start + length (packing lines) / 7) ≡ false = grind (arith, nat_tests) in
     rw test refl
@@ -31,11 +34,12 @@ few_enough : (count size room : ℕ) → size ≡ count + filler count + 3 → c
 few_enough count size room all few = omega arith
 
 -- lines that are refused
-pub refused : (memory : RegisterMap) (packer : Packer) (lines : List Line) (room : ℕ) → curtain_of memory ≡ main_start + room → room ≤ 320 → Packs packer lines
-    → (packer.full ≡ true) ⊎ (7 * room < length packer.bytes.items + 3) → written memory lines ≡ Err NoRoom
+pub refused : (memory : RegisterMap) (packer : Packer) (lines : List Line) (room : ℕ) → curtain_of memory ≡ main_start + room → room ≤ 320
+    → Packs packer lines → (packer.full ≡ true) ⊎ (7 * room < length packer.bytes.items + 3) → written memory lines ≡ Err NoRoom
 refused memory packer lines room curtain small packs why =
     let size = length-packing lines in
-    let full : packer.full ≡ true → 7 * room < length (packed lines) + 3 = λ mark. let many = packs.full mark in omega (arith, many, small) in
+    let full : packer.full ≡ true → 7 * room < length (packed lines) + 3 =
+    λ mark. let many = packs.full mark in omega (arith, many, small) in
     let many : 7 * room < length (packed lines) + 3 = elim why [
       | inl mark ↦ full mark
       | inr long ↦ elim (cases_Bool packer.full) [
@@ -47,8 +51,9 @@ refused memory packer lines room curtain small packs why =
     written-none memory lines (omega (arith, curtain, above))
 
 -- lines that are written
-pub accepted : (memory : RegisterMap) (packer : Packer) (lines : List Line) (room : ℕ) → curtain_of memory ≡ main_start + room → Packs packer lines
-    → packer.full ≡ false → length packer.bytes.items + 3 ≤ 7 * room → written memory lines ≡ Ok (rewritten memory (packing lines))
+pub accepted : (memory : RegisterMap) (packer : Packer) (lines : List Line) (room : ℕ) → curtain_of memory ≡ main_start + room
+    → Packs packer lines → packer.full ≡ false → length packer.bytes.items + 3 ≤ 7 * room
+    → written memory lines ≡ Ok (rewritten memory (packing lines))
 accepted memory packer lines room curtain packs unmarked few =
     let same = ap length (packs.held unmarked) in
     let inside = few_enough (length (packed lines)) (length (packing lines)) room (length-packing lines) (omega (arith, few, same)) in

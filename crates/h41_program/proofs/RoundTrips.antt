@@ -1,5 +1,6 @@
 -- Packed lines are read again.
-use Rattle.std.proofs.Common.{◌≡◌, ℕ, suc, zero, ◌+◌, ◌-◌, ◌<◌, ◌≤◌, Bool, true, false, List, [], ◌∷◌, ◌++◌, length, take, drop, get_or, replicate, refl, sym, ◌∙◌, ap, subst, arith, inl, inr, append_assoc, append-nil, length-append, All}
+use Rattle.std.proofs.Common.{◌≡◌, ℕ, suc, zero, ◌+◌, ◌-◌, ◌<◌, ◌≤◌, Bool, true, false, List, [], ◌∷◌, ◌++◌, length, take, drop, get_or}
+use Rattle.std.proofs.Common.{replicate, refl, sym, ◌∙◌, ap, subst, arith, inl, inr, append_assoc, append-nil, length-append, All}
 use Rattle.std.specs.Prelude.{MatchBool, ◌&&◌, if◌then◌else◌}
 use Rattle.std.specs.Option.{option_map_or}
 use Rattle.std.proofs.lemmas.Bool.{cases_lt, cases_Bool, false≢true}
@@ -28,7 +29,8 @@ nulls_stop : (n : ℕ) → GoesOn (replicate n 0) → ⊥
 nulls_stop zero goes = goes
 nulls_stop (suc n) goes = absurd (omega (arith, goes.0))
 
-parts : (next : Line) (lines : List Line) (n : ℕ) → packed (next ∷ lines) ++ replicate n 0 ≡ spelling next ++ (gap next lines ++ (packed lines ++ replicate n 0))
+parts : (next : Line) (lines : List Line) (n : ℕ)
+    → packed (next ∷ lines) ++ replicate n 0 ≡ spelling next ++ (gap next lines ++ (packed lines ++ replicate n 0))
 parts next lines n = simp append_assoc
 
 abbrev one_null : Bool → List ℕ
@@ -58,7 +60,8 @@ pub others_inner : (line : Line) (lines : List Line) → All IsInner (line ∷ l
 others_inner line lines inner = λ k d below. inner (suc k) d (omega (arith, below))
 
 -- a front that ends with nulls, and more of them
-body_null : (front : List ℕ) (n at : ℕ) → ((k : ℕ) → at ≤ k → k < length front → get_or front k 0 ≡ 0) → (k : ℕ) → at ≤ k → get_or (front ++ replicate n 0) k 0 ≡ 0
+body_null : (front : List ℕ) (n at : ℕ) → ((k : ℕ) → at ≤ k → k < length front → get_or front k 0 ≡ 0) → (k : ℕ) → at ≤ k
+    → get_or (front ++ replicate n 0) k 0 ≡ 0
 body_null front n at nulls k low = elim (cases_lt k (length front)) [
   | inl before ↦ get_or_append_left front (replicate n 0) 0 k before ∙ nulls k low before
   | inr above ↦ after_front front (replicate n 0) k above ∙ all_null n (k - length front)
@@ -75,18 +78,22 @@ number_passes Null is = absurd is
 number_passes line is = absurd is
 
 -- the bytes behind a number of lines that follow it
-number_stops : (next : Line) (behind : List ℕ) → IsLine next → GoesOn ((if is_number next then 0 ∷ [] else []) ++ (spelling next ++ behind)) → ⊥
+number_stops : (next : Line) (behind : List ℕ) → IsLine next → GoesOn ((if is_number next then 0 ∷ [] else []) ++ (spelling next ++ behind))
+    → ⊥
 number_stops next behind valid goes = elim (cases_Bool (is_number next)) [
   | inl number ↦
-      let stop : GoesOn (0 ∷ (spelling next ++ behind)) = subst (λ (b : Bool). GoesOn ((if b then 0 ∷ [] else []) ++ (spelling next ++ behind))) number goes in
+      let stop : GoesOn (0 ∷ (spelling next ++ behind)) =
+      subst (λ (b : Bool). GoesOn ((if b then 0 ∷ [] else []) ++ (spelling next ++ behind))) number goes in
       absurd (omega (arith, stop.0))
   | inr other ↦
-      let on : GoesOn (spelling next ++ behind) = subst (λ (b : Bool). GoesOn ((if b then 0 ∷ [] else []) ++ (spelling next ++ behind))) other goes in
+      let on : GoesOn (spelling next ++ behind) =
+      subst (λ (b : Bool). GoesOn ((if b then 0 ∷ [] else []) ++ (spelling next ++ behind))) other goes in
       false≢true (sym other ∙ number_passes next ((number_begins next behind valid).0 on))
 ]
 
 -- a line is whole before the lines that follow it
-follows_whole : (line : Line) (lines : List Line) (n : ℕ) → All IsInner lines → IsWhole line (gap line lines ++ (packed lines ++ replicate n 0))
+follows_whole : (line : Line) (lines : List Line) (n : ℕ) → All IsInner lines
+    → IsWhole line (gap line lines ++ (packed lines ++ replicate n 0))
 follows_whole (Number characters) [] n inner = λ goes. absurd (nulls_stop n goes)
 follows_whole (Number characters) (next ∷ lines) n inner =
     λ goes. absurd (number_stops next (gap next lines ++ (packed lines ++ replicate n 0)) (first_inner next lines inner).valid
@@ -99,11 +106,13 @@ take-front [] ys = refl
 take-front (x ∷ xs) ys = ap (λ (l : List ℕ). x ∷ l) (take-front xs ys)
 
 -- the bytes that a line may take between a front and the last three bytes
-between : (front middle end : List ℕ) → 1 ≤ length middle → line_bytes ((front ++ middle) ++ end) (length (front ++ middle)) (length front) ≡ middle
+between : (front middle end : List ℕ) → 1 ≤ length middle
+    → line_bytes ((front ++ middle) ++ end) (length (front ++ middle)) (length front) ≡ middle
 between front middle end some =
     let size = length-append front middle in
     line_bytes-below ((front ++ middle) ++ end) (length (front ++ middle)) (length front) (omega (arith, size))
-    ∙ ap (take (length (front ++ middle) - length front)) (ap (drop (length front)) (append_assoc front middle end) ∙ drop-append_seam front (middle ++ end))
+    ∙ ap (take (length (front ++ middle) - length front))
+    (ap (drop (length front)) (append_assoc front middle end) ∙ drop-append_seam front (middle ++ end))
     ∙ ap (λ n. take n (middle ++ end)) (let all : length (front ++ middle) - length front ≡ length middle = omega (arith, size) in all)
     ∙ take-front middle end
 
@@ -114,7 +123,8 @@ gap_null line (next ∷ lines) k = chosen_null (is_number line && is_number next
 
 -- what is read of lines behind a front, where nulls may end the front
 module _ (again : ByteRoundTrip) where
-  pub trip : (lines : List Line) (front : List ℕ) (at n : ℕ) → All IsInner lines → at ≤ length front → ((k : ℕ) → at ≤ k → k < length front → get_or front k 0 ≡ 0)
+  pub trip : (lines : List Line) (front : List ℕ) (at n : ℕ) → All IsInner lines → at ≤ length front
+      → ((k : ℕ) → at ≤ k → k < length front → get_or front k 0 ≡ 0)
       → (listed : List ListedLine)
       × Reads ((front ++ (packed lines ++ replicate n 0)) ++ written_end) (length (front ++ (packed lines ++ replicate n 0))) at listed
       × (lines_of listed ≡ lines ++ FinalEnd 0 0 ∷ [])
@@ -123,7 +133,8 @@ module _ (again : ByteRoundTrip) where
       let final = length body in
       let last : ListedLine = record { position = final; line = FinalEnd 0 0 } in
       let size : length body ≡ length front + n = length-append front (replicate n 0) ∙ ap (λ m. length front + m) (length-replicate n 0) in
-      let taken : line_bytes (body ++ written_end) final final ≡ written_end = line_bytes-at (body ++ written_end) final ∙ drop-append_seam body written_end in
+      let taken : line_bytes (body ++ written_end) final final ≡ written_end =
+      line_bytes-at (body ++ written_end) final ∙ drop-append_seam body written_end in
       let first : FirstFrom (body ++ written_end) final at last = record {
         from = omega (arith, size, inside);
         nulls = λ k low high. get_or_append_left body written_end 0 k high ∙ body_null front n at nulls k low;
@@ -137,26 +148,36 @@ module _ (again : ByteRoundTrip) where
       let middle = packed (line ∷ lines) ++ replicate n 0 in
       let next = front ++ spelling line ++ gap line lines in
       let least = spelling_least line this.valid in
-      let size : length middle ≡ length (spelling line) + length (gap line lines ++ tail) = ap length (parts line lines n) ∙ length-append (spelling line) (gap line lines ++ tail) in
+      let size : length middle ≡ length (spelling line) + length (gap line lines ++ tail) =
+      ap length (parts line lines n) ∙ length-append (spelling line) (gap line lines ++ tail) in
       let whole : length (front ++ middle) ≡ length front + length middle = length-append front middle in
       let first : ListedLine = record { position = length front; line = line } in
       let taken = between front middle written_end (omega (arith, size, least)) in
       let begins = again line (gap line lines ++ tail) this.valid (follows_whole line lines n (others_inner line lines inner)) in
       let is_first : FirstFrom ((front ++ middle) ++ written_end) (length (front ++ middle)) at first = record {
         from = inside;
-        nulls = λ k low high. get_or_append_left (front ++ middle) written_end 0 k (omega (arith, whole, high)) ∙ get_or_append_left front middle 0 k high ∙ nulls k low high;
+        nulls =
+            λ k low high. get_or_append_left (front ++ middle) written_end 0 k (omega (arith, whole, high))
+            ∙ get_or_append_left front middle 0 k high ∙ nulls k low high;
         begins = subst (λ (l : List ℕ). Begins l line (length (spelling line))) (sym (parts line lines n) ∙ sym taken) begins;
         not_null = not_null line this.inner;
       } in
       let before : length (front ++ spelling line) ≡ length front + length (spelling line) = length-append front (spelling line) in
-      let ahead : length next ≡ length (front ++ spelling line) + length (gap line lines) = length-append (front ++ spelling line) (gap line lines) in
+      let ahead : length next ≡ length (front ++ spelling line) + length (gap line lines) =
+      length-append (front ++ spelling line) (gap line lines) in
       let rest = trip lines next (length front + length (spelling line)) n (others_inner line lines inner) (omega (arith, before, ahead))
-      (λ k low high. after_front (front ++ spelling line) (gap line lines) k (omega (arith, before, low)) ∙ gap_null line lines (k - length (front ++ spelling line))) in
+      (λ k low high. after_front (front ++ spelling line) (gap line lines) k (omega (arith, before, low))
+      ∙ gap_null line lines (k - length (front ++ spelling line))) in
       let same : next ++ tail ≡ front ++ middle = simp append_assoc in
       let reads : Reads ((front ++ middle) ++ written_end) (length (front ++ middle)) (behind first) rest.0 =
       subst (λ (body : List ℕ). Reads (body ++ written_end) (length body) (length front + length (spelling line)) rest.0) same rest.1 in (
         first ∷ rest.0,
-        (is_first, subst (λ (b : Bool). MatchBool b (rest.0 ≡ []) (Reads ((front ++ middle) ++ written_end) (length (front ++ middle)) (behind first) rest.0)) (sym (not_final line this.inner)) reads),
+        (
+          is_first,
+          subst (λ (b : Bool).
+              MatchBool b (rest.0 ≡ []) (Reads ((front ++ middle) ++ written_end) (length (front ++ middle)) (behind first) rest.0))
+              (sym (not_final line this.inner)) reads,
+        ),
         ap (λ (l : List Line). line ∷ l) rest.2,
       )
 
@@ -166,12 +187,16 @@ module _ (again : ByteRoundTrip) where
       × (lines_of listed ≡ rest ++ FinalEnd 0 0 ∷ [])
   reads_behind lines [] inner =
       let count = filler (length (packed lines)) in
-      let found = trip [] (packed lines) (length (packed lines)) count inner (omega arith) (λ k low high. absurd (omega (arith, low, high))) in
+      let found =
+      trip [] (packed lines) (length (packed lines)) count inner (omega arith) (λ k low high. absurd (omega (arith, low, high))) in
       let none : lines ++ [] ≡ lines = append-nil lines in
       let size : length (packed lines ++ replicate count 0) ≡ length (packing lines) - 3 =
       omega (arith, length-packing lines, length-append (packed lines) (replicate count 0), length-replicate {A = ℕ} count 0) in
-      let read = subst (λ (n : ℕ). Reads (packing lines) n (length (packed lines)) found.0) size found.1 in
-      (found.0, subst (λ (all : List Line). Reads (packing all) (length (packing all) - 3) (length (packed lines)) found.0) (sym none) read, found.2)
+      let read = subst (λ (n : ℕ). Reads (packing lines) n (length (packed lines)) found.0) size found.1 in (
+        found.0,
+        subst (λ (all : List Line). Reads (packing all) (length (packing all) - 3) (length (packed lines)) found.0) (sym none) read,
+        found.2,
+      )
   reads_behind lines (line ∷ rest) inner =
       let all = lines ++ line ∷ rest in
       let count = filler (length (packed all)) in
@@ -179,9 +204,11 @@ module _ (again : ByteRoundTrip) where
       let front = packed lines ++ middle in
       let ahead : length front ≡ length (packed lines) + length middle = length-append (packed lines) middle in
       let found = trip (line ∷ rest) front (length (packed lines)) count inner (omega (arith, ahead))
-      (λ k low high. after_front (packed lines) middle k low ∙ chosen_null (option_map_or is_number (last_line lines) false && is_number line) (k - length (packed lines))) in
+      (λ k low high. after_front (packed lines) middle k low
+      ∙ chosen_null (option_map_or is_number (last_line lines) false && is_number line) (k - length (packed lines))) in
       let body : front ++ (packed (line ∷ rest) ++ replicate count 0) ≡ packed all ++ replicate count 0 =
-      sym (append_assoc front (packed (line ∷ rest)) (replicate count 0)) ∙ ap (λ (bytes : List ℕ). bytes ++ replicate count 0) (sym (packed-join lines line rest)) in
+      sym (append_assoc front (packed (line ∷ rest)) (replicate count 0))
+      ∙ ap (λ (bytes : List ℕ). bytes ++ replicate count 0) (sym (packed-join lines line rest)) in
       let size : length (packed all ++ replicate count 0) ≡ length (packing all) - 3 =
       omega (arith, length-packing all, length-append (packed all) (replicate count 0), length-replicate {A = ℕ} count 0) in
       let read = subst (λ (bytes : List ℕ). Reads (bytes ++ written_end) (length bytes) (length (packed lines)) found.0) body found.1 in

@@ -34,25 +34,31 @@ label_no_end n line is = refl
 back : (before : List ListedLine) (listed : ListedLine) → reverse (before ++ listed ∷ []) ≡ listed ∷ reverse before
 back before listed = reverse-append before (listed ∷ [])
 
-chosen_start : (b : Bool) (listed : ListedLine) (found : Option ListedLine) → option_map_or behind (if b then Some listed else found) 0 ≡ (if b then behind listed else option_map_or behind found 0)
+chosen_start : (b : Bool) (listed : ListedLine) (found : Option ListedLine)
+    → option_map_or behind (if b then Some listed else found) 0 ≡ (if b then behind listed else option_map_or behind found 0)
 chosen_start true listed found = refl
 chosen_start false listed found = refl
 
-chosen_position : (b : Bool) (listed : ListedLine) (found : Option ListedLine) → position_of (if b then Some listed else found) ≡ (if b then Some listed.position else position_of found)
+chosen_position : (b : Bool) (listed : ListedLine) (found : Option ListedLine)
+    → position_of (if b then Some listed else found) ≡ (if b then Some listed.position else position_of found)
 chosen_position true listed found = refl
 chosen_position false listed found = refl
 
 pub start_in-more : (at : ℕ) (before : List ListedLine) (listed : ListedLine)
     → start_in at (before ++ listed ∷ []) ≡ (if is_end listed.line && nat_lt listed.position at then behind listed else start_in at before)
 start_in-more at before listed =
-    ap (λ (lines : List ListedLine). option_map_or behind (find (λ each. is_end each.line && nat_lt each.position at) lines) 0) (back before listed)
-    ∙ chosen_start (is_end listed.line && nat_lt listed.position at) listed (find (λ each. is_end each.line && nat_lt each.position at) (reverse before))
+    ap (λ (lines : List ListedLine). option_map_or behind (find (λ each. is_end each.line && nat_lt each.position at) lines) 0)
+    (back before listed)
+    ∙ chosen_start (is_end listed.line && nat_lt listed.position at) listed
+    (find (λ each. is_end each.line && nat_lt each.position at) (reverse before))
 
-pub start_in-final : (at : ℕ) (before : List ListedLine) (listed : ListedLine) → is_final_end listed.line ≡ true → start_in at (before ++ listed ∷ []) ≡ start_in at before
+pub start_in-final : (at : ℕ) (before : List ListedLine) (listed : ListedLine) → is_final_end listed.line ≡ true
+    → start_in at (before ++ listed ∷ []) ≡ start_in at before
 start_in-final at before listed final = start_in-more at before listed ∙ (rw (final_no_end listed.line final) refl)
 
 pub named_in-more : (name : List ℕ) (before : List ListedLine) (listed : ListedLine)
-    → position_of (named_in name (before ++ listed ∷ [])) ≡ (if is_named name listed.line then Some listed.position else position_of (named_in name before))
+    → position_of (named_in name (before ++ listed ∷ []))
+    ≡ (if is_named name listed.line then Some listed.position else position_of (named_in name before))
 named_in-more name before listed =
     ap (λ (lines : List ListedLine). position_of (find (λ each. is_named name each.line) lines)) (back before listed)
     ∙ chosen_position (is_named name listed.line) listed (find (λ each. is_named name each.line) (reverse before))
@@ -82,11 +88,13 @@ pub label_in-final : (n : ℕ) (listed : ListedLine) → is_final_end listed.lin
 label_in-final n listed final = label_in-other n listed [] (final_no_end listed.line final) (final_no_label n listed.line final)
 
 -- a search that found a line needs no other
-pub some_or : (first second : Option ListedLine) (position : ℕ) → position_of first ≡ Some position → Some position ≡ position_of (option_or first second)
+pub some_or : (first second : Option ListedLine) (position : ℕ) → position_of first ≡ Some position
+    → Some position ≡ position_of (option_or first second)
 some_or None second position found = absurd (none-some position found)
 some_or (Some listed) second position found = sym found
 
 -- a search that found nothing gives way to another
-pub none_or : (first second : Option ListedLine) (result : Option ℕ) → position_of first ≡ None → result ≡ position_of second → result ≡ position_of (option_or first second)
+pub none_or : (first second : Option ListedLine) (result : Option ℕ) → position_of first ≡ None → result ≡ position_of second
+    → result ≡ position_of (option_or first second)
 none_or None second result none same = same
 none_or (Some listed) second result none same = absurd (none-some listed.position (sym none))

@@ -1,5 +1,6 @@
 -- A line of one byte is that of all bytes that begin with this byte.
-use Rattle.std.proofs.Common.{◌≡◌, ℕ, suc, ◌+◌, ◌-◌, ◌<◌, ◌≤◌, List, [], ◌∷◌, ◌++◌, map, take, drop, Ok, Result, sym, ◌∙◌, ap, subst, arith, inl, inr}
+use Rattle.std.proofs.Common.{◌≡◌, ℕ, suc, ◌+◌, ◌-◌, ◌<◌, ◌≤◌, List, [], ◌∷◌, ◌++◌, map, take, drop, Ok, Result, sym, ◌∙◌, ap, subst, arith}
+use Rattle.std.proofs.Common.{inl, inr}
 use Rattle.std.proofs.Common.{min}
 use Rattle.std.specs.List.{range_with_len}
 use Rattle.std.proofs.lemmas.List.{length-take, take-take}
@@ -14,8 +15,8 @@ use Rattle.h41_program.specs.ProgramBytes.{program_byte}
 use Rattle.h41_program.specs.private.Reading.{BeginsNoNumber, bytes_seen}
 use Rattle.h41_ram.specs.RegisterMap.{RegisterMap}
 
-whole_alone : (numbers : NumberBegins) (line : Line) (byte : ℕ) (rest : List ℕ) → IsLine line → byte ∷ [] ≡ spelling line → BeginsNoNumber byte
-    → IsWhole line rest
+whole_alone : (numbers : NumberBegins) (line : Line) (byte : ℕ) (rest : List ℕ) → IsLine line → byte ∷ [] ≡ spelling line
+    → BeginsNoNumber byte → IsWhole line rest
 whole_alone numbers (Number characters) byte rest valid same other = λ goes.
     let begun : GoesOn (spelling (Number characters) ++ []) = (numbers (Number characters) [] valid).1 tt in
     let own : GoesOn (byte ∷ []) = subst (λ (bytes : List ℕ). GoesOn (bytes ++ [])) (sym same) begun in
@@ -25,10 +26,14 @@ whole_alone numbers line byte rest valid same other = tt
 one_byte : (byte : ℕ) (line : Line) (count : ℕ) → count ≡ 1 → take count (byte ∷ []) ≡ spelling line → byte ∷ [] ≡ spelling line
 one_byte byte line count is same = subst (λ (n : ℕ). take n (byte ∷ []) ≡ spelling line) is same
 
-pub begins_by : (numbers : NumberBegins) (byte : ℕ) (rest : List ℕ) (line : Line) → IsLine line → byte ∷ [] ≡ spelling line → BeginsNoNumber byte
-    → Begins (byte ∷ rest) line 1
+pub begins_by : (numbers : NumberBegins) (byte : ℕ) (rest : List ℕ) (line : Line) → IsLine line → byte ∷ [] ≡ spelling line
+    → BeginsNoNumber byte → Begins (byte ∷ rest) line 1
 begins_by numbers byte rest line valid same other =
-    record { inside = omega arith; spells = record { valid = valid; same = same }; whole = whole_alone numbers line byte rest valid same other }
+    record {
+      inside = omega arith;
+      spells = record { valid = valid; same = same };
+      whole = whole_alone numbers line byte rest valid same other;
+    }
 
 pub begins_alone : (numbers : NumberBegins) (byte : ℕ) (rest : List ℕ) (line : Line) (count : ℕ) → BeginsNoNumber byte
     → Begins (byte ∷ []) line count → Begins (byte ∷ rest) line count
@@ -60,12 +65,14 @@ seen_first memory at limit before =
     let some : min 18 (limit - at) ≡ suc (min 18 (limit - at) - 1) = omega (arith, before) in
     ap (λ n. map (program_byte memory) (range_with_len at n)) some
 
-answers_same : {E : Type 0} (found : Result (Line × ℕ) E) (bytes other : List ℕ) → bytes ≡ other → AnswersLine found bytes → AnswersLine found other
+answers_same : {E : Type 0} (found : Result (Line × ℕ) E) (bytes other : List ℕ) → bytes ≡ other → AnswersLine found bytes
+    → AnswersLine found other
 answers_same found bytes other same answers = subst (λ (of : List ℕ). AnswersLine found of) same answers
 
 -- a line that was read of the first byte alone
-pub seen_alone : {E : Type 0} (one : OneLine) (numbers : NumberBegins) (memory : RegisterMap) (at limit byte : ℕ) (line : Line) (count : ℕ) → at < limit
-    → byte ≡ program_byte memory at → BeginsNoNumber byte → Begins (byte ∷ []) line count → AnswersLine {E = E} (Ok (line, count)) (bytes_seen memory at limit)
+pub seen_alone : {E : Type 0} (one : OneLine) (numbers : NumberBegins) (memory : RegisterMap) (at limit byte : ℕ) (line : Line) (count : ℕ)
+    → at < limit → byte ≡ program_byte memory at → BeginsNoNumber byte → Begins (byte ∷ []) line count
+    → AnswersLine {E = E} (Ok (line, count)) (bytes_seen memory at limit)
 seen_alone one numbers memory at limit byte line count before is other begins =
     let rest : List ℕ = map (program_byte memory) (range_with_len (at + 1) (min 18 (limit - at) - 1)) in
     let same : byte ∷ rest ≡ bytes_seen memory at limit = ap (λ first. first ∷ rest) is ∙ sym (seen_first memory at limit before) in
@@ -109,13 +116,16 @@ seen_fewer memory at near limit inside =
     take-map-range_with_len (program_byte memory) at (min 18 (limit - at)) (min 18 (near - at)) (omega (arith, inside))
 
 -- a line that was read of fewer bytes, the first of which begins no number
-pub seen_narrow : {E : Type 0} (one : OneLine) (numbers : NumberBegins) (memory : RegisterMap) (at near limit byte : ℕ) (line : Line) (count : ℕ)
-    → at < limit → near ≤ limit → byte ≡ program_byte memory at → BeginsNoNumber byte
-    → Begins (bytes_seen memory at near) line count → AnswersLine {E = E} (Ok (line, count)) (bytes_seen memory at limit)
+pub seen_narrow : {E : Type 0} (one : OneLine) (numbers : NumberBegins)
+    (memory : RegisterMap) (at near limit byte : ℕ) (line : Line) (count : ℕ)
+    → at < limit → near ≤ limit → byte ≡ program_byte memory at → BeginsNoNumber byte → Begins (bytes_seen memory at near) line count
+    → AnswersLine {E = E} (Ok (line, count)) (bytes_seen memory at limit)
 seen_narrow one numbers memory at near limit byte line count before inside is other begins =
     let rest : List ℕ = map (program_byte memory) (range_with_len (at + 1) (min 18 (limit - at) - 1)) in
     let same : byte ∷ rest ≡ bytes_seen memory at limit = ap (λ first. first ∷ rest) is ∙ sym (seen_first memory at limit before) in
     let fewer : bytes_seen memory at near ≡ take (min 18 (near - at)) (byte ∷ rest) =
     sym (seen_fewer memory at near limit inside) ∙ ap (take (min 18 (near - at))) (sym same) in
-    let narrow = begins_narrow numbers byte (min 18 (near - at)) rest line count other (subst (λ (bytes : List ℕ). Begins bytes line count) fewer begins) in
+    let narrow =
+    begins_narrow numbers byte (min 18 (near - at)) rest line count other
+    (subst (λ (bytes : List ℕ). Begins bytes line count) fewer begins) in
     answers_same (Ok (line, count)) (byte ∷ rest) (bytes_seen memory at limit) same (answers_alone one (byte ∷ rest) line count narrow)

@@ -2,7 +2,8 @@
 use Rattle.std.proofs.Common.{◌≡◌, ℕ, ◌+◌, ◌-◌, ◌*◌, ◌/◌, ◌%◌, ◌<◌, ◌≤◌, Bool, true, false, List, length, arith, refl}
 use Rattle.std.proofs.lemmas.Bool.Decides.{nat_tests}
 use Rattle.std.specs.Prelude.{◌&&◌, nat_lt, nat_le, ◌==◌}
-use Rattle.h41_ram.specs.RegisterMap.{RegisterMap, main_start, top_of, curtain_of, end_of, is_sound, is_final_end, bit_of, register_at, constant_of, sound_constant}
+use Rattle.h41_ram.specs.RegisterMap.{RegisterMap, main_start, top_of, curtain_of, end_of, is_sound, is_final_end, bit_of, register_at}
+use Rattle.h41_ram.specs.RegisterMap.{constant_of, sound_constant}
 use Rattle.h41_digits.specs.Register.{byte_at}
 use Rattle.h41_program.specs.ProgramBytes.{program_byte, final_position}
 
@@ -69,7 +70,9 @@ module _ (memory : RegisterMap) (sound : is_sound memory ≡ true) where
 
   pub constant : constant_of memory ≡ 0x169
   constant =
-      let test : constant_test ≡ true = and_first constant_test (low_test && order_test && high_test) (and_first (constant_test && (low_test && order_test && high_test)) end_test sound) in
+      let test : constant_test ≡ true =
+      and_first constant_test (low_test && order_test && high_test)
+      (and_first (constant_test && (low_test && order_test && high_test)) end_test sound) in
       eq_holds (constant_of memory) sound_constant test
 
   pub ends : is_final_end (register_at memory (end_of memory)) ≡ true
@@ -87,8 +90,8 @@ module _ (memory : RegisterMap) (sound : is_sound memory ≡ true) where
       (last_holds constant_test low_test order_test high_test end_test sound)))
 
 -- the byte of a position, by its register and its place there
-pub program_byte-at : (memory : RegisterMap) (position address place : ℕ) → curtain_of memory - 1 - position / 7 ≡ address → 6 - position % 7 ≡ place
-    → program_byte memory position ≡ byte_at (register_at memory address) place
+pub program_byte-at : (memory : RegisterMap) (position address place : ℕ) → curtain_of memory - 1 - position / 7 ≡ address
+    → 6 - position % 7 ≡ place → program_byte memory position ≡ byte_at (register_at memory address) place
 program_byte-at memory position address place here there = rw (here, there) refl
 
 -- .END. stands in the last three bytes of the last register
@@ -102,5 +105,6 @@ last_place curtain end below = omega arith
 pub final_byte : (memory : RegisterMap) → is_sound memory ≡ true → 0xC0 ≤ program_byte memory (final_position memory)
 final_byte memory sound =
     let below = (bounds memory sound).order in
-    rw (program_byte-at memory (final_position memory) (end_of memory) 2 (last_register (curtain_of memory) (end_of memory) below) (last_place (curtain_of memory) (end_of memory) below))
+    rw (program_byte-at memory (final_position memory) (end_of memory) 2
+    (last_register (curtain_of memory) (end_of memory) below) (last_place (curtain_of memory) (end_of memory) below))
     (le_holds 0xC0 (byte_at (register_at memory (end_of memory)) 2) (final_test memory sound))

@@ -1,5 +1,6 @@
 -- A line is read of 18 bytes as of all.
-use Rattle.std.proofs.Common.{◌≡◌, ℕ, suc, ◌+◌, ◌-◌, ◌<◌, ◌≤◌, List, [], ◌∷◌, map, length, take, drop, length-take-le, refl, sym, ◌∙◌, ap, subst, arith, inl, inr}
+use Rattle.std.proofs.Common.{◌≡◌, ℕ, suc, ◌+◌, ◌-◌, ◌<◌, ◌≤◌, List, [], ◌∷◌, map, length, take, drop, length-take-le, refl, sym, ◌∙◌, ap}
+use Rattle.std.proofs.Common.{subst, arith, inl, inr}
 use Rattle.std.specs.List.{range_with_len}
 use Rattle.std.proofs.lemmas.List.{ext_get_or, take-take, drop-take, get_or-drop, length-drop, length-take}
 use Rattle.std.proofs.lemmas.List.FromFn.{get_or-map-range_with_len, length-map-range_with_len, take-map-range_with_len}
@@ -40,14 +41,18 @@ rest_in count bytes below =
     let size : 18 ≡ count + suc (17 - count) = omega arith in
     ap (λ n. drop count (take n bytes)) size ∙ drop-take count (suc (17 - count)) bytes
 
-whole_out : (line : Line) (bytes : List ℕ) (count : ℕ) → IsLine line → count ≡ length (spelling line) → IsWhole line (drop count (take 18 bytes)) → IsWhole line (drop count bytes)
+whole_out : (line : Line) (bytes : List ℕ) (count : ℕ) → IsLine line → count ≡ length (spelling line)
+    → IsWhole line (drop count (take 18 bytes)) → IsWhole line (drop count bytes)
 whole_out (Number characters) bytes count valid size whole =
-    λ goes. whole (subst GoesOn (sym (rest_in count bytes (omega (arith, size, length-map characters character_code, valid.1)))) (goes_in (17 - count) (drop count bytes) goes))
+    λ goes. whole (subst GoesOn (sym (rest_in count bytes (omega (arith, size, length-map characters character_code, valid.1))))
+    (goes_in (17 - count) (drop count bytes) goes))
 whole_out line bytes count valid size whole = tt
 
-whole_in : (line : Line) (bytes : List ℕ) (count : ℕ) → IsLine line → count ≡ length (spelling line) → IsWhole line (drop count bytes) → IsWhole line (drop count (take 18 bytes))
+whole_in : (line : Line) (bytes : List ℕ) (count : ℕ) → IsLine line → count ≡ length (spelling line) → IsWhole line (drop count bytes)
+    → IsWhole line (drop count (take 18 bytes))
 whole_in (Number characters) bytes count valid size whole =
-    λ goes. whole (goes_out (17 - count) (drop count bytes) (subst GoesOn (rest_in count bytes (omega (arith, size, length-map characters character_code, valid.1))) goes))
+    λ goes. whole (goes_out (17 - count) (drop count bytes)
+    (subst GoesOn (rest_in count bytes (omega (arith, size, length-map characters character_code, valid.1))) goes))
 whole_in line bytes count valid size whole = tt
 
 pub begins_out : (bytes : List ℕ) (line : Line) (count : ℕ) → Begins (take 18 bytes) line count → Begins bytes line count

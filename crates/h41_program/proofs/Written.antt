@@ -1,5 +1,6 @@
 -- Lines that were written into memory: it is sound, and they are read again.
-use Rattle.std.proofs.Common.{refl, ◌≡◌, ℕ, ◌+◌, ◌-◌, ◌*◌, ◌/◌, ◌≤◌, true, List, ◌++◌, length, get_or, replicate, sym, ◌∙◌, ap, subst, arith, inl, inr, All, Result, Ok, Err, length-append, get_or-append-add}
+use Rattle.std.proofs.Common.{refl, ◌≡◌, ℕ, ◌+◌, ◌-◌, ◌*◌, ◌/◌, ◌≤◌, true, List, ◌++◌, length, get_or, replicate, sym, ◌∙◌, ap, subst}
+use Rattle.std.proofs.Common.{arith, inl, inr, All, Result, Ok, Err, length-append, get_or-append-add}
 use Rattle.std.proofs.lemmas.Bool.{cases_lt}
 use Rattle.h41_codes.specs.ByteLaws.{ByteRoundTrip}
 use Rattle.h41_codes.specs.declared.line.Line.{Line}
@@ -45,7 +46,8 @@ same_memory : (one other : RegisterMap) → ◌≡◌ {A = Result RegisterMap Pr
 same_memory one other same = cc
 
 -- lines that were written had room
-pub has_room : (memory new : RegisterMap) (lines : List Line) → written memory lines ≡ Ok new → main_start + length (packing lines) / 7 ≤ curtain_of memory
+pub has_room : (memory new : RegisterMap) (lines : List Line) → written memory lines ≡ Ok new
+    → main_start + length (packing lines) / 7 ≤ curtain_of memory
 has_room memory new lines done = elim (cases_lt (curtain_of memory) (main_start + length (packing lines) / 7)) [
   | inl above ↦ absurd (refused_is_not_done new (sym (written-none memory lines above) ∙ done))
   | inr inside ↦ inside
@@ -61,11 +63,13 @@ module _ (memory new : RegisterMap) (lines : List Line) (sound : is_sound memory
 
   pub written_sound : is_sound new ≡ true
   written_sound =
-      let first : get_or (packing lines) (length (packing lines) - 3) 0 ≡ 0xC0 = ap (λ n. get_or (packing lines) n 0) (omega arith) ∙ final_bytes lines 0 in
+      let first : get_or (packing lines) (length (packing lines) - 3) 0 ≡ 0xC0 =
+      ap (λ n. get_or (packing lines) n 0) (omega arith) ∙ final_bytes lines 0 in
       let last : get_or (packing lines) (length (packing lines) - 1) 0 ≡ 0x20 =
       ap (λ n. get_or (packing lines) n 0) (omega (arith, length-packing lines)) ∙ final_bytes lines 2 in
       subst (λ (m : RegisterMap). is_sound m ≡ true) (is_rewritten memory new lines done)
-      (sound_new memory sound (packing lines) count (registers_filled lines) (some_registers lines) (has_room memory new lines done) first last)
+      (sound_new memory sound (packing lines) count (registers_filled lines)
+      (some_registers lines) (has_room memory new lines done) first last)
 
   pub written_bytes : program_bytes new ≡ packing lines
   written_bytes =
@@ -84,8 +88,8 @@ module _ (memory new : RegisterMap) (lines : List Line) (sound : is_sound memory
       (subst (λ (bytes : List ℕ). Reads bytes (length (packing lines) - 3) at listed) (sym written_bytes) reads)
 
 -- lines behind others, from the byte behind these on
-pub written_behind : ByteRoundTrip → (memory new : RegisterMap) (lines rest : List Line) → is_sound memory ≡ true → All IsInner rest → written memory (lines ++ rest) ≡ Ok new
-    → HasLines new (length (packed lines)) rest
+pub written_behind : ByteRoundTrip → (memory new : RegisterMap) (lines rest : List Line) → is_sound memory ≡ true → All IsInner rest
+    → written memory (lines ++ rest) ≡ Ok new → HasLines new (length (packed lines)) rest
 written_behind again memory new lines rest sound inner done =
     let found = reads_behind again lines rest inner in
     let read = written_reads memory new (lines ++ rest) sound done (length (packed lines)) found.0 found.1 in

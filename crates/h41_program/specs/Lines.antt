@@ -2,7 +2,8 @@
 use Rattle.std.specs.Prelude.{ℕ, Bool, true, false, List, ◌==◌}
 use Rattle.std.specs.Str.{bytes_eq}
 use Rattle.h41_codes.specs.declared.line.Line.{Line}
-use Rattle.h41_codes.specs.declared.line.Line.TheVariants.{Null, LocalLabel, Number, WithOperand, GlobalLabel, End, FinalEnd}
+use Rattle.h41_codes.specs.declared.line.Line.TheVariants.{Null, LocalLabel, Number, WithOperand}
+use Rattle.h41_codes.specs.declared.line.Line.TheVariants.{GlobalLabel, End, FinalEnd}
 use Rattle.h41_codes.specs.declared.functions.ParameterFunction.TheVariants.{Label}
 use Rattle.h41_codes.specs.declared.line.Operand.TheVariants.{Direct}
 

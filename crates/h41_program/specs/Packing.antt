@@ -1,6 +1,8 @@
--- The bytes of lines as program memory holds them: the lines' own one behind the other, a null between two numbers, and .END.
+-- The bytes of lines as program memory holds them: the lines' own one behind the other, a null
+-- between two numbers, and .END.
 -- in the last three bytes of the last register, with as few nulls before it as fill the registers.
-use Rattle.std.specs.Prelude.{ℕ, ◌+◌, ◌-◌, ◌%◌, ◌&&◌, List, [], ◌∷◌, ◌++◌, length, replicate, if◌then◌else◌, Option, Some, None}
+use Rattle.std.specs.Prelude.{ℕ, ◌+◌, ◌-◌, ◌%◌, ◌&&◌, List, [], ◌∷◌, ◌++◌, length, replicate}
+use Rattle.std.specs.Prelude.{if◌then◌else◌, Option, Some, None}
 use Rattle.h41_codes.specs.ByteGrammar.{spelling}
 use Rattle.h41_codes.specs.declared.line.Line.{Line}
 use Rattle.h41_program.specs.Lines.{is_number}

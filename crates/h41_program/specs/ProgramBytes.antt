@@ -1,5 +1,6 @@
--- The bytes of program memory. They stand seven to a register, the leftmost first, from the register below the curtain down to
--- the one that holds .END., the last three bytes. A position counts bytes from there, the first is 0.
+-- The bytes of program memory. They stand seven to a register, the leftmost first, from the
+-- register below the curtain down to the one that holds .END., the last three bytes. A position
+-- counts bytes from there, the first is 0.
 use Rattle.std.specs.Prelude.{ℕ, ◌-◌, ◌*◌, ◌/◌, ◌%◌, List, map}
 use Rattle.std.specs.List.{range_with_len}
 use Rattle.h41_digits.specs.Register.{byte_at}
@@ -11,7 +12,8 @@ byte_count memory = 7 * (curtain_of memory - end_of memory)
 
 -- the byte at a position; the leftmost byte of a register is its byte 6
 abbrev pub program_byte : RegisterMap → ℕ → ℕ
-program_byte memory position = byte_at (register_at memory (curtain_of memory - 1 - position / 7)) (6 - position % 7)
+program_byte memory position =
+    byte_at (register_at memory (curtain_of memory - 1 - position / 7)) (6 - position % 7)
 
 -- all of them
 abbrev pub program_bytes : RegisterMap → List ℕ

@@ -1,5 +1,6 @@
 -- Laws of lists of lines.
-use Rattle.std.specs.Prelude.{◌≡◌, ℕ, ◌-◌, ◌*◌, ◌≤◌, All, IsTrue, List, [], ◌∷◌, ◌++◌, length, replicate, Some, Result, Ok}
+use Rattle.std.specs.Prelude.{◌≡◌, ℕ, ◌-◌, ◌*◌, ◌≤◌, All, IsTrue, List, [], ◌∷◌, ◌++◌, length}
+use Rattle.std.specs.Prelude.{replicate, Some, Result, Ok}
 use Rattle.h41_codes.specs.ByteGrammar.{IsLine}
 use Rattle.h41_codes.specs.declared.line.Line.{Line}
 use Rattle.h41_codes.specs.declared.line.Line.TheVariants.{FinalEnd}
@@ -21,10 +22,12 @@ pub record IsInner (line : Line) : Type 0 where
 -- the bytes of packed lines are read as these lines and .END.
 abbrev pub ReadsAgain : List Line → List ListedLine → Type 0
 ReadsAgain lines listed =
-    Reads (packing lines) (length (packing lines) - 3) 0 listed × (lines_of listed ≡ lines ++ FinalEnd 0 0 ∷ [])
+    Reads (packing lines) (length (packing lines) - 3) 0 listed
+    × (lines_of listed ≡ lines ++ FinalEnd 0 0 ∷ [])
 
 abbrev pub PackingRoundTrip : Type 0
-PackingRoundTrip = (lines : List Line) → All IsInner lines → (listed : List ListedLine) × ReadsAgain lines listed
+PackingRoundTrip =
+    (lines : List Line) → All IsInner lines → (listed : List ListedLine) × ReadsAgain lines listed
 
 -- a packing fills whole registers, with at most six nulls between its lines and .END.
 abbrev pub PackingFills : Type 0
@@ -32,21 +35,29 @@ PackingFills = (lines : List Line) → (registers : ℕ) × (length (packing lin
 
 abbrev pub PackingHasFewNulls : Type 0
 PackingHasFewNulls =
-    (lines : List Line) → (nulls : ℕ) × (nulls ≤ 6) × (packing lines ≡ packed lines ++ replicate nulls 0x00 ++ written_end)
+    (lines : List Line)
+    → (nulls : ℕ)
+    × (nulls ≤ 6)
+    × (packing lines ≡ packed lines ++ replicate nulls 0x00 ++ written_end)
 
 -- memory has these lines from a position on, and .END. behind them
 abbrev pub HasLines : RegisterMap → ℕ → List Line → Type 0
-HasLines memory at lines = (listed : List ListedLine) × LinesFrom memory at listed × (lines_of listed ≡ lines ++ FinalEnd 0 0 ∷ [])
+HasLines memory at lines =
+    (listed : List ListedLine)
+    × LinesFrom memory at listed
+    × (lines_of listed ≡ lines ++ FinalEnd 0 0 ∷ [])
 
 -- lines that were written are read again
 abbrev pub WrittenIsRead : Type 0
 WrittenIsRead =
-    (memory new : RegisterMap) (lines : List Line) → IsTrue (is_sound memory) → All IsInner lines → written memory lines ≡ Ok new
+    (memory new : RegisterMap) (lines : List Line) → IsTrue (is_sound memory) → All IsInner lines
+    → written memory lines ≡ Ok new
     → HasLines new 0 lines
 
--- bytes that were loaded are read again: memory's lines, closed, and behind them those of the bytes, from the position on that
--- is answered
-pub record LeavesLoaded (memory : RegisterMap) (bytes : List ℕ) (new : RegisterMap) (start : ℕ) : Type 0 where
+-- bytes that were loaded are read again: memory's lines, closed, and behind them those of the
+-- bytes, from the position on that is answered
+pub record LeavesLoaded (memory : RegisterMap) (bytes : List ℕ)
+    (new : RegisterMap) (start : ℕ) : Type 0 where
   pub lines : List ListedLine
   pub before : List ListedLine
   pub given : List ListedLine
@@ -60,12 +71,14 @@ pub record LeavesLoaded (memory : RegisterMap) (bytes : List ℕ) (new : Registe
 
 abbrev pub LoadIsRead : Type 0
 LoadIsRead =
-    (memory new : RegisterMap) (bytes : List ℕ) (start : ℕ) → LoadGives memory bytes (Ok (new, start)) → LeavesLoaded memory bytes new start
+    (memory new : RegisterMap) (bytes : List ℕ) (start : ℕ)
+    → LoadGives memory bytes (Ok (new, start)) → LeavesLoaded memory bytes new start
 
 -- with another number of data registers memory has the same lines
 abbrev pub SizeKeepsLines : Type 0
 SizeKeepsLines =
-    (memory new : RegisterMap) (size at : ℕ) (lines : List ListedLine) → IsTrue (is_sound memory) → size_outcome memory size ≡ Ok (new, tt)
+    (memory new : RegisterMap) (size at : ℕ) (lines : List ListedLine) → IsTrue (is_sound memory)
+    → size_outcome memory size ≡ Ok (new, tt)
     → LinesFrom memory at lines → LinesFrom new at lines
 
 -- memory has one list of lines from each position on
@@ -97,13 +110,15 @@ ListsAreDetermined =
 -- no load gives two outcomes
 abbrev pub LoadsAreDetermined : Type 0
 LoadsAreDetermined =
-    (memory : RegisterMap) (bytes : List ℕ) (outcome other : Result (RegisterMap × ℕ) ProgramRefusal)
+    (memory : RegisterMap) (bytes : List ℕ)
+    (outcome other : Result (RegisterMap × ℕ) ProgramRefusal)
     → LoadGives memory bytes outcome → LoadGives memory bytes other → outcome ≡ other
 
 -- no change of the list gives two outcomes
 abbrev pub EditsAreDetermined : Type 0
 EditsAreDetermined =
-    (memory : RegisterMap) (change : ℕ → ListedLine → List Line) (at : ℕ) (outcome other : Result (RegisterMap × Unit {0}) ProgramRefusal)
+    (memory : RegisterMap) (change : ℕ → ListedLine → List Line) (at : ℕ)
+    (outcome other : Result (RegisterMap × Unit {0}) ProgramRefusal)
     → EditGives memory change at outcome → EditGives memory change at other → outcome ≡ other
 
 -- a position stands for its line: the list from the line's own position on is the same

@@ -3,10 +3,12 @@ use Rattle.std.specs.Prelude.{◌≡◌, ℕ, IsTrue, List, Option, Result}
 use Rattle.h41_ram.specs.RegisterMap.{RegisterMap, is_sound}
 use Rattle.h41_program.specs.declared.listed_line.ListedLine.{ListedLine}
 use Rattle.h41_program.specs.declared.refusal.ProgramRefusal.{ProgramRefusal}
-use Rattle.h41_program.specs.ProgramLines.{AnswersFirst, AnswersNext, AnswersOf, LinesFrom, line_of, next_of}
+use Rattle.h41_program.specs.ProgramLines.{AnswersFirst, AnswersNext, AnswersOf, LinesFrom, line_of}
+use Rattle.h41_program.specs.ProgramLines.{next_of}
 use Rattle.h41_program.specs.Searches.{AnswersLocal, AnswersProgram}
 
--- an answer by the list, of any type, is determined: where programs begin and names stand, whether the last program is open
+-- an answer by the list, of any type, is determined: where programs begin and names stand, whether
+-- the last program is open
 abbrev pub AnswersAreDetermined : Type 0 → Type 0
 AnswersAreDetermined A =
     (memory : RegisterMap) (answer : List ListedLine → A) (at : ℕ) (result other : A)
@@ -16,12 +18,14 @@ AnswersAreDetermined A =
 abbrev pub ProgramIsDetermined : Type 0 → Type 0
 ProgramIsDetermined A =
     (memory : RegisterMap) (answer : List ListedLine → A) (at : ℕ) (result other : A)
-    → AnswersProgram answer memory at result → AnswersProgram answer memory at other → result ≡ other
+    → AnswersProgram answer memory at result → AnswersProgram answer memory at other
+    → result ≡ other
 
 -- and a local label is found in one place
 abbrev pub LocalIsDetermined : Type 0
 LocalIsDetermined =
-    (memory : RegisterMap) (at n : ℕ) (found other : Option ℕ) → AnswersLocal memory at n found → AnswersLocal memory at n other
+    (memory : RegisterMap) (at n : ℕ) (found other : Option ℕ) → AnswersLocal memory at n found
+    → AnswersLocal memory at n other
     → found ≡ other
 
 -- the line that a position stands for is determined, and so is the position of the next
@@ -35,13 +39,17 @@ NextIsDetermined =
     (memory : RegisterMap) (at : ℕ) (result other : Result ℕ ProgramRefusal)
     → AnswersNext memory at result → AnswersNext memory at other → result ≡ other
 
--- the line at a position is the first of the list from there on, and the next position that of its second
+-- the line at a position is the first of the list from there on, and the next position that of its
+-- second
 abbrev pub LineIsOfList : Type 0
 LineIsOfList =
-    (memory : RegisterMap) (at : ℕ) (result : Result ListedLine ProgramRefusal) (lines : List ListedLine) → IsTrue (is_sound memory)
+    (memory : RegisterMap) (at : ℕ)
+    (result : Result ListedLine ProgramRefusal) (lines : List ListedLine)
+    → IsTrue (is_sound memory)
     → AnswersFirst memory at result → LinesFrom memory at lines → result ≡ line_of lines
 
 abbrev pub NextIsOfList : Type 0
 NextIsOfList =
-    (memory : RegisterMap) (at : ℕ) (result : Result ℕ ProgramRefusal) (lines : List ListedLine) → IsTrue (is_sound memory)
+    (memory : RegisterMap) (at : ℕ) (result : Result ℕ ProgramRefusal) (lines : List ListedLine)
+    → IsTrue (is_sound memory)
     → AnswersNext memory at result → LinesFrom memory at lines → result ≡ next_of lines

@@ -1,5 +1,6 @@
 -- Where programs begin and end, and labels stand, as filters of the list of lines.
-use Rattle.std.specs.Prelude.{◌≡◌, ℕ, not, ◌&&◌, ◌||◌, List, [], ◌∷◌, find, reverse, nat_lt, if◌then◌else◌, Option}
+use Rattle.std.specs.Prelude.{◌≡◌, ℕ, not, ◌&&◌, ◌||◌, List, [], ◌∷◌, find, reverse, nat_lt}
+use Rattle.std.specs.Prelude.{if◌then◌else◌, Option}
 use Rattle.std.specs.List.{take_while}
 use Rattle.std.specs.Option.{option_map, option_map_or, option_or}
 use Rattle.h41_ram.specs.RegisterMap.{RegisterMap}
@@ -9,7 +10,8 @@ use Rattle.h41_program.specs.ProgramLines.{LinesFrom, behind}
 
 -- the last END before a position
 abbrev pub end_before : ℕ → List ListedLine → Option ListedLine
-end_before at lines = find (λ listed. is_end listed.line && nat_lt listed.position at) (reverse lines)
+end_before at lines =
+    find (λ listed. is_end listed.line && nat_lt listed.position at) (reverse lines)
 
 -- where the program of a position begins: behind that END, or at 0
 abbrev pub start_in : ℕ → List ListedLine → ℕ
@@ -22,7 +24,8 @@ up_to_end (first ∷ rest) = if is_end first.line then first ∷ [] else first �
 
 -- the first LBL n of lines, up to their END
 abbrev pub label_in : ℕ → List ListedLine → Option ListedLine
-label_in n lines = find (λ listed. is_label n listed.line) (take_while (λ listed. not (is_end listed.line)) lines)
+label_in n lines =
+    find (λ listed. is_label n listed.line) (take_while (λ listed. not (is_end listed.line)) lines)
 
 -- the last LBL of a name
 abbrev pub named_in : List ℕ → List ListedLine → Option ListedLine
@@ -35,15 +38,18 @@ position_of found = option_map (λ listed. listed.position) found
 abbrev pub end_in : List ListedLine → Option ℕ
 end_in lines = position_of (find (λ listed. is_end listed.line || is_final_end listed.line) lines)
 
--- an answer on the program of a position: it is that of the lines from the program's start to its END
-pub record AnswersProgram {A : Type 0} (answer : List ListedLine → A) (memory : RegisterMap) (at : ℕ) (result : A) : Type 0 where
+-- an answer on the program of a position: it is that of the lines from the program's start to its
+-- END
+pub record AnswersProgram {A : Type 0} (answer : List ListedLine → A)
+    (memory : RegisterMap) (at : ℕ) (result : A) : Type 0 where
   pub lines : List ListedLine
   pub own : List ListedLine
   pub all : LinesFrom memory 0 lines
   pub program : LinesFrom memory (start_in at lines) own
   pub is : result ≡ answer (up_to_end own)
 
--- where LBL n stands that a position finds: the first from there to the END, else the first of its program
+-- where LBL n stands that a position finds: the first from there to the END, else the first of its
+-- program
 pub record AnswersLocal (memory : RegisterMap) (at n : ℕ) (result : Option ℕ) : Type 0 where
   pub lines : List ListedLine
   pub onward : List ListedLine

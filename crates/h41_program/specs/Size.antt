@@ -1,8 +1,12 @@
--- Memory with another number of data registers: the curtain moves, and with it the program and the statistics registers.
-use Rattle.std.specs.Prelude.{ℕ, ◌+◌, ◌-◌, ◌%◌, List, map, length, slice_set, nat_lt, if◌then◌else◌, Result, Ok, Err}
+-- Memory with another number of data registers: the curtain moves, and with it the program and the
+-- statistics registers.
+use Rattle.std.specs.Prelude.{ℕ, ◌+◌, ◌-◌, ◌%◌, List, map, length, slice_set, nat_lt, if◌then◌else◌}
+use Rattle.std.specs.Prelude.{Result, Ok, Err}
 use Rattle.std.specs.Option.{unwrap_or}
 use Rattle.h41_ram.specs.NamedRegisters.{data_of}
-use Rattle.h41_ram.specs.RegisterMap.{RegisterMap, main_start, top_of, c_address, zeros, register_at, c_of, curtain_of, end_of, three_digits, with_three_places}
+use Rattle.h41_ram.specs.RegisterMap.{RegisterMap, main_start, top_of, c_address, zeros}
+use Rattle.h41_ram.specs.RegisterMap.{register_at, c_of, curtain_of, end_of, three_digits}
+use Rattle.h41_ram.specs.RegisterMap.{with_three_places}
 use Rattle.h41_program.specs.declared.refusal.ProgramRefusal.{ProgramRefusal}
 use Rattle.h41_program.specs.declared.refusal.ProgramRefusal.TheVariants.{NoRoom, SizeTooLarge}
 use Rattle.h41_program.specs.Rewriting.{addresses, free_register}
@@ -20,19 +24,24 @@ moved_end memory size = moved_curtain memory size + end_of memory - curtain_of m
 
 -- the statistics registers move by as much, modulo 4,096
 abbrev pub moved_statistics : RegisterMap → ℕ → ℕ
-moved_statistics memory size = (statistics_of memory + moved_curtain memory size + 4096 - curtain_of memory) % 4096
+moved_statistics memory size =
+    (statistics_of memory + moved_curtain memory size + 4096 - curtain_of memory) % 4096
 
--- the register at an address: below the new end, of the program that moved, of the data, which are zero where there were none
+-- the register at an address: below the new end, of the program that moved, of the data, which are
+-- zero where there were none
 abbrev pub resized_register : RegisterMap → ℕ → ℕ → List ℕ
 resized_register memory size address =
     if nat_lt address (moved_end memory size) then free_register memory address
-    else if nat_lt address (moved_curtain memory size) then register_at memory (address + end_of memory - moved_end memory size)
+    else if nat_lt address (moved_curtain memory size)
+    then register_at memory (address + end_of memory - moved_end memory size)
     else unwrap_or (data_of memory (address - moved_curtain memory size)) zeros
 
 -- register c: the three addresses
 abbrev pub resized_c : RegisterMap → ℕ → List ℕ
 resized_c memory size =
-    with_three_places (with_three_places (with_three_places (c_of memory) 0 (moved_end memory size)) 3 (moved_curtain memory size)) 11
+    with_three_places (with_three_places
+    (with_three_places (c_of memory) 0 (moved_end memory size)) 3 (moved_curtain memory size))
+    11
     (moved_statistics memory size)
 
 abbrev pub resized : RegisterMap → ℕ → RegisterMap
@@ -41,10 +50,12 @@ resized memory size = record {
   main = map (resized_register memory size) (addresses memory);
 }
 
--- one data register fewer than main memory has registers is the most; the program must not pass below main memory
+-- one data register fewer than main memory has registers is the most; the program must not pass
+-- below main memory
 abbrev pub size_outcome : RegisterMap → ℕ → Result (RegisterMap × Unit {0}) ProgramRefusal
 size_outcome memory size =
     if nat_lt size (length memory.main) then
-    (if nat_lt (moved_curtain memory size + end_of memory) (main_start + curtain_of memory) then Err NoRoom
+    (if nat_lt (moved_curtain memory size + end_of memory) (main_start + curtain_of memory)
+    then Err NoRoom
     else Ok (resized memory size, tt))
     else Err SizeTooLarge

@@ -2,8 +2,11 @@
 ghost use Rattle.std.specs.Prelude.{◌≡◌, ◌||◌, slice_get, IsTrue, IfOk, IfSome, OnOk};
 ghost use Rattle.h41_codes.specs.ByteGrammar.{IsLine};
 ghost use Rattle.h41_ram.specs.RegisterMap.{is_sound};
-ghost use Rattle.h41_program.specs.Edits.{Edits, LeavesChanged, Stands, StandsBefore, StandsNew, count_before, done, front_behind, position_in_front, with_inserted, with_replaced, without_deleted};
-ghost use Rattle.h41_program.specs.private.EditSteps.{Counts, IsChange, PacksChanged, changed, listed_of, new_part};
+ghost use Rattle.h41_program.specs.Edits.{Edits, LeavesChanged, Stands, StandsBefore, StandsNew};
+ghost use Rattle.h41_program.specs.Edits.{count_before, done, front_behind, position_in_front};
+ghost use Rattle.h41_program.specs.Edits.{with_inserted, with_replaced, without_deleted};
+ghost use Rattle.h41_program.specs.private.EditSteps.{Counts, IsChange, PacksChanged, changed};
+ghost use Rattle.h41_program.specs.private.EditSteps.{listed_of, new_part};
 ghost use Rattle.h41_program.specs.private.EditSteps as spec;
 ghost use Rattle.h41_program.specs.Lines.{is_inner};
 ghost use Rattle.h41_program.specs.private.Packers.{Puts, line_if};

@@ -1,5 +1,6 @@
 //! The lines of bytes that are given.
-ghost use Rattle.std.specs.Prelude.{◌≡◌, ◌≢◌, ℕ, ◌<◌, ◌≤◌, length, slice_index, IfSome, IfNone, drop, ◌==◌};
+ghost use Rattle.std.specs.Prelude.{◌≡◌, ◌≢◌, ℕ, ◌<◌, ◌≤◌, length, slice_index, IfSome, IfNone};
+ghost use Rattle.std.specs.Prelude.{drop, ◌==◌};
 ghost use Rattle.std.specs.List.{list_all};
 ghost use Rattle.h41_program.specs.private.Reading.{BytesHaveFirst, BytesHaveNone};
 

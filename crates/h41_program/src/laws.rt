@@ -1,10 +1,19 @@
 //! Laws of program memory: each is the contract of a function whose result is not looked at.
 ghost use Rattle.std.specs.Prelude.{ℕ, Bool, Option, Result};
-ghost use Rattle.h41_program.specs.Dependence.{AnswersDepend, FirstsDepend, LineDepends, ListsDepend, LocalDepends, NextDepends, NonesDepend, ProgramDepends, SoundnessDepends};
+ghost use Rattle.h41_program.specs.Dependence.{AnswersDepend, FirstsDepend, LineDepends};
+ghost use Rattle.h41_program.specs.Dependence.{ListsDepend, LocalDepends, NextDepends, NonesDepend};
+ghost use Rattle.h41_program.specs.Dependence.{ProgramDepends, SoundnessDepends};
 ghost use Rattle.h41_program.specs.Edits.{PlacesAreDetermined};
 ghost use Rattle.h41_program.specs.LastProgram.{CloseIsRead, ClosedIsNotOpen};
-ghost use Rattle.h41_program.specs.SearchLaws.{AnswersAreDetermined, LineIsDetermined, LineIsOfList, LocalIsDetermined, NextIsDetermined, NextIsOfList, ProgramIsDetermined};
-ghost use Rattle.h41_program.specs.ProgramLaws.{EditsAreDetermined, FirstIsDetermined, GoesOnFromNext, ListsAreDetermined, LoadIsRead, LoadsAreDetermined, OneList, PackingFills, PackingHasFewNulls, PackingRoundTrip, ReadIsDetermined, SizeKeepsLines, StandsForItsLine, WrittenIsRead};
+ghost use Rattle.h41_program.specs.SearchLaws.{AnswersAreDetermined, LineIsDetermined};
+ghost use Rattle.h41_program.specs.SearchLaws.{LineIsOfList, LocalIsDetermined, NextIsDetermined};
+ghost use Rattle.h41_program.specs.SearchLaws.{NextIsOfList, ProgramIsDetermined};
+ghost use Rattle.h41_program.specs.ProgramLaws.{EditsAreDetermined, FirstIsDetermined};
+ghost use Rattle.h41_program.specs.ProgramLaws.{GoesOnFromNext, ListsAreDetermined, LoadIsRead};
+ghost use Rattle.h41_program.specs.ProgramLaws.{LoadsAreDetermined, OneList, PackingFills};
+ghost use Rattle.h41_program.specs.ProgramLaws.{PackingHasFewNulls, PackingRoundTrip};
+ghost use Rattle.h41_program.specs.ProgramLaws.{ReadIsDetermined, SizeKeepsLines, StandsForItsLine};
+ghost use Rattle.h41_program.specs.ProgramLaws.{WrittenIsRead};
 ghost use Rattle.h41_program.specs.declared.editing.Front.{Front};
 ghost use Rattle.h41_program.specs.declared.refusal.ProgramRefusal.{ProgramRefusal};
 

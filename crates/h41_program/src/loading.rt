@@ -5,7 +5,8 @@ ghost use Rattle.h41_codes.specs.ByteGrammar.{IsLine};
 ghost use Rattle.h41_ram.specs.RegisterMap.{is_sound};
 ghost use Rattle.h41_program.specs.Edits.{Closes, Loads};
 ghost use Rattle.h41_program.specs.LastProgram.{LeavesClosed, open_in};
-ghost use Rattle.h41_program.specs.private.LoadSteps.{PacksProgram, WritesClosed, PutsLoaded, listed_option, kept_option, checked_nulls};
+ghost use Rattle.h41_program.specs.private.LoadSteps.{PacksProgram, WritesClosed, PutsLoaded};
+ghost use Rattle.h41_program.specs.private.LoadSteps.{listed_option, kept_option, checked_nulls};
 ghost use Rattle.h41_program.specs.private.Packers.{Puts};
 ghost use Rattle.h41_program.specs.ProgramLines.{AnswersOf};
 

@@ -1,11 +1,14 @@
 //! The line that stands at a position.
-ghost use Rattle.std.specs.Prelude.{◌≡◌, ◌≢◌, ℕ, ◌+◌, ◌-◌, ◌<◌, ◌≤◌, map, slice_index, min, IsSome, IsTrue, IfSome, IfNone};
+ghost use Rattle.std.specs.Prelude.{◌≡◌, ◌≢◌, ℕ, ◌+◌, ◌-◌, ◌<◌, ◌≤◌, map, slice_index, min, IsSome};
+ghost use Rattle.std.specs.Prelude.{IsTrue, IfSome, IfNone};
 ghost use Rattle.std.specs.List.{range_with_len};
 ghost use Rattle.h41_ram.specs.RegisterMap.{is_sound};
 ghost use Rattle.h41_program.specs.ProgramBytes.{byte_count, final_position, program_byte};
 ghost use Rattle.h41_program.specs.ProgramBytes as spec;
-ghost use Rattle.h41_program.specs.ProgramLines.{AnswersFirst, AnswersNext, HasFirst, HasNoLine, HasPlace};
-ghost use Rattle.h41_program.specs.private.Reading.{bytes_seen, register_holding, BeginsNoNumber, EndsNothing, FoundBehind, HasThere, IsPlaceOf};
+ghost use Rattle.h41_program.specs.ProgramLines.{AnswersFirst, AnswersNext, HasFirst, HasNoLine};
+ghost use Rattle.h41_program.specs.ProgramLines.{HasPlace};
+ghost use Rattle.h41_program.specs.private.Reading.{bytes_seen, register_holding, BeginsNoNumber};
+ghost use Rattle.h41_program.specs.private.Reading.{EndsNothing, FoundBehind, HasThere, IsPlaceOf};
 ghost use Rattle.h41_codes.specs.ByteGrammar.{AnswersLine};
 
 use crate::kinds::{is_end, is_final_end};

@@ -3,7 +3,8 @@ ghost use Rattle.std.specs.Prelude.{◌≡◌, ◌&&◌, nat_lt, IsTrue};
 ghost use Rattle.h41_ram.specs.RegisterMap.{is_sound};
 ghost use Rattle.h41_program.specs.ProgramLines.{AnswersOf};
 ghost use Rattle.h41_program.specs.private.Reading.{AnswersFrom};
-ghost use Rattle.h41_program.specs.Searches.{AnswersLocal, AnswersProgram, end_in, label_in, named_in, position_of, start_in, up_to_end};
+ghost use Rattle.h41_program.specs.Searches.{AnswersLocal, AnswersProgram, end_in, label_in};
+ghost use Rattle.h41_program.specs.Searches.{named_in, position_of, start_in, up_to_end};
 
 use crate::kinds::{is_end, is_final_end, is_label, is_named};
 use crate::laws::one_list;

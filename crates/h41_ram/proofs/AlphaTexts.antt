@@ -1,5 +1,6 @@
 -- ALPHA is read as it was written.
-use Rattle.std.proofs.Common.{◌≡◌, ◌≢◌, ◌⊎◌, inl, inr, ap, nat_lt, if◌then◌else◌, ℕ, ◌+◌, ◌-◌, ◌*◌, ◌/◌, ◌%◌, ◌<◌, List, length, map, set, get_or, get_or-set_same, get_or-set_other, length-set, sym, arith, ◌∙◌}
+use Rattle.std.proofs.Common.{◌≡◌, ◌≢◌, ◌⊎◌, inl, inr, ap, nat_lt, if◌then◌else◌, ℕ, ◌+◌, ◌-◌, ◌*◌, ◌/◌, ◌%◌, ◌<◌, List, length, map, set}
+use Rattle.std.proofs.Common.{get_or, get_or-set_same, get_or-set_other, length-set, sym, arith, ◌∙◌}
 use Rattle.std.specs.List.{range_with_len}
 use Rattle.std.proofs.lemmas.List.{ext_get_or, get_or-drop}
 use Rattle.std.proofs.lemmas.List.FromFn.{get_or-map-range_with_len, length-map-range_with_len}
@@ -56,26 +57,37 @@ halves byte = omega arith
 listed : (text : List ℕ) → length text ≡ 24 → map (λ i. get_or text i 0) (range_with_len 0 24) ≡ text
 listed text size =
     ext_get_or 0 (map (λ i. get_or text i 0) (range_with_len 0 24)) text (length-map-range_with_len (λ i. get_or text i 0) 0 24 ∙ sym size)
-    (λ i inside. get_or-map-range_with_len (λ i. get_or text i 0) 0 24 i i 0 (omega (arith, length-map-range_with_len (λ i. get_or text i 0) 0 24)) (omega arith))
+    (λ i inside. get_or-map-range_with_len (λ i. get_or text i 0) 0 24 i i 0
+    (omega (arith, length-map-range_with_len (λ i. get_or text i 0) 0 24)) (omega arith))
 
 pub alpha_of-with_alpha : AlphaIsRead
 alpha_of-with_alpha memory text size long =
-    rw (reads_p memory.status _ _ _ _ size, reads_o memory.status _ _ _ _ size, reads_n memory.status _ _ _ _ size, reads_m memory.status _ _ _ _ size)
+    rw (
+      reads_p memory.status _ _ _ _ size,
+      reads_o memory.status _ _ _ _ size,
+      reads_n memory.status _ _ _ _ size,
+      reads_m memory.status _ _ _ _ size,
+    )
     (simp halves (listed text long))
 
 -- no other register changes
 other_status : (status : List (List ℕ)) (m n o p : List ℕ) (address : ℕ) → (address < 5) ⊎ (8 < address)
     → get_or (set (set (set (set status 5 m) 6 n) 7 o) 8 p) address zeros ≡ get_or status address zeros
 other_status status m n o p address (inl low) =
-    get_or-set_other _ 8 address p zeros (λ equal. absurd (omega (arith, equal))) ∙ get_or-set_other _ 7 address o zeros (λ equal. absurd (omega (arith, equal)))
-    ∙ get_or-set_other _ 6 address n zeros (λ equal. absurd (omega (arith, equal))) ∙ get_or-set_other _ 5 address m zeros (λ equal. absurd (omega (arith, equal)))
+    get_or-set_other _ 8 address p zeros (λ equal. absurd (omega (arith, equal)))
+    ∙ get_or-set_other _ 7 address o zeros (λ equal. absurd (omega (arith, equal)))
+    ∙ get_or-set_other _ 6 address n zeros (λ equal. absurd (omega (arith, equal)))
+    ∙ get_or-set_other _ 5 address m zeros (λ equal. absurd (omega (arith, equal)))
 other_status status m n o p address (inr high) =
-    get_or-set_other _ 8 address p zeros (λ equal. absurd (omega (arith, equal))) ∙ get_or-set_other _ 7 address o zeros (λ equal. absurd (omega (arith, equal)))
-    ∙ get_or-set_other _ 6 address n zeros (λ equal. absurd (omega (arith, equal))) ∙ get_or-set_other _ 5 address m zeros (λ equal. absurd (omega (arith, equal)))
+    get_or-set_other _ 8 address p zeros (λ equal. absurd (omega (arith, equal)))
+    ∙ get_or-set_other _ 7 address o zeros (λ equal. absurd (omega (arith, equal)))
+    ∙ get_or-set_other _ 6 address n zeros (λ equal. absurd (omega (arith, equal)))
+    ∙ get_or-set_other _ 5 address m zeros (λ equal. absurd (omega (arith, equal)))
 
 pub alpha_keeps_others : AlphaKeepsOthers
 alpha_keeps_others memory text address apart =
-    ap (λ (register : List ℕ). if nat_lt address 16 then register else if nat_lt address 192 then zeros else get_or memory.main (address - 192) zeros)
+    ap (λ (register : List ℕ).
+    if nat_lt address 16 then register else if nat_lt address 192 then zeros else get_or memory.main (address - 192) zeros)
     (other_status memory.status _ _ _ _ address apart)
 
 -- and P keeps its left four bytes

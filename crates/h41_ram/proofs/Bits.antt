@@ -1,5 +1,6 @@
 -- One bit of a register: as the number of the register has it, and as its digit has it.
-use Rattle.std.proofs.Common.{◌≡◌, ℕ, zero, suc, ◌+◌, ◌-◌, ◌*◌, ◌/◌, ◌%◌, ◌^◌, ◌<◌, ◌≤◌, Bool, true, false, List, get_or, set, sym, ap, ◌∙◌, arith}
+use Rattle.std.proofs.Common.{◌≡◌, ℕ, zero, suc, ◌+◌, ◌-◌, ◌*◌, ◌/◌, ◌%◌, ◌^◌, ◌<◌, ◌≤◌, Bool, true, false, List, get_or, set, sym, ap, ◌∙◌}
+use Rattle.std.proofs.Common.{arith}
 use Rattle.std.proofs.Math.Nat.{div-div-eq-div-mul}
 use Rattle.std.proofs.lemmas.Nat.{pow-add}
 use Rattle.std.specs.Int.RustNames.{bit_and, bit_or}
@@ -33,14 +34,17 @@ bit_of_last n (suc (suc (suc (suc k)))) four = absurd (omega arith)
 -- what a bit weighs in the number of a register
 weight_of_bit : (bit : ℕ) → 2 ^ bit ≡ 16 ^ (bit / 4) * 2 ^ (bit % 4)
 weight_of_bit bit =
-    ap (λ n. 2 ^ n) (let e : bit ≡ 4 * (bit / 4) + bit % 4 = omega arith in e) ∙ pow-add 2 (4 * (bit / 4)) (bit % 4) ∙ ap (λ weight. weight * 2 ^ (bit % 4)) (bits_of_places (bit / 4))
+    ap (λ n. 2 ^ n) (let e : bit ≡ 4 * (bit / 4) + bit % 4 = omega arith in e) ∙ pow-add 2 (4 * (bit / 4)) (bit % 4)
+    ∙ ap (λ weight. weight * 2 ^ (bit % 4)) (bits_of_places (bit / 4))
 
-pub bit_read : (digits : List ℕ) (bit : ℕ) → IsRegister 14 digits → bit < 56 → value digits / 2 ^ bit % 2 ≡ get_or digits (bit / 4) 0 / 2 ^ (bit % 4) % 2
+pub bit_read : (digits : List ℕ) (bit : ℕ) → IsRegister 14 digits → bit < 56
+    → value digits / 2 ^ bit % 2 ≡ get_or digits (bit / 4) 0 / 2 ^ (bit % 4) % 2
 bit_read digits bit register small =
     let word = value digits in
     let place = bit / 4 in
     let k = bit % 4 in
-    let digit : get_or digits place 0 ≡ word / 16 ^ place % 16 = ap (λ d. get_or d place 0) (sym (digits_of-value 14 digits register)) ∙ get-digits_of 14 word place (omega arith) in
+    let digit : get_or digits place 0 ≡ word / 16 ^ place % 16 =
+    ap (λ d. get_or d place 0) (sym (digits_of-value 14 digits register)) ∙ get-digits_of 14 word place (omega arith) in
     ap (λ weight. word / weight % 2) (weight_of_bit bit) ∙ ap (λ n. n % 2) (sym (div-div-eq-div-mul word (16 ^ place) (2 ^ k)))
     ∙ bit_of_last (word / 16 ^ place) k (omega arith) ∙ ap (λ d. d / 2 ^ k % 2) (sym digit)
 
@@ -57,8 +61,8 @@ digit_changed digit k true four = omega (arith, kept_part digit k four)
 digit_changed digit k false four = omega (arith, kept_part digit k four)
 
 -- the same change, in the number and in its digit
-same_change : (new set word digit other was is k weight bit : ℕ) → set + digit * weight ≡ word + other * weight → other + was * k ≡ digit + is * k → bit ≡ weight * k
-    → new + was * bit ≡ word + is * bit → set ≡ new
+same_change : (new set word digit other was is k weight bit : ℕ) → set + digit * weight ≡ word + other * weight
+    → other + was * k ≡ digit + is * k → bit ≡ weight * k → new + was * bit ≡ word + is * bit → set ≡ new
 same_change new set word digit other was is k weight bit in_digits in_digit weighs in_word =
     let whole : (other + was * k) * weight ≡ (digit + is * k) * weight = ap (λ n. n * weight) in_digit in
     let changed : new + was * (weight * k) ≡ word + is * (weight * k) = rw weighs at in_word in
@@ -66,7 +70,8 @@ same_change new set word digit other was is k weight bit in_digits in_digit weig
 
 -- the register of a word in which one bit is changed
 bit_changed : (digits : List ℕ) (bit new : ℕ) (on : Bool) → IsRegister 14 digits → bit < 56
-    → new + value digits / 2 ^ bit % 2 * 2 ^ bit ≡ value digits + bool_byte on * 2 ^ bit → (value (with_bit digits bit on) ≡ new) × IsRegister 14 (with_bit digits bit on)
+    → new + value digits / 2 ^ bit % 2 * 2 ^ bit ≡ value digits + bool_byte on * 2 ^ bit
+    → (value (with_bit digits bit on) ≡ new) × IsRegister 14 (with_bit digits bit on)
 bit_changed digits bit new on register small changed =
     let place = bit / 4 in
     let k = bit % 4 in
@@ -74,8 +79,10 @@ bit_changed digits bit new on register small changed =
     let inside : place < 14 = omega arith in
     let is_digit : digit < 16 = All-get_or (λ d. d < 16) digits place 0 (omega (arith, register.size)) register.each in
     let in_digits = value-set digits place (digit_with digit (2 ^ k) on) (omega (arith, register.size)) in
-    let in_word : new + digit / 2 ^ k % 2 * 2 ^ bit ≡ value digits + bool_byte on * 2 ^ bit = rw (bit_read digits bit register small) at changed in (
-      same_change new _ (value digits) digit (digit_with digit (2 ^ k) on) (digit / 2 ^ k % 2) (bool_byte on) (2 ^ k) (16 ^ place) (2 ^ bit) in_digits (digit_changed digit k on (omega arith)) (weight_of_bit bit) in_word,
+    let in_word : new + digit / 2 ^ k % 2 * 2 ^ bit ≡ value digits + bool_byte on * 2 ^ bit =
+    rw (bit_read digits bit register small) at changed in (
+      same_change new _ (value digits) digit (digit_with digit (2 ^ k) on) (digit / 2 ^ k % 2) (bool_byte on) (2 ^ k)
+          (16 ^ place) (2 ^ bit) in_digits (digit_changed digit k on (omega arith)) (weight_of_bit bit) in_word,
       set-register 14 digits place (digit_with digit (2 ^ k) on) register (digit_with_is_digit digit k on is_digit (omega arith)),
     )
 
@@ -92,9 +99,11 @@ fits_word digits register =
     let small : value digits < 16 ^ 14 = rw register.size at (value-below digits register.each) in
     omega arith
 
-pub bit_written : (digits : List ℕ) (bit : ℕ) (on : Bool) → IsRegister 14 digits → bit < 56 → (value (with_bit digits bit on) ≡ put_bit (value digits) bit on) × IsRegister 14 (with_bit digits bit on)
+pub bit_written : (digits : List ℕ) (bit : ℕ) (on : Bool) → IsRegister 14 digits → bit < 56
+    → (value (with_bit digits bit on) ≡ put_bit (value digits) bit on) × IsRegister 14 (with_bit digits bit on)
 bit_written digits bit on register small =
-    bit_changed digits bit (put_bit (value digits) bit on) on register small (put_in (value digits) bit 1 (bool_byte on) (fits_word digits register) (omega arith) (bool_byte-lt on))
+    bit_changed digits bit (put_bit (value digits) bit on) on register small
+    (put_in (value digits) bit 1 (bool_byte on) (fits_word digits register) (omega arith) (bool_byte-lt on))
 
 pub put_bit-lt : (digits : List ℕ) (bit : ℕ) (on : Bool) → IsRegister 14 digits → bit < 56 → put_bit (value digits) bit on < 16 ^ 14
 put_bit-lt digits bit on register small =

@@ -1,5 +1,6 @@
 -- A flag that was set or cleared is read so, and the others stay.
-use Rattle.std.proofs.Common.{◌≡◌, ◌≢◌, ℕ, zero, suc, ◌+◌, ◌-◌, ◌*◌, ◌/◌, ◌%◌, ◌^◌, ◌<◌, Bool, true, false, List, length, get_or, get_or-set_same, get_or-set_other, inl, inr, refl, ap, arith, ◌∙◌}
+use Rattle.std.proofs.Common.{◌≡◌, ◌≢◌, ℕ, zero, suc, ◌+◌, ◌-◌, ◌*◌, ◌/◌, ◌%◌, ◌^◌, ◌<◌, Bool, true, false, List, length, get_or}
+use Rattle.std.proofs.Common.{get_or-set_same, get_or-set_other, inl, inr, refl, ap, arith, ◌∙◌}
 use Rattle.std.specs.Prelude.{◌==◌}
 use Rattle.std.proofs.lemmas.Bool.{cases_eq}
 use Rattle.h41_ram.specs.RegisterMap.{RegisterMap, digit_with, bit_of, with_bit, d_of, zeros, with_flag}
@@ -68,7 +69,8 @@ bit_of-with_bit d bit on inside =
     rw (get_or-set_same d (bit / 4) (digit_with (get_or d (bit / 4) 0) (2 ^ (bit % 4)) on) 0 inside)
     (read_bit (get_or d (bit / 4) 0) (bit % 4) on (omega arith))
 
-bit_of-with_bit_other : (d : List ℕ) (bit other : ℕ) (on : Bool) → other ≢ bit → bit / 4 < length d → bit_of (with_bit d bit on) other ≡ bit_of d other
+bit_of-with_bit_other : (d : List ℕ) (bit other : ℕ) (on : Bool) → other ≢ bit → bit / 4 < length d
+    → bit_of (with_bit d bit on) other ≡ bit_of d other
 bit_of-with_bit_other d bit other on apart inside = elim (cases_eq (other / 4) (bit / 4)) [
   | inl same ↦
       let bits : other % 4 ≢ bit % 4 = λ equal. apart (omega (arith, same, equal)) in
@@ -80,12 +82,14 @@ bit_of-with_bit_other d bit other on apart inside = elim (cases_eq (other / 4) (
 ]
 
 -- in register d of the memory
-d_of-with_flag : (memory : RegisterMap) (flag : ℕ) (on : Bool) → length memory.status ≡ 16 → d_of (with_flag memory flag on) ≡ with_bit (d_of memory) (55 - flag) on
+d_of-with_flag : (memory : RegisterMap) (flag : ℕ) (on : Bool) → length memory.status ≡ 16
+    → d_of (with_flag memory flag on) ≡ with_bit (d_of memory) (55 - flag) on
 d_of-with_flag memory flag on size = get_or-set_same memory.status 14 (with_bit (d_of memory) (55 - flag) on) zeros (omega (arith, size))
 
 pub flag_of-with_flag : FlagIsRead
 flag_of-with_flag memory flag on has small =
-    ap (λ d. bit_of d (55 - flag)) (d_of-with_flag memory flag on has.status) ∙ bit_of-with_bit (d_of memory) (55 - flag) on (omega (arith, has.digits))
+    ap (λ d. bit_of d (55 - flag)) (d_of-with_flag memory flag on has.status)
+    ∙ bit_of-with_bit (d_of memory) (55 - flag) on (omega (arith, has.digits))
 
 pub flag_of-with_flag_other : OtherFlagsStay
 flag_of-with_flag_other memory flag other on has small other_small apart =

@@ -1,10 +1,12 @@
 -- Registers by their names and numbers: what was written is read, and the others stay.
-use Rattle.std.proofs.Common.{◌≡◌, ◌≢◌, ℕ, ◌+◌, ◌-◌, ◌<◌, ◌≤◌, true, false, List, length, Some, if◌then◌else◌, get_or, set, get_or-set_same, get_or-set_other, length-set, refl, sym, ap, arith, ◌∙◌}
+use Rattle.std.proofs.Common.{◌≡◌, ◌≢◌, ℕ, ◌+◌, ◌-◌, ◌<◌, ◌≤◌, true, false, List, length, Some, if◌then◌else◌, get_or, set, get_or-set_same}
+use Rattle.std.proofs.Common.{get_or-set_other, length-set, refl, sym, ap, arith, ◌∙◌}
 use Rattle.std.specs.Prelude.{nat_lt, nat_le, ◌&&◌, ◌==◌}
 use Rattle.std.specs.Bool.{then_some}
 use Rattle.std.proofs.lemmas.Bool.{and_parts, ltb-true, leb-true}
 use Rattle.std.proofs.lemmas.Bool.Decides.{nat_tests}
-use Rattle.h41_ram.specs.RegisterMap.{RegisterMap, zeros, register_at, with_register, constant_of, end_of, curtain_of, top_of, is_final_end, is_sound}
+use Rattle.h41_ram.specs.RegisterMap.{RegisterMap, zeros, register_at, with_register, constant_of, end_of, curtain_of, top_of, is_final_end}
+use Rattle.h41_ram.specs.RegisterMap.{is_sound}
 use Rattle.h41_ram.specs.RegisterMapLaws.{StatusIsRead, OtherStatusStays, DataIsRead, OtherDataStay, DataKeepSound}
 use Rattle.h41_ram.specs.NamedRegisters.{address_of, size_of, data_address, data_of}
 use Rattle.h41_ram.specs.declared.status.StatusRegister.{StatusRegister}
@@ -15,7 +17,8 @@ name_at : ℕ → StatusRegister
 name_at address =
     if address == 0 then names.T else if address == 1 then names.Z else if address == 2 then names.Y else if address == 3 then names.X
     else if address == 4 then names.L else if address == 5 then names.M else if address == 6 then names.N else if address == 7 then names.O
-    else if address == 8 then names.P else if address == 9 then names.Q else if address == 10 then names.Append else if address == 11 then names.A
+    else if address == 8 then names.P
+    else if address == 9 then names.Q else if address == 10 then names.Append else if address == 11 then names.A
     else if address == 12 then names.B else if address == 13 then names.C else if address == 14 then names.D else names.E
 
 named : (name : StatusRegister) → name_at (address_of name) ≡ name
@@ -63,12 +66,16 @@ written_below : (memory : RegisterMap) (address : ℕ) (register : List ℕ) →
     → with_register memory address register ≡ record memory { status = set memory.status address register }
 written_below memory address register below =
     let test : nat_lt address 16 ≡ true = grind (arith, nat_tests) in
-    ap (λ low. if low then record memory { status = set memory.status address register } else (if nat_lt address 192 then memory else record memory { main = set memory.main (address - 192) register })) test
+    ap (λ low. if low then record memory { status = set memory.status address register }
+    else (if nat_lt address 192 then memory else record memory { main = set memory.main (address - 192) register }))
+    test
 
 read_below : (memory : RegisterMap) (address : ℕ) → address < 16 → register_at memory address ≡ get_or memory.status address zeros
 read_below memory address below =
     let test : nat_lt address 16 ≡ true = grind (arith, nat_tests) in
-    ap (λ low. if low then get_or memory.status address zeros else (if nat_lt address 192 then zeros else get_or memory.main (address - 192) zeros)) test
+    ap (λ low.
+    if low then get_or memory.status address zeros else (if nat_lt address 192 then zeros else get_or memory.main (address - 192) zeros))
+    test
 
 pub status_read : StatusIsRead
 status_read memory name register size =
@@ -92,9 +99,16 @@ pub record Sound (memory : RegisterMap) : Type 0 where
 
 sound_parts : (memory : RegisterMap) → is_sound memory ≡ true → Sound memory
 sound_parts memory sound =
-    let first = and_parts (constant_of memory == 0x169 && (nat_le 192 (end_of memory) && nat_lt (end_of memory) (curtain_of memory) && nat_le (curtain_of memory) (top_of memory))) (is_final_end (register_at memory (end_of memory))) sound in
-    let second = and_parts (constant_of memory == 0x169) (nat_le 192 (end_of memory) && nat_lt (end_of memory) (curtain_of memory) && nat_le (curtain_of memory) (top_of memory)) first.0 in
-    let third = and_parts (nat_le 192 (end_of memory) && nat_lt (end_of memory) (curtain_of memory)) (nat_le (curtain_of memory) (top_of memory)) second.1 in
+    let first =
+    and_parts (constant_of memory == 0x169
+    && (nat_le 192 (end_of memory) && nat_lt (end_of memory) (curtain_of memory) && nat_le (curtain_of memory) (top_of memory)))
+    (is_final_end (register_at memory (end_of memory))) sound in
+    let second =
+    and_parts (constant_of memory == 0x169)
+    (nat_le 192 (end_of memory) && nat_lt (end_of memory) (curtain_of memory) && nat_le (curtain_of memory) (top_of memory)) first.0 in
+    let third =
+    and_parts (nat_le 192 (end_of memory) && nat_lt (end_of memory) (curtain_of memory))
+    (nat_le (curtain_of memory) (top_of memory)) second.1 in
     let fourth = and_parts (nat_le 192 (end_of memory)) (nat_lt (end_of memory) (curtain_of memory)) third.0 in
     record {
       end = leb-true 192 (end_of memory) fourth.0;
@@ -108,14 +122,18 @@ written_above : (memory : RegisterMap) (address : ℕ) (register : List ℕ) →
 written_above memory address register above =
     let low : nat_lt address 16 ≡ false = grind (arith, nat_tests) in
     let gap : nat_lt address 192 ≡ false = grind (arith, nat_tests) in
-    ap (λ test. if test then record memory { status = set memory.status address register } else (if nat_lt address 192 then memory else record memory { main = set memory.main (address - 192) register })) low
+    ap (λ test. if test then record memory { status = set memory.status address register }
+    else (if nat_lt address 192 then memory else record memory { main = set memory.main (address - 192) register }))
+    low
     ∙ ap (λ test. if test then memory else record memory { main = set memory.main (address - 192) register }) gap
 
 read_above : (memory : RegisterMap) (address : ℕ) → 192 ≤ address → register_at memory address ≡ get_or memory.main (address - 192) zeros
 read_above memory address above =
     let low : nat_lt address 16 ≡ false = grind (arith, nat_tests) in
     let gap : nat_lt address 192 ≡ false = grind (arith, nat_tests) in
-    ap (λ test. if test then get_or memory.status address zeros else (if nat_lt address 192 then zeros else get_or memory.main (address - 192) zeros)) low
+    ap (λ test.
+    if test then get_or memory.status address zeros else (if nat_lt address 192 then zeros else get_or memory.main (address - 192) zeros))
+    low
     ∙ ap (λ test. if test then zeros else get_or memory.main (address - 192) zeros) gap
 
 -- memory with another register in main memory
@@ -148,7 +166,8 @@ others_data memory n other register sound different =
     ap (λ m. data_of m other) (written_above memory at register above)
     ∙ ap (λ size. then_some (nat_lt other size) (register_at (changed memory at register) there)) (same_size memory at register)
     ∙ ap (λ r. then_some (nat_lt other (size_of memory)) r)
-    (read_above (changed memory at register) there above_other ∙ get_or-set_other memory.main (at - 192) (there - 192) register zeros places ∙ sym (read_above memory there above_other))
+    (read_above (changed memory at register) there above_other ∙ get_or-set_other memory.main (at - 192) (there - 192) register zeros places
+    ∙ sym (read_above memory there above_other))
 
 pub data_keep_sound : DataKeepSound
 data_keep_sound memory n register sound =
@@ -157,8 +176,16 @@ data_keep_sound memory n register sound =
     let above : 192 ≤ at = omega (arith, is.end, is.below) in
     let places : end_of memory - 192 ≢ at - 192 = λ equal. absurd (omega (arith, equal, is.end, is.below)) in
     let last : register_at (changed memory at register) (end_of memory) ≡ register_at memory (end_of memory) =
-    read_above (changed memory at register) (end_of memory) is.end ∙ get_or-set_other memory.main (at - 192) (end_of memory - 192) register zeros places ∙ sym (read_above memory (end_of memory) is.end) in
+    read_above (changed memory at register) (end_of memory) is.end
+    ∙ get_or-set_other memory.main (at - 192) (end_of memory - 192) register zeros places
+    ∙ sym (read_above memory (end_of memory) is.end) in
     ap is_sound (written_above memory at register above)
-    ∙ ap (λ size. constant_of memory == 0x169 && (nat_le 192 (end_of memory) && nat_lt (end_of memory) (curtain_of memory) && nat_le (curtain_of memory) (192 + size)) && is_final_end (register_at (changed memory at register) (end_of memory))) (length-set memory.main (at - 192) register)
-    ∙ ap (λ r. constant_of memory == 0x169 && (nat_le 192 (end_of memory) && nat_lt (end_of memory) (curtain_of memory) && nat_le (curtain_of memory) (top_of memory)) && is_final_end r) last
+    ∙ ap (λ size. constant_of memory == 0x169
+    && (nat_le 192 (end_of memory) && nat_lt (end_of memory) (curtain_of memory) && nat_le (curtain_of memory) (192 + size))
+    && is_final_end (register_at (changed memory at register) (end_of memory)))
+    (length-set memory.main (at - 192) register)
+    ∙ ap (λ r. constant_of memory == 0x169
+    && (nat_le 192 (end_of memory) && nat_lt (end_of memory) (curtain_of memory) && nat_le (curtain_of memory) (top_of memory))
+    && is_final_end r)
+    last
     ∙ sound

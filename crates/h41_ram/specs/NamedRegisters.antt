@@ -1,5 +1,5 @@
--- The registers that program lines name: the status registers, T Z Y X L among them, and the data registers by number. The layout
--- is that of HP's calculator.
+-- The registers that program lines name: the status registers, T Z Y X L among them, and the data
+-- registers by number. The layout is that of HP's calculator.
 use Rattle.std.specs.Prelude.{ℕ, ◌+◌, ◌-◌, List, Option, nat_lt}
 use Rattle.std.specs.Bool.{then_some}
 use Rattle.h41_ram.specs.RegisterMap.{RegisterMap, register_at, with_register, curtain_of, top_of}
@@ -41,7 +41,8 @@ abbrev pub data_address : RegisterMap → ℕ → ℕ
 data_address memory n = curtain_of memory + n
 
 abbrev pub data_of : RegisterMap → ℕ → Option (List ℕ)
-data_of memory n = then_some (nat_lt n (size_of memory)) (register_at memory (data_address memory n))
+data_of memory n =
+    then_some (nat_lt n (size_of memory)) (register_at memory (data_address memory n))
 
 -- the memory with another register in its place
 abbrev pub with_data : RegisterMap → ℕ → List ℕ → RegisterMap

@@ -1,7 +1,10 @@
--- The memory of the HP-41: a finite map from the addresses that exist to registers of 14 digits, and what the calculator
--- reads in its status registers. The layout is that of HP's calculator; the start state, what an address that
--- does not exist reads, and when memory counts as sound are this project's choices.
-use Rattle.std.specs.Prelude.{◌≡◌, ℕ, ◌≤◌, ◌+◌, ◌-◌, ◌*◌, ◌/◌, ◌%◌, ◌^◌, Bool, ◌&&◌, List, [], ◌∷◌, ◌++◌, map, length, slice_index, slice_index_or, slice_set, replicate, drop, nat_lt, nat_le, ◌==◌, if◌then◌else◌}
+-- The memory of the HP-41: a finite map from the addresses that exist to registers of 14 digits,
+-- and what the calculator reads in its status registers. The layout is that of HP's calculator; the
+-- start state, what an address that does not exist reads, and when memory counts as sound are this
+-- project's choices.
+use Rattle.std.specs.Prelude.{◌≡◌, ℕ, ◌≤◌, ◌+◌, ◌-◌, ◌*◌, ◌/◌, ◌%◌, ◌^◌, Bool, ◌&&◌, List, [], ◌∷◌}
+use Rattle.std.specs.Prelude.{◌++◌, map, length, slice_index, slice_index_or, slice_set, replicate}
+use Rattle.std.specs.Prelude.{drop, nat_lt, nat_le, ◌==◌, if◌then◌else◌}
 use Rattle.h41_digits.specs.Register.{byte_at}
 
 -- the registers in the order of their addresses
@@ -11,14 +14,16 @@ pub record RegisterMap : Type 0 where
   -- main memory, from address 0C0 on
   pub main : List (List ℕ)
 
--- what the memory of a calculator is: sixteen status registers, and so many of main memory, 64 to 320
+-- what the memory of a calculator is: sixteen status registers, and so many of main memory, 64 to
+-- 320
 pub record IsMemory (registers : ℕ) (memory : RegisterMap) : Type 0 where
   pub status : length memory.status ≡ 16
   pub main : length memory.main ≡ registers
   pub least : 64 ≤ registers
   pub most : registers ≤ 320
 
--- the first address behind the status registers, the first of main memory, and the first behind main memory
+-- the first address behind the status registers, the first of main memory, and the first behind
+-- main memory
 abbrev pub status_end : ℕ
 status_end = 0x010
 
@@ -42,11 +47,13 @@ register_at memory address =
 -- the memory with a register at an address; where none exists, nothing changes
 abbrev pub with_register : RegisterMap → ℕ → List ℕ → RegisterMap
 with_register memory address register =
-    if nat_lt address status_end then record memory { status = slice_set memory.status address register }
+    if nat_lt address status_end
+    then record memory { status = slice_set memory.status address register }
     else if nat_lt address main_start then memory
     else record memory { main = slice_set memory.main (address - main_start) register }
 
--- the addresses of the status registers that hold ALPHA, the addresses of the parts of memory, and the flags
+-- the addresses of the status registers that hold ALPHA, the addresses of the parts of memory, and
+-- the flags
 abbrev pub m_address : ℕ
 m_address = 0x005
 
@@ -94,7 +101,8 @@ digit_with digit weight on = digit - digit / weight % 2 * weight + (if on then w
 
 -- a register with one of its bits set or clear
 abbrev pub with_bit : List ℕ → ℕ → Bool → List ℕ
-with_bit register bit on = slice_set register (bit / 4) (digit_with (slice_index register (bit / 4)) (2 ^ (bit % 4)) on)
+with_bit register bit on =
+    slice_set register (bit / 4) (digit_with (slice_index register (bit / 4)) (2 ^ (bit % 4)) on)
 
 -- flag 0 is the leftmost bit of register d, flag 55 the rightmost
 abbrev pub flag_of : RegisterMap → ℕ → Bool
@@ -109,16 +117,20 @@ bytes_of register = map (byte_at register) (6 ∷ 5 ∷ 4 ∷ 3 ∷ 2 ∷ 1 ∷ 
 
 -- ALPHA's 24 bytes: the right three of P, then all of O, N and M
 abbrev pub alpha_of : RegisterMap → List ℕ
-alpha_of memory = drop 4 (bytes_of (p_of memory)) ++ bytes_of (o_of memory) ++ bytes_of (n_of memory) ++ bytes_of (m_of memory)
+alpha_of memory =
+    drop 4 (bytes_of (p_of memory)) ++ bytes_of (o_of memory) ++ bytes_of (n_of memory)
+    ++ bytes_of (m_of memory)
 
 -- the digits, place 0 first, of these bytes of a text, the leftmost first
 abbrev pub digits_from : List ℕ → List ℕ → List ℕ
 digits_from text [] = []
-digits_from text (index ∷ indices) = digits_from text indices ++ slice_index text index % 16 ∷ slice_index text index / 16 ∷ []
+digits_from text (index ∷ indices) =
+    digits_from text indices ++ slice_index text index % 16 ∷ slice_index text index / 16 ∷ []
 
 -- seven indices in a row
 abbrev pub seven_from : ℕ → List ℕ
-seven_from first = first ∷ (first + 1) ∷ (first + 2) ∷ (first + 3) ∷ (first + 4) ∷ (first + 5) ∷ (first + 6) ∷ []
+seven_from first =
+    first ∷ (first + 1) ∷ (first + 2) ∷ (first + 3) ∷ (first + 4) ∷ (first + 5) ∷ (first + 6) ∷ []
 
 -- the memory with these 24 bytes in ALPHA; the left four bytes of P stay
 abbrev pub with_alpha : RegisterMap → List ℕ → RegisterMap
@@ -131,7 +143,8 @@ with_alpha memory text =
 -- the number of three digits of a register, from a place up
 abbrev pub three_digits : List ℕ → ℕ → ℕ
 three_digits register place =
-    slice_index register place + 16 * slice_index register (place + 1) + 256 * slice_index register (place + 2)
+    slice_index register place + 16 * slice_index register (place + 1)
+    + 256 * slice_index register (place + 2)
 
 -- the address of the register that holds .END., the last of program memory
 abbrev pub end_of : RegisterMap → ℕ
@@ -148,13 +161,15 @@ sound_constant = 0x169
 abbrev pub constant_of : RegisterMap → ℕ
 constant_of memory = three_digits (c_of memory) 6
 
--- whether a register's last three bytes are an END with the mark .END. : the first of them is C0 to CD, the third below F0
--- (from F0 on the bytes would be a label), with bit 5 set
+-- whether a register's last three bytes are an END with the mark .END. : the first of them is C0 to
+-- CD, the third below F0 (from F0 on the bytes would be a label), with bit 5 set
 abbrev pub is_final_end : List ℕ → Bool
 is_final_end register =
-    nat_le 0xC0 (byte_at register 2) && nat_le (byte_at register 2) 0xCD && nat_lt (byte_at register 0) 0xF0 && bit_of register 5
+    nat_le 0xC0 (byte_at register 2) && nat_le (byte_at register 2) 0xCD
+    && nat_lt (byte_at register 0) 0xF0 && bit_of register 5
 
--- whether memory is sound: the constant stands, 0C0 ≤ end < curtain ≤ top, and .END. ends the register at the end
+-- whether memory is sound: the constant stands, 0C0 ≤ end < curtain ≤ top, and .END. ends the
+-- register at the end
 abbrev pub is_sound : RegisterMap → Bool
 is_sound memory =
     constant_of memory == sound_constant
@@ -166,9 +181,11 @@ is_sound memory =
 -- a register with the digits of a number below 1000 hexadecimal, from a place up
 abbrev pub with_three_places : List ℕ → ℕ → ℕ → List ℕ
 with_three_places register place number =
-    slice_set (slice_set (slice_set register place (number % 16)) (place + 1) (number / 16 % 16)) (place + 2) (number / 256)
+    slice_set (slice_set (slice_set register place (number % 16)) (place + 1) (number / 16 % 16))
+    (place + 2) (number / 256)
 
--- how many data registers there are at the start: 100, or 17 where main memory has not more than 100 registers
+-- how many data registers there are at the start: 100, or 17 where main memory has not more than
+-- 100 registers
 abbrev pub start_size : ℕ → ℕ
 start_size registers = if nat_lt registers 101 then 17 else 100
 
@@ -176,12 +193,16 @@ start_size registers = if nat_lt registers 101 then 17 else 100
 abbrev pub start_curtain : ℕ → ℕ
 start_curtain registers = main_start + registers - start_size registers
 
--- register c at the start: the statistics registers at the curtain + 11, the constant 169, the curtain, the end below it
+-- register c at the start: the statistics registers at the curtain + 11, the constant 169, the
+-- curtain, the end below it
 abbrev pub start_c : ℕ → List ℕ
 start_c curtain =
-    with_three_places (with_three_places (with_three_places (with_three_places zeros 0 (curtain - 1)) 3 curtain) 6 sound_constant) 11 (curtain + 11)
+    with_three_places (with_three_places
+    (with_three_places (with_three_places zeros 0 (curtain - 1)) 3 curtain) 6 sound_constant)
+    11 (curtain + 11)
 
--- register d at the start is 0000002C048000: flags 26, 28, 29, 37 (of the display digits it makes 4) and 40 (FIX) are set
+-- register d at the start is 0000002C048000: flags 26, 28, 29, 37 (of the display digits it makes
+-- 4) and 40 (FIX) are set
 abbrev pub start_d : List ℕ
 start_d = 0x0 ∷ 0x0 ∷ 0x0 ∷ 0x8 ∷ 0x4 ∷ 0x0 ∷ 0xC ∷ 0x2 ∷ 0x0 ∷ 0x0 ∷ 0x0 ∷ 0x0 ∷ 0x0 ∷ 0x0 ∷ []
 
@@ -193,5 +214,7 @@ empty_program = 0x0 ∷ 0x2 ∷ 0x0 ∷ 0x0 ∷ 0x0 ∷ 0xC ∷ replicate 8 0
 abbrev pub start : ℕ → RegisterMap
 start registers = record {
   status = replicate 13 zeros ++ start_c (start_curtain registers) ∷ start_d ∷ zeros ∷ [];
-  main = slice_set (replicate registers zeros) (start_curtain registers - 1 - main_start) empty_program;
+  main =
+      slice_set (replicate registers zeros)
+      (start_curtain registers - 1 - main_start) empty_program;
 }

@@ -1,6 +1,8 @@
 -- What holds of every memory, whatever the code does.
 use Rattle.std.specs.Prelude.{◌≡◌, ◌≢◌, ℕ, ◌<◌, ◌≤◌, ◌⊎◌, Bool, List, length, take, true, Some}
-use Rattle.h41_ram.specs.RegisterMap.{RegisterMap, main_start, status_end, top_of, register_at, with_register, is_sound, start, d_of, flag_of, with_flag, m_address, p_address, p_of, bytes_of, alpha_of, with_alpha}
+use Rattle.h41_ram.specs.RegisterMap.{RegisterMap, main_start, status_end, top_of, register_at}
+use Rattle.h41_ram.specs.RegisterMap.{with_register, is_sound, start, d_of, flag_of, with_flag}
+use Rattle.h41_ram.specs.RegisterMap.{m_address, p_address, p_of, bytes_of, alpha_of, with_alpha}
 use Rattle.h41_ram.specs.NamedRegisters.{status_of, with_status, size_of, data_of, with_data}
 use Rattle.h41_ram.specs.declared.status.StatusRegister.{StatusRegister}
 
@@ -24,9 +26,11 @@ KeepsOtherAddresses =
 
 -- the start state is sound, from 64 registers of main memory to 320
 abbrev pub StartIsSound : Type 0
-StartIsSound = (registers : ℕ) → 64 ≤ registers → registers ≤ 320 → is_sound (start registers) ≡ true
+StartIsSound =
+    (registers : ℕ) → 64 ≤ registers → registers ≤ 320 → is_sound (start registers) ≡ true
 
--- what the memory of a calculator is: sixteen status registers, and 14 digits in the register of the flags
+-- what the memory of a calculator is: sixteen status registers, and 14 digits in the register of
+-- the flags
 pub record HasFlags (memory : RegisterMap) : Type 0 where
   pub status : length memory.status ≡ 16
   pub digits : length (d_of memory) ≡ 14
@@ -40,7 +44,8 @@ FlagIsRead =
 -- and no other flag changes with it
 abbrev pub OtherFlagsStay : Type 0
 OtherFlagsStay =
-    (memory : RegisterMap) (flag other : ℕ) (on : Bool) → HasFlags memory → flag < 56 → other < 56 → other ≢ flag
+    (memory : RegisterMap) (flag other : ℕ) (on : Bool) → HasFlags memory → flag < 56 → other < 56
+    → other ≢ flag
     → flag_of (with_flag memory flag on) other ≡ flag_of memory other
 
 -- ALPHA is read as it was written
@@ -52,7 +57,8 @@ AlphaIsRead =
 -- no register but M, N, O and P changes with it
 abbrev pub AlphaKeepsOthers : Type 0
 AlphaKeepsOthers =
-    (memory : RegisterMap) (text : List ℕ) (address : ℕ) → (address < m_address) ⊎ (p_address < address)
+    (memory : RegisterMap) (text : List ℕ) (address : ℕ)
+    → (address < m_address) ⊎ (p_address < address)
     → register_at (with_alpha memory text) address ≡ register_at memory address
 
 -- and the left four bytes of P stay
@@ -88,4 +94,5 @@ OtherDataStay =
 -- memory that is sound stays so when a data register is written
 abbrev pub DataKeepSound : Type 0
 DataKeepSound =
-    (memory : RegisterMap) (n : ℕ) (register : List ℕ) → is_sound memory ≡ true → is_sound (with_data memory n register) ≡ true
+    (memory : RegisterMap) (n : ℕ) (register : List ℕ) → is_sound memory ≡ true
+    → is_sound (with_data memory n register) ≡ true

@@ -2,7 +2,11 @@
 
 ghost use Rattle.std.specs.Prelude.{◌≡◌};
 ghost use Rattle.h41_ram.specs.NamedFlags as named;
-ghost use Rattle.h41_ram.specs.RegisterMapLaws.{ReadsWhatWasWritten, KeepsOtherAddresses, FlagIsRead, OtherFlagsStay, AlphaIsRead, AlphaKeepsOthers, AlphaKeepsLeftOfP, StatusIsRead, OtherStatusStays, DataIsRead, OtherDataStay, DataKeepSound, StartIsSound};
+ghost use Rattle.h41_ram.specs.RegisterMapLaws.{ReadsWhatWasWritten, KeepsOtherAddresses};
+ghost use Rattle.h41_ram.specs.RegisterMapLaws.{FlagIsRead, OtherFlagsStay, AlphaIsRead};
+ghost use Rattle.h41_ram.specs.RegisterMapLaws.{AlphaKeepsOthers, AlphaKeepsLeftOfP, StatusIsRead};
+ghost use Rattle.h41_ram.specs.RegisterMapLaws.{OtherStatusStays, DataIsRead, OtherDataStay};
+ghost use Rattle.h41_ram.specs.RegisterMapLaws.{DataKeepSound, StartIsSound};
 
 use crate::flags::{
     ALPHA_ENTRY, ALPHA_MODE, AUDIO_ENABLE, DECIMAL_POINT, DIGIT_GROUPING, DIGITS_1, DIGITS_2,

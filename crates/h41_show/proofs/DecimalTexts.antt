@@ -1,5 +1,6 @@
 -- Numbers in decimal digits: how many there are, and how they part.
-use Rattle.std.specs.Prelude.{◌≡◌, ℕ, zero, suc, ◌+◌, ◌*◌, ◌/◌, ◌%◌, ◌^◌, ◌<◌, ◌≤◌, List, [], ◌∷◌, ◌++◌, length, refl, nat_lt, ◌==◌, ◌&&◌, if◌then◌else◌, Bool, true, false}
+use Rattle.std.specs.Prelude.{◌≡◌, ℕ, zero, suc, ◌+◌, ◌*◌, ◌/◌, ◌%◌, ◌^◌, ◌<◌, ◌≤◌, List, [], ◌∷◌, ◌++◌, length, refl, nat_lt, ◌==◌, ◌&&◌}
+use Rattle.std.specs.Prelude.{if◌then◌else◌, Bool, true, false}
 use Rattle.std.specs.Fmt.{decimal}
 use Rattle.std.proofs.Common.{ap, ◌∙◌, arith, append_assoc, length-append}
 use Rattle.std.proofs.lemmas.Fmt.{decimal_digit, decimal_step, length-decimal-le}
@@ -40,7 +41,9 @@ decimal_group n high fits =
 
 pub length-decimal_group : (n : ℕ) → 1000 ≤ n → n < 2 ^ 64 → length (decimal n) ≡ length (decimal (n / 1000)) + 3
 length-decimal_group n high fits =
-    ap length (decimal_group n high fits) ∙ (length-append (decimal (n / 1000)) (digits_text 3 (n % 1000)) ∙ ap (λ k. length (decimal (n / 1000)) + k) (length-digits_text 3 (n % 1000)))
+    ap length (decimal_group n high fits)
+    ∙ (length-append (decimal (n / 1000)) (digits_text 3 (n % 1000))
+    ∙ ap (λ k. length (decimal (n / 1000)) + k) (length-digits_text 3 (n % 1000)))
 
 -- marks are at most as many as digits
 twice : (mark digit : ℕ) (behind : List ℕ) (ends : Bool) → length (grouped mark behind) ≤ 2 * length behind
@@ -74,7 +77,8 @@ same_end digit behind group three =
     three_more (length ((digit ∷ behind) ++ group)) (length (digit ∷ behind)) (omega arith) (omega arith)
 
 behind_digit : (ends : Bool) (mark digit : ℕ) (rest group : List ℕ)
-    → (if ends then digit ∷ mark ∷ (rest ++ group) else digit ∷ (rest ++ group)) ≡ (if ends then digit ∷ mark ∷ rest else digit ∷ rest) ++ group
+    → (if ends then digit ∷ mark ∷ (rest ++ group) else digit ∷ (rest ++ group))
+    ≡ (if ends then digit ∷ mark ∷ rest else digit ∷ rest) ++ group
 behind_digit true mark digit rest group = refl
 behind_digit false mark digit rest group = refl
 

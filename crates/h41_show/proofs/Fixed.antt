@@ -1,5 +1,6 @@
 -- Sizes as FIX shows them.
-use Rattle.std.specs.Prelude.{◌≡◌, ℕ, zero, suc, ◌+◌, ◌-◌, ◌*◌, ◌/◌, ◌^◌, ◌<◌, ◌≤◌, min, nat_lt, ◌==◌, ◌&&◌, ◌||◌, length, Bool, true, false, refl}
+use Rattle.std.specs.Prelude.{◌≡◌, ℕ, zero, suc, ◌+◌, ◌-◌, ◌*◌, ◌/◌, ◌^◌, ◌<◌, ◌≤◌, min, nat_lt, ◌==◌, ◌&&◌, ◌||◌, length, Bool, true}
+use Rattle.std.specs.Prelude.{false, refl}
 use Rattle.std.specs.Fmt.{decimal}
 use Rattle.std.proofs.Common.{ap, sym, ◌∙◌, arith, inl, inr, subst, lt_of_lt_of_le}
 use Rattle.std.proofs.Math.Nat.{pow-suc, pow-le-pow_right, mul-pos}
@@ -36,7 +37,8 @@ module _ (d s : ℕ) (low : 10 ^ 9 ≤ d) (high : d < 10 ^ 10) where
       let nine = power_split 9 (s - 99) (108 - s) (omega arith) in
       let ten = power_split 10 (s - 99 + 1) (108 - s) (omega arith) in
       let below : 10 ^ (s - 99) ≤ q = le-div (10 ^ (s - 99)) d (10 ^ (108 - s)) (power_pos (108 - s)) (subst (λ t. t ≤ d) nine low) in
-      let above : q < 10 ^ (s - 99 + 1) = div_below d (10 ^ (108 - s)) (10 ^ (s - 99 + 1)) (power_pos (108 - s)) (subst (λ t. d < t) ten high) in
+      let above : q < 10 ^ (s - 99 + 1) =
+      div_below d (10 ^ (108 - s)) (10 ^ (s - 99 + 1)) (power_pos (108 - s)) (subst (λ t. d < t) ten high) in
       let few : s - 99 + 1 ≤ 10 = omega arith in
       let bound : 10 ^ (s - 99 + 1) ≤ 10 ^ 10 = pow-le-pow_right (omega arith) few in
       ap (λ t. length (decimal t)) quotient ∙ length-decimal_is (s - 99) q below above (omega arith)

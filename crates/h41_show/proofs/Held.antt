@@ -31,11 +31,13 @@ pub register_text-bytes : (format : Format) (register : List ℕ) → worth (hol
 unfolding register_text
 register_text-bytes format register e is =
     let t : (slice_index register 13 == 1) ≡ true = grind (arith, nat_tests) in
-    ap (holding_text format register) (not_number (number_in register) register e ∙ ap (λ b. if b then Text (text_in register) else Other) t)
+    ap (holding_text format register)
+    (not_number (number_in register) register e ∙ ap (λ b. if b then Text (text_in register) else Other) t)
 
 pub register_text-digits : (format : Format) (register : List ℕ) → worth (holding_of register) ≡ None → slice_index register 13 ≢ 1
     → register_text format register ≡ text register
 unfolding register_text
 register_text-digits format register e other =
     let t : (slice_index register 13 == 1) ≡ false = grind (arith, nat_tests) in
-    ap (holding_text format register) (not_number (number_in register) register e ∙ ap (λ b. if b then Text (text_in register) else Other) t)
+    ap (holding_text format register)
+    (not_number (number_in register) register e ∙ ap (λ b. if b then Text (text_in register) else Other) t)

@@ -12,7 +12,8 @@ use Rattle.h41_show.specs.Rounding.{nearest, exponent_of, rounded}
 use Rattle.h41_show.proofs.Powers.{power_pos, pow-lt-pow, power_split, scaled_low, scaled_high, scaled_quotient}
 
 -- none of the powers from a number's next one up is at most the number
-none_above : (k n start size : ℕ) → k < start → size < 10 ^ (k + 1) → count_by (λ power. nat_le (10 ^ power) size) (range_with_len start n) ≡ 0
+none_above : (k n start size : ℕ) → k < start → size < 10 ^ (k + 1)
+    → count_by (λ power. nat_le (10 ^ power) size) (range_with_len start n) ≡ 0
 none_above k zero start size above high = refl
 none_above k (suc n) start size above high =
     let next : k + 1 ≤ start = omega arith in
@@ -89,14 +90,16 @@ module _ (d m : ℕ) (few : m ≤ 7) (low : 10 ^ 9 ≤ d) (high : d < 10 ^ 10) w
   cut_high = div_below d (10 ^ (9 - m)) (10 ^ (m + 1)) (power_pos (9 - m)) (subst (λ t. d < t) parts_above high)
 
 -- a size is rounded to what is nearest, where that is below 10^100
-rounded_near : (m n e c : ℕ) → exponent_of n ≡ e → nearest n (10 ^ (e - m)) ≡ c → c * 10 ^ (e - m) < 10 ^ 100 * one → rounded m n ≡ c * 10 ^ (e - m)
+rounded_near : (m n e c : ℕ) → exponent_of n ≡ e → nearest n (10 ^ (e - m)) ≡ c → c * 10 ^ (e - m) < 10 ^ 100 * one
+    → rounded m n ≡ c * 10 ^ (e - m)
 unfolding rounded
 rounded_near m n e c exponent count below =
     let test : nat_lt (c * 10 ^ (e - m)) (10 ^ 100 * one) ≡ true = grind (arith, nat_tests) in
     rw (exponent, count, test) refl
 
 -- and else it is cut
-rounded_cut : (m n e c : ℕ) → exponent_of n ≡ e → nearest n (10 ^ (e - m)) ≡ c → 10 ^ 100 * one ≤ c * 10 ^ (e - m) → rounded m n ≡ n / 10 ^ (e - m) * 10 ^ (e - m)
+rounded_cut : (m n e c : ℕ) → exponent_of n ≡ e → nearest n (10 ^ (e - m)) ≡ c → 10 ^ 100 * one ≤ c * 10 ^ (e - m)
+    → rounded m n ≡ n / 10 ^ (e - m) * 10 ^ (e - m)
 unfolding rounded
 rounded_cut m n e c exponent count above =
     let test : nat_lt (c * 10 ^ (e - m)) (10 ^ 100 * one) ≡ false = grind (arith, nat_tests) in
@@ -125,7 +128,8 @@ module _ (d s m : ℕ) (few : m ≤ 7) (small : s ≤ 198) (low : 10 ^ 9 ≤ d) 
       let below : c * 10 ^ (s + 9 - m) < 10 ^ (m + 1 + (s + 9 - m)) = scaled_high c (s + 9 - m) (m + 1) less in
       let within : m + 1 + (s + 9 - m) ≤ 208 = omega arith in
       let most : 10 ^ (m + 1 + (s + 9 - m)) ≤ 10 ^ 208 = pow-le-pow_right (omega arith) within in
-      sym (rounded_near m (d * 10 ^ s) (s + 9) c exponent_of-size count (subst (λ t. c * 10 ^ (s + 9 - m) < t) (sym top) (lt_of_lt_of_le below most)))
+      sym (rounded_near m (d * 10 ^ s) (s + 9) c exponent_of-size count
+      (subst (λ t. c * 10 ^ (s + 9 - m) < t) (sym top) (lt_of_lt_of_le below most)))
 
   carried : 10 ^ (m + 1) ≤ nearest d (10 ^ (9 - m)) → nearest d (10 ^ (9 - m)) * 10 ^ (s + 9 - m) ≡ 10 ^ (s + 10)
   carried not =
@@ -139,7 +143,10 @@ module _ (d s m : ℕ) (few : m ≤ 7) (small : s ≤ 198) (low : 10 ^ 9 ≤ d) 
       let value = carried not in
       let below : 10 ^ (s + 10) < 10 ^ 208 = pow-lt-pow (s + 10) 208 (omega arith) in
       let same : 10 ^ m * 10 ^ (s + 1 + 9 - m) ≡ 10 ^ (s + 10) = sym (power_split (s + 10) m (s + 1 + 9 - m) (omega arith)) in
-      same ∙ (sym value ∙ sym (rounded_near m (d * 10 ^ s) (s + 9) c exponent_of-size count (subst (λ t. t < 10 ^ 100 * one) (sym value) (subst (λ t. 10 ^ (s + 10) < t) (sym top) below))))
+      same
+      ∙ (sym value
+      ∙ sym (rounded_near m (d * 10 ^ s) (s + 9) c exponent_of-size count
+      (subst (λ t. t < 10 ^ 100 * one) (sym value) (subst (λ t. 10 ^ (s + 10) < t) (sym top) below))))
 
   pub rounded_down : 10 ^ (m + 1) ≤ nearest d (10 ^ (9 - m)) → 198 ≤ s → d / 10 ^ (9 - m) * 10 ^ (s + 9 - m) ≡ rounded m (d * 10 ^ s)
   rounded_down not large =
@@ -147,6 +154,8 @@ module _ (d s m : ℕ) (few : m ≤ 7) (small : s ≤ 198) (low : 10 ^ 9 ≤ d) 
       let value = carried not in
       let reached : 208 ≤ s + 10 = omega arith in
       let above : 10 ^ 208 ≤ 10 ^ (s + 10) = pow-le-pow_right (omega arith) reached in
-      let quotient : d * 10 ^ s / 10 ^ (s + 9 - m) ≡ d / 10 ^ (9 - m) = ap (λ k. d * 10 ^ s / 10 ^ k) (let e : s + 9 - m ≡ 9 - m + s = omega arith in e) ∙ scaled_quotient d s (9 - m) in
+      let quotient : d * 10 ^ s / 10 ^ (s + 9 - m) ≡ d / 10 ^ (9 - m) =
+      ap (λ k. d * 10 ^ s / 10 ^ k) (let e : s + 9 - m ≡ 9 - m + s = omega arith in e) ∙ scaled_quotient d s (9 - m) in
       ap (λ t. t * 10 ^ (s + 9 - m)) (sym quotient)
-      ∙ sym (rounded_cut m (d * 10 ^ s) (s + 9) c exponent_of-size count (subst (λ t. 10 ^ 100 * one ≤ t) (sym value) (subst (λ t. t ≤ 10 ^ (s + 10)) (sym top) above)))
+      ∙ sym (rounded_cut m (d * 10 ^ s) (s + 9) c exponent_of-size count
+      (subst (λ t. 10 ^ 100 * one ≤ t) (sym value) (subst (λ t. t ≤ 10 ^ (s + 10)) (sym top) above)))

@@ -7,7 +7,8 @@ use Rattle.h41_decimal.specs.Signs.{signed}
 use Rattle.h41_decimal.specs.declared.sign.Sign.{Sign}
 use Rattle.h41_decimal.specs.declared.sign.Sign.TheVariants.{Plus, Minus}
 use Rattle.h41_show.specs.Rounding.{nearest, exponent_of, rounded}
-use Rattle.h41_show.specs.NumberText.{fixed_decimals, fixed_count, is_fixed, fixed_text, steps_text, mantissa_decimals, mantissa_text, exponent_text, extra_digits, exponential_text, scientific_text, notation_text, sign_text, number_text}
+use Rattle.h41_show.specs.NumberText.{fixed_decimals, fixed_count, is_fixed, fixed_text, steps_text, mantissa_decimals, mantissa_text}
+use Rattle.h41_show.specs.NumberText.{exponent_text, extra_digits, exponential_text, scientific_text, notation_text, sign_text, number_text}
 use Rattle.h41_show.specs.declared.format.Format.{Format}
 use Rattle.h41_show.specs.declared.format.Notation.{Notation}
 use Rattle.h41_show.specs.declared.format.Notation.TheVariants.{Fixed, Scientific, Engineering}
@@ -27,7 +28,8 @@ module _ (c t m : ℕ) (few : m ≤ 7) (small : t ≤ 198) (low : 10 ^ m ≤ c) 
       (subst (λ k. c * 10 ^ (t + 9 - m) < 10 ^ k) next (scaled_high c (t + 9 - m) (m + 1) high))
 
   exponential_text-shown : (radix : RadixMark) (extra : ℕ) → extra ≤ 2 → extra ≤ t
-      → exponential_text radix m extra (c * 10 ^ (t + 9 - m)) ≡ mantissa_text radix (m - extra) (c * 10 ^ (extra - m)) ++ exponent_text (t - extra + 9)
+      → exponential_text radix m extra (c * 10 ^ (t + 9 - m))
+      ≡ mantissa_text radix (m - extra) (c * 10 ^ (extra - m)) ++ exponent_text (t - extra + 9)
   exponential_text-shown radix extra most within =
       let e = exponent_of-shown in
       let shown : t + 9 - extra ≡ t - extra + 9 = omega arith in
@@ -35,8 +37,8 @@ module _ (c t m : ℕ) (few : m ≤ 7) (small : t ≤ 198) (low : 10 ^ m ≤ c) 
       let quotient = shifted c (t + 9 - m) (t - extra + 9 - (m - extra)) (extra - m) parts in
       rw (e, shown, quotient) refl
 
-  pub scientific_text-shown : (format : Format) (size extra : ℕ) → 0 < size → m ≡ mantissa_decimals format.digits → c * 10 ^ (t + 9 - m) ≡ rounded m size
-      → extra ≡ extra_digits format.notation (t + 9) → extra ≤ 2 → extra ≤ t
+  pub scientific_text-shown : (format : Format) (size extra : ℕ) → 0 < size → m ≡ mantissa_decimals format.digits
+      → c * 10 ^ (t + 9 - m) ≡ rounded m size → extra ≡ extra_digits format.notation (t + 9) → extra ≤ 2 → extra ≤ t
       → mantissa_text format.radix (m - extra) (c * 10 ^ (extra - m)) ++ exponent_text (t - extra + 9) ≡ scientific_text format size
   unfolding scientific_text
   scientific_text-shown format size extra some decimals value digits most within =
@@ -68,12 +70,15 @@ is_fixed-zero digits = refl
 fixed_decimals-zero : (digits : ℕ) → fixed_decimals digits 0 ≡ min digits 9
 fixed_decimals-zero digits = ap (λ k. min digits (10 - k)) (length-decimal_digit 0 (omega arith))
 
-pub zero_fixed : (format : Format) (decimals : ℕ) → decimals ≡ min format.digits 9 → steps_text format decimals 0 ≡ notation_text Fixed format 0
+pub zero_fixed : (format : Format) (decimals : ℕ) → decimals ≡ min format.digits 9
+    → steps_text format decimals 0 ≡ notation_text Fixed format 0
 zero_fixed format decimals are =
-    sym (notation_text-fixed format 0 (is_fixed-zero format.digits) ∙ ap (λ d. steps_text format d (fixed_count format.digits 0)) (fixed_decimals-zero format.digits ∙ sym are)
+    sym (notation_text-fixed format 0 (is_fixed-zero format.digits)
+    ∙ ap (λ d. steps_text format d (fixed_count format.digits 0)) (fixed_decimals-zero format.digits ∙ sym are)
     ∙ ap (steps_text format decimals) (fixed_count-zero format.digits))
 
-zero_scientific : (format : Format) → mantissa_text format.radix (mantissa_decimals format.digits) 0 ++ exponent_text 108 ≡ scientific_text format 0
+zero_scientific : (format : Format)
+    → mantissa_text format.radix (mantissa_decimals format.digits) 0 ++ exponent_text 108 ≡ scientific_text format 0
 unfolding scientific_text
 zero_scientific format = refl
 

@@ -1,5 +1,6 @@
 -- Decimal digits as they are written.
-use Rattle.std.specs.Prelude.{ℕ, zero, suc, ◌+◌, ◌/◌, ◌%◌, Bool, ◌&&◌, ◌==◌, nat_lt, List, [], ◌∷◌, ◌++◌, length, if◌then◌else◌}
+use Rattle.std.specs.Prelude.{ℕ, zero, suc, ◌+◌, ◌/◌, ◌%◌, Bool, ◌&&◌, ◌==◌, nat_lt, List, [], ◌∷◌}
+use Rattle.std.specs.Prelude.{◌++◌, length, if◌then◌else◌}
 
 -- so many decimal digits of a number, the lowest last
 abbrev pub digits_text : ℕ → ℕ → List ℕ
@@ -13,4 +14,5 @@ ends_group behind = nat_lt 0 (length behind) && length behind % 3 == 0
 -- digits in groups of three, counted from the right, with a mark between two groups
 abbrev pub grouped : ℕ → List ℕ → List ℕ
 grouped mark [] = []
-grouped mark (digit ∷ behind) = if ends_group behind then digit ∷ mark ∷ grouped mark behind else digit ∷ grouped mark behind
+grouped mark (digit ∷ behind) =
+    if ends_group behind then digit ∷ mark ∷ grouped mark behind else digit ∷ grouped mark behind

@@ -1,5 +1,5 @@
--- The display format that the flags tell. That flags 40 and 41 both set mean FIX, and that a display digit above 9 means 9, are
--- this project's choices; the rest is the Owner's Handbook's.
+-- The display format that the flags tell. That flags 40 and 41 both set mean FIX, and that a
+-- display digit above 9 means 9, are this project's choices; the rest is the Owner's Handbook's.
 use Rattle.std.specs.Prelude.{ℕ, ◌+◌, min, Bool, true, false}
 use Rattle.h41_ram.specs.NamedFlags as flags
 use Rattle.h41_ram.specs.RegisterMap.{RegisterMap, flag_of}
@@ -33,7 +33,8 @@ abbrev pub radix_of : Bool → RadixMark
 radix_of true = Point
 radix_of false = Comma
 
--- the format: the notation, the display digit, the radix mark, and by flag 29 whether digits are grouped
+-- the format: the notation, the display digit, the radix mark, and by flag 29 whether digits are
+-- grouped
 unfoldable pub format_of : RegisterMap → Format
 format_of memory = record {
   notation = notation_of (flag_of memory flags.fixed) (flag_of memory flags.engineering);

@@ -2,7 +2,8 @@
 use Rattle.std.specs.Prelude.{◌≡◌, ℕ, ◌+◌, ◌*◌, ◌^◌, ◌<◌, ◌≤◌}
 use Rattle.h41_show.specs.Rounding.{nearest, exponent_of}
 
--- a whole number of steps is nearest to a size: it is at most half a step away, and less than half where it is below the size
+-- a whole number of steps is nearest to a size: it is at most half a step away, and less than half
+-- where it is below the size
 pub record IsNearest (size step count : ℕ) : Type 0 where
   pub not_above : 2 * (count * step) ≤ 2 * size + step
   pub not_below : 2 * size < 2 * (count * step) + step
@@ -13,9 +14,11 @@ NearestIsNearest = (size step : ℕ) → 0 < step → IsNearest size step (neare
 
 -- there is no other
 abbrev pub NearestIsDetermined : Type 0
-NearestIsDetermined = (size step count : ℕ) → 0 < step → IsNearest size step count → count ≡ nearest size step
+NearestIsDetermined =
+    (size step count : ℕ) → 0 < step → IsNearest size step count → count ≡ nearest size step
 
 -- the exponent of a size is the one power of ten between whose neighbours it stands
 abbrev pub ExponentIsDetermined : Type 0
 ExponentIsDetermined =
-    (size exponent : ℕ) → exponent ≤ 207 → 10 ^ exponent ≤ size → size < 10 ^ (exponent + 1) → exponent_of size ≡ exponent
+    (size exponent : ℕ) → exponent ≤ 207 → 10 ^ exponent ≤ size → size < 10 ^ (exponent + 1)
+    → exponent_of size ≡ exponent

@@ -1,6 +1,8 @@
--- The text of a number in a display format. The forms are the Owner's Handbook's; how many digits SCI and ENG show at most, what
--- zero shows there and how ENG fills its digits are this project's choices.
-use Rattle.std.specs.Prelude.{ℕ, ◌-◌, ◌*◌, ◌/◌, ◌%◌, ◌^◌, min, Bool, not, ◌&&◌, ◌||◌, ◌==◌, nat_le, nat_lt, List, [], ◌∷◌, ◌++◌, length, if◌then◌else◌, ℤ, unsigned_abs}
+-- The text of a number in a display format. The forms are the Owner's Handbook's; how many digits
+-- SCI and ENG show at most, what zero shows there and how ENG fills its digits are this project's
+-- choices.
+use Rattle.std.specs.Prelude.{ℕ, ◌-◌, ◌*◌, ◌/◌, ◌%◌, ◌^◌, min, Bool, not, ◌&&◌, ◌||◌, ◌==◌, nat_le}
+use Rattle.std.specs.Prelude.{nat_lt, List, [], ◌∷◌, ◌++◌, length, if◌then◌else◌, ℤ, unsigned_abs}
 use Rattle.std.specs.Fmt.{decimal}
 use Rattle.h41_decimal.specs.Units.{one}
 use Rattle.h41_decimal.specs.Signs.{sign_of}
@@ -37,23 +39,28 @@ fixed_count digits size = nearest size (10 ^ (108 - fixed_decimals digits size))
 
 -- whether FIX shows a size so: it is below 10^10, and does not show as zero unless it is zero
 unfoldable pub is_fixed : ℕ → ℕ → Bool
-is_fixed digits size = nat_lt size (10 ^ 10 * one) && (size == 0 || nat_lt 0 (fixed_count digits size))
+is_fixed digits size =
+    nat_lt size (10 ^ 10 * one) && (size == 0 || nat_lt 0 (fixed_count digits size))
 
 -- the digits in front of the radix mark, grouped by threes with flag 29
 abbrev pub integer_text : Format → ℕ → List ℕ
-integer_text format whole = if format.grouping then grouped (group_byte format.radix) (decimal whole) else decimal whole
+integer_text format whole =
+    if format.grouping then grouped (group_byte format.radix) (decimal whole) else decimal whole
 
 -- FIX 0 has a radix mark only with flag 29
 abbrev pub fixed_mark : Format → List ℕ
-fixed_mark format = if format.digits == 0 && not format.grouping then [] else radix_byte format.radix ∷ []
+fixed_mark format =
+    if format.digits == 0 && not format.grouping then [] else radix_byte format.radix ∷ []
 
 -- steps of the last decimal, so many of them behind the radix mark
 abbrev pub steps_text : Format → ℕ → ℕ → List ℕ
-steps_text format decimals count = integer_text format (count / 10 ^ decimals) ++ fixed_mark format ++ digits_text decimals count
+steps_text format decimals count =
+    integer_text format (count / 10 ^ decimals) ++ fixed_mark format ++ digits_text decimals count
 
 -- a size as FIX shows it
 unfoldable pub fixed_text : Format → ℕ → List ℕ
-fixed_text format size = steps_text format (fixed_decimals format.digits size) (fixed_count format.digits size)
+fixed_text format size =
+    steps_text format (fixed_decimals format.digits size) (fixed_count format.digits size)
 
 -- SCI and ENG: how many digits there are behind the first one
 abbrev pub mantissa_decimals : ℕ → ℕ
@@ -61,39 +68,44 @@ mantissa_decimals digits = min digits 7
 
 -- a mantissa, counted in steps of its last decimal
 abbrev pub mantissa_text : RadixMark → ℕ → ℕ → List ℕ
-mantissa_text radix decimals count = decimal (count / 10 ^ decimals) ++ radix_byte radix ∷ digits_text decimals count
+mantissa_text radix decimals count =
+    decimal (count / 10 ^ decimals) ++ radix_byte radix ∷ digits_text decimals count
 
 -- an exponent, counted from -108: a blank or a minus, and two digits
 abbrev pub exponent_text : ℕ → List ℕ
 exponent_text exponent =
-    if nat_le 108 exponent then 0x20 ∷ digits_text 2 (exponent - 108) else 0x2D ∷ digits_text 2 (108 - exponent)
+    if nat_le 108 exponent then 0x20 ∷ digits_text 2 (exponent - 108)
+    else 0x2D ∷ digits_text 2 (108 - exponent)
 
--- how far the exponent that is shown is below the size's own: ENG shows multiples of 3, of which 108 is one
+-- how far the exponent that is shown is below the size's own: ENG shows multiples of 3, of which
+-- 108 is one
 abbrev pub extra_digits : Notation → ℕ → ℕ
 extra_digits Engineering exponent = exponent % 3
 extra_digits Scientific exponent = 0
 extra_digits Fixed exponent = 0
 
--- a size with a mantissa of so many digits in front of the radix mark beyond the first: they are taken from the decimals, and
--- zeros stand for those that are missing
+-- a size with a mantissa of so many digits in front of the radix mark beyond the first: they are
+-- taken from the decimals, and zeros stand for those that are missing
 abbrev pub exponential_text : RadixMark → ℕ → ℕ → ℕ → List ℕ
 exponential_text radix decimals extra size =
     let shown = exponent_of size - extra in
     let behind = decimals - extra in
     mantissa_text radix behind (size / 10 ^ (shown - behind)) ++ exponent_text shown
 
--- a size as SCI and ENG show it: the exponent is that of the rounded size. FIX shows what it cannot hold as SCI does. Zero has
--- exponent 0.
+-- a size as SCI and ENG show it: the exponent is that of the rounded size. FIX shows what it cannot
+-- hold as SCI does. Zero has exponent 0.
 unfoldable pub scientific_text : Format → ℕ → List ℕ
 scientific_text format size =
     let decimals = mantissa_decimals format.digits in
     let shown = rounded decimals size in
     if size == 0 then mantissa_text format.radix decimals 0 ++ exponent_text 108
-    else exponential_text format.radix decimals (extra_digits format.notation (exponent_of shown)) shown
+    else exponential_text format.radix decimals
+    (extra_digits format.notation (exponent_of shown)) shown
 
 -- a size in each notation
 abbrev pub notation_text : Notation → Format → ℕ → List ℕ
-notation_text Fixed format size = if is_fixed format.digits size then fixed_text format size else scientific_text format size
+notation_text Fixed format size =
+    if is_fixed format.digits size then fixed_text format size else scientific_text format size
 notation_text Scientific format size = scientific_text format size
 notation_text Engineering format size = scientific_text format size
 

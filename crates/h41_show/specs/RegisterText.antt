@@ -7,8 +7,8 @@ use Rattle.h41_ram.specs.RegisterMap.{RegisterMap, alpha_of}
 use Rattle.h41_show.specs.NumberText.{number_text}
 use Rattle.h41_show.specs.declared.format.Format.{Format}
 
--- a number shows in the display format, ALPHA data as its characters without leading nulls, and what is neither as the register's
--- digits in hexadecimal, place 13 first
+-- a number shows in the display format, ALPHA data as its characters without leading nulls, and
+-- what is neither as the register's digits in hexadecimal, place 13 first
 abbrev pub holding_text : Format → List ℕ → Holding → List ℕ
 holding_text format register (Number value) = number_text format value
 holding_text format register (Text bytes) = characters_text bytes

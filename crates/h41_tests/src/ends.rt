@@ -1,6 +1,7 @@
 //! Readers and writers that give and take a little at a time, and fail at a call.
 
-ghost use Rattle.std.specs.Prelude.{◌≡◌, ◌+◌, ◌-◌, ◌≤◌, ◌<◌, ℕ, false, min, None, Some, take, drop, length};
+ghost use Rattle.std.specs.Prelude.{◌≡◌, ◌+◌, ◌-◌, ◌≤◌, ◌<◌, ℕ, false, min, None, Some, take, drop};
+ghost use Rattle.std.specs.Prelude.{length};
 
 use h41_deck::{Sink, Source};
 use std::alloc::Global;

@@ -19,7 +19,8 @@ two_digits_of number most small short =
     let below : number < most = ltb-true number most short in
     sym (cond-true (nat_lt number 100) _ _ (lt-ltb number 100 (omega arith)))
 
-function_text : (function : ParameterFunction) (operand : Operand) → line_text (shortest_function function operand) ≡ line_text (WithOperand function operand)
+function_text : (function : ParameterFunction) (operand : Operand)
+    → line_text (shortest_function function operand) ≡ line_text (WithOperand function operand)
 function_text Recall (Direct register) =
     cond_both (nat_lt register 16) _ _ (λ line. line_text line ≡ line_text (WithOperand Recall (Direct register)))
     (λ short. ap (λ text. codes "RCL" & text) (two_digits_of register 16 (omega arith) short)) (λ long. refl)

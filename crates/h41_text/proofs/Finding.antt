@@ -1,5 +1,6 @@
 -- Finding an item by its text.
-use Rattle.std.proofs.Common.{◌≡◌, ℕ, zero, suc, ◌+◌, ◌<◌, Bool, true, false, ◌||◌, not, ◌==◌, List, [], ◌∷◌, length, get_or, drop, Option, Some, None, refl, ◌∙◌, ap, subst, arith}
+use Rattle.std.proofs.Common.{◌≡◌, ℕ, zero, suc, ◌+◌, ◌<◌, Bool, true, false, ◌||◌, not, ◌==◌, List, [], ◌∷◌, length, get_or, drop, Option}
+use Rattle.std.proofs.Common.{Some, None, refl, ◌∙◌, ap, subst, arith}
 use Rattle.std.specs.List.{range_with_len}
 use Rattle.std.specs.Option.{option_map, option_and_then}
 use Rattle.std.specs.Prelude.{is_some, nat_lt, nat_le, ◌&&◌}
@@ -11,9 +12,11 @@ use Rattle.h41_text.specs.LineText.{parameter_text}
 use Rattle.h41_text.specs.TextParts.{with_text, parameter_of, number_of, character_of, characters_of, two_digits_of}
 
 -- text with a byte that is no character is no number
-pub characters_none : (text : List ℕ) (index : ℕ) → index < length text → character_of (get_or text index 0) ≡ None → characters_of (drop index text) ≡ None
+pub characters_none : (text : List ℕ) (index : ℕ) → index < length text → character_of (get_or text index 0) ≡ None
+    → characters_of (drop index text) ≡ None
 characters_none [] index inside none = absurd (omega arith)
-characters_none (byte ∷ text) zero inside none = ap (option_and_then (λ character. option_map (λ more. character ∷ more) (characters_of text))) none
+characters_none (byte ∷ text) zero inside none =
+    ap (option_and_then (λ character. option_map (λ more. character ∷ more) (characters_of text))) none
 characters_none (byte ∷ text) (suc index) inside none = characters_none text index (omega arith) none
 
 pub number_none : (text : List ℕ) → characters_of text ≡ None → number_of text ≡ None
@@ -24,7 +27,8 @@ number_none text none =
 -- a parameter of two characters is two digits
 reads_two : ℕ → Bool
 reads_two number =
-    not (length (parameter_text number) == 2) || is_some (two_digits_of (get_or (parameter_text number) 0 0) (get_or (parameter_text number) 1 0))
+    not (length (parameter_text number) == 2)
+    || is_some (two_digits_of (get_or (parameter_text number) 0 0) (get_or (parameter_text number) 1 0))
 
 pub two_none : (text : List ℕ) → length text ≡ 2 → two_digits_of (get_or text 0 0) (get_or text 1 0) ≡ None
     → (number : ℕ) → number < 128 → parameter_text number ≡ text → ⊥
@@ -46,13 +50,15 @@ is_found number (Some other) same = ap Some (eqb-true other number same)
 
 pub parameter_found : (number : ℕ) → number < 128 → parameter_of (parameter_text number) ≡ Some number
 unfolding finds_parameter
-parameter_found number inside = is_found number (parameter_of (parameter_text number)) (agree_below_at finds_parameter (λ n. true) 128 number refl inside)
+parameter_found number inside =
+    is_found number (parameter_of (parameter_text number)) (agree_below_at finds_parameter (λ n. true) 128 number refl inside)
 
 range_none : (text : List ℕ) (first count : ℕ) → ((number : ℕ) → number < first + count → parameter_text number ≡ text → ⊥)
     → with_text parameter_text (range_with_len first count) text ≡ None
 range_none text first zero none = refl
 range_none text first (suc count) none =
-    cond-false (bytes_eq (parameter_text first) text) _ _ (false_from_ne_true _ (λ same. none first (omega arith) ((bytes_eq-Decides (parameter_text first) text).0 same)))
+    cond-false (bytes_eq (parameter_text first) text) _ _
+    (false_from_ne_true _ (λ same. none first (omega arith) ((bytes_eq-Decides (parameter_text first) text).0 same)))
     ∙ range_none text (first + 1) count (λ number inside. none number (omega arith))
 
 pub parameter_is : (text : List ℕ) (number : ℕ) → number < 128 → parameter_text number ≡ text → parameter_of text ≡ Some number

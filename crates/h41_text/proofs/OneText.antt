@@ -87,11 +87,14 @@ read_is text line same has = subst (λ (t : List ℕ). IsTextOf t (canonical lin
 pub read_line_is : {E : Type 0} (text : List ℕ) (line read : Line) → line_text line ≡ text → HasText line → read ≡ canonical line
     → (other : Line) → (◌≡◌ {A = Result Line E} (Ok read) (Ok other)) ↔ IsTextOf text other
 read_line_is text line read same has is other =
-    let of = read_is text line same has in
-    (λ equal. let e : canonical line ≡ other = cc in subst (λ (l : Line). IsTextOf text l) e of, λ also. ap Ok (is ∙ one_line text (canonical line) other of also))
+    let of = read_is text line same has in (
+      λ equal. let e : canonical line ≡ other = cc in subst (λ (l : Line). IsTextOf text l) e of,
+      λ also. ap Ok (is ∙ one_line text (canonical line) other of also),
+    )
 
 -- no line has the text where the only one that can has another
-pub other_text : (text : List ℕ) (line : Line) → Some line ≡ candidate_line text → (line_text line ≡ text → ⊥) → (other : Line) → IsTextOf text other → ⊥
+pub other_text : (text : List ℕ) (line : Line) → Some line ≡ candidate_line text → (line_text line ≡ text → ⊥) → (other : Line)
+    → IsTextOf text other → ⊥
 other_text text line found differs other of =
     let read : Some (canonical line) ≡ Some other = ap (option_map canonical) found ∙ read_of text other of in
     differs (sym (same_text line) ∙ ap line_text (same_Some (canonical line) other read) ∙ of.same)

@@ -1,5 +1,6 @@
 -- The code's places of names are right: a name is found at its hash, or nowhere.
-use Rattle.std.proofs.Common.{◌≡◌, ℕ, ◌<◌, Bool, true, false, List, [], ◌∷◌, length, Some, None, refl, sym, ◌∙◌, inl, inr, bytes_eq, slice_index_or, subst}
+use Rattle.std.proofs.Common.{◌≡◌, ℕ, ◌<◌, Bool, true, false, List, [], ◌∷◌, length, Some, None, refl, sym, ◌∙◌, inl, inr, bytes_eq}
+use Rattle.std.proofs.Common.{slice_index_or, subst}
 use Rattle.std.specs.Prelude.{nat_lt}
 use Rattle.std.specs.List.{AllByRecursion, list_all}
 use Rattle.std.proofs.lemmas.Bool.{and_parts, cases_Bool, cond-false, ltb-true}
@@ -32,7 +33,8 @@ module _ {A : Type 0} (text_of : A → List ℕ) (items : List A) (places : List
     unlike item home = elim (cases_Bool (bytes_eq (text_of item) name)) [
       | inl same ↦
           let word : text_of item ≡ name = (bytes_eq-Decides (text_of item) name).0 same in
-          let here : bytes_eq (text_of (at_place items places name other)) name ≡ true = subst (λ (w : List ℕ). bytes_eq (text_of (at_place items places w other)) w ≡ true) word home in
+          let here : bytes_eq (text_of (at_place items places name other)) name ≡ true =
+          subst (λ (w : List ℕ). bytes_eq (text_of (at_place items places w other)) w ≡ true) word home in
           let no : true ≡ false = no_both _ here missed in cc
       | inr differs ↦ differs
     ]
@@ -44,7 +46,8 @@ module _ {A : Type 0} (text_of : A → List ℕ) (items : List A) (places : List
         let both = and_parts (is_home item) (list_all is_home some) home in
         cond-false (bytes_eq (text_of item) name) _ _ (unlike item both.0) ∙ missed_among some both.1
 
-all_below : (count : ℕ) (places : List ℕ) → list_all (λ place. nat_lt place count) places ≡ true → AllByRecursion (λ place. place < count) places
+all_below : (count : ℕ) (places : List ℕ) → list_all (λ place. nat_lt place count) places ≡ true
+    → AllByRecursion (λ place. place < count) places
 all_below count [] low = tt
 all_below count (place ∷ places) low =
     let both = and_parts (nat_lt place count) (list_all (λ place. nat_lt place count) places) low in
@@ -55,7 +58,8 @@ function_found : (function : functions.Function) → with_text function_name FUN
 function_found Add = refl
 function_found function = refl
 
-parameter_function_found : (function : ParameterFunction) → with_text word_text WORDS (parameter_function_name function) ≡ Some (Function function)
+parameter_function_found : (function : ParameterFunction)
+    → with_text word_text WORDS (parameter_function_name function) ≡ Some (Function function)
 parameter_function_found Recall = refl
 parameter_function_found function = refl
 
@@ -69,7 +73,9 @@ word_found Module = refl
 pub functions_are_placed : IsPlaced function_name FUNCTIONS FUNCTION_PLACES
 functions_are_placed = record {
   count = refl;
-  within = λ k inside. All-from_recursion (λ (place : ℕ). place < length FUNCTIONS) FUNCTION_PLACES (all_below (length FUNCTIONS) FUNCTION_PLACES refl) k 0 inside;
+  within =
+      λ k inside. All-from_recursion (λ (place : ℕ). place < length FUNCTIONS)
+      FUNCTION_PLACES (all_below (length FUNCTIONS) FUNCTION_PLACES refl) k 0 inside;
   found = λ k other inside. function_found (slice_index_or FUNCTIONS k other);
   missed = λ name other missed. missed_among function_name FUNCTIONS FUNCTION_PLACES other name missed FUNCTIONS refl;
 }
@@ -77,7 +83,9 @@ functions_are_placed = record {
 pub words_are_placed : IsPlaced word_text WORDS WORD_PLACES
 words_are_placed = record {
   count = refl;
-  within = λ k inside. All-from_recursion (λ (place : ℕ). place < length WORDS) WORD_PLACES (all_below (length WORDS) WORD_PLACES refl) k 0 inside;
+  within =
+      λ k inside.
+      All-from_recursion (λ (place : ℕ). place < length WORDS) WORD_PLACES (all_below (length WORDS) WORD_PLACES refl) k 0 inside;
   found = λ k other inside. word_found (slice_index_or WORDS k other);
   missed = λ name other missed. missed_among word_text WORDS WORD_PLACES other name missed WORDS refl;
 }

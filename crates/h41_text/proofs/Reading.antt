@@ -1,9 +1,11 @@
 -- Reading the text of a line gives the line again, in its shortest spelling.
-use Rattle.std.proofs.Common.{◌≡◌, ℕ, zero, suc, ◌+◌, ◌/◌, ◌%◌, ◌<◌, ◌≤◌, Bool, true, false, ◌&&◌, not, ◌==◌, List, [], ◌∷◌, ◌++◌, map, length, Option, Some, None, codes, refl, sym, ◌∙◌, ap, arith, append_assoc}
+use Rattle.std.proofs.Common.{◌≡◌, ℕ, zero, suc, ◌+◌, ◌/◌, ◌%◌, ◌<◌, ◌≤◌, Bool, true, false, ◌&&◌, not, ◌==◌, List, [], ◌∷◌, ◌++◌, map}
+use Rattle.std.proofs.Common.{length, Option, Some, None, codes, refl, sym, ◌∙◌, ap, arith, append_assoc}
 use Rattle.std.specs.Prelude.{is_none, nat_lt, nat_le}
 use Rattle.std.specs.List.{flat_map}
 use Rattle.std.specs.Option.{option_map, option_and_then}
-use Rattle.std.proofs.lemmas.Bool.{agree_below_at, cond_both, cond-true, cond-false, and_parts, and_from, not-true, eqb-true, ne_eqb, le-leb, lt-ltb, false≢true}
+use Rattle.std.proofs.lemmas.Bool.{agree_below_at, cond_both, cond-true, cond-false, and_parts, and_from, not-true, eqb-true, ne_eqb}
+use Rattle.std.proofs.lemmas.Bool.{le-leb, lt-ltb, false≢true}
 use Rattle.std.proofs.lemmas.List.{length-map}
 use Rattle.h41_codes.specs.declared.characters.Character.{Character}
 use Rattle.h41_codes.specs.declared.characters.Character.TheVariants.{Zero}
@@ -18,7 +20,8 @@ use Rattle.h41_codes.specs.declared.functions.RegisterFunction.TheVariants.{Reca
 use Rattle.h41_codes.specs.declared.line.Operand.{Operand}
 use Rattle.h41_codes.specs.declared.line.Operand.TheVariants.{Direct, Indirect}
 use Rattle.h41_codes.specs.declared.line.Line.{Line}
-use Rattle.h41_codes.specs.declared.line.Line.TheVariants.{Null, LocalLabel, Number, Named, Register, Plain, WithOperand, Module, BranchIndirect, ShortGoTo, GlobalLabel, End, FinalEnd, BranchTo, Text}
+use Rattle.h41_codes.specs.declared.line.Line.TheVariants.{Null, LocalLabel, Number, Named, Register, Plain, WithOperand, Module}
+use Rattle.h41_codes.specs.declared.line.Line.TheVariants.{BranchIndirect, ShortGoTo, GlobalLabel, End, FinalEnd, BranchTo, Text}
 use Rattle.h41_codes.specs.ByteGrammar.{IsBytes, IsLine, IsOperand}
 use Rattle.h41_codes.specs.Canon.{canonical}
 use Rattle.h41_lines.specs.Characters.{two_digits, is_plain, escaped, character_text}
@@ -28,7 +31,9 @@ use Rattle.h41_text.specs.declared.words.Word.TheVariants as word
 use Rattle.h41_text.specs.Names.{function_name, parameter_function_name, character_byte}
 use Rattle.h41_text.specs.LineText.{line_text, parameter_text, operand_text, number_line, character_quoted, quoted, text_line, ◌&◌}
 use Rattle.h41_text.specs.LineReading.{HasText}
-use Rattle.h41_text.specs.TextParts.{word_text, word_line, operand_of, operand_from, behind_ind, two_digits_of, module_line, first_character, unquoted, at_most, begins_with, branch_line, character_of, characters_of, number_of, cut, cut_line, or_else, minus_line, unquoted_line, candidate_line}
+use Rattle.h41_text.specs.TextParts.{word_text, word_line, operand_of, operand_from, behind_ind, two_digits_of, module_line}
+use Rattle.h41_text.specs.TextParts.{first_character, unquoted, at_most, begins_with, branch_line, character_of, characters_of, number_of}
+use Rattle.h41_text.specs.TextParts.{cut, cut_line, or_else, minus_line, unquoted_line, candidate_line}
 use Rattle.h41_text.proofs.Canonical as canonical_text
 use Rattle.h41_text.proofs.Finding.{is_found, parameter_found, number_none}
 use Rattle.h41_text.proofs.Unquoting.{unquoted_more, unquoted_end}
@@ -42,9 +47,11 @@ plain_again byte rest quote plain =
     let parts = and_parts _ (not (byte == 0x5C)) plain in
     cond-false (byte == 0x22) _ _ quote ∙ cond-false (byte == 0x5C) _ _ (not-true _ parts.1)
 
-shown_again : (byte : ℕ) (rest : List ℕ) → byte < 256 → (byte == 0x22) ≡ false → first_character (character_text byte ++ rest) ≡ Some (byte, rest)
+shown_again : (byte : ℕ) (rest : List ℕ) → byte < 256 → (byte == 0x22) ≡ false
+    → first_character (character_text byte ++ rest) ≡ Some (byte, rest)
 shown_again byte rest inside quote =
-    cond_both (is_plain byte) (byte ∷ []) (escaped byte) (λ text. first_character (text ++ rest) ≡ Some (byte, rest)) (plain_again byte rest quote)
+    cond_both (is_plain byte) (byte ∷ []) (escaped byte)
+    (λ text. first_character (text ++ rest) ≡ Some (byte, rest)) (plain_again byte rest quote)
     (λ other. escaped_again byte rest inside)
 
 first_again : (byte : ℕ) (rest : List ℕ) → byte < 256 → first_character (character_quoted byte ++ rest) ≡ Some (byte, rest)
@@ -67,9 +74,11 @@ at_most_all : (most : ℕ) (characters : List ℕ) → length characters ≤ mos
 at_most_all most characters room = cond-true (nat_le (length characters) most) _ _ (le-leb _ most room)
 
 -- a text for ALPHA
-quoted_again : (characters : List ℕ) → length characters ≤ 15 → IsBytes characters → candidate_line (quoted characters) ≡ Some (Text characters)
+quoted_again : (characters : List ℕ) → length characters ≤ 15 → IsBytes characters
+    → candidate_line (quoted characters) ≡ Some (Text characters)
 quoted_again characters room bytes =
-    ap (λ read. option_map Text (at_most 15 read)) (unquoted_again 15 characters room bytes) ∙ ap (option_map Text) (at_most_all 15 characters room)
+    ap (λ read. option_map Text (at_most 15 read)) (unquoted_again 15 characters room bytes)
+    ∙ ap (option_map Text) (at_most_all 15 characters room)
 
 appended_again : (characters : List ℕ) → length characters ≤ 14 → IsBytes characters
     → candidate_line (0x3E ∷ quoted characters) ≡ Some (Text (0x7F ∷ characters))
@@ -77,11 +86,13 @@ appended_again characters room bytes =
     ap (λ read. option_map Text (at_most 15 (0x7F ∷ read))) (unquoted_again 14 characters room bytes)
     ∙ ap (option_map Text) (at_most_all 15 (0x7F ∷ characters) (omega arith))
 
-text_again : (characters : List ℕ) → length characters ≤ 15 → IsBytes characters → candidate_line (text_line characters) ≡ Some (Text characters)
+text_again : (characters : List ℕ) → length characters ≤ 15 → IsBytes characters
+    → candidate_line (text_line characters) ≡ Some (Text characters)
 text_again [] room bytes = quoted_again [] room bytes
 text_again (first ∷ rest) room bytes =
     cond_both (first == 0x7F) (0x3E ∷ quoted rest) (quoted (first ∷ rest)) (λ text. candidate_line text ≡ Some (Text (first ∷ rest)))
-    (λ append. appended_again rest (omega arith) (λ index inside. bytes (suc index) (omega arith)) ∙ ap (λ byte. Some (Text (byte ∷ rest))) (sym (eqb-true first 0x7F append)))
+    (λ append. appended_again rest (omega arith) (λ index inside. bytes (suc index) (omega arith))
+    ∙ ap (λ byte. Some (Text (byte ∷ rest))) (sym (eqb-true first 0x7F append)))
     (λ other. quoted_again (first ∷ rest) room bytes)
 
 -- a text that is no number is cut at its blank
@@ -128,13 +139,15 @@ operand_begins (Indirect number) inside = refl
 function_again : (function : ParameterFunction) (operand : Operand) → IsOperand operand
     → candidate_line (line_text (WithOperand function operand)) ≡ Some (WithOperand function operand)
 function_again function operand inside =
-    worded_again (word.Function function) (operand_text operand) ∙ cond-false (begins_with 0x22 (operand_text operand)) _ _ (operand_begins operand inside)
+    worded_again (word.Function function) (operand_text operand)
+    ∙ cond-false (begins_with 0x22 (operand_text operand)) _ _ (operand_begins operand inside)
     ∙ ap (option_map (WithOperand function)) (operand_again operand inside)
 
 branch_again : (branch : Branch) (operand : Operand) → IsOperand operand
     → candidate_line (word_text (word.Branch branch) & operand_text operand) ≡ Some (branch_line branch operand)
 branch_again branch operand inside =
-    worded_again (word.Branch branch) (operand_text operand) ∙ cond-false (begins_with 0x22 (operand_text operand)) _ _ (operand_begins operand inside)
+    worded_again (word.Branch branch) (operand_text operand)
+    ∙ cond-false (begins_with 0x22 (operand_text operand)) _ _ (operand_begins operand inside)
     ∙ ap (option_map (branch_line branch)) (operand_again operand inside)
 
 -- the two numbers of an XROM
@@ -149,7 +162,8 @@ module_again : (number entry : ℕ) → number < 32 → entry < 64 → candidate
 module_again number entry inside small =
     worded_again word.Module (two_digits number ++ 0x2C ∷ two_digits entry)
     ∙ cond-false (48 + number / 10 == 0x22) _ _ (ne_eqb _ 0x22 (λ same. omega (arith, same)))
-    ∙ ap (option_and_then (λ n. option_and_then (λ e. module_line n e) (two_digits_of (48 + entry / 10) (48 + entry % 10)))) (two_again number (omega arith))
+    ∙ ap (option_and_then (λ n. option_and_then (λ e. module_line n e) (two_digits_of (48 + entry / 10) (48 + entry % 10))))
+    (two_again number (omega arith))
     ∙ ap (option_and_then (λ e. module_line number e)) (two_again entry (omega arith))
     ∙ cond-true (nat_lt number 32 && nat_lt entry 64) _ _ (and_from _ _ (lt-ltb number 32 inside) (lt-ltb entry 64 small))
 
@@ -164,26 +178,32 @@ characters_again (character ∷ more) =
     ap (option_and_then (λ first. option_map (λ rest. first ∷ rest) (characters_of (map character_byte more)))) (character_again character)
     ∙ ap (option_map (λ rest. character ∷ rest)) (characters_again more)
 
-number_again : (characters : List Character) → 1 ≤ length characters → length characters ≤ 16 → number_of (map character_byte characters) ≡ Some (Number characters)
+number_again : (characters : List Character) → 1 ≤ length characters → length characters ≤ 16
+    → number_of (map character_byte characters) ≡ Some (Number characters)
 number_again characters some most =
     let size = length-map characters character_byte in
     cond-true (nat_lt 0 (length (map character_byte characters)) && nat_le (length (map character_byte characters)) 16) _ _
-    (and_from _ _ (lt-ltb 0 (length (map character_byte characters)) (omega (arith, size))) (le-leb (length (map character_byte characters)) 16 (omega (arith, size))))
+    (and_from _ _ (lt-ltb 0 (length (map character_byte characters)) (omega (arith, size)))
+    (le-leb (length (map character_byte characters)) 16 (omega (arith, size))))
     ∙ ap (option_map Number) (characters_again characters)
 
 -- a text that is no lone minus, and is a number
 number_first : (text : List ℕ) (line : Line) → minus_line text ≡ None → number_of text ≡ Some line → unquoted_line text ≡ Some line
 number_first text line minus number =
-    ap (λ first. or_else first (or_else (number_of text) (cut_line text (cut text)))) minus ∙ ap (λ first. or_else first (cut_line text (cut text))) number
+    ap (λ first. or_else first (or_else (number_of text) (cut_line text (cut text)))) minus
+    ∙ ap (λ first. or_else first (cut_line text (cut text))) number
 
 several_again : (first second : Character) (more : List Character) → length more ≤ 14
     → candidate_line (number_line (first ∷ second ∷ more)) ≡ Some (Number (first ∷ second ∷ more))
 several_again Zero second more most =
-    number_first (map character_byte (Zero ∷ second ∷ more)) (Number (Zero ∷ second ∷ more)) refl (number_again (Zero ∷ second ∷ more) (omega arith) (omega arith))
+    number_first (map character_byte (Zero ∷ second ∷ more)) (Number (Zero ∷ second ∷ more))
+    refl (number_again (Zero ∷ second ∷ more) (omega arith) (omega arith))
 several_again first second more most =
-    number_first (map character_byte (first ∷ second ∷ more)) (Number (first ∷ second ∷ more)) refl (number_again (first ∷ second ∷ more) (omega arith) (omega arith))
+    number_first (map character_byte (first ∷ second ∷ more)) (Number (first ∷ second ∷ more))
+    refl (number_again (first ∷ second ∷ more) (omega arith) (omega arith))
 
-number_line_again : (characters : List Character) → 1 ≤ length characters → length characters ≤ 16 → candidate_line (number_line characters) ≡ Some (Number characters)
+number_line_again : (characters : List Character) → 1 ≤ length characters → length characters ≤ 16
+    → candidate_line (number_line characters) ≡ Some (Number characters)
 number_line_again [] some most = absurd (omega arith)
 number_line_again (Zero ∷ []) some most = refl
 number_line_again (character ∷ []) some most = refl
@@ -200,7 +220,8 @@ name_again : (word : Word) (function : List ℕ → Line) (most : ℕ) (name : L
     → candidate_line (word_text word & quoted name) ≡ Some (function name)
 name_again word function most name few room bytes reads =
     worded_again word (quoted name) ∙ reads (flat_map character_quoted name ++ 0x22 ∷ [])
-    ∙ ap (λ read. option_map function (at_most most read)) (unquoted_again 15 name (omega arith) bytes) ∙ ap (option_map function) (at_most_all most name room)
+    ∙ ap (λ read. option_map function (at_most most read)) (unquoted_again 15 name (omega arith) bytes)
+    ∙ ap (option_map function) (at_most_all most name room)
 
 -- the line in its longest spelling, with nothing kept that only the calculator uses
 longest : Line → Line
@@ -226,9 +247,12 @@ longest_again Null has = absurd (has.shown refl)
 longest_again (LocalLabel label) has =
     short_again (codes "LBL") label 15 _ (omega arith) has.valid (function_again Label (Direct label) (omega (arith, has.valid)))
 longest_again (Number characters) has = number_line_again characters has.valid.0 has.valid.1
-longest_again (Named GoToName name) has = name_again (word.Branch GoTo) (Named GoToName) 15 name (omega arith) has.valid.fits has.valid.bytes (λ text. refl)
-longest_again (Named ExecuteName name) has = name_again (word.Branch Execute) (Named ExecuteName) 15 name (omega arith) has.valid.fits has.valid.bytes (λ text. refl)
-longest_again (Named Wordless name) has = name_again word.Wordless (Named Wordless) 15 name (omega arith) has.valid.fits has.valid.bytes (λ text. refl)
+longest_again (Named GoToName name) has =
+    name_again (word.Branch GoTo) (Named GoToName) 15 name (omega arith) has.valid.fits has.valid.bytes (λ text. refl)
+longest_again (Named ExecuteName name) has =
+    name_again (word.Branch Execute) (Named ExecuteName) 15 name (omega arith) has.valid.fits has.valid.bytes (λ text. refl)
+longest_again (Named Wordless name) has =
+    name_again word.Wordless (Named Wordless) 15 name (omega arith) has.valid.fits has.valid.bytes (λ text. refl)
 longest_again (Register RecallRegister register) has =
     short_again (codes "RCL") register 16 _ (omega arith) has.valid (function_again Recall (Direct register) (omega (arith, has.valid)))
 longest_again (Register StoreRegister register) has =
@@ -240,7 +264,8 @@ longest_again (BranchIndirect GoTo register) has = branch_again GoTo (Indirect r
 longest_again (BranchIndirect Execute register) has = branch_again Execute (Indirect register) has.valid
 longest_again (ShortGoTo label distance) has =
     short_again (codes "GTO") label 15 _ (omega arith) has.valid.0 (branch_again GoTo (Direct label) (omega (arith, has.valid)))
-longest_again (GlobalLabel link key name) has = name_again (word.Function Label) (GlobalLabel 0 0) 14 name (omega arith) has.valid.2.fits has.valid.2.bytes (λ text. refl)
+longest_again (GlobalLabel link key name) has =
+    name_again (word.Function Label) (GlobalLabel 0 0) 14 name (omega arith) has.valid.2.fits has.valid.2.bytes (λ text. refl)
 longest_again (End link marks) has = refl
 longest_again (FinalEnd link marks) has = refl
 longest_again (BranchTo GoTo distance backwards label) has = branch_again GoTo (Direct label) has.valid.1

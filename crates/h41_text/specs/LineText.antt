@@ -1,32 +1,40 @@
 -- The text of a line.
-use Rattle.std.specs.Prelude.{ℕ, ◌-◌, ◌==◌, nat_lt, List, [], ◌∷◌, ◌++◌, map, slice_index_or, if◌then◌else◌, codes}
+use Rattle.std.specs.Prelude.{ℕ, ◌-◌, ◌==◌, nat_lt, List, [], ◌∷◌, ◌++◌, map, slice_index_or}
+use Rattle.std.specs.Prelude.{if◌then◌else◌, codes}
 use Rattle.std.specs.List.{flat_map}
 use Rattle.h41_codes.specs.declared.line.Operand.{Operand}
 use Rattle.h41_codes.specs.declared.line.Operand.TheVariants.{Direct, Indirect}
 use Rattle.h41_codes.specs.declared.line.Line.{Line}
-use Rattle.h41_codes.specs.declared.line.Line.TheVariants.{Null, LocalLabel, Number, Named, Register, Plain, WithOperand, Module, BranchIndirect, ShortGoTo, GlobalLabel, End, FinalEnd, BranchTo, Text}
+use Rattle.h41_codes.specs.declared.line.Line.TheVariants.{Null, LocalLabel, Number, Named}
+use Rattle.h41_codes.specs.declared.line.Line.TheVariants.{Register, Plain, WithOperand, Module}
+use Rattle.h41_codes.specs.declared.line.Line.TheVariants.{BranchIndirect, ShortGoTo, GlobalLabel}
+use Rattle.h41_codes.specs.declared.line.Line.TheVariants.{End, FinalEnd, BranchTo, Text}
 use Rattle.h41_codes.specs.declared.characters.Character.{Character}
 use Rattle.h41_codes.specs.declared.characters.Character.TheVariants.{Minus}
 use Rattle.h41_lines.specs.Characters.{two_digits, escaped, character_text}
-use Rattle.h41_text.specs.Names.{function_name, parameter_function_name, register_function_name, name_function_name, branch_name, character_byte}
+use Rattle.h41_text.specs.Names.{function_name, parameter_function_name, register_function_name}
+use Rattle.h41_text.specs.Names.{name_function_name, branch_name, character_byte}
 
--- the names of the parameters from 100 on: two numbers, the labels A to J, the stack and the registers behind it, the labels a to e
+-- the names of the parameters from 100 on: two numbers, the labels A to J, the stack and the
+-- registers behind it, the labels a to e
 abbrev pub high_parameters : List (List ℕ)
 high_parameters =
     codes "100" ∷ codes "101"
-    ∷ codes "A" ∷ codes "B" ∷ codes "C" ∷ codes "D" ∷ codes "E" ∷ codes "F" ∷ codes "G" ∷ codes "H" ∷ codes "I" ∷ codes "J"
-    ∷ codes "T" ∷ codes "Z" ∷ codes "Y" ∷ codes "X" ∷ codes "L"
-    ∷ codes "M" ∷ codes "N" ∷ codes "O" ∷ codes "P" ∷ codes "Q" ∷ codes "append"
-    ∷ codes "a" ∷ codes "b" ∷ codes "c" ∷ codes "d" ∷ codes "e"
-    ∷ []
+    ∷ codes "A" ∷ codes "B" ∷ codes "C" ∷ codes "D" ∷ codes "E" ∷ codes "F" ∷ codes "G" ∷ codes "H"
+    ∷ codes "I" ∷ codes "J" ∷ codes "T" ∷ codes "Z" ∷ codes "Y" ∷ codes "X" ∷ codes "L" ∷ codes "M"
+    ∷ codes "N" ∷ codes "O" ∷ codes "P" ∷ codes "Q" ∷ codes "append" ∷ codes "a" ∷ codes "b"
+    ∷ codes "c" ∷ codes "d" ∷ codes "e" ∷ []
 
 -- the text of a parameter: 00 to 99, else its name
 abbrev pub parameter_text : ℕ → List ℕ
-parameter_text number = if nat_lt number 100 then two_digits number else slice_index_or high_parameters (number - 100) []
+parameter_text number =
+    if nat_lt number 100 then two_digits number
+    else slice_index_or high_parameters (number - 100) []
 
 -- a character within quotes: as the display shows it, but " too is \ and two hexadecimal digits
 abbrev pub character_quoted : ℕ → List ℕ
-character_quoted character = if character == 0x22 then escaped character else character_text character
+character_quoted character =
+    if character == 0x22 then escaped character else character_text character
 
 -- a text in its quotes
 abbrev pub quoted : List ℕ → List ℕ

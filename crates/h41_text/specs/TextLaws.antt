@@ -16,7 +16,8 @@ LineTextRoundTrip = (line : Line) → HasText line → IsTextOf (line_text line)
 
 -- a text is that of one line at most
 abbrev pub OneLineOfText : Type 0
-OneLineOfText = (text : List ℕ) (line other : Line) → IsTextOf text line → IsTextOf text other → line ≡ other
+OneLineOfText =
+    (text : List ℕ) (line other : Line) → IsTextOf text line → IsTextOf text other → line ≡ other
 
 -- of all lines with one text the canonical line has the fewest bytes
 abbrev pub CanonicalIsShortestOfText : Type 0

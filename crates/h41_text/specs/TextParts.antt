@@ -1,32 +1,43 @@
--- The parts that a text is taken apart into. Only private functions promise them; which line a text is that of is said apart.
-use Rattle.std.specs.Prelude.{◌≢◌, ◌<◌, ℕ, zero, suc, ◌+◌, ◌-◌, ◌*◌, Bool, false, ◌&&◌, ◌==◌, nat_lt, nat_le, List, [], ◌∷◌, ◌++◌, map, length, drop, Option, Some, None, if◌then◌else◌, codes}
+-- The parts that a text is taken apart into. Only private functions promise them; which line a text
+-- is that of is said apart.
+use Rattle.std.specs.Prelude.{◌≢◌, ◌<◌, ℕ, zero, suc, ◌+◌, ◌-◌, ◌*◌, Bool, false, ◌&&◌, ◌==◌}
+use Rattle.std.specs.Prelude.{nat_lt, nat_le, List, [], ◌∷◌, ◌++◌, map, length, drop, Option, Some}
+use Rattle.std.specs.Prelude.{None, if◌then◌else◌, codes}
 use Rattle.std.specs.List.{range_with_len}
 use Rattle.std.specs.Option.{option_map, option_and_then}
 use Rattle.std.specs.Str.{bytes_eq}
 use Rattle.h41_codes.specs.declared.characters.Character.{Character}
-use Rattle.h41_codes.specs.declared.characters.Character.TheVariants.{Zero, One, Two, Three, Four, Five, Six, Seven, Eight, Nine, Point, Exponent, Minus}
+use Rattle.h41_codes.specs.declared.characters.Character.TheVariants.{Zero, One, Two, Three, Four}
+use Rattle.h41_codes.specs.declared.characters.Character.TheVariants.{Five, Six, Seven, Eight, Nine}
+use Rattle.h41_codes.specs.declared.characters.Character.TheVariants.{Point, Exponent, Minus}
 use Rattle.h41_codes.specs.declared.functions.Branch.{Branch}
 use Rattle.h41_codes.specs.declared.functions.Branch.TheVariants.{GoTo, Execute}
-use Rattle.h41_codes.specs.declared.functions.NameFunction.TheVariants.{GoToName, ExecuteName, Wordless}
+use Rattle.h41_codes.specs.declared.functions.NameFunction.TheVariants.{GoToName, ExecuteName}
+use Rattle.h41_codes.specs.declared.functions.NameFunction.TheVariants.{Wordless}
 use Rattle.h41_codes.specs.declared.functions.Function.{Function}
 use Rattle.h41_codes.specs.declared.functions.Function.TheVariants.{Subtract}
 use Rattle.h41_codes.specs.declared.functions.ParameterFunction.TheVariants.{Label}
 use Rattle.h41_codes.specs.declared.line.Operand.{Operand}
 use Rattle.h41_codes.specs.declared.line.Operand.TheVariants.{Direct, Indirect}
 use Rattle.h41_codes.specs.declared.line.Line.{Line}
-use Rattle.h41_codes.specs.declared.line.Line.TheVariants.{Number, Named, Plain, WithOperand, Module, BranchIndirect, GlobalLabel, End, FinalEnd, BranchTo, Text}
+use Rattle.h41_codes.specs.declared.line.Line.TheVariants.{Number, Named, Plain, WithOperand}
+use Rattle.h41_codes.specs.declared.line.Line.TheVariants.{Module, BranchIndirect, GlobalLabel, End}
+use Rattle.h41_codes.specs.declared.line.Line.TheVariants.{FinalEnd, BranchTo, Text}
 use Rattle.h41_codes.specs.Functions.{functions, parameter_functions}
-use Rattle.h41_codes.specs.Counts.{parameter_count, module_count, entry_count, text_most, name_most, number_most}
+use Rattle.h41_codes.specs.Counts.{parameter_count, module_count, entry_count, text_most, name_most}
+use Rattle.h41_codes.specs.Counts.{number_most}
 use Rattle.h41_lines.specs.Numbers.{hexadecimal}
 use Rattle.h41_text.specs.declared.words.Word.{Word}
 use Rattle.h41_text.specs.declared.words.Word.TheVariants as word
-use Rattle.h41_text.specs.Names.{function_name, parameter_function_name, branch_name, character_byte}
+use Rattle.h41_text.specs.Names.{function_name, parameter_function_name, branch_name}
+use Rattle.h41_text.specs.Names.{character_byte}
 use Rattle.h41_text.specs.LineText.{parameter_text}
 
 -- the item of a list that has this text
 abbrev pub with_text : {A : Type 0} → (A → List ℕ) → List A → List ℕ → Option A
 with_text text_of [] text = None
-with_text text_of (item ∷ items) text = if bytes_eq (text_of item) text then Some item else with_text text_of items text
+with_text text_of (item ∷ items) text =
+    if bytes_eq (text_of item) text then Some item else with_text text_of items text
 
 -- the function without a parameter of a name
 abbrev pub function_of : List ℕ → Option Function
@@ -41,7 +52,9 @@ word_text word.Module = codes "XROM"
 
 -- all words, and the one of a name
 abbrev pub words : List Word
-words = word.Branch GoTo ∷ word.Branch Execute ∷ word.Wordless ∷ word.Module ∷ map word.Function parameter_functions
+words =
+    word.Branch GoTo ∷ word.Branch Execute ∷ word.Wordless ∷ word.Module
+    ∷ map word.Function parameter_functions
 
 abbrev pub word_of : List ℕ → Option Word
 word_of name = with_text word_text words name
@@ -56,7 +69,8 @@ IsNoParameter text = (number : ℕ) → number < parameter_count → parameter_t
 
 -- what stands behind IND and a blank
 abbrev pub behind_ind : List ℕ → Option (List ℕ)
-behind_ind (i ∷ n ∷ d ∷ blank ∷ rest) = if i == 73 && n == 78 && d == 68 && blank == 32 then Some rest else None
+behind_ind (i ∷ n ∷ d ∷ blank ∷ rest) =
+    if i == 73 && n == 78 && d == 68 && blank == 32 then Some rest else None
 behind_ind text = None
 
 -- the operand of a text, which is indirect where it begins so
@@ -72,30 +86,41 @@ abbrev pub is_digit : ℕ → Bool
 is_digit byte = nat_le 48 byte && nat_le byte 57
 
 abbrev pub two_digits_of : ℕ → ℕ → Option ℕ
-two_digits_of tens ones = if is_digit tens && is_digit ones then Some ((tens - 48) * 10 + (ones - 48)) else None
+two_digits_of tens ones =
+    if is_digit tens && is_digit ones then Some ((tens - 48) * 10 + (ones - 48)) else None
 
 -- the XROM of two numbers: two digits each, and a comma between them
 abbrev pub module_line : ℕ → ℕ → Option Line
-module_line number entry = if nat_lt number module_count && nat_lt entry entry_count then Some (Module number entry) else None
+module_line number entry =
+    if nat_lt number module_count && nat_lt entry entry_count then Some (Module number entry)
+    else None
 
 abbrev pub module_of : List ℕ → Option Line
 module_of (a ∷ b ∷ comma ∷ c ∷ d ∷ []) =
-    if comma == 0x2C then option_and_then (λ number. option_and_then (λ entry. module_line number entry) (two_digits_of c d)) (two_digits_of a b) else None
+    if comma == 0x2C
+    then option_and_then
+    (λ number. option_and_then (λ entry. module_line number entry) (two_digits_of c d))
+    (two_digits_of a b)
+    else None
 module_of text = None
 
--- the first character within quotes, and what stands behind it; none where the quotes end. Behind \ it is two hexadecimal digits
+-- the first character within quotes, and what stands behind it; none where the quotes end. Behind \
+-- it is two hexadecimal digits
 abbrev pub behind_backslash : List ℕ → Option (ℕ × List ℕ)
-behind_backslash (high ∷ low ∷ rest) = option_map (λ character. (character, rest)) (hexadecimal 2 2 (high ∷ low ∷ []))
+behind_backslash (high ∷ low ∷ rest) =
+    option_map (λ character. (character, rest)) (hexadecimal 2 2 (high ∷ low ∷ []))
 behind_backslash text = None
 
 abbrev pub first_character : List ℕ → Option (ℕ × List ℕ)
 first_character [] = None
-first_character (byte ∷ rest) = if byte == 0x22 then None else if byte == 0x5C then behind_backslash rest else Some (byte, rest)
+first_character (byte ∷ rest) =
+    if byte == 0x22 then None else if byte == 0x5C then behind_backslash rest else Some (byte, rest)
 
 -- the characters within quotes, at most so many
 abbrev pub unquoted : ℕ → List ℕ → List ℕ
 unquoted zero text = []
-unquoted (suc most) text = elim (first_character text) [ None ↦ [] | Some parts ↦ parts.0 ∷ unquoted most parts.1 ]
+unquoted (suc most) text =
+    elim (first_character text) [ None ↦ [] | Some parts ↦ parts.0 ∷ unquoted most parts.1 ]
 
 -- characters, where there are at most so many
 abbrev pub at_most : ℕ → List ℕ → Option (List ℕ)
@@ -115,7 +140,8 @@ branch_line branch (Direct label) = BranchTo branch 0 false label
 branch_line branch (Indirect register) = BranchIndirect branch register
 
 abbrev pub operand_line : Word → List ℕ → Option Line
-operand_line (word.Function function) operand = option_map (WithOperand function) (operand_of operand)
+operand_line (word.Function function) operand =
+    option_map (WithOperand function) (operand_of operand)
 operand_line (word.Branch branch) operand = option_map (branch_line branch) (operand_of operand)
 operand_line word.Wordless operand = None
 operand_line word.Module operand = module_of operand
@@ -126,12 +152,15 @@ begins_with byte [] = false
 begins_with byte (first ∷ rest) = first == byte
 
 abbrev pub word_line : Word → List ℕ → Option Line
-word_line word behind = if begins_with 0x22 behind then named_line word (unquoted text_most (drop 1 behind)) else operand_line word behind
+word_line word behind =
+    if begins_with 0x22 behind then named_line word (unquoted text_most (drop 1 behind))
+    else operand_line word behind
 
 -- the characters of a number, and the one of a byte
 abbrev pub characters : List Character
 characters =
-    Zero ∷ One ∷ Two ∷ Three ∷ Four ∷ Five ∷ Six ∷ Seven ∷ Eight ∷ Nine ∷ Point ∷ Exponent ∷ Minus ∷ []
+    Zero ∷ One ∷ Two ∷ Three ∷ Four ∷ Five ∷ Six ∷ Seven ∷ Eight ∷ Nine ∷ Point ∷ Exponent ∷ Minus
+    ∷ []
 
 abbrev pub character_of : ℕ → Option Character
 character_of byte = with_text (λ character. character_byte character ∷ []) characters (byte ∷ [])
@@ -139,10 +168,15 @@ character_of byte = with_text (λ character. character_byte character ∷ []) ch
 -- the number of a text, 1 to 16 characters
 abbrev pub characters_of : List ℕ → Option (List Character)
 characters_of [] = Some []
-characters_of (byte ∷ text) = option_and_then (λ character. option_map (λ more. character ∷ more) (characters_of text)) (character_of byte)
+characters_of (byte ∷ text) =
+    option_and_then (λ character. option_map (λ more. character ∷ more) (characters_of text))
+    (character_of byte)
 
 abbrev pub number_of : List ℕ → Option Line
-number_of text = if nat_lt 0 (length text) && nat_le (length text) number_most then option_map Number (characters_of text) else None
+number_of text =
+    if nat_lt 0 (length text) && nat_le (length text) number_most
+    then option_map Number (characters_of text)
+    else None
 
 -- the first of two lines that there is
 abbrev pub or_else : Option Line → Option Line → Option Line
@@ -151,7 +185,9 @@ or_else None other = other
 
 -- the line of a name without an operand
 abbrev pub end_line : List ℕ → Option Line
-end_line name = if bytes_eq name (codes "END") then Some (End 0 0) else if bytes_eq name (codes ".END.") then Some (FinalEnd 0 0) else None
+end_line name =
+    if bytes_eq name (codes "END") then Some (End 0 0)
+    else if bytes_eq name (codes ".END.") then Some (FinalEnd 0 0) else None
 
 abbrev pub lone_line : List ℕ → Option Line
 lone_line name = or_else (end_line name) (option_map Plain (function_of name))
@@ -159,7 +195,9 @@ lone_line name = or_else (end_line name) (option_map Plain (function_of name))
 -- a text before its first blank, and behind it
 abbrev pub cut : List ℕ → Option (List ℕ × List ℕ)
 cut [] = None
-cut (byte ∷ text) = if byte == 0x20 then Some ([], text) else option_map (λ parts. (byte ∷ parts.0, parts.1)) (cut text)
+cut (byte ∷ text) =
+    if byte == 0x20 then Some ([], text)
+    else option_map (λ parts. (byte ∷ parts.0, parts.1)) (cut text)
 
 -- the line of a text that begins with a word, or is a name
 abbrev pub cut_line : List ℕ → Option (List ℕ × List ℕ) → Option Line
@@ -177,7 +215,8 @@ alpha_line front text = option_map Text (at_most text_most (followed front text)
 -- the line of a text that begins with no quote; a lone minus is the function
 abbrev pub minus_line : List ℕ → Option Line
 minus_line text =
-    if bytes_eq text (codes "-") then Some (Plain Subtract) else if bytes_eq text (codes "NEG") then Some (Number (Minus ∷ [])) else None
+    if bytes_eq text (codes "-") then Some (Plain Subtract)
+    else if bytes_eq text (codes "NEG") then Some (Number (Minus ∷ [])) else None
 
 abbrev pub unquoted_line : List ℕ → Option Line
 unquoted_line text = or_else (minus_line text) (or_else (number_of text) (cut_line text (cut text)))
@@ -186,5 +225,6 @@ unquoted_line text = or_else (minus_line text) (or_else (number_of text) (cut_li
 abbrev pub candidate_line : List ℕ → Option Line
 candidate_line text =
     if begins_with 0x22 text then alpha_line [] (drop 1 text)
-    else if begins_with 0x3E text && begins_with 0x22 (drop 1 text) then alpha_line (0x7F ∷ []) (drop 2 text)
+    else if begins_with 0x3E text && begins_with 0x22 (drop 1 text)
+    then alpha_line (0x7F ∷ []) (drop 2 text)
     else unquoted_line text

@@ -2,7 +2,8 @@
 
 ghost use Rattle.std.specs.Prelude.{◌≡◌, ◌≤◌, length};
 ghost use Rattle.h41_text.specs.LineText.{line_text};
-ghost use Rattle.h41_text.specs.TextLaws.{SameText, LineTextRoundTrip, OneLineOfText, CanonicalIsShortestOfText};
+ghost use Rattle.h41_text.specs.TextLaws.{SameText, LineTextRoundTrip, OneLineOfText};
+ghost use Rattle.h41_text.specs.TextLaws.{CanonicalIsShortestOfText};
 
 use crate::write_line;
 use h41_codes::Line;

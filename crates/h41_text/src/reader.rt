@@ -1,5 +1,6 @@
 //! From a text to its line.
-ghost use Rattle.std.specs.Prelude.{◌≡◌, ◌≢◌, ◌+◌, ◌-◌, ◌<◌, ◌≤◌, ◌↔◌, ◌++◌, ℕ, length, IsErr, IsTrue, [], ◌∷◌, IfSome, IfNone, Ok, Some, None};
+ghost use Rattle.std.specs.Prelude.{◌≡◌, ◌≢◌, ◌+◌, ◌-◌, ◌<◌, ◌≤◌, ◌↔◌, ◌++◌, ℕ, length, IsErr};
+ghost use Rattle.std.specs.Prelude.{IsTrue, [], ◌∷◌, IfSome, IfNone, Ok, Some, None};
 ghost use Rattle.arrayvec.specs.ArrayVec.{array_vec_len};
 ghost use Rattle.h41_codes.specs.declared.line.Line.{Line as AnyLine};
 ghost use Rattle.h41_codes.specs.declared.line.Operand.{Operand as AnyOperand};

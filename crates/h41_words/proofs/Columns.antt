@@ -34,7 +34,8 @@ unassigned_in lines column listed word all line at none =
     let one : is_one_of (listed ++ unassigned_words) word ≡ true =
     ap (is_one_of (listed ++ unassigned_words)) (sym same)
     ∙ at_member (λ l. is_one_of (listed ++ unassigned_words) (word_at l column)) lines (word / 64) all line in
-    elim (or_cases (is_one_of listed word) (is_one_of unassigned_words word) (sym (list_any-append (λ other. other == word) listed unassigned_words) ∙ one)) [
+    elim (or_cases (is_one_of listed word) (is_one_of unassigned_words word)
+    (sym (list_any-append (λ other. other == word) listed unassigned_words) ∙ one)) [
       | inl is_listed ↦ absurd (both_ways _ none is_listed)
       | inr is_unassigned ↦ found word unassigned_words is_unassigned
     ]
@@ -49,4 +50,5 @@ unassigned_unless column listed word all inside at none =
 pub unassigned_unmapped : (column : ℕ) (listed : List ℕ) (word : ℕ) → covers (7 ∷ 15 ∷ []) column listed ≡ true
     → (word / 64 ≡ 7) ⊎ (word / 64 ≡ 15) → word % 64 ≡ column → is_one_of listed word ≡ false → Contains unassigned_words word
 unassigned_unmapped column listed word all line at none =
-    unassigned_in (7 ∷ 15 ∷ []) column listed word all (elim line [ inl e ↦ (0, (omega arith), sym e) | inr e ↦ (1, (omega arith), sym e) ]) at none
+    unassigned_in (7 ∷ 15 ∷ []) column listed word all (elim line [ inl e ↦ (0, (omega arith), sym e) | inr e ↦ (1, (omega arith), sym e) ])
+    at none

@@ -3,13 +3,16 @@ use Rattle.std.specs.Prelude.{◌≡◌, ℕ, ◌+◌, ◌*◌, ◌%◌, ◌||�
 use Rattle.std.proofs.Common.{sym, ◌∙◌, ap, arith}
 use Rattle.std.proofs.lemmas.Bool.{ne_eqb, eq-eqb, or_from, or_left, cond-true, cond-false, eqb-true}
 use Rattle.h41_words.specs.declared.rows.Row.{Row}
-use Rattle.h41_words.specs.declared.rows.Row.TheVariants.{Arithmetic, LongJump, ShortJump, ClearStatus, SetStatus, TestStatus, TestPointer, SetPointer, RotateRight, LoadDigit, Write, Read, Constant, Transfer, EnableBank, SelectPointer, ReturnIf}
+use Rattle.h41_words.specs.declared.rows.Row.TheVariants.{Arithmetic, LongJump, ShortJump, ClearStatus, SetStatus, TestStatus, TestPointer}
+use Rattle.h41_words.specs.declared.rows.Row.TheVariants.{SetPointer, RotateRight, LoadDigit, Write, Read, Constant, Transfer, EnableBank}
+use Rattle.h41_words.specs.declared.rows.Row.TheVariants.{SelectPointer, ReturnIf}
 use Rattle.h41_words.specs.declared.rows.RegisterTransfer.{RegisterTransfer}
 use Rattle.h41_words.specs.declared.rows.RegisterTransfer.TheVariants.{CToG}
 use Rattle.h41_words.specs.declared.rows.Bank.TheVariants.{First, Second, Third, Fourth}
 use Rattle.h41_words.specs.declared.rows.Condition.TheVariants.{NoCarry, Carry}
 use Rattle.h41_fields.specs.declared.field.Pointer.TheVariants.{P, Q}
-use Rattle.h41_words.specs.WordTable.{number_of, mapped_line, operation_number, field_number, displacement_bits, condition_bit, word_at, IsRow, length_of, words_of}
+use Rattle.h41_words.specs.WordTable.{number_of, mapped_line, operation_number, field_number, displacement_bits, condition_bit, word_at}
+use Rattle.h41_words.specs.WordTable.{IsRow, length_of, words_of}
 use Rattle.h41_words.specs.Unassigned.{unassigned_words}
 use Rattle.h41_words.proofs.Members.{at_member}
 
@@ -21,7 +24,8 @@ one_word word rest same not_jump not_immediate =
 
 two_words : (word : ℕ) → word % 4 ≡ 1 → 2 ≡ length_of word
 unfolding length_of
-two_words word jump = sym (cond-true (word % 4 == 1 || word == 0x130) 2 1 (or_left (word % 4 == 1) (word == 0x130) (eq-eqb (word % 4) 1 jump)))
+two_words word jump =
+    sym (cond-true (word % 4 == 1 || word == 0x130) 2 1 (or_left (word % 4 == 1) (word == 0x130) (eq-eqb (word % 4) 1 jump)))
 
 -- a word of a column is no jump, and LDI is in column 30
 in_column : (row column : ℕ) → column % 4 ≡ 0 → column % 64 ≡ column → (column ≡ 0x30 → ⊥) → 1 ≡ length_of (word_at row column)
@@ -38,10 +42,12 @@ transfer which = refl
 
 words_of_number : (row : Row) → IsRow row → words_of row ≡ length_of (number_of row)
 unfolding number_of length_of
-words_of_number (Arithmetic operation field) valid = one_word (operation_number operation * 32 + field_number field * 4 + 2) 2 (omega arith) (λ e. omega (arith, e)) (λ e. omega (arith, e))
+words_of_number (Arithmetic operation field) valid =
+    one_word (operation_number operation * 32 + field_number field * 4 + 2) 2 (omega arith) (λ e. omega (arith, e)) (λ e. omega (arith, e))
 words_of_number (LongJump low_byte) valid = two_words (low_byte * 4 + 1) (omega arith)
 words_of_number (ShortJump condition displacement) valid =
-    one_word (displacement_bits displacement * 8 + condition_bit condition * 4 + 3) 3 (omega arith) (λ e. omega (arith, e)) (λ e. omega (arith, e))
+    one_word (displacement_bits displacement * 8 + condition_bit condition * 4 + 3)
+    3 (omega arith) (λ e. omega (arith, e)) (λ e. omega (arith, e))
 words_of_number (ClearStatus bit) valid = in_column (mapped_line bit) 0x04 refl refl (λ e. omega (arith, e))
 words_of_number (SetStatus bit) valid = in_column (mapped_line bit) 0x08 refl refl (λ e. omega (arith, e))
 words_of_number (TestStatus bit) valid = in_column (mapped_line bit) 0x0C refl refl (λ e. omega (arith, e))

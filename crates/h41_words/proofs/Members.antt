@@ -22,11 +22,15 @@ pub in_map : {A B : Type 0} (f : A → B) (x : A) (xs : List A) → Contains xs 
 in_map f x xs at = (at.0, omega (arith, length-map xs f, at.1), get_or-map f xs at.0 x (f x) at.1 ∙ ap f at.2)
 
 pub in_range : (first count number : ℕ) → first ≤ number → number < first + count → Contains (range_with_len first count) number
-in_range first count number low high =
-    (number - first, omega (arith, length-range_with_len first count), get_or-range_with_len first count (number - first) number (omega arith) ∙ omega arith)
+in_range first count number low high = (
+  number - first,
+  omega (arith, length-range_with_len first count),
+  get_or-range_with_len first count (number - first) number (omega arith) ∙ omega arith,
+)
 
 -- what passes for all of a list passes for each that it contains
-pub at_member : (test : ℕ → Bool) (numbers : List ℕ) (number : ℕ) → list_all test numbers ≡ true → Contains numbers number → test number ≡ true
+pub at_member : (test : ℕ → Bool) (numbers : List ℕ) (number : ℕ) → list_all test numbers ≡ true → Contains numbers number
+    → test number ≡ true
 at_member test numbers number passes at =
     ap test (sym at.2) ∙ All-get_or (λ n. test n ≡ true) numbers at.0 number at.1 (AllPass-from_list_all test numbers passes)
 

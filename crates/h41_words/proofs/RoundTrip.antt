@@ -1,5 +1,6 @@
 -- The word table round trip: a word's row has that word's number, and the row of a row's number is that row.
-use Rattle.std.specs.Prelude.{◌≡◌, ℕ, zero, suc, ◌+◌, ◌<◌, ◌≤◌, ℤ, pos, negsuc, ◌≤ℤ◌, Bool, true, false, not, ◌&&◌, List, [], ◌∷◌, map, length, Contains, ◌==◌, refl}
+use Rattle.std.specs.Prelude.{◌≡◌, ℕ, zero, suc, ◌+◌, ◌<◌, ◌≤◌, ℤ, pos, negsuc, ◌≤ℤ◌, Bool, true, false, not, ◌&&◌, List, [], ◌∷◌, map}
+use Rattle.std.specs.Prelude.{length, Contains, ◌==◌, refl}
 use Rattle.std.specs.List.{flat_map, range_with_len, list_any, list_all}
 use Rattle.std.proofs.Math.Dec.{leb→le}
 use Rattle.std.proofs.Common.{sym, ◌∙◌, ap, arith, get_or}
@@ -11,14 +12,17 @@ use Rattle.h41_fields.specs.declared.field.Pointer.TheVariants.{P, Q}
 use Rattle.h41_words.specs.declared.operation.Operation.{Operation}
 use Rattle.h41_words.specs.declared.operation.Operation.TheVariants.{ClearA}
 use Rattle.h41_words.specs.declared.rows.Row.{Row}
-use Rattle.h41_words.specs.declared.rows.Row.TheVariants.{Arithmetic, LongJump, ShortJump, ClearStatus, SetStatus, TestStatus, TestPointer, SetPointer, RotateRight, LoadDigit, Write, Read, Constant, EnableBank, ReturnIf, SelectPointer, Transfer}
+use Rattle.h41_words.specs.declared.rows.Row.TheVariants.{Arithmetic, LongJump, ShortJump, ClearStatus, SetStatus, TestStatus, TestPointer}
+use Rattle.h41_words.specs.declared.rows.Row.TheVariants.{SetPointer, RotateRight, LoadDigit, Write, Read, Constant, EnableBank, ReturnIf}
+use Rattle.h41_words.specs.declared.rows.Row.TheVariants.{SelectPointer, Transfer}
 use Rattle.h41_words.specs.declared.rows.RegisterTransfer.{RegisterTransfer}
 use Rattle.h41_words.specs.declared.rows.RegisterTransfer.TheVariants.{CToG}
 use Rattle.h41_words.specs.declared.rows.Bank.TheVariants.{First, Second, Third, Fourth}
 use Rattle.h41_words.specs.declared.rows.Condition.{Condition}
 use Rattle.h41_words.specs.declared.rows.Condition.TheVariants.{NoCarry, Carry}
 use Rattle.h41_words.specs.Listing.{fields, operations, displacements, families, listed_rows}
-use Rattle.h41_words.specs.WordTable.{field_number, operation_number, number_of, numbered, row_in, row_of, word_table, IsRow, WordOfRow, OneWordOfRow}
+use Rattle.h41_words.specs.WordTable.{field_number, operation_number, number_of, numbered, row_in, row_of, word_table, IsRow, WordOfRow}
+use Rattle.h41_words.specs.WordTable.{OneWordOfRow}
 use Rattle.h41_words.specs.Unassigned.{unassigned_words}
 use Rattle.h41_words.proofs.Members.{in_flat_map, in_map, in_range, at_member}
 
@@ -56,7 +60,8 @@ row_in_at k row [] inside same distinct = absurd (omega arith)
 row_in_at zero row (first ∷ rest) inside same distinct =
     cond-true (number_of first == number_of row) first _ (eq-eqb _ _ (ap number_of same)) ∙ same
 row_in_at (suc k) row (first ∷ rest) inside same distinct =
-    let parts = and_parts (not (list_any (λ other. number_of first == other) (map number_of rest))) (are_distinct (map number_of rest)) distinct in
+    let parts =
+    and_parts (not (list_any (λ other. number_of first == other) (map number_of rest))) (are_distinct (map number_of rest)) distinct in
     cond-false (number_of first == number_of row) first _ (absent (number_of first) k row rest (omega arith) same (not-true _ parts.0))
     ∙ row_in_at k row rest (omega arith) same parts.1
 
@@ -76,7 +81,8 @@ none_unassigned = refl
 constant : (number : ℕ) → Contains unassigned_words number → row_of (number_of (Constant number)) ≡ Constant number
 unfolding row_of word_table number_of
 constant number member =
-    row_in_none number listed_rows (not-true _ (at_member (λ word. not (list_any (λ other. other == word) (map number_of listed_rows))) unassigned_words number none_unassigned member))
+    row_in_none number listed_rows (not-true _ (at_member
+    (λ word. not (list_any (λ other. other == word) (map number_of listed_rows))) unassigned_words number none_unassigned member))
 
 -- each row of the listing is the row of its word
 listed : (row : Row) → Contains listed_rows row → row_of (number_of row) ≡ row
@@ -84,7 +90,8 @@ unfolding row_of word_table
 listed row at = row_in_at at.0 row listed_rows at.1 at.2 listed_distinct
 
 -- a row of the k-th family is the row of its word
-in_family : (k : ℕ) (row : Row) (family : List Row) → k < length families → get_or families k family ≡ family → Contains family row → row_of (number_of row) ≡ row
+in_family : (k : ℕ) (row : Row) (family : List Row) → k < length families → get_or families k family ≡ family → Contains family row
+    → row_of (number_of row) ≡ row
 unfolding listed_rows
 in_family k row family inside same member = listed row (in_flat_map (λ rows. rows) k family row families inside same member)
 
@@ -93,7 +100,8 @@ in_numbers : (k first count number : ℕ) (row : ℕ → Row) → k < length fam
     → get_or families k (map row (range_with_len first count)) ≡ map row (range_with_len first count)
     → first ≤ number → number < first + count → row_of (number_of (row number)) ≡ row number
 in_numbers k first count number row inside same low high =
-    in_family k (row number) (map row (range_with_len first count)) inside same (in_map row number (range_with_len first count) (in_range first count number low high))
+    in_family k (row number) (map row (range_with_len first count)) inside same
+    (in_map row number (range_with_len first count) (in_range first count number low high))
 
 -- an operation and a field are those of their numbers
 in_operations : (operation : Operation) → Contains operations operation

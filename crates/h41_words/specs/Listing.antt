@@ -2,13 +2,34 @@
 use Rattle.std.specs.Prelude.{◌-◌, ℤ, pos, negsuc, List, [], ◌∷◌, ◌++◌, map}
 use Rattle.std.specs.List.{flat_map, range_with_len}
 use Rattle.h41_fields.specs.declared.field.Field.{Field}
-use Rattle.h41_fields.specs.declared.field.Field.TheVariants.{AtPointer, SignAndExponent, ToPointer, All, PToQ, ExponentSign, Mantissa, MantissaSign}
+use Rattle.h41_fields.specs.declared.field.Field.TheVariants.{AtPointer, SignAndExponent, ToPointer}
+use Rattle.h41_fields.specs.declared.field.Field.TheVariants.{All, PToQ, ExponentSign, Mantissa}
+use Rattle.h41_fields.specs.declared.field.Field.TheVariants.{MantissaSign}
 use Rattle.h41_fields.specs.declared.field.Pointer.TheVariants.{P, Q}
 use Rattle.h41_words.specs.declared.operation.Operation.{Operation}
-use Rattle.h41_words.specs.declared.operation.Operation.TheVariants.{ClearA, ClearB, ClearC, ExchangeAB, AToB, ExchangeAC, BToC, ExchangeBC, CToA, AddBToA, AddCToA, IncrementA, SubtractBFromA, DecrementA, SubtractCFromA, DoubleC, AddAToC, IncrementC, SubtractCFromAToC, DecrementC, NegateC, ComplementC, TestBNonzero, TestCNonzero, TestALessThanC, TestALessThanB, TestANonzero, TestADiffersFromC, ShiftRightA, ShiftRightB, ShiftRightC, ShiftLeftA}
+use Rattle.h41_words.specs.declared.operation.Operation.TheVariants.{ClearA, ClearB, ClearC}
+use Rattle.h41_words.specs.declared.operation.Operation.TheVariants.{ExchangeAB, AToB, ExchangeAC}
+use Rattle.h41_words.specs.declared.operation.Operation.TheVariants.{BToC, ExchangeBC, CToA}
+use Rattle.h41_words.specs.declared.operation.Operation.TheVariants.{AddBToA, AddCToA, IncrementA}
+use Rattle.h41_words.specs.declared.operation.Operation.TheVariants.{SubtractBFromA, DecrementA}
+use Rattle.h41_words.specs.declared.operation.Operation.TheVariants.{SubtractCFromA, DoubleC}
+use Rattle.h41_words.specs.declared.operation.Operation.TheVariants.{AddAToC, IncrementC}
+use Rattle.h41_words.specs.declared.operation.Operation.TheVariants.{SubtractCFromAToC, DecrementC}
+use Rattle.h41_words.specs.declared.operation.Operation.TheVariants.{NegateC, ComplementC}
+use Rattle.h41_words.specs.declared.operation.Operation.TheVariants.{TestBNonzero, TestCNonzero}
+use Rattle.h41_words.specs.declared.operation.Operation.TheVariants.{TestALessThanC, TestALessThanB}
+use Rattle.h41_words.specs.declared.operation.Operation.TheVariants.{TestANonzero}
+use Rattle.h41_words.specs.declared.operation.Operation.TheVariants.{TestADiffersFromC, ShiftRightA}
+use Rattle.h41_words.specs.declared.operation.Operation.TheVariants.{ShiftRightB, ShiftRightC}
+use Rattle.h41_words.specs.declared.operation.Operation.TheVariants.{ShiftLeftA}
 use Rattle.h41_words.specs.declared.rows.Row.{Row}
 use Rattle.h41_words.specs.declared.rows.Row.TheVariants as rows
-use Rattle.h41_words.specs.declared.rows.RegisterTransfer.TheVariants.{CToG, GToC, ExchangeCG, CToM, MToC, ExchangeCM, StatusToT, TToStatus, ExchangeStatusT, CToStatus, StatusToC, ExchangeCStatus, CToN, NToC, ExchangeCN}
+use Rattle.h41_words.specs.declared.rows.RegisterTransfer.TheVariants.{CToG, GToC, ExchangeCG, CToM}
+use Rattle.h41_words.specs.declared.rows.RegisterTransfer.TheVariants.{MToC, ExchangeCM, StatusToT}
+use Rattle.h41_words.specs.declared.rows.RegisterTransfer.TheVariants.{TToStatus, ExchangeStatusT}
+use Rattle.h41_words.specs.declared.rows.RegisterTransfer.TheVariants.{CToStatus, StatusToC}
+use Rattle.h41_words.specs.declared.rows.RegisterTransfer.TheVariants.{ExchangeCStatus, CToN, NToC}
+use Rattle.h41_words.specs.declared.rows.RegisterTransfer.TheVariants.{ExchangeCN}
 use Rattle.h41_words.specs.declared.rows.Bank.TheVariants.{First, Second, Third, Fourth}
 use Rattle.h41_words.specs.declared.rows.Condition.TheVariants.{NoCarry, Carry}
 use Rattle.h41_words.specs.Counts.{status_bit_count, place_count, digit_count, block_register_count}
@@ -16,16 +37,17 @@ use Rattle.h41_words.specs.Counts.{status_bit_count, place_count, digit_count, b
 -- the fields in their order
 abbrev pub fields : List Field
 fields =
-    AtPointer ∷ SignAndExponent ∷ ToPointer ∷ All ∷ PToQ ∷ ExponentSign ∷ Mantissa ∷ MantissaSign ∷ []
+    AtPointer ∷ SignAndExponent ∷ ToPointer ∷ All ∷ PToQ ∷ ExponentSign ∷ Mantissa ∷ MantissaSign
+    ∷ []
 
 -- the operations in their order
 abbrev pub operations : List Operation
 operations =
-    ClearA ∷ ClearB ∷ ClearC ∷ ExchangeAB ∷ AToB ∷ ExchangeAC ∷ BToC ∷ ExchangeBC ∷ CToA ∷ AddBToA ∷ AddCToA
-    ∷ IncrementA ∷ SubtractBFromA ∷ DecrementA ∷ SubtractCFromA ∷ DoubleC ∷ AddAToC ∷ IncrementC
-    ∷ SubtractCFromAToC ∷ DecrementC ∷ NegateC ∷ ComplementC ∷ TestBNonzero ∷ TestCNonzero ∷ TestALessThanC
-    ∷ TestALessThanB ∷ TestANonzero ∷ TestADiffersFromC ∷ ShiftRightA ∷ ShiftRightB ∷ ShiftRightC ∷ ShiftLeftA
-    ∷ []
+    ClearA ∷ ClearB ∷ ClearC ∷ ExchangeAB ∷ AToB ∷ ExchangeAC ∷ BToC ∷ ExchangeBC ∷ CToA ∷ AddBToA
+    ∷ AddCToA ∷ IncrementA ∷ SubtractBFromA ∷ DecrementA ∷ SubtractCFromA ∷ DoubleC ∷ AddAToC
+    ∷ IncrementC ∷ SubtractCFromAToC ∷ DecrementC ∷ NegateC ∷ ComplementC ∷ TestBNonzero
+    ∷ TestCNonzero ∷ TestALessThanC ∷ TestALessThanB ∷ TestANonzero ∷ TestADiffersFromC
+    ∷ ShiftRightA ∷ ShiftRightB ∷ ShiftRightC ∷ ShiftLeftA ∷ []
 
 -- the single words
 abbrev pub single_rows : List Row
@@ -46,7 +68,9 @@ single_rows =
 
 -- the displacements of short jumps
 abbrev pub displacements : List ℤ
-displacements = map (λ words. pos words) (range_with_len 0 64) ++ map (λ words. negsuc words) (range_with_len 0 64)
+displacements =
+    map (λ words. pos words) (range_with_len 0 64)
+    ++ map (λ words. negsuc words) (range_with_len 0 64)
 
 -- the families, in the order of the listing, and the single words
 abbrev pub families : List (List Row)

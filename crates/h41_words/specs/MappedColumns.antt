@@ -4,4 +4,9 @@ use Rattle.std.specs.Prelude.{◌≡◌, ◌⊎◌, ℕ}
 -- which columns are mapped
 abbrev pub IsMappedColumn : ℕ → Type 0
 IsMappedColumn column =
-    (column ≡ 0x04) ⊎ (column ≡ 0x08) ⊎ (column ≡ 0x0C) ⊎ (column ≡ 0x14) ⊎ (column ≡ 0x1C) ⊎ (column ≡ 0x3C)
+    (column ≡ 0x04)
+    ⊎ (column ≡ 0x08)
+    ⊎ (column ≡ 0x0C)
+    ⊎ (column ≡ 0x14)
+    ⊎ (column ≡ 0x1C)
+    ⊎ (column ≡ 0x3C)

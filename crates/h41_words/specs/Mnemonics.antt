@@ -1,18 +1,41 @@
--- The text of each instruction in this project's table of mnemonics: its name, and an operand behind a blank where it takes one.
--- Addresses, displacements and the numbers of LDI and CON are hexadecimal and in upper case, the other operands decimal.
-use Rattle.std.specs.Prelude.{ℕ, ◌+◌, ◌*◌, ℤ, pos, negsuc, List, [], ◌++◌, Option, Some, None, codes}
+-- The text of each instruction in this project's table of mnemonics: its name, and an operand
+-- behind a blank where it takes one. Addresses, displacements and the numbers of LDI and CON are
+-- hexadecimal and in upper case, the other operands decimal.
+use Rattle.std.specs.Prelude.{ℕ, ◌+◌, ◌*◌, ℤ, pos, negsuc, List, [], ◌++◌, Option, Some, None}
+use Rattle.std.specs.Prelude.{codes}
 use Rattle.std.specs.Fmt.{decimal}
 use Rattle.h41_digits.specs.Register.{hexadecimal_text}
 use Rattle.h41_fields.specs.declared.field.Field.{Field}
-use Rattle.h41_fields.specs.declared.field.Field.TheVariants.{AtPointer, SignAndExponent, ToPointer, All, PToQ, ExponentSign, Mantissa, MantissaSign}
+use Rattle.h41_fields.specs.declared.field.Field.TheVariants.{AtPointer, SignAndExponent, ToPointer}
+use Rattle.h41_fields.specs.declared.field.Field.TheVariants.{All, PToQ, ExponentSign, Mantissa}
+use Rattle.h41_fields.specs.declared.field.Field.TheVariants.{MantissaSign}
 use Rattle.h41_fields.specs.declared.field.Pointer.{Pointer}
 use Rattle.h41_fields.specs.declared.field.Pointer.TheVariants.{P, Q}
 use Rattle.h41_words.specs.declared.operation.Operation.{Operation}
-use Rattle.h41_words.specs.declared.operation.Operation.TheVariants.{ClearA, ClearB, ClearC, ExchangeAB, AToB, ExchangeAC, BToC, ExchangeBC, CToA, AddBToA, AddCToA, IncrementA, SubtractBFromA, DecrementA, SubtractCFromA, DoubleC, AddAToC, IncrementC, SubtractCFromAToC, DecrementC, NegateC, ComplementC, TestBNonzero, TestCNonzero, TestALessThanC, TestALessThanB, TestANonzero, TestADiffersFromC, ShiftRightA, ShiftRightB, ShiftRightC, ShiftLeftA}
+use Rattle.h41_words.specs.declared.operation.Operation.TheVariants.{ClearA, ClearB, ClearC}
+use Rattle.h41_words.specs.declared.operation.Operation.TheVariants.{ExchangeAB, AToB, ExchangeAC}
+use Rattle.h41_words.specs.declared.operation.Operation.TheVariants.{BToC, ExchangeBC, CToA}
+use Rattle.h41_words.specs.declared.operation.Operation.TheVariants.{AddBToA, AddCToA, IncrementA}
+use Rattle.h41_words.specs.declared.operation.Operation.TheVariants.{SubtractBFromA, DecrementA}
+use Rattle.h41_words.specs.declared.operation.Operation.TheVariants.{SubtractCFromA, DoubleC}
+use Rattle.h41_words.specs.declared.operation.Operation.TheVariants.{AddAToC, IncrementC}
+use Rattle.h41_words.specs.declared.operation.Operation.TheVariants.{SubtractCFromAToC, DecrementC}
+use Rattle.h41_words.specs.declared.operation.Operation.TheVariants.{NegateC, ComplementC}
+use Rattle.h41_words.specs.declared.operation.Operation.TheVariants.{TestBNonzero, TestCNonzero}
+use Rattle.h41_words.specs.declared.operation.Operation.TheVariants.{TestALessThanC, TestALessThanB}
+use Rattle.h41_words.specs.declared.operation.Operation.TheVariants.{TestANonzero}
+use Rattle.h41_words.specs.declared.operation.Operation.TheVariants.{TestADiffersFromC, ShiftRightA}
+use Rattle.h41_words.specs.declared.operation.Operation.TheVariants.{ShiftRightB, ShiftRightC}
+use Rattle.h41_words.specs.declared.operation.Operation.TheVariants.{ShiftLeftA}
 use Rattle.h41_words.specs.declared.rows.Row.{Row}
 use Rattle.h41_words.specs.declared.rows.Row.TheVariants as rows
 use Rattle.h41_words.specs.declared.rows.RegisterTransfer.{RegisterTransfer}
-use Rattle.h41_words.specs.declared.rows.RegisterTransfer.TheVariants.{CToG, GToC, ExchangeCG, CToM, MToC, ExchangeCM, StatusToT, TToStatus, ExchangeStatusT, CToStatus, StatusToC, ExchangeCStatus, CToN, NToC, ExchangeCN}
+use Rattle.h41_words.specs.declared.rows.RegisterTransfer.TheVariants.{CToG, GToC, ExchangeCG, CToM}
+use Rattle.h41_words.specs.declared.rows.RegisterTransfer.TheVariants.{MToC, ExchangeCM, StatusToT}
+use Rattle.h41_words.specs.declared.rows.RegisterTransfer.TheVariants.{TToStatus, ExchangeStatusT}
+use Rattle.h41_words.specs.declared.rows.RegisterTransfer.TheVariants.{CToStatus, StatusToC}
+use Rattle.h41_words.specs.declared.rows.RegisterTransfer.TheVariants.{ExchangeCStatus, CToN, NToC}
+use Rattle.h41_words.specs.declared.rows.RegisterTransfer.TheVariants.{ExchangeCN}
 use Rattle.h41_words.specs.declared.rows.Bank.{Bank}
 use Rattle.h41_words.specs.declared.rows.Bank.TheVariants.{First, Second, Third, Fourth}
 use Rattle.h41_words.specs.declared.rows.Condition.{Condition}
@@ -118,8 +141,8 @@ abbrev pub displacement_text : ℤ → List ℕ
 displacement_text (pos words) = codes "+" ++ hexadecimal_text 2 words
 displacement_text (negsuc words) = codes "-" ++ hexadecimal_text 2 (words + 1)
 
--- the mnemonic of a row of one word: CON where it stands for no instruction, and where it begins one of two words but stands
--- without its second
+-- the mnemonic of a row of one word: CON where it stands for no instruction, and where it begins
+-- one of two words but stands without its second
 abbrev pub mnemonic : Row → List ℕ
 mnemonic (rows.Arithmetic operation field) = operation_text operation
 mnemonic (rows.LongJump low_byte) = codes "CON"
@@ -199,7 +222,8 @@ row_text row = mnemonic row ++ behind (operand row)
 -- a jump by address, of two words
 abbrev pub address_text : ℕ → SecondWord → List ℕ
 address_text low_byte second =
-    long_jump_text second.condition second.kind ++ codes " " ++ hexadecimal_text 4 (second.high_byte * 256 + low_byte)
+    long_jump_text second.condition second.kind ++ codes " "
+    ++ hexadecimal_text 4 (second.high_byte * 256 + low_byte)
 
 -- a row and the word behind it, which only an instruction of two words reads
 abbrev pub instruction_text : Row → ℕ → List ℕ

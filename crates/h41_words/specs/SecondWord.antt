@@ -1,4 +1,5 @@
--- The second word of a jump by address: four times the high byte of the address, and the jump's number.
+-- The second word of a jump by address: four times the high byte of the address, and the jump's
+-- number.
 use Rattle.std.specs.Prelude.{◌≡◌, ℕ, ◌+◌, ◌*◌, ◌/◌, ◌%◌, List, [], ◌∷◌, slice_index_or}
 use Rattle.h41_words.specs.declared.rows.Condition.{Condition}
 use Rattle.h41_words.specs.declared.rows.Condition.TheVariants.{NoCarry, Carry}

@@ -1,20 +1,44 @@
--- The table of the words: which row each of the 1,024 words has, and how many words an instruction takes. Numbers of words
--- are those of the instruction set of HP's Nut processor.
-use Rattle.std.specs.Prelude.{◌≡◌, ℕ, ◌+◌, ◌-◌, ◌*◌, ◌%◌, ◌<◌, ◌≤◌, ℤ, pos, negsuc, ◌≤ℤ◌, Bool, false, ◌||◌, ◌↔◌, List, [], ◌∷◌, map, Contains, Option, Some, None, ◌==◌, if◌then◌else◌}
+-- The table of the words: which row each of the 1,024 words has, and how many words an instruction
+-- takes. Numbers of words are those of the instruction set of HP's Nut processor.
+use Rattle.std.specs.Prelude.{◌≡◌, ℕ, ◌+◌, ◌-◌, ◌*◌, ◌%◌, ◌<◌, ◌≤◌, ℤ, pos, negsuc, ◌≤ℤ◌, Bool}
+use Rattle.std.specs.Prelude.{false, ◌||◌, ◌↔◌, List, [], ◌∷◌, map, Contains, Option, Some, None}
+use Rattle.std.specs.Prelude.{◌==◌, if◌then◌else◌}
 use Rattle.std.specs.List.{position_or_len}
 use Rattle.h41_fields.specs.declared.field.Field.{Field}
-use Rattle.h41_fields.specs.declared.field.Field.TheVariants.{AtPointer, SignAndExponent, ToPointer, All, PToQ, ExponentSign, Mantissa, MantissaSign}
+use Rattle.h41_fields.specs.declared.field.Field.TheVariants.{AtPointer, SignAndExponent, ToPointer}
+use Rattle.h41_fields.specs.declared.field.Field.TheVariants.{All, PToQ, ExponentSign, Mantissa}
+use Rattle.h41_fields.specs.declared.field.Field.TheVariants.{MantissaSign}
 use Rattle.h41_fields.specs.declared.field.Pointer.TheVariants.{P, Q}
 use Rattle.h41_words.specs.declared.operation.Operation.{Operation}
-use Rattle.h41_words.specs.declared.operation.Operation.TheVariants.{ClearA, ClearB, ClearC, ExchangeAB, AToB, ExchangeAC, BToC, ExchangeBC, CToA, AddBToA, AddCToA, IncrementA, SubtractBFromA, DecrementA, SubtractCFromA, DoubleC, AddAToC, IncrementC, SubtractCFromAToC, DecrementC, NegateC, ComplementC, TestBNonzero, TestCNonzero, TestALessThanC, TestALessThanB, TestANonzero, TestADiffersFromC, ShiftRightA, ShiftRightB, ShiftRightC, ShiftLeftA}
+use Rattle.h41_words.specs.declared.operation.Operation.TheVariants.{ClearA, ClearB, ClearC}
+use Rattle.h41_words.specs.declared.operation.Operation.TheVariants.{ExchangeAB, AToB, ExchangeAC}
+use Rattle.h41_words.specs.declared.operation.Operation.TheVariants.{BToC, ExchangeBC, CToA}
+use Rattle.h41_words.specs.declared.operation.Operation.TheVariants.{AddBToA, AddCToA, IncrementA}
+use Rattle.h41_words.specs.declared.operation.Operation.TheVariants.{SubtractBFromA, DecrementA}
+use Rattle.h41_words.specs.declared.operation.Operation.TheVariants.{SubtractCFromA, DoubleC}
+use Rattle.h41_words.specs.declared.operation.Operation.TheVariants.{AddAToC, IncrementC}
+use Rattle.h41_words.specs.declared.operation.Operation.TheVariants.{SubtractCFromAToC, DecrementC}
+use Rattle.h41_words.specs.declared.operation.Operation.TheVariants.{NegateC, ComplementC}
+use Rattle.h41_words.specs.declared.operation.Operation.TheVariants.{TestBNonzero, TestCNonzero}
+use Rattle.h41_words.specs.declared.operation.Operation.TheVariants.{TestALessThanC, TestALessThanB}
+use Rattle.h41_words.specs.declared.operation.Operation.TheVariants.{TestANonzero}
+use Rattle.h41_words.specs.declared.operation.Operation.TheVariants.{TestADiffersFromC, ShiftRightA}
+use Rattle.h41_words.specs.declared.operation.Operation.TheVariants.{ShiftRightB, ShiftRightC}
+use Rattle.h41_words.specs.declared.operation.Operation.TheVariants.{ShiftLeftA}
 use Rattle.h41_words.specs.declared.rows.Row.{Row}
 use Rattle.h41_words.specs.declared.rows.Row.TheVariants as rows
 use Rattle.h41_words.specs.declared.rows.RegisterTransfer.{RegisterTransfer}
-use Rattle.h41_words.specs.declared.rows.RegisterTransfer.TheVariants.{CToG, GToC, ExchangeCG, CToM, MToC, ExchangeCM, StatusToT, TToStatus, ExchangeStatusT, CToStatus, StatusToC, ExchangeCStatus, CToN, NToC, ExchangeCN}
+use Rattle.h41_words.specs.declared.rows.RegisterTransfer.TheVariants.{CToG, GToC, ExchangeCG, CToM}
+use Rattle.h41_words.specs.declared.rows.RegisterTransfer.TheVariants.{MToC, ExchangeCM, StatusToT}
+use Rattle.h41_words.specs.declared.rows.RegisterTransfer.TheVariants.{TToStatus, ExchangeStatusT}
+use Rattle.h41_words.specs.declared.rows.RegisterTransfer.TheVariants.{CToStatus, StatusToC}
+use Rattle.h41_words.specs.declared.rows.RegisterTransfer.TheVariants.{ExchangeCStatus, CToN, NToC}
+use Rattle.h41_words.specs.declared.rows.RegisterTransfer.TheVariants.{ExchangeCN}
 use Rattle.h41_words.specs.declared.rows.Bank.TheVariants.{First, Second, Third, Fourth}
 use Rattle.h41_words.specs.declared.rows.Condition.{Condition}
 use Rattle.h41_words.specs.declared.rows.Condition.TheVariants.{NoCarry, Carry}
-use Rattle.h41_words.specs.Counts.{word_count, status_bit_count, place_count, digit_count, block_register_count, least_displacement, greatest_displacement}
+use Rattle.h41_words.specs.Counts.{word_count, status_bit_count, place_count, digit_count}
+use Rattle.h41_words.specs.Counts.{block_register_count, least_displacement, greatest_displacement}
 use Rattle.h41_words.specs.Listing.{listed_rows}
 use Rattle.h41_words.specs.Unassigned.{unassigned_words}
 
@@ -64,7 +88,8 @@ operation_number ShiftRightB = 0x1D
 operation_number ShiftRightC = 0x1E
 operation_number ShiftLeftA = 0x1F
 
--- The words whose low two bits are 00 stand in 16 lines, bits 9 to 6, and 16 columns, the low six bits.
+-- The words whose low two bits are 00 stand in 16 lines, bits 9 to 6, and 16 columns, the low six
+-- bits.
 abbrev pub word_at : ℕ → ℕ → ℕ
 word_at line column = line * 0x40 + column
 
@@ -114,11 +139,13 @@ transfer_number ExchangeCN = 0x0F0
 -- the number of a row's word
 unfoldable pub number_of : Row → ℕ
 -- OPERATION FIELD: the low two bits are 10
-number_of (rows.Arithmetic operation field) = operation_number operation * 32 + field_number field * 4 + 2
+number_of (rows.Arithmetic operation field) =
+    operation_number operation * 32 + field_number field * 4 + 2
 -- ?NC XQ and the like, the first of two words: the low byte of the address, and 01
 number_of (rows.LongJump low_byte) = low_byte * 4 + 1
 -- JNC and JC: the displacement, the condition and 11
-number_of (rows.ShortJump condition displacement) = displacement_bits displacement * 8 + condition_bit condition * 4 + 3
+number_of (rows.ShortJump condition displacement) =
+    displacement_bits displacement * 8 + condition_bit condition * 4 + 3
 -- CLRF n, SETF n, ?FSET n, ?R= n, R= n and RCR n: the mapped columns
 number_of (rows.ClearStatus bit) = word_at (mapped_line bit) 0x04
 number_of (rows.SetStatus bit) = word_at (mapped_line bit) 0x08
@@ -193,7 +220,8 @@ row_of word = row_in word_table word
 -- whether the operands of a row are in their ranges
 abbrev pub IsRow : Row → Type 0
 IsRow (rows.LongJump low_byte) = low_byte < 256
-IsRow (rows.ShortJump condition displacement) = (least_displacement ≤ℤ displacement) × (displacement ≤ℤ greatest_displacement)
+IsRow (rows.ShortJump condition displacement) =
+    (least_displacement ≤ℤ displacement) × (displacement ≤ℤ greatest_displacement)
 IsRow (rows.ClearStatus bit) = bit < status_bit_count
 IsRow (rows.SetStatus bit) = bit < status_bit_count
 IsRow (rows.TestStatus bit) = bit < status_bit_count
@@ -214,7 +242,8 @@ WordOfRow = (word : ℕ) → word < word_count → number_of (row_of word) ≡ w
 abbrev pub OneWordOfRow : Type 0
 OneWordOfRow = (row : Row) → IsRow row → (word : ℕ) → (row_of word ≡ row) ↔ (word ≡ number_of row)
 
--- how many words an instruction takes: two where its first word is a long jump (its low two bits are 01) or LDI
+-- how many words an instruction takes: two where its first word is a long jump (its low two bits
+-- are 01) or LDI
 unfoldable pub length_of : ℕ → ℕ
 length_of word = if word % 4 == 1 || word == 0x130 then 2 else 1
 

@@ -1,6 +1,8 @@
 //! The operands of words: numbers, each with its range.
 ghost use Rattle.std.specs.Prelude.{◌≡◌, ℕ, ℤ, ◌<◌, ◌≤◌, ◌≤ℤ◌};
-ghost use Rattle.h41_words.specs.Counts.{status_bit_count, place_count, digit_count, block_register_count, least_displacement, greatest_displacement};
+ghost use Rattle.h41_words.specs.Counts.{status_bit_count, place_count, digit_count};
+ghost use Rattle.h41_words.specs.Counts.{block_register_count, least_displacement};
+ghost use Rattle.h41_words.specs.Counts.{greatest_displacement};
 
 use std::marker::Model;
 
@@ -187,7 +189,8 @@ impl Model for Displacement {
 
     ghost view = { λ displacement. displacement.words };
 
-    ghost invariant = { λ displacement. (least_displacement ≤ℤ displacement.words) × (displacement.words ≤ℤ greatest_displacement) };
+    ghost invariant = { λ displacement. (least_displacement ≤ℤ displacement.words)
+        × (displacement.words ≤ℤ greatest_displacement) };
 
     ghost inverse = { λ words. record { words = words } };
 }

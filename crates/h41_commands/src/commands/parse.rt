@@ -1,7 +1,13 @@
 //! The command that a line's words spell.
 
 ghost use Rattle.std.specs.Prelude.{◌≡◌, ◌≤◌, ◌+◌, ◌*◌, length};
-ghost use Rattle.h41_commands.specs.Commands.{break_location, call_command, location_by, placed_command, read_plain, key_command, load_command, reset_command, size_command, unplug_command, is_opening, opening_command, parsed, plain_command, counted_command, plug_at, plug_command, show_command, step_command, view_named, view_of, list_command};
+ghost use Rattle.h41_commands.specs.Commands.{break_location, call_command, location_by};
+ghost use Rattle.h41_commands.specs.Commands.{placed_command, read_plain, key_command};
+ghost use Rattle.h41_commands.specs.Commands.{load_command, reset_command, size_command};
+ghost use Rattle.h41_commands.specs.Commands.{unplug_command, is_opening, opening_command, parsed};
+ghost use Rattle.h41_commands.specs.Commands.{plain_command, counted_command, plug_at};
+ghost use Rattle.h41_commands.specs.Commands.{plug_command, show_command, step_command, view_named};
+ghost use Rattle.h41_commands.specs.Commands.{view_of, list_command};
 ghost use Rattle.h41_lines.specs.Words.{words_of};
 ghost use Rattle.h41_commands.specs.DeckLines.{longest_line, most_keys};
 ghost use Rattle.h41_commands.specs.Numbers as spec;

@@ -28,7 +28,7 @@ impl Cpu {
         requires { first_address ≤ self.old.pc }
         ensures refusal { result_err result ≡ refusal_to_go_on self.old }
         ensures operates { OnOk result (OperatesOn operation field (gone_on self.old) self.new) }
-        ensures stays { OnErr result (self.new ≡ self.old) }
+        ensures unchanged { OnErr result (self.new ≡ self.old) }
     {
         let next = self.following()?;
         let places = span(field, self.p, self.q, self.active);

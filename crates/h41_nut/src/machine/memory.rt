@@ -18,7 +18,7 @@ pub fn write_register<const REGS: usize>(
 ) -> Result<(), WordRefusal>
     ensures processor { GoesOn (spec.selecting_in_block register) cpu.old cpu.new result }
     ensures written { OnOk result (ram.new ≡ spec.with_c_in_block ram.old register cpu.old) }
-    ensures kept { OnErr result (ram.new ≡ ram.old) }
+    ensures unchanged { OnErr result (ram.new ≡ ram.old) }
 {
     let address = cpu.block_address(register.number());
     cpu.select(address)?;
@@ -43,7 +43,7 @@ pub fn write_data<const REGS: usize>(cpu: &mut Cpu, ram: &mut Ram<REGS>) -> Resu
     requires { first_address ≤ cpu.old.pc }
     ensures processor { GoesOn (λ s. s) cpu.old cpu.new result }
     ensures written { OnOk result (ram.new ≡ spec.with_c_at ram.old cpu.old.selected cpu.old) }
-    ensures kept { OnErr result (ram.new ≡ ram.old) }
+    ensures unchanged { OnErr result (ram.new ≡ ram.old) }
 {
     cpu.go_on()?;
     ram.write(cpu.selected(), cpu.c());

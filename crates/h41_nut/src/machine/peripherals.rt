@@ -15,7 +15,7 @@ pub fn clear_key_flag(cpu: &mut Cpu, keys: &mut Keys) -> Result<(), WordRefusal>
     requires { first_address ≤ cpu.old.pc }
     ensures processor { GoesOn (λ s. s) cpu.old cpu.new result }
     ensures flag { OnOk result (keys.new ≡ record keys.old { flag = false }) }
-    ensures kept { OnErr result (keys.new ≡ keys.old) }
+    ensures unchanged { OnErr result (keys.new ≡ keys.old) }
 {
     cpu.go_on()?;
     keys.flag = false;

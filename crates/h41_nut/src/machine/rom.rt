@@ -39,7 +39,7 @@ pub fn write_rom(cpu: &mut Cpu, pages: &mut Pages) -> Result<(), WordRefusal>
     requires { first_address ≤ cpu.old.pc }
     ensures processor { WritesWord pages.old cpu.old cpu.new result }
     ensures written { OnOk result (pages.new ≡ spec.with_word_written pages.old cpu.old) }
-    ensures kept { OnErr result (pages.new ≡ pages.old) }
+    ensures unchanged { OnErr result (pages.new ≡ pages.old) }
 {
     let address = cpu.address_in_c();
     pages.check_writable(address)?;

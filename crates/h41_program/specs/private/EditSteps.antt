@@ -1,5 +1,6 @@
 -- What the functions that change the list promise one another.
-use Rattle.std.specs.Prelude.{◌≡◌, ℕ, is_some, Bool, true, not, MatchBool, IsOkAnd, ◌&&◌, List, [], Option, Result, Err}
+use Rattle.std.specs.Prelude.{◌≡◌, ℕ, is_some, Bool, true, not, MatchBool, IsOkAnd, ◌&&◌, List, []}
+use Rattle.std.specs.Prelude.{Option, Result, Err}
 use Rattle.std.specs.List.{flat_map}
 use Rattle.std.specs.Option.{option_map}
 use Rattle.h41_codes.specs.ByteGrammar.{IsLine}
@@ -13,7 +14,8 @@ use Rattle.h41_program.specs.declared.packer.Packer.{Packer}
 use Rattle.h41_program.specs.declared.reading.Found.{Found}
 use Rattle.h41_program.specs.declared.refusal.ProgramRefusal.{ProgramRefusal}
 use Rattle.h41_program.specs.declared.refusal.ProgramRefusal.TheVariants.{BrokenProgram}
-use Rattle.h41_program.specs.Edits.{answered, before_end, count_before, has_line_at, with_inserted, with_replaced, without_deleted}
+use Rattle.h41_program.specs.Edits.{answered, before_end, count_before, has_line_at, with_inserted}
+use Rattle.h41_program.specs.Edits.{with_replaced, without_deleted}
 use Rattle.h41_program.specs.private.Packers.{Packs, line_if}
 use Rattle.h41_program.specs.ProgramBytes.{final_position, program_bytes}
 use Rattle.h41_program.specs.ProgramLines.{FirstFrom, LinesFrom}
@@ -21,7 +23,9 @@ use Rattle.h41_program.specs.Rewriting.{written, HasOutcome}
 
 -- the lines of a packer are written into memory
 abbrev pub Writes : Packer → RegisterMap → RegisterMap → Result (Unit {0}) ProgramRefusal → Type 0
-Writes packer old new result = (lines : List Line) → Packs packer lines → HasOutcome old new result (answered tt (written old lines))
+Writes packer old new result =
+    (lines : List Line) → Packs packer lines
+    → HasOutcome old new result (answered tt (written old lines))
 
 -- what a change makes of each line of the list
 abbrev pub changed : Change → ℕ → ListedLine → List Line
@@ -58,7 +62,9 @@ abbrev pub listed_of : Option Found → Option ListedLine
 listed_of found = option_map (λ each. each.listed) found
 
 -- a packer has the changed lines, where the list reaches .END. and has a line at the position
-abbrev pub PacksChanged : RegisterMap → (ListedLine → List Line) → ℕ → Result Packer ProgramRefusal → Type 0
+abbrev pub PacksChanged : RegisterMap → (ListedLine → List Line) → ℕ → Result Packer ProgramRefusal
+    → Type 0
 PacksChanged memory change position result =
     (lines : List ListedLine) × LinesFrom memory 0 lines
-    × MatchBool (is_some (before_end lines) && has_line_at position lines) (IsOkAnd result (λ packer. Packs packer (flat_map change lines))) (result ≡ Err BrokenProgram)
+    × MatchBool (is_some (before_end lines) && has_line_at position lines)
+    (IsOkAnd result (λ packer. Packs packer (flat_map change lines))) (result ≡ Err BrokenProgram)

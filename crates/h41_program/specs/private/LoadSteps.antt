@@ -1,5 +1,6 @@
 -- What the functions that load promise one another.
-use Rattle.std.specs.Prelude.{◌≡◌, ℕ, List, [], ◌∷◌, ◌++◌, length, ◌==◌, if◌then◌else◌, Option, Some, None, MatchOption, IsOkAnd, Result, Ok, Err}
+use Rattle.std.specs.Prelude.{◌≡◌, ℕ, List, [], ◌∷◌, ◌++◌, length, ◌==◌, if◌then◌else◌, Option}
+use Rattle.std.specs.Prelude.{Some, None, MatchOption, IsOkAnd, Result, Ok, Err}
 use Rattle.std.specs.List.{list_all}
 use Rattle.h41_program.specs.Lines.{is_end}
 use Rattle.h41_codes.specs.declared.line.Line.{Line}
@@ -17,18 +18,22 @@ use Rattle.h41_program.specs.Rewriting.{HasOutcome}
 abbrev pub PacksProgram : RegisterMap → Result Packer ProgramRefusal → Type 0
 PacksProgram memory result =
     (lines : List ListedLine) × LinesFrom memory 0 lines
-    × MatchOption (before_end lines) (result ≡ Err BrokenProgram) (λ listed. IsOkAnd result (λ packer. Packs packer (lines_of listed)))
+    × MatchOption (before_end lines) (result ≡ Err BrokenProgram)
+    (λ listed. IsOkAnd result (λ packer. Packs packer (lines_of listed)))
 
 -- the lines to be loaded that bytes have were put behind others, or there are none
 abbrev pub PutsLoaded : Packer → Packer → List ℕ → Result (Unit {0}) ProgramRefusal → Type 0
 PutsLoaded old new bytes result =
     (given : List ListedLine) × Reads bytes (length bytes) 0 given
     × ((front : List Line) → Packs old front
-    → MatchOption (loaded_of bytes given) (result ≡ Err BrokenProgram) (λ loaded. (result ≡ Ok tt) × Packs new (front ++ loaded)))
+    → MatchOption (loaded_of bytes given) (result ≡ Err BrokenProgram)
+    (λ loaded. (result ≡ Ok tt) × Packs new (front ++ loaded)))
 
 -- the lines of a packer are written, closed, where they want an END
-abbrev pub WritesClosed : Packer → RegisterMap → RegisterMap → Result (Unit {0}) ProgramRefusal → Type 0
-WritesClosed packer old new result = (lines : List Line) → Packs packer lines → HasOutcome old new result (close_outcome old lines)
+abbrev pub WritesClosed : Packer → RegisterMap → RegisterMap → Result (Unit {0}) ProgramRefusal
+    → Type 0
+WritesClosed packer old new result =
+    (lines : List Line) → Packs packer lines → HasOutcome old new result (close_outcome old lines)
 
 -- a line that may be there, and whether it is kept as the last
 abbrev pub listed_option : Option Line → List Line

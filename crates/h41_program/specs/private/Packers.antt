@@ -1,5 +1,6 @@
 -- What a packer holds of the lines that were put into it.
-use Rattle.std.specs.Prelude.{◌≡◌, ◌⊎◌, ℕ, ◌+◌, ◌<◌, IsTrue, IsFalse, Bool, false, ◌&&◌, List, [], ◌∷◌, ◌++◌, length, Option, if◌then◌else◌}
+use Rattle.std.specs.Prelude.{◌≡◌, ◌⊎◌, ℕ, ◌+◌, ◌<◌, IsTrue, IsFalse, Bool, false, ◌&&◌, List, []}
+use Rattle.std.specs.Prelude.{◌∷◌, ◌++◌, length, Option, if◌then◌else◌}
 use Rattle.std.specs.Option.{option_map_or}
 use Rattle.h41_program.specs.Lines.{is_number}
 use Rattle.h41_codes.specs.declared.line.Line.{Line}
@@ -19,7 +20,8 @@ pub record Packs (packer : Packer) (lines : List Line) : Type 0 where
 -- bytes were pushed: they stand behind the others, or the mark says that all would be too many
 pub record Pushes (old new : Packer) (more : List ℕ) : Type 0 where
   pub held : IsFalse new.full → (IsFalse old.full) × (new.bytes.items ≡ old.bytes.items ++ more)
-  pub full : IsTrue new.full → (IsTrue old.full) ⊎ (packed_most < length old.bytes.items + length more)
+  pub full : IsTrue new.full
+      → (IsTrue old.full) ⊎ (packed_most < length old.bytes.items + length more)
   pub last : new.last ≡ old.last
 
 -- what stands between the last of lines and one that is a number or not

@@ -13,16 +13,20 @@ use Rattle.h41_program.specs.ProgramLines.{HasFirst, NoneFrom, IsFirst, LinesFro
 
 -- memory has this line of so many bytes first from a position on, right there
 abbrev pub HasThere : RegisterMap → ℕ → ℕ → Line → Type 0
-HasThere memory at count line = HasFirst memory at (record { listed = record { position = at; line = line }; behind = at + count })
+HasThere memory at count line =
+    HasFirst memory at
+    (record { listed = record { position = at; line = line }; behind = at + count })
 
 -- a line ends neither a program nor memory
 abbrev pub EndsNothing : Line → Type 0
 EndsNothing line = (false ≡ is_end line) × (false ≡ is_final_end line)
 
--- the position of the line behind a line, or the byte behind it where no line follows; that of .END. is its own
+-- the position of the line behind a line, or the byte behind it where no line follows; that of
+-- .END. is its own
 abbrev pub FoundBehind : RegisterMap → Found → ℕ → Type 0
 FoundBehind memory first position =
-    MatchBool (is_final_end first.listed.line) (position ≡ first.listed.position) (PositionFrom memory first.behind position)
+    MatchBool (is_final_end first.listed.line) (position ≡ first.listed.position)
+    (PositionFrom memory first.behind position)
 
 -- the place of a line that was found
 abbrev pub IsPlaceOf : Found → Place → Type 0
@@ -34,11 +38,14 @@ IsPlaceOf found place =
 
 -- an answer is that of every list of lines from a position on
 abbrev pub AnswersFrom : {A : Type 0} → (List ListedLine → A) → RegisterMap → ℕ → A → Type 0
-AnswersFrom answer memory at result = (lines : List ListedLine) → LinesFrom memory at lines → result ≡ answer lines
+AnswersFrom answer memory at result =
+    (lines : List ListedLine) → LinesFrom memory at lines → result ≡ answer lines
 
 -- bytes have this line first from a position on
 abbrev pub BytesHaveFirst : List ℕ → ℕ → Taken → Type 0
-BytesHaveFirst bytes at taken = IsFirst bytes (length bytes) at (record { position = taken.position; line = taken.line }) taken.behind
+BytesHaveFirst bytes at taken =
+    IsFirst bytes (length bytes) at (record { position = taken.position; line = taken.line })
+    taken.behind
 
 -- bytes have no line from a position on
 abbrev pub BytesHaveNone : List ℕ → ℕ → Type 0

@@ -13,7 +13,9 @@ returns-clause-digits c =
     let x = c.in_span.ensures in
     let z = c.with_span.ensures in
     let is = is_quotient _ _ _ (weight_positive lo) x.digits in
-    replaced_by c.args.into c.with_span.result (part c.args.x lo hi) lo hi (λ place. slice_index c.args.x place) z.register span.ordered span.in_register
+    replaced_by c.args.into c.with_span.result (part c.args.x lo hi) lo hi
+    (λ place. slice_index c.args.x place) z.register span.ordered span.in_register
     (part-register c.args.x lo hi x.register span.ordered span.in_register)
-    (z.number ∙ ap (λ n. n % 16 ^ (hi + 1 - lo)) is ∙ mod-eq_of_lt (part-lt c.args.x lo hi x.register span.ordered span.in_register)) z.below z.above
+    (z.number ∙ ap (λ n. n % 16 ^ (hi + 1 - lo)) is ∙ mod-eq_of_lt (part-lt c.args.x lo hi x.register span.ordered span.in_register))
+    z.below z.above
     (λ place from to. sym (part_at c.args.x lo hi place from to))

@@ -13,8 +13,10 @@ returns-clause-digits c =
     let x = c.in_span.ensures in
     let z = c.with_span.ensures in
     let is = sixteenth_at _ _ _ (weight_positive lo) x.digits in
-    replaced_by c.args.into c.with_span.result (down c.args.x lo hi) lo hi (λ place. if place == hi then 0 else slice_index c.args.x (place + 1)) z.register span.ordered span.in_register
+    replaced_by c.args.into c.with_span.result (down c.args.x lo hi) lo hi
+    (λ place. if place == hi then 0 else slice_index c.args.x (place + 1)) z.register span.ordered span.in_register
     (down-register c.args.x lo hi x.register span.ordered span.in_register)
-    (z.number ∙ ap (λ n. n % 16 ^ (hi + 1 - lo)) is ∙ mod-eq_of_lt (sixteenth _ _ (part-lt c.args.x lo hi x.register span.ordered span.in_register))
+    (z.number ∙ ap (λ n. n % 16 ^ (hi + 1 - lo)) is
+    ∙ mod-eq_of_lt (sixteenth _ _ (part-lt c.args.x lo hi x.register span.ordered span.in_register))
     ∙ down-value c.args.x lo hi x.register span.ordered span.in_register) z.below z.above
     (λ place from to. down_at c.args.x lo hi place x.register span.in_register from to)

@@ -11,5 +11,6 @@ returns-clause-parts c =
     let limit = 16 ^ (span.hi + 1 - span.lo) in
     let whole = whole_weight span.lo span.hi span.ordered in
     let is = whole_quotient number (16 ^ span.lo) (weight_positive span.lo) c.requires.places in
-    in_parts number n limit (16 ^ span.lo) span.mask _ (weight_positive span.lo) is (few_of_twice number n limit (16 ^ span.lo) (16 ^ (span.hi + 1)) is whole c.requires.most)
+    in_parts number n limit (16 ^ span.lo) span.mask _ (weight_positive span.lo) is
+    (few_of_twice number n limit (16 ^ span.lo) (16 ^ (span.hi + 1)) is whole c.requires.most)
     (omega (arith, span.weights, whole)) c.with_span.ensures.number

@@ -11,7 +11,14 @@ put-requires-clause-places c =
 pub put-requires-clause-most : goal.put-requires-clause-most
 put-requires-clause-most c =
     let span = c.args.span in
-    omega (arith, c.in_span-first.ensures.within, c.in_span-second.ensures.within, c.carry_in_span.ensures.most, span.weights, weight_positive span.lo)
+    omega (
+      arith,
+      c.in_span-first.ensures.within,
+      c.in_span-second.ensures.within,
+      c.carry_in_span.ensures.most,
+      span.weights,
+      weight_positive span.lo,
+    )
 
 pub returns : goal.returns
 returns c =
@@ -19,5 +26,7 @@ returns c =
     let first = c.in_span-first.ensures in
     let second = c.in_span-second.ensures in
     let z = c.put.ensures in
-    sum_result c.args.into c.args.x c.args.y c.put.result.0 c.args.carry_in c.put.result.1 span.lo span.hi first.register second.register z.register span.ordered span.in_register
-    (z.parts ∙ is_quotient _ _ _ (weight_positive span.lo) (sum_at _ _ _ _ _ _ _ first.digits second.digits c.carry_in_span.ensures.value)) z.below z.above
+    sum_result c.args.into c.args.x c.args.y c.put.result.0 c.args.carry_in c.put.result.1
+    span.lo span.hi first.register second.register z.register span.ordered span.in_register
+    (z.parts ∙ is_quotient _ _ _ (weight_positive span.lo) (sum_at _ _ _ _ _ _ _ first.digits second.digits c.carry_in_span.ensures.value))
+    z.below z.above

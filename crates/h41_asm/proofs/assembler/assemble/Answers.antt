@@ -12,7 +12,9 @@ spell-requires-clause-ready c =
 pub returns-clause-words : goal.returns-clause-words
 returns-clause-words c =
     let placed = c.in_ok-labels.ensures in
-    IfOk-weaker c.spell.result _ _ (λ words spelled. assembles_by (labels_in c.in_ok-labels.labels) c.args.text.now c.args.origin words.items (omega arith) placed.ok placed.labels spelled) c.spell.ensures.words
+    IfOk-weaker c.spell.result _ _ (λ words spelled.
+    assembles_by (labels_in c.in_ok-labels.labels) c.args.text.now c.args.origin words.items (omega arith) placed.ok placed.labels spelled)
+    c.spell.ensures.words
 
 pub returns-clause-err : goal.returns-clause-err
 returns-clause-err c =

@@ -14,7 +14,13 @@ pub loop-start-init : goal.loop-start-init
 loop-start-init c =
     let count = length-lines c.args.text.now in
     rw (c.from-address.ensures, c.new-kept.ensures.items)
-    (record { within = omega arith; count = omega (arith, count); placed = placed_none (labels_in c.new-labels.result) (source_lines c.args.text.now) c.args.origin (λ name. rw c.new-labels.ensures.empty refl); kept = refl })
+    (record {
+      within = omega arith;
+      count = omega (arith, count);
+      placed = placed_none (labels_in c.new-labels.result) (source_lines c.args.text.now)
+          c.args.origin (λ name. rw c.new-labels.ensures.empty refl);
+      kept = refl;
+    })
 
 pub loop-start-preserved : goal.loop-start-preserved
 loop-start-preserved c =
@@ -39,6 +45,8 @@ loop-start-preserved c =
       within = omega (arith, within, long);
       count = omega (arith, count, c.loop-start.invariant.count);
       placed = rw long (placed_next before after all c.args.origin number address line rest placed gave.ok gave.labels);
-      kept = kept_next text number start c.in-Ok.statement line rest c.loop-start.kept.items c.keep.new.kept.items gave.read left c.in_ok-keep-in-Ok.ensures
+      kept =
+          kept_next text number start c.in-Ok.statement line rest c.loop-start.kept.items
+          c.keep.new.kept.items gave.read left c.in_ok-keep-in-Ok.ensures
           ∙ ap (λ some. map (kept_said text) c.loop-start.kept.items ++ said_from number some) (sym left) ∙ c.loop-start.invariant.kept;
     }

@@ -30,7 +30,8 @@ statement-statement-requires c =
     let kept = c.args.kept.now in
     let next = c.line-item.result in
     let left : drop c.loop-line.line-index kept ≡ next ∷ drop (c.loop-line.line-index + 1) kept =
-    drop_more kept c.loop-line.line-index next c.loop-line-test.true ∙ ap (λ line. line ∷ drop (c.loop-line.line-index + 1) kept) (sym c.line-item.is) in
+    drop_more kept c.loop-line.line-index next c.loop-line-test.true
+    ∙ ap (λ line. line ∷ drop (c.loop-line.line-index + 1) kept) (sym c.line-item.is) in
     let ready = rw left at c.loop-line.invariant.ready in
     ready.0
 
@@ -41,7 +42,8 @@ loop-line-preserved c =
     let kept = c.args.kept.now in
     let next : KeptLine = c.line-item.result in
     let left : drop c.loop-line.line-index kept ≡ next ∷ drop (c.loop-line.line-index + 1) kept =
-    drop_more kept c.loop-line.line-index next c.loop-line-test.true ∙ ap (λ line. line ∷ drop (c.loop-line.line-index + 1) kept) (sym c.line-item.is) in
+    drop_more kept c.loop-line.line-index next c.loop-line-test.true
+    ∙ ap (λ line. line ∷ drop (c.loop-line.line-index + 1) kept) (sym c.line-item.is) in
     let said : Said = kept_said c.args.text.now next in
     let rest : List Said = map (kept_said c.args.text.now) (drop (c.loop-line.line-index + 1) kept) in
     let ready : AreReady address (said ∷ rest) = rw left at c.loop-line.invariant.ready in
@@ -55,7 +57,9 @@ loop-line-preserved c =
       faults = rw long (faults_next labels address said statement rest read own.ok
           ∙ ap (λ some. said_faults labels address (map (kept_said c.args.text.now) some)) (sym left) ∙ c.loop-line.invariant.faults);
       spelled = λ others spelled.
-          let more = spelled_next labels address said statement rest c.loop-line.words.items c.push_statement.new.words.items others read own.own (rw long at spelled) in
+          let more =
+          spelled_next labels address said statement rest c.loop-line.words.items
+          c.push_statement.new.words.items others read own.own (rw long at spelled) in
           rw more.1 (c.loop-line.invariant.spelled more.0 (rw left more.2));
     }
 
@@ -65,9 +69,12 @@ returns-in-Err-clause-err c =
     let kept = c.args.kept.now in
     let next : KeptLine = c.line-item.result in
     let left : drop c.loop-line.line-index kept ≡ next ∷ drop (c.loop-line.line-index + 1) kept =
-    drop_more kept c.loop-line.line-index next c.loop-line-test.true ∙ ap (λ line. line ∷ drop (c.loop-line.line-index + 1) kept) (sym c.line-item.is) in
-    let first = sym c.loop-line.invariant.faults ∙ ap (λ some. said_faults labels c.loop-line.address (map (kept_said c.args.text.now) some)) left in
-    let fault : reference_fault labels c.loop-line.address (in_code c.statement-statement.result) ≡ read_fault labels c.loop-line.address (kept_said c.args.text.now next).1 =
+    drop_more kept c.loop-line.line-index next c.loop-line-test.true
+    ∙ ap (λ line. line ∷ drop (c.loop-line.line-index + 1) kept) (sym c.line-item.is) in
+    let first =
+    sym c.loop-line.invariant.faults ∙ ap (λ some. said_faults labels c.loop-line.address (map (kept_said c.args.text.now) some)) left in
+    let fault : reference_fault labels c.loop-line.address (in_code c.statement-statement.result)
+    ≡ read_fault labels c.loop-line.address (kept_said c.args.text.now next).1 =
     ap (read_fault labels c.loop-line.address) c.statement-statement.ensures in
     rw (c.at_line.ensures, first) (refused_first _ c.in-Err.error next.number _ (rw fault at c.in-Err.ensures.err))
 

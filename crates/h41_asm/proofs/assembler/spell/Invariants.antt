@@ -12,7 +12,8 @@ invariant-loop-line l = record {
   ready : AreReady l.address (map (kept_said l.text) (drop l.line-index l.kept));
   within : l.address ≤ 65536;
   -- the faults are those that are left
-  faults : said_faults (labels_in l.labels) l.address (map (kept_said l.text) (drop l.line-index l.kept)) ≡ first_fault_by l.labels l.origin l.text;
+  faults : said_faults (labels_in l.labels) l.address (map (kept_said l.text) (drop l.line-index l.kept))
+      ≡ first_fault_by l.labels l.origin l.text;
   -- and what spells these spells all, behind the words so far
   spelled : (others : List ℕ) → SaidSpell (labels_in l.labels) l.address (map (kept_said l.text) (drop l.line-index l.kept)) others
       → LinesSpell (labels_in l.labels) l.origin (source_lines l.text) (l.words.items ++ others);

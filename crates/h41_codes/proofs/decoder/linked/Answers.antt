@@ -21,6 +21,8 @@ returns-then-end-lt4-clause-broken c =
 pub returns-clause-line : goal.returns-clause-line
 returns-clause-line c =
     let bytes = c.args.bytes.now in
-    begins_label bytes c.new-link.result c.from-end.result c.of-name.result c.requires.first.0 c.requires.first.1 (omega (arith, c.type_inv.bytes 1))
+    begins_label bytes c.new-link.result c.from-end.result c.of-name.result
+    c.requires.first.0 c.requires.first.1 (omega (arith, c.type_inv.bytes 1))
     (omega (arith, c.new-link.ensures, c.from.ensures, c.from-2.ensures)) c.if-third-lt240.false (omega (arith, c.type_inv.bytes 2))
-    (omega (arith, c.type_inv.bytes 3)) c.from-end.ensures c.if-end-lt4.false c.if-end-bytes.false c.of-name.ensures.value c.of-name.ensures.bytes
+    (omega (arith, c.type_inv.bytes 3)) c.from-end.ensures c.if-end-lt4.false
+    c.if-end-bytes.false c.of-name.ensures.value c.of-name.ensures.bytes

@@ -10,8 +10,15 @@ pub returns-in-Some-clause-item : goal.returns-in-Some-clause-item
 returns-in-Some-clause-item c =
     let line = c.in-Some.line.now in
     let rest = lines c.next.new.self.rest.now in
-    let first : deck.commands (line ∷ rest) ≡ given c.if-is_opening.item ∷ deck.commands (lines c.if-is_opening.rest.rest.now) = elim c.if-is_opening.branch [
-      | then-is_opening+in_ok-item w ↦ rw (w.item-is, w.rest-is) (commands-opening line rest (sym c.if-is_long.ensures) (sym c.if-is_skipped.ensures) (sym w.if-is_opening.ensures) ∙ (λ i. sym (w.in_ok-item.ensures).item i ∷ deck.commands (sym (w.in_ok-item.ensures).rest i)))
-      | else-is_opening w ↦ rw (w.item-is, w.rest-is) (commands-line line rest (sym c.if-is_long.ensures) (sym c.if-is_skipped.ensures) (sym w.if-is_opening.ensures) ∙ ap (λ i. i ∷ deck.commands rest) (sym w.line_item-item.ensures))
+    let first : deck.commands (line ∷ rest) ≡ given c.if-is_opening.item ∷ deck.commands (lines c.if-is_opening.rest.rest.now) = elim
+    c.if-is_opening.branch [
+      | then-is_opening+in_ok-item w ↦
+          rw (w.item-is, w.rest-is)
+          (commands-opening line rest (sym c.if-is_long.ensures) (sym c.if-is_skipped.ensures) (sym w.if-is_opening.ensures)
+          ∙ (λ i. sym (w.in_ok-item.ensures).item i ∷ deck.commands (sym (w.in_ok-item.ensures).rest i)))
+      | else-is_opening w ↦
+          rw (w.item-is, w.rest-is)
+          (commands-line line rest (sym c.if-is_long.ensures) (sym c.if-is_skipped.ensures) (sym w.if-is_opening.ensures)
+          ∙ ap (λ i. i ∷ deck.commands rest) (sym w.line_item-item.ensures))
     ] in
     c.loop-line.invariant.same ∙ ap deck.commands (c.in-Some.ensures).steps ∙ first

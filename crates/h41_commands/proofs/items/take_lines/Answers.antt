@@ -29,5 +29,8 @@ returns-clause-rest c =
 
 pub loop-line-preserved : goal.loop-line-preserved
 loop-line-preserved c =
-    let reads = rw c.in-Some.ensures.steps at c.loop-line.invariant.2.1 in
-    (tt, tt, (c.loop-line.invariant.2.0 ++ c.in-Some.line.now ∷ [], reads_more _ _ _ _ _ _ _ reads (sym c.if-is_end.ensures) c.in_ok-line.ensures))
+    let reads = rw c.in-Some.ensures.steps at c.loop-line.invariant.2.1 in (
+      tt,
+      tt,
+      (c.loop-line.invariant.2.0 ++ c.in-Some.line.now ∷ [], reads_more _ _ _ _ _ _ _ reads (sym c.if-is_end.ensures) c.in_ok-line.ensures),
+    )

@@ -12,7 +12,9 @@ returns-in-Ok c =
     let few : c.args.places ≤ 20 = c.requires in
     record {
       answer = Ok c.in-Ok.number;
-      nearest = typed_nearest c.args.sign c.args.digits c.args.exponent.biased c.args.places c.from-3.result (137 + c.from.result - c.from-2.result)
+      nearest =
+          typed_nearest c.args.sign c.args.digits c.args.exponent.biased
+          c.args.places c.from-3.result (137 + c.from.result - c.from-2.result)
           (Ok c.in-Ok.number) some (omega arith) c.from-3.ensures c.in-Ok.ensures;
       value = refl;
     }
@@ -23,7 +25,9 @@ returns-in-Err c =
     let few : c.args.places ≤ 20 = c.requires in
     record {
       answer = Err c.in-Err.field-0;
-      nearest = typed_nearest c.args.sign c.args.digits c.args.exponent.biased c.args.places c.from-3.result (137 + c.from.result - c.from-2.result)
+      nearest =
+          typed_nearest c.args.sign c.args.digits c.args.exponent.biased
+          c.args.places c.from-3.result (137 + c.from.result - c.from-2.result)
           (Err c.in-Err.field-0) some (omega arith) c.from-3.ensures c.in-Err.ensures;
       value = c.greatest.ensures;
     }

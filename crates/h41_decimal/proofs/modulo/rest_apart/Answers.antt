@@ -13,9 +13,12 @@ pub returns-then-y-x : goal.returns-then-y-x
 returns-then-y-x c =
     let x = c.args.x in
     let y = c.args.y in
-    let less = lower_exponent y.mantissa.digits x.mantissa.digits y.exponent.biased x.exponent.biased y.mantissa.below x.mantissa.at_least c.if-y-x.true in
+    let less =
+    lower_exponent y.mantissa.digits x.mantissa.digits y.exponent.biased
+    x.exponent.biased y.mantissa.below x.mantissa.at_least c.if-y-x.true in
     rest_of_apart c.args.sign (size y) (size x) 0 (size y) _ (omega arith) (size_pos y) less
-    (nearest_along (signed c.args.sign (size x - size y)) _ 1 _ (sym (signed-sub c.args.sign (size x) (size y) (size x - size y) (omega arith))) c.subtract.ensures)
+    (nearest_along (signed c.args.sign (size x - size y)) _ 1 _
+    (sym (signed-sub c.args.sign (size x) (size y) (size x - size y) (omega arith))) c.subtract.ensures)
 
 pub returns-then-rest-eq0 : goal.returns-then-rest-eq0
 returns-then-rest-eq0 c =
@@ -54,5 +57,6 @@ returns c =
     let l = lacking m (c.digits-3.result - c.remainder-rest.result) c.remainder-rest.result (10 ^ s) k in
     let k_pos : 0 < c.digits-3.result - c.remainder-rest.result = omega arith in
     let P : ℕ → Type 0 = λ u. Nearest (signed c.args.sign u) 1 c.round_whole.result in
-    rest_of_apart c.args.sign (size y) (size x) (n * 10 ^ (t - s) / m) (c.remainder-rest.result * 10 ^ s) _ d.0 (mul-pos some (ten_pow_pos s)) d.2
+    rest_of_apart c.args.sign (size y) (size x) (n * 10 ^ (t - s) / m)
+    (c.remainder-rest.result * 10 ^ s) _ d.0 (mul-pos some (ten_pow_pos s)) d.2
     (subst P l (rest_rounds_at c.args.sign (c.digits-3.result - c.remainder-rest.result) s _ _ k_pos (omega arith) c.round_whole.ensures))

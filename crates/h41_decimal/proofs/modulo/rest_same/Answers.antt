@@ -13,7 +13,8 @@ returns-then-y-x c =
     let x = c.args.x in
     let y = c.args.y in
     rest_of_same c.args.sign (size y) (size x) 0 (size y) _ (omega arith)
-    (lower_exponent y.mantissa.digits x.mantissa.digits y.exponent.biased x.exponent.biased y.mantissa.below x.mantissa.at_least c.if-y-x.true)
+    (lower_exponent y.mantissa.digits x.mantissa.digits y.exponent.biased
+    x.exponent.biased y.mantissa.below x.mantissa.at_least c.if-y-x.true)
     (own_nearest (Nonzero c.args.sign y))
 
 pub returns-then-rest-eq0 : goal.returns-then-rest-eq0

@@ -12,6 +12,7 @@ pub loop-place-preserved : goal.loop-place-preserved
 loop-place-preserved c =
     let loop = c.loop-place in
     record {
-      digits = packed_more c.args.count loop.place c.args.number loop.rest loop.packed c.loop-place-test.true c.requires loop.invariant.digits;
+      digits =
+          packed_more c.args.count loop.place c.args.number loop.rest loop.packed c.loop-place-test.true c.requires loop.invariant.digits;
       bound = packed_bound loop.place loop.rest loop.packed loop.invariant.bound (omega arith);
     }

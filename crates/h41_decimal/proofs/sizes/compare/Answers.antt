@@ -8,14 +8,16 @@ returns-then-x-y c =
     let x = c.args.x in
     let y = c.args.y in
     order_less (size x) (size y)
-    (lower_exponent x.mantissa.digits y.mantissa.digits x.exponent.biased y.exponent.biased x.mantissa.below y.mantissa.at_least c.if-x-y.true)
+    (lower_exponent x.mantissa.digits y.mantissa.digits x.exponent.biased
+    y.exponent.biased x.mantissa.below y.mantissa.at_least c.if-x-y.true)
 
 pub returns-then-y-x : goal.returns-then-y-x
 returns-then-y-x c =
     let x = c.args.x in
     let y = c.args.y in
     order_greater (size x) (size y)
-    (lower_exponent y.mantissa.digits x.mantissa.digits y.exponent.biased x.exponent.biased y.mantissa.below x.mantissa.at_least c.if-y-x.true)
+    (lower_exponent y.mantissa.digits x.mantissa.digits y.exponent.biased
+    x.exponent.biased y.mantissa.below x.mantissa.at_least c.if-y-x.true)
 
 pub returns-then-x-y-2 : goal.returns-then-x-y-2
 returns-then-x-y-2 c =

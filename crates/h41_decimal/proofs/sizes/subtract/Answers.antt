@@ -19,9 +19,12 @@ returns-then-large-small-2 c =
     let x = c.args.x in
     let y = c.args.y in
     let w : c.digits.result * c.power_of_ten.result ≡ x.mantissa.digits * 10 ^ (x.exponent.biased - y.exponent.biased) = cc in
-    let P : Sign → Type 0 = λ sign. RoundsWhole sign (c.digits-small.result - c.digits.result * c.power_of_ten.result) (c.steps-scale.result + 128) c.round_whole-then-large-small-2.result in
+    let P : Sign → Type 0 =
+    λ sign. RoundsWhole sign (c.digits-small.result - c.digits.result * c.power_of_ten.result)
+    (c.steps-scale.result + 128) c.round_whole-then-large-small-2.result in
     difference_below c.args.sign _ x.mantissa.digits y.mantissa.digits x.exponent.biased y.exponent.biased
-    (x.exponent.biased - y.exponent.biased) (c.digits.result * c.power_of_ten.result) c.digits-small.result (c.steps-scale.result + 128) (omega arith) w
+    (x.exponent.biased - y.exponent.biased) (c.digits.result * c.power_of_ten.result)
+    c.digits-small.result (c.steps-scale.result + 128) (omega arith) w
     c.digits-small.ensures (omega arith) c.if-large-small-2.true (subst P c.opposite.ensures c.round_whole-then-large-small-2.ensures)
 
 pub returns-else-large-small-2 : goal.returns-else-large-small-2

@@ -11,7 +11,9 @@ pub invariant_of-mantissa : goal.invariant_of-mantissa
 invariant_of-mantissa c =
     let count = c.digit_count-missing.result in
     let few = few_digits count c.from.result c.digit_count-missing.ensures.least (omega arith) in
-    let h = ten_of_fewer c.from-2.result count (10 - count) c.power_of_ten.result c.power_of_ten.ensures (omega arith) (omega arith) (omega arith) in
+    let h =
+    ten_of_fewer c.from-2.result count (10 - count) c.power_of_ten.result
+    c.power_of_ten.ensures (omega arith) (omega arith) (omega arith) in
     record { at_least = h.0; below = h.1 }
 
 pub returns : goal.returns

@@ -16,7 +16,8 @@ returns-then-steps-ge-ONES c =
 pub returns-then-steps-lt-LEAST : goal.returns-then-steps-lt-LEAST
 returns-then-steps-lt-LEAST c =
     let x = c.args.x in
-    fraction_of c.args.sign (size x) 0 (size x) _ (size_pos x) (ones_below x.mantissa.digits x.exponent.biased x.mantissa.below (omega arith)) (omega arith) refl
+    fraction_of c.args.sign (size x) 0 (size x) _ (size_pos x)
+    (ones_below x.mantissa.digits x.exponent.biased x.mantissa.below (omega arith)) (omega arith) refl
 
 pub nonzero_rem-rest : goal.nonzero_rem-rest
 nonzero_rem-rest c = rw c.power_of_ten.ensures (ten_pow_pos (108 - c.steps-steps.result))
@@ -30,7 +31,8 @@ returns-then-rest-eq0 c =
     let none : m % p ≡ 0 = cc in
     let r : m % p * 10 ^ s ≡ 0 * 10 ^ s = ap (λ t. t * 10 ^ s) none in
     let split = split_at_ones m s k p c.power_of_ten.ensures (omega arith) in
-    no_fraction c.args.sign (size c.args.x) (m / p) (size_pos c.args.x) (ones_cut m s k p c.power_of_ten.ensures (omega arith)) (omega arith)
+    no_fraction c.args.sign (size c.args.x) (m / p) (size_pos c.args.x)
+    (ones_cut m s k p c.power_of_ten.ensures (omega arith)) (omega arith)
 
 pub returns : goal.returns
 returns c =
@@ -39,5 +41,6 @@ returns c =
     let p = c.power_of_ten.result in
     let k = 108 - c.steps-steps.result in
     let same : c.digits.result % p * 10 ^ c.steps-steps.result ≡ m % p * 10 ^ s = cc in
-    fraction_of c.args.sign (size c.args.x) (m / p) (m % p * 10 ^ s) _ (size_pos c.args.x) (ones_cut m s k p c.power_of_ten.ensures (omega arith))
+    fraction_of c.args.sign (size c.args.x) (m / p) (m % p * 10 ^ s) _
+    (size_pos c.args.x) (ones_cut m s k p c.power_of_ten.ensures (omega arith))
     (split_at_ones m s k p c.power_of_ten.ensures (omega arith)) (c.decimal.ensures ∙ ap (signed c.args.sign) same)

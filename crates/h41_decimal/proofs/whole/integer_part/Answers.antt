@@ -11,4 +11,5 @@ returns-in-None c =
     let s = c.args.x.exponent.biased in
     let many : 109 ≤ s = c.in-None.ensures.many in
     let high : 108 ≤ s = omega arith in
-    integer_of c.args.sign (size c.args.x) (m * 10 ^ (s - 108)) _ (size_pos c.args.x) (ones_whole m s high) (ap (signed c.args.sign) (sym (all_ones m s high)))
+    integer_of c.args.sign (size c.args.x) (m * 10 ^ (s - 108)) _ (size_pos c.args.x)
+    (ones_whole m s high) (ap (signed c.args.sign) (sym (all_ones m s high)))

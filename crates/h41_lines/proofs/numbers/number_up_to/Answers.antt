@@ -12,7 +12,8 @@ returns-then-value-most-clause-value c =
     let word = c.args.word.now in
     let i = c.loop-byte.byte-index in
     let radix = c.args.radix in
-    let more : digits_value radix (take (i + 1) word) ≡ digits_value radix (take i word) * radix + digit_value (get_or word i 0) = digits_value_more radix word i (omega arith) in
+    let more : digits_value radix (take (i + 1) word) ≡ digits_value radix (take i word) * radix + digit_value (get_or word i 0) =
+    digits_value_more radix word i (omega arith) in
     let read = c.in_ok-digit.ensures.value in
     let value : c.loop-byte.value * radix + c.in_ok-digit.digit ≡ digits_value radix (take (i + 1) word) = cc in
     number_too_large radix c.args.most (i + 1) word _ _ (omega arith) (omega arith)
@@ -22,7 +23,8 @@ loop-byte-preserved c =
     let word = c.args.word.now in
     let i = c.loop-byte.byte-index in
     let radix = c.args.radix in
-    let more : digits_value radix (take (i + 1) word) ≡ digits_value radix (take i word) * radix + digit_value (get_or word i 0) = digits_value_more radix word i (omega arith) in
+    let more : digits_value radix (take (i + 1) word) ≡ digits_value radix (take i word) * radix + digit_value (get_or word i 0) =
+    digits_value_more radix word i (omega arith) in
     let read = c.in_ok-digit.ensures.value in
     let digit : digit_value (get_or word i 0) < radix = rw c.from.ensures at read.0 in
     record {

@@ -11,4 +11,8 @@ loop-offset-init c = grind (arith, common_steps)
 pub loop-offset-preserved : goal.loop-offset-preserved
 unfolding first_words
 loop-offset-preserved c =
-    grind (arith, common_steps, map-range_with_len_more (word_in_bytes c.args.bytes.now) 0 c.loop-offset.offset c.loop-offset.offset (omega arith))
+    grind (
+      arith,
+      common_steps,
+      map-range_with_len_more (word_in_bytes c.args.bytes.now) 0 c.loop-offset.offset c.loop-offset.offset (omega arith),
+    )

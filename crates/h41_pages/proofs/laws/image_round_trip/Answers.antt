@@ -34,4 +34,5 @@ read_of page place (Some image) bytes held are =
 
 pub returns-clause-plugged : goal.returns-clause-plugged
 returns-clause-plugged c = λ pages page number bytes is are.
-    read_of page (bank_place (bank_numbered number)) (image_at pages page (bank_numbered number)) bytes (is.each page (bank_place (bank_numbered number))) are
+    read_of page (bank_place (bank_numbered number)) (image_at pages page (bank_numbered number))
+    bytes (is.each page (bank_place (bank_numbered number))) are

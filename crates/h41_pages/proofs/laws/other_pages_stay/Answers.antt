@@ -15,8 +15,10 @@ returns-clause-unplug c = others_unplugged
 chosen_elsewhere : (b : _) (pages : PageMap) (page : ℕ) (bank : Bank) (address : ℕ) → page_of address ≢ page
     → fetched (if b then record pages { chosen = slice_set pages.chosen page bank } else pages) address ≡ fetched pages address
 chosen_elsewhere true pages page bank address different =
-    same_fetch (record pages { chosen = slice_set pages.chosen page bank }) pages address refl (other_chosen pages.chosen bank page (page_of address) different)
+    same_fetch (record pages { chosen = slice_set pages.chosen page bank }) pages address refl
+    (other_chosen pages.chosen bank page (page_of address) different)
 chosen_elsewhere false pages page bank address different = refl
 
 pub returns-clause-choose : goal.returns-clause-choose
-returns-clause-choose c = λ pages page bank address different. chosen_elsewhere (is_some (image_at pages page bank)) pages page bank address different
+returns-clause-choose c =
+    λ pages page bank address different. chosen_elsewhere (is_some (image_at pages page bank)) pages page bank address different

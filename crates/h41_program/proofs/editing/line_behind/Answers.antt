@@ -15,9 +15,12 @@ returns-then-left-eq0-clause-line g c lines from =
     let memory = c.args.ram.now in
     let found = c.in-Some.found in
     let before = c.loop-found.invariant in
-    let on = goes_on (program_bytes memory) (final_position memory) 0 c.loop-found.at found.behind before.0 lines found.listed before.1 c.in-Some.ensures.first (from.sound c.requires) in
+    let on =
+    goes_on (program_bytes memory) (final_position memory) 0 c.loop-found.at found.behind
+    before.0 lines found.listed before.1 c.in-Some.ensures.first (from.sound c.requires) in
     let number : length before.0 ≡ c.args.count = omega (arith, before.2, c.if-left-eq0.true) in
-    sym (ap (λ (l : List ListedLine). slice_get l c.args.count) on.1 ∙ ap (slice_get (before.0 ++ found.listed ∷ on.0)) (sym number) ∙ get_behind before.0 found.listed on.0)
+    sym (ap (λ (l : List ListedLine). slice_get l c.args.count) on.1 ∙ ap (slice_get (before.0 ++ found.listed ∷ on.0)) (sym number)
+    ∙ get_behind before.0 found.listed on.0)
 
 pub returns-then-is_final_end-clause-line : goal.returns-then-is_final_end-clause-line
 returns-then-is_final_end-clause-line g c lines from =
@@ -25,7 +28,9 @@ returns-then-is_final_end-clause-line g c lines from =
     let found = c.in-Some.found in
     let before = c.loop-found.invariant in
     let final = sym c.is_final_end.ensures ∙ c.if-is_final_end.true in
-    let whole = ends_final (program_bytes memory) (final_position memory) 0 c.loop-found.at found.behind before.0 lines found.listed before.1 c.in-Some.ensures.first final (from.sound c.requires) in
+    let whole =
+    ends_final (program_bytes memory) (final_position memory) 0 c.loop-found.at found.behind
+    before.0 lines found.listed before.1 c.in-Some.ensures.first final (from.sound c.requires) in
     let size = length-append before.0 (found.listed ∷ []) in
     let past : length (before.0 ++ found.listed ∷ []) ≤ c.args.count = omega (arith, size, before.2, c.if-left-eq0.false) in
     sym (ap (λ (l : List ListedLine). slice_get l c.args.count) whole ∙ slice_get_past (before.0 ++ found.listed ∷ []) c.args.count past)
@@ -38,7 +43,8 @@ loop-found-preserved g c =
     let running = sym c.is_final_end.ensures ∙ c.if-is_final_end.false in
     let size = length-append before.0 (found.listed ∷ []) in (
       before.0 ++ found.listed ∷ [],
-      up_to_more (program_bytes memory) (final_position memory) 0 c.loop-found.at found.behind before.0 found.listed before.1 c.in-Some.ensures.first running,
+      up_to_more (program_bytes memory) (final_position memory) 0 c.loop-found.at
+          found.behind before.0 found.listed before.1 c.in-Some.ensures.first running,
       omega (arith, size, before.2, c.if-left-eq0.false),
     )
 
@@ -46,6 +52,8 @@ pub returns-clause-line : goal.returns-clause-line
 returns-clause-line g c lines from =
     let memory = c.args.ram.now in
     let before = c.loop-found.invariant in
-    let whole = ends_none (program_bytes memory) (final_position memory) 0 c.loop-found.at before.0 lines before.1 c.in_default.ensures.none (from.sound c.requires) in
+    let whole =
+    ends_none (program_bytes memory) (final_position memory) 0 c.loop-found.at
+    before.0 lines before.1 c.in_default.ensures.none (from.sound c.requires) in
     let past : length before.0 ≤ c.args.count = omega (arith, before.2) in
     sym (ap (λ (l : List ListedLine). slice_get l c.args.count) whole ∙ slice_get_past before.0 c.args.count past)

@@ -9,7 +9,14 @@ use Rattle.h41_program.proofs.Walks.{up_to_none, up_to_more, all_none, all_final
 use Rattle.h41_program.proofs.editing.packed_changed.Goals as goal
 
 pub loop-found-init : goal.loop-found-init
-loop-found-init g c = ([], record { read = up_to_none (program_bytes c.args.ram.now) (final_position c.args.ram.now) 0; packs = c.new-packer.ensures; found = refl })
+loop-found-init g c = (
+  [],
+  record {
+    read = up_to_none (program_bytes c.args.ram.now) (final_position c.args.ram.now) 0;
+    packs = c.new-packer.ensures;
+    found = refl;
+  },
+)
 
 pub loop-found-preserved : goal.loop-found-preserved
 loop-found-preserved g c =
@@ -21,8 +28,12 @@ loop-found-preserved g c =
     let met = c.is_met-met.ensures ∙ ap (λ b. b || here) before.1.found in (
       before.0 ++ found.listed ∷ [],
       record {
-        read = up_to_more (program_bytes memory) (final_position memory) 0 c.loop-found.at found.behind before.0 found.listed before.1.read c.in-Some.ensures.first running;
-        packs = one_packs c.put_if.new.packer c.args.change.now c.args.place before.0 found.listed here c.is_kept.result refl c.is_kept.ensures running
+        read =
+            up_to_more (program_bytes memory) (final_position memory) 0 c.loop-found.at
+            found.behind before.0 found.listed before.1.read c.in-Some.ensures.first running;
+        packs =
+            one_packs c.put_if.new.packer c.args.change.now c.args.place before.0
+            found.listed here c.is_kept.result refl c.is_kept.ensures running
             (c.put_if.ensures _ (c.put_new.ensures (flat_map (changed c.args.change.now c.args.place) before.0) before.1.packs));
         found = met ∙ sym (has_line_at-more c.args.place before.0 found.listed);
       },
@@ -37,10 +48,13 @@ returns-then-met g c =
     let final = sym c.is_final_end.ensures ∙ c.if-is_final_end.true in
     let here = found.listed.position == c.args.place in
     let met = c.is_met-met.ensures ∙ ap (λ b. b || here) before.1.found in
-    let reads = all_final (program_bytes memory) (final_position memory) 0 c.loop-found.at found.behind before.0 found.listed before.1.read c.in-Some.ensures.first final in (
+    let reads =
+    all_final (program_bytes memory) (final_position memory) 0 c.loop-found.at
+    found.behind before.0 found.listed before.1.read c.in-Some.ensures.first final in (
       lines,
       from_reads memory 0 lines c.requires.sound reads,
-      changed_final (program_bytes memory) (final_position memory) c.loop-found.at found.behind c.put_new.new.packer c.is_met-met.result (changed c.args.change.now c.args.place) c.args.place before.0 lines found.listed
+      changed_final (program_bytes memory) (final_position memory) c.loop-found.at found.behind c.put_new.new.packer
+          c.is_met-met.result (changed c.args.change.now c.args.place) c.args.place before.0 lines found.listed
           before.1.read c.in-Some.ensures.first final
           (last_packs c.put_new.new.packer c.args.change.now c.args.place before.0 found.listed here refl final
           (c.put_new.ensures (flat_map (changed c.args.change.now c.args.place) before.0) before.1.packs))
@@ -56,10 +70,13 @@ returns-else-met g c =
     let final = sym c.is_final_end.ensures ∙ c.if-is_final_end.true in
     let here = found.listed.position == c.args.place in
     let met = c.is_met-met.ensures ∙ ap (λ b. b || here) before.1.found in
-    let reads = all_final (program_bytes memory) (final_position memory) 0 c.loop-found.at found.behind before.0 found.listed before.1.read c.in-Some.ensures.first final in (
+    let reads =
+    all_final (program_bytes memory) (final_position memory) 0 c.loop-found.at
+    found.behind before.0 found.listed before.1.read c.in-Some.ensures.first final in (
       lines,
       from_reads memory 0 lines c.requires.sound reads,
-      changed_final (program_bytes memory) (final_position memory) c.loop-found.at found.behind c.put_new.new.packer c.is_met-met.result (changed c.args.change.now c.args.place) c.args.place before.0 lines found.listed
+      changed_final (program_bytes memory) (final_position memory) c.loop-found.at found.behind c.put_new.new.packer
+          c.is_met-met.result (changed c.args.change.now c.args.place) c.args.place before.0 lines found.listed
           before.1.read c.in-Some.ensures.first final
           (last_packs c.put_new.new.packer c.args.change.now c.args.place before.0 found.listed here refl final
           (c.put_new.ensures (flat_map (changed c.args.change.now c.args.place) before.0) before.1.packs))
@@ -70,8 +87,10 @@ pub returns : goal.returns
 returns g c =
     let memory = c.args.ram.now in
     let before = c.loop-found.invariant in
-    let reads = all_none (program_bytes memory) (final_position memory) 0 c.loop-found.at before.0 before.1.read c.in_default.ensures.none in (
+    let reads =
+    all_none (program_bytes memory) (final_position memory) 0 c.loop-found.at before.0 before.1.read c.in_default.ensures.none in (
       before.0,
       from_reads memory 0 before.0 c.requires.sound reads,
-      changed_none (program_bytes memory) (final_position memory) c.loop-found.at (changed c.args.change.now c.args.place) c.args.place before.0 before.0 before.1.read c.in_default.ensures.none reads,
+      changed_none (program_bytes memory) (final_position memory) c.loop-found.at (changed c.args.change.now c.args.place)
+          c.args.place before.0 before.0 before.1.read c.in_default.ensures.none reads,
     )

@@ -7,7 +7,9 @@ use Rattle.h41_program.proofs.editing.packed_changed.Given as goal
 
 -- the lines so far, changed
 abbrev pub invariant-loop-found : goal.invariant-loop-found
-invariant-loop-found g l = (before : List ListedLine) × Changed (program_bytes l.ram) (final_position l.ram) l.packer l.met (changed l.change l.place) l.place l.at before
+invariant-loop-found g l =
+    (before : List ListedLine)
+    × Changed (program_bytes l.ram) (final_position l.ram) l.packer l.met (changed l.change l.place) l.place l.at before
 
 -- the bytes that are left
 abbrev pub decreases-loop-found : goal.decreases-loop-found

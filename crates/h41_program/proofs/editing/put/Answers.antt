@@ -8,28 +8,36 @@ use Rattle.h41_program.proofs.editing.put.Goals as goal
 pub unwrap-new-requires : goal.unwrap-new-requires
 unwrap-new-requires g c =
     let puts = put_there c.args.line c.args.placement (inner_line c.args.line c.requires.inner c.know_ranges.ensures) in
-    let left = leaves_new c.byte_round_trip.ensures.again c.byte_round_trip.ensures.one c.args.ram.now c.change_at.new.ram (changed (Put c.args.line c.args.placement)) c.args.at
+    let left =
+    leaves_new c.byte_round_trip.ensures.again c.byte_round_trip.ensures.one c.args.ram.now
+    c.change_at.new.ram (changed (Put c.args.line c.args.placement)) c.args.at
     c.in_ok-count.count c.args.line c.requires.sound puts c.in_ok-count.ensures.lines c.in_ok-count.ensures.count in
     some_found c.line_behind.result left.has.there (c.line_behind.ensures.line left.leaves.listed left.leaves.read ∙ left.has.got)
 
 pub returns-clause-read : goal.returns-clause-read
 returns-clause-read g c =
     let puts = put_there c.args.line c.args.placement (inner_line c.args.line c.requires.inner c.know_ranges.ensures) in
-    let left = leaves_new c.byte_round_trip.ensures.again c.byte_round_trip.ensures.one c.args.ram.now c.change_at.new.ram (changed (Put c.args.line c.args.placement)) c.args.at
+    let left =
+    leaves_new c.byte_round_trip.ensures.again c.byte_round_trip.ensures.one c.args.ram.now
+    c.change_at.new.ram (changed (Put c.args.line c.args.placement)) c.args.at
     c.in_ok-count.count c.args.line c.requires.sound puts c.in_ok-count.ensures.lines c.in_ok-count.ensures.count in
     left.leaves
 
 pub returns-clause-answer : goal.returns-clause-answer
 returns-clause-answer g c =
     let leaves = returns-clause-read g c in
-    stands_new c.args.ram.now c.change_at.new.ram c.args.at c.in_ok-count.count c.in_ok-count.ensures.count leaves.listed leaves.read c.unwrap-new.result.listed
+    stands_new c.args.ram.now c.change_at.new.ram c.args.at c.in_ok-count.count
+    c.in_ok-count.ensures.count leaves.listed leaves.read c.unwrap-new.result.listed
     (sym (ap listed_of c.unwrap-new.ensures) ∙ c.line_behind.ensures.line leaves.listed leaves.read)
 
 pub returns-clause-stands : goal.returns-clause-stands
 returns-clause-stands g c =
     let puts = put_there c.args.line c.args.placement (inner_line c.args.line c.requires.inner c.know_ranges.ensures) in
-    let left = leaves_new c.byte_round_trip.ensures.again c.byte_round_trip.ensures.one c.args.ram.now c.change_at.new.ram (changed (Put c.args.line c.args.placement)) c.args.at
+    let left =
+    leaves_new c.byte_round_trip.ensures.again c.byte_round_trip.ensures.one c.args.ram.now
+    c.change_at.new.ram (changed (Put c.args.line c.args.placement)) c.args.at
     c.in_ok-count.count c.args.line c.requires.sound puts c.in_ok-count.ensures.lines c.in_ok-count.ensures.count in
-    stands_there c.byte_round_trip.ensures.again c.byte_round_trip.ensures.one c.args.ram.now c.change_at.new.ram (changed (Put c.args.line c.args.placement)) c.args.at
+    stands_there c.byte_round_trip.ensures.again c.byte_round_trip.ensures.one c.args.ram.now
+    c.change_at.new.ram (changed (Put c.args.line c.args.placement)) c.args.at
     c.in_ok-count.count c.args.line c.in_ok-count.ensures.sound left c.unwrap-new.result.listed
     (sym (ap listed_of c.unwrap-new.ensures) ∙ c.line_behind.ensures.line left.leaves.listed left.leaves.read)

@@ -4,8 +4,11 @@ use Rattle.h41_program.proofs.loading.is_last_open.Goals as goal
 
 pub returns-in-Ok : goal.returns-in-Ok
 returns-in-Ok g c =
-    let packs = c.packed_program.ensures in
-    (packs.0, packs.1, open_ok (before_end packs.0) c.packed_program.result c.in-Ok.packer c.is_open.result packs.2 c.in-Ok.is c.is_open.ensures)
+    let packs = c.packed_program.ensures in (
+      packs.0,
+      packs.1,
+      open_ok (before_end packs.0) c.packed_program.result c.in-Ok.packer c.is_open.result packs.2 c.in-Ok.is c.is_open.ensures,
+    )
 
 pub returns-in-Err : goal.returns-in-Err
 returns-in-Err g c =

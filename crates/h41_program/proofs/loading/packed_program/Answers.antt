@@ -18,8 +18,10 @@ returns-then-is_final_end g c =
     let lines = before.0 ++ found.listed ∷ [] in (
       lines,
       from_reads memory 0 lines c.requires
-          (all_final (program_bytes memory) (final_position memory) 0 c.loop-found.at found.behind before.0 found.listed before.1 c.in-Some.ensures.first last),
-      packed_lines (program_bytes memory) (final_position memory) c.loop-found.at before.0 found.listed c.loop-found.packer before.1 last before.2,
+          (all_final (program_bytes memory) (final_position memory) 0 c.loop-found.at
+          found.behind before.0 found.listed before.1 c.in-Some.ensures.first last),
+      packed_lines (program_bytes memory) (final_position memory) c.loop-found.at
+          before.0 found.listed c.loop-found.packer before.1 last before.2,
     )
 
 pub loop-found-preserved : goal.loop-found-preserved
@@ -28,7 +30,8 @@ loop-found-preserved g c =
     let found = c.in-Some.found in
     let before = c.loop-found.invariant in (
       before.0 ++ found.listed ∷ [],
-      up_to_more (program_bytes memory) (final_position memory) 0 c.loop-found.at found.behind before.0 found.listed before.1 c.in-Some.ensures.first
+      up_to_more (program_bytes memory) (final_position memory) 0 c.loop-found.at
+          found.behind before.0 found.listed before.1 c.in-Some.ensures.first
           (sym c.is_final_end.ensures ∙ c.if-is_final_end.false),
       subst (λ lines. Packs c.put.new.self lines) (sym (lines_of-more before.0 found.listed)) (c.put.ensures (lines_of before.0) before.2),
     )
@@ -39,6 +42,7 @@ returns g c =
     let before = c.loop-found.invariant in
     let none = before_end-none (program_bytes memory) (final_position memory) 0 c.loop-found.at before.0 before.1 in (
       before.0,
-      from_reads memory 0 before.0 c.requires (all_none (program_bytes memory) (final_position memory) 0 c.loop-found.at before.0 before.1 c.in_default.ensures.none),
+      from_reads memory 0 before.0 c.requires
+          (all_none (program_bytes memory) (final_position memory) 0 c.loop-found.at before.0 before.1 c.in_default.ensures.none),
       rw none refl,
     )

@@ -17,7 +17,8 @@ pub loop-taken-preserved : goal.loop-taken-preserved
 loop-taken-preserved c =
     let before = c.loop-taken.invariant in (
       _,
-      loaded_more c.args.bytes.now c.args.packer.now c.loop-taken.packer c.put_pending.new.packer c.loop-taken.pending c.loop-taken.at before.0 c.in-Some.taken before.1
+      loaded_more c.args.bytes.now c.args.packer.now c.loop-taken.packer c.put_pending.new.packer
+          c.loop-taken.pending c.loop-taken.at before.0 c.in-Some.taken before.1
           c.in-Some.ensures.first (sym c.is_final_end.ensures ∙ c.if-is_final_end.false) c.put_pending.ensures,
     )
 
@@ -31,10 +32,13 @@ returns-then-is_final_end c =
       before.0 ++ listed ∷ [],
       all_final bytes (length bytes) 0 c.loop-taken.at taken.behind before.0 listed before.1.read c.in-Some.ensures.first last,
       λ front packs.
-          let known = loaded_final bytes c.args.packer.now c.loop-taken.packer c.put_pending.new.packer c.loop-taken.pending c.loop-taken.at before.0 taken front before.1
+          let known =
+          loaded_final bytes c.args.packer.now c.loop-taken.packer c.put_pending.new.packer
+          c.loop-taken.pending c.loop-taken.at before.0 taken front before.1
           c.in-Some.ensures.first last c.put_pending.ensures packs in
           rw (known.0, c.nulls_from.ensures)
-          (tested (list_all (λ byte. byte == 0) (drop taken.behind bytes)) (lines_of before.0) front c.put_pending.new.packer (λ _. known.1)),
+          (tested (list_all (λ byte. byte == 0) (drop taken.behind bytes))
+          (lines_of before.0) front c.put_pending.new.packer (λ _. known.1)),
     )
 
 pub returns-then-not-are_nulls : goal.returns-then-not-are_nulls
@@ -58,6 +62,9 @@ returns c =
       all_none bytes (length bytes) 0 c.loop-taken.at before.0 before.1.read c.in_default.ensures.none,
       λ front packs.
           let put = c.put_last.ensures (front ++ but_last (lines_of before.0)) (before.1.packs front packs) in
-          rw (none, test)
-          (refl, subst (λ (lines : List Line). Packs c.put_last.new.packer lines) (append_assoc front (but_last (lines_of before.0)) (kept_option c.loop-taken.pending)) put),
+          rw (none, test) (
+            refl,
+            subst (λ (lines : List Line). Packs c.put_last.new.packer lines)
+                (append_assoc front (but_last (lines_of before.0)) (kept_option c.loop-taken.pending)) put,
+          ),
     )

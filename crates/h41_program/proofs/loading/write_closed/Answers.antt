@@ -9,5 +9,6 @@ returns-then-not-is_open g c lines packs =
 
 pub returns : goal.returns
 returns g c lines packs =
-    closed_some c.args.ram.now c.write.new.ram c.write.result lines (sym (open_test c.args.packer lines c.is_open.result packs c.is_open.ensures) ∙ c.if-not-is_open.false)
+    closed_some c.args.ram.now c.write.new.ram c.write.result lines
+    (sym (open_test c.args.packer lines c.is_open.result packs c.is_open.ensures) ∙ c.if-not-is_open.false)
     (c.write.ensures.lines (closed lines) (c.close.ensures lines packs))

@@ -25,7 +25,8 @@ overflow_add-result g c =
 
 pub returns-in-Ok-clause-first : goal.returns-in-Ok-clause-first
 returns-in-Ok-clause-first g c =
-    let looked : Looked c.args.ram.now c.args.at c.past_nulls-position.result c.args.last c.line_limit.result (bytes_seen c.args.ram.now c.past_nulls-position.result c.line_limit.result) = record {
+    let looked : Looked c.args.ram.now c.args.at c.past_nulls-position.result c.args.last
+    c.line_limit.result (bytes_seen c.args.ram.now c.past_nulls-position.result c.line_limit.result) = record {
       last_is = c.requires.last;
       count = c.requires.count;
       from = c.past_nulls-position.ensures.from;
@@ -36,8 +37,10 @@ returns-in-Ok-clause-first g c =
       behind = c.line_limit.ensures.last;
       bytes = refl;
     } in
-    looked_first c.byte_round_trip.ensures.one c.args.ram.now c.requires.sound c.args.at c.past_nulls-position.result c.args.last c.line_limit.result
-    (bytes_seen c.args.ram.now c.past_nulls-position.result c.line_limit.result) looked c.decoded.result c.decoded.ensures c.in-Ok.line c.in-Ok.count (c.past_nulls-position.result + c.in-Ok.count) c.in-Ok.is refl
+    looked_first c.byte_round_trip.ensures.one c.args.ram.now c.requires.sound
+    c.args.at c.past_nulls-position.result c.args.last c.line_limit.result
+    (bytes_seen c.args.ram.now c.past_nulls-position.result c.line_limit.result) looked c.decoded.result
+    c.decoded.ensures c.in-Ok.line c.in-Ok.count (c.past_nulls-position.result + c.in-Ok.count) c.in-Ok.is refl
 
 pub returns-in-Ok-clause-behind : goal.returns-in-Ok-clause-behind
 returns-in-Ok-clause-behind g c =
@@ -48,7 +51,8 @@ returns-in-Ok-clause-behind g c =
 
 pub returns-in-Err-clause-none : goal.returns-in-Err-clause-none
 returns-in-Err-clause-none g c =
-    let looked : Looked c.args.ram.now c.args.at c.past_nulls-position.result c.args.last c.line_limit.result (bytes_seen c.args.ram.now c.past_nulls-position.result c.line_limit.result) = record {
+    let looked : Looked c.args.ram.now c.args.at c.past_nulls-position.result c.args.last
+    c.line_limit.result (bytes_seen c.args.ram.now c.past_nulls-position.result c.line_limit.result) = record {
       last_is = c.requires.last;
       count = c.requires.count;
       from = c.past_nulls-position.ensures.from;
@@ -59,5 +63,7 @@ returns-in-Err-clause-none g c =
       behind = c.line_limit.ensures.last;
       bytes = refl;
     } in
-    looked_none c.byte_round_trip.ensures.one c.args.ram.now c.requires.sound c.args.at c.past_nulls-position.result c.args.last c.line_limit.result
-    (bytes_seen c.args.ram.now c.past_nulls-position.result c.line_limit.result) looked c.decoded.result c.decoded.ensures c.in-Err.field-0 c.in-Err.is
+    looked_none c.byte_round_trip.ensures.one c.args.ram.now c.requires.sound
+    c.args.at c.past_nulls-position.result c.args.last c.line_limit.result
+    (bytes_seen c.args.ram.now c.past_nulls-position.result c.line_limit.result)
+    looked c.decoded.result c.decoded.ensures c.in-Err.field-0 c.in-Err.is

@@ -10,6 +10,8 @@ returns-in-Some g c =
     let position = c.position_behind.result in (
       found.listed,
       c.in-Some.ensures.first.first,
-      subst (λ (n : ℕ). MatchBool (is_final_end found.listed.line) (position ≡ found.listed.position) (PositionFrom c.args.ram.now n position)) c.in-Some.ensures.first.behind
+      subst (λ (n : ℕ).
+          MatchBool (is_final_end found.listed.line) (position ≡ found.listed.position) (PositionFrom c.args.ram.now n position))
+          c.in-Some.ensures.first.behind
           c.position_behind.ensures,
     )

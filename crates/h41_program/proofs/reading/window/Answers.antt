@@ -37,7 +37,8 @@ loop-position-preserved g c =
       }
     ] in
     let at : left - 1 ≡ 6 - position % 7 = omega (arith, held.few, held.some, held.ends) in
-    let byte : c.byte.result ≡ program_byte memory position = c.byte.ensures.byte ∙ ap (byte_at register) (c.from.ensures ∙ at) ∙ ap (λ (r : List ℕ). byte_at r (6 - position % 7)) held.own in
+    let byte : c.byte.result ≡ program_byte memory position =
+    c.byte.ensures.byte ∙ ap (byte_at register) (c.from.ensures ∙ at) ∙ ap (λ (r : List ℕ). byte_at r (6 - position % 7)) held.own in
     record {
       items =
           let here : c.args.at + (position - c.args.at) ≡ position = omega arith in

@@ -4,11 +4,14 @@ use Rattle.h41_program.proofs.registers.address_at.Goals as goal
 
 pub overflow_cast-result : goal.overflow_cast-result
 overflow_cast-result c =
-    let fits : c.number.result < 4096 = rw c.number.ensures.number (three_digits_fit c.args.register c.args.place (c.args.place + 2) c.number.ensures.register refl c.requires) in
+    let fits : c.number.result < 4096 =
+    rw c.number.ensures.number
+    (three_digits_fit c.args.register c.args.place (c.args.place + 2) c.number.ensures.register refl c.requires) in
     omega arith
 
 pub returns-clause-value : goal.returns-clause-value
 returns-clause-value c = c.number.ensures.number ∙ three_digits_read c.args.register c.args.place (c.args.place + 2) refl
 
 pub returns-clause-bound : goal.returns-clause-bound
-returns-clause-bound c = rw c.number.ensures.number (three_digits_fit c.args.register c.args.place (c.args.place + 2) c.number.ensures.register refl c.requires)
+returns-clause-bound c =
+    rw c.number.ensures.number (three_digits_fit c.args.register c.args.place (c.args.place + 2) c.number.ensures.register refl c.requires)

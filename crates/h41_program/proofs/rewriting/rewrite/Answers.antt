@@ -9,12 +9,14 @@ returns g c =
     let memory = c.args.ram.now in
     let bytes = c.args.bytes.now in
     let long : length c.loop-index.register-items ≡ length memory.main =
-    ap (λ (m : RegisterMap). length m.main) (sym c.set_main_memory.ensures.main) ∙ c.set_main_memory.ensures.memory.main ∙ sym c.requires.memory.main in
+    ap (λ (m : RegisterMap). length m.main) (sym c.set_main_memory.ensures.main) ∙ c.set_main_memory.ensures.memory.main
+    ∙ sym c.requires.memory.main in
     let main = listed_main (rewritten_register memory bytes) memory.main c.loop-index.register-items long
     (λ k inside. c.loop-index.invariant k (omega (arith, inside, long, c.requires.memory.main))) in
     let end : c.args.end ≡ end_after memory bytes = omega (arith, c.requires.place.size, c.requires.place.order) in
     let status : c.status.result ≡ c_of memory = c.status.ensures ∙ ap (register_at memory) c.from.ensures in
     let c_is : c.with_address-c.result ≡ with_three_places (c_of memory) 0 (end_after memory bytes) =
     c.with_address-c.ensures ∙ ap (λ r. with_three_places r 0 c.args.end) status ∙ ap (with_three_places (c_of memory) 0) end in
-    both_written memory c.write.new.self c.set_main_memory.new.self c.with_address-c.result (with_three_places (c_of memory) 0 (end_after memory bytes)) c.loop-index.register-items _
+    both_written memory c.write.new.self c.set_main_memory.new.self c.with_address-c.result
+    (with_three_places (c_of memory) 0 (end_after memory bytes)) c.loop-index.register-items _
     c.write.ensures c.set_main_memory.ensures.main c_is main

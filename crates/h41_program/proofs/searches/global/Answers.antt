@@ -13,7 +13,8 @@ returns-then-is_final_end g c =
     let lines = before.0 ++ found.listed ∷ [] in (
       lines,
       from_reads memory 0 lines c.requires
-          (all_final (program_bytes memory) (final_position memory) 0 c.loop-found.position found.behind before.0 found.listed before.1 c.in-Some.ensures.first final),
+          (all_final (program_bytes memory) (final_position memory) 0 c.loop-found.position
+          found.behind before.0 found.listed before.1 c.in-Some.ensures.first final),
       before.2 ∙ sym (named_in-final c.args.name.now before.0 found.listed final),
     )
 
@@ -25,7 +26,8 @@ loop-found-preserved-then-is_named g c =
     let running = sym c.is_final_end.ensures ∙ c.if-is_final_end.false in
     let test = sym c.is_named.ensures ∙ c.if-is_named.true in (
       before.0 ++ found.listed ∷ [],
-      up_to_more (program_bytes memory) (final_position memory) 0 c.loop-found.position found.behind before.0 found.listed before.1 c.in-Some.ensures.first running,
+      up_to_more (program_bytes memory) (final_position memory) 0 c.loop-found.position
+          found.behind before.0 found.listed before.1 c.in-Some.ensures.first running,
       sym (named_in-more c.args.name.now before.0 found.listed ∙ (rw test refl)),
     )
 
@@ -37,7 +39,8 @@ loop-found-preserved g c =
     let running = sym c.is_final_end.ensures ∙ c.if-is_final_end.false in
     let test = sym c.is_named.ensures ∙ c.if-is_named.false in (
       before.0 ++ found.listed ∷ [],
-      up_to_more (program_bytes memory) (final_position memory) 0 c.loop-found.position found.behind before.0 found.listed before.1 c.in-Some.ensures.first running,
+      up_to_more (program_bytes memory) (final_position memory) 0 c.loop-found.position
+          found.behind before.0 found.listed before.1 c.in-Some.ensures.first running,
       before.2 ∙ sym (named_in-more c.args.name.now before.0 found.listed ∙ (rw test refl)),
     )
 
@@ -46,6 +49,7 @@ returns g c =
     let memory = c.args.ram.now in
     let before = c.loop-found.invariant in (
       before.0,
-      from_reads memory 0 before.0 c.requires (all_none (program_bytes memory) (final_position memory) 0 c.loop-found.position before.0 before.1 c.in_default.ensures.none),
+      from_reads memory 0 before.0 c.requires
+          (all_none (program_bytes memory) (final_position memory) 0 c.loop-found.position before.0 before.1 c.in_default.ensures.none),
       before.2,
     )

@@ -15,7 +15,9 @@ returns-then-is_label g c lines from =
     let found = c.in-Some.found in
     let before = c.loop-found.invariant in
     let label = sym c.is_label.ensures ∙ c.if-is_label.true in
-    let on = goes_on (program_bytes memory) (final_position memory) c.args.at c.loop-found.position found.behind before.0 lines found.listed before.1 c.in-Some.ensures.first (from.sound c.requires) in
+    let on =
+    goes_on (program_bytes memory) (final_position memory) c.args.at c.loop-found.position found.behind
+    before.0 lines found.listed before.1 c.in-Some.ensures.first (from.sound c.requires) in
     sym (ap (λ (all : List ListedLine). position_of (label_in c.args.label all)) on.1
     ∙ ap position_of (before.2 (found.listed ∷ on.0) ∙ label_in-here c.args.label found.listed on.0 label))
 
@@ -25,7 +27,9 @@ returns-then-is_end g c lines from =
     let found = c.in-Some.found in
     let before = c.loop-found.invariant in
     let end = sym c.is_end.ensures ∙ c.if-is_end.true in
-    let on = goes_on (program_bytes memory) (final_position memory) c.args.at c.loop-found.position found.behind before.0 lines found.listed before.1 c.in-Some.ensures.first (from.sound c.requires) in
+    let on =
+    goes_on (program_bytes memory) (final_position memory) c.args.at c.loop-found.position found.behind
+    before.0 lines found.listed before.1 c.in-Some.ensures.first (from.sound c.requires) in
     sym (ap (λ (all : List ListedLine). position_of (label_in c.args.label all)) on.1
     ∙ ap position_of (before.2 (found.listed ∷ on.0) ∙ label_in-end c.args.label found.listed on.0 end))
 
@@ -35,7 +39,9 @@ returns-then-is_final_end g c lines from =
     let found = c.in-Some.found in
     let before = c.loop-found.invariant in
     let final = sym c.is_final_end.ensures ∙ c.if-is_final_end.true in
-    let all = ends_final (program_bytes memory) (final_position memory) c.args.at c.loop-found.position found.behind before.0 lines found.listed before.1 c.in-Some.ensures.first final (from.sound c.requires) in
+    let all =
+    ends_final (program_bytes memory) (final_position memory) c.args.at c.loop-found.position found.behind
+    before.0 lines found.listed before.1 c.in-Some.ensures.first final (from.sound c.requires) in
     sym (ap (λ (l : List ListedLine). position_of (label_in c.args.label l)) all
     ∙ ap position_of (before.2 (found.listed ∷ []) ∙ label_in-final c.args.label found.listed final))
 
@@ -48,7 +54,8 @@ loop-found-preserved g c =
     let other = sym c.is_end.ensures ∙ c.if-is_end.false in
     let no_label = sym c.is_label.ensures ∙ c.if-is_label.false in (
       before.0 ++ found.listed ∷ [],
-      up_to_more (program_bytes memory) (final_position memory) c.args.at c.loop-found.position found.behind before.0 found.listed before.1 c.in-Some.ensures.first running,
+      up_to_more (program_bytes memory) (final_position memory) c.args.at c.loop-found.position
+          found.behind before.0 found.listed before.1 c.in-Some.ensures.first running,
       λ rest.
           ap (label_in c.args.label) (append_assoc before.0 (found.listed ∷ []) rest)
           ∙ before.2 (found.listed ∷ rest)
@@ -59,5 +66,8 @@ pub returns : goal.returns
 returns g c lines from =
     let memory = c.args.ram.now in
     let before = c.loop-found.invariant in
-    let all = ends_none (program_bytes memory) (final_position memory) c.args.at c.loop-found.position before.0 lines before.1 c.in_default.ensures.none (from.sound c.requires) in
-    sym (ap (λ (l : List ListedLine). position_of (label_in c.args.label l)) (all ∙ sym (append-nil before.0)) ∙ ap position_of (before.2 []))
+    let all =
+    ends_none (program_bytes memory) (final_position memory) c.args.at c.loop-found.position
+    before.0 lines before.1 c.in_default.ensures.none (from.sound c.requires) in
+    sym
+    (ap (λ (l : List ListedLine). position_of (label_in c.args.label l)) (all ∙ sym (append-nil before.0)) ∙ ap position_of (before.2 []))

@@ -9,8 +9,10 @@ returns g c =
     let memory = c.args.ram.now in
     let size = top_of memory - c.args.curtain in
     let long : length c.loop-index.register-items ≡ length memory.main =
-    ap (λ (m : RegisterMap). length m.main) (sym c.set_main_memory.ensures.main) ∙ c.set_main_memory.ensures.memory.main ∙ sym c.requires.memory.main in
+    ap (λ (m : RegisterMap). length m.main) (sym c.set_main_memory.ensures.main) ∙ c.set_main_memory.ensures.memory.main
+    ∙ sym c.requires.memory.main in
     let main = listed_main (resized_register memory size) memory.main c.loop-index.register-items long
     (λ k inside. c.loop-index.invariant k (omega (arith, inside, long, c.requires.memory.main))) in
-    both_written memory c.write.new.self c.set_main_memory.new.self c.moved_addresses-c.result (resized_c memory size) c.loop-index.register-items _
+    both_written memory c.write.new.self c.set_main_memory.new.self
+    c.moved_addresses-c.result (resized_c memory size) c.loop-index.register-items _
     c.write.ensures c.set_main_memory.ensures.main c.moved_addresses-c.ensures main

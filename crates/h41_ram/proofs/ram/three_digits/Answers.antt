@@ -4,7 +4,9 @@ use Rattle.h41_ram.proofs.ram.three_digits.Goals as goal
 
 pub overflow_cast-result : goal.overflow_cast-result
 overflow_cast-result c =
-    let fits : c.number.result < 4096 = rw c.number.ensures.number (three_digits_fit c.args.register c.args.place (c.args.place + 2) c.number.ensures.register refl c.requires) in
+    let fits : c.number.result < 4096 =
+    rw c.number.ensures.number
+    (three_digits_fit c.args.register c.args.place (c.args.place + 2) c.number.ensures.register refl c.requires) in
     omega arith
 
 pub returns : goal.returns

@@ -5,8 +5,14 @@ use Rattle.h41_ram.proofs.Bits.{put_bit-lt, bit_written}
 use Rattle.h41_ram.proofs.ram.with_bit.Goals as goal
 
 pub holding-requires : goal.holding-requires
-holding-requires c =
-    (omega arith, (omega arith, rw (c.to_u64.ensures.value, c.from.ensures) (put_bit-lt c.args.register c.args.bit c.args.on c.to_u64.ensures.register c.requires)))
+holding-requires c = (
+  omega arith,
+  (
+    omega arith,
+    rw (c.to_u64.ensures.value, c.from.ensures)
+        (put_bit-lt c.args.register c.args.bit c.args.on c.to_u64.ensures.register c.requires),
+  ),
+)
 
 pub returns : goal.returns
 returns c =

@@ -26,7 +26,9 @@ returns-then-number-ge1000-clause-bytes t c =
     let front = decimal (c.args.number / 1000) in
     let some = decimal_nonempty (c.args.number / 1000) (omega arith) in
     let last = c.args.number % 1000 in
-    let parts = ap (grouped c.args.mark) (decimal_group c.args.number c.if-number-ge1000.true (omega arith)) ∙ grouped-group c.args.mark front (48 + last / 10 / 10 % 10) (48 + last / 10 % 10) (48 + last % 10) some in
+    let parts =
+    ap (grouped c.args.mark) (decimal_group c.args.number c.if-number-ge1000.true (omega arith))
+    ∙ grouped-group c.args.mark front (48 + last / 10 / 10 % 10) (48 + last / 10 % 10) (48 + last % 10) some in
     rw (c.push_digits.ensures.bytes, c.push_byte.ensures, c.push_grouped.ensures.bytes, parts) (simp append_assoc)
 
 pub returns-then-number-ge1000-clause-most : goal.returns-then-number-ge1000-clause-most

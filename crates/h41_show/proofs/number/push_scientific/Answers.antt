@@ -16,12 +16,15 @@ returns c =
     let filled : c.power_of_ten.result ≡ 10 ^ (extra - m) = c.power_of_ten.ensures ∙ ap (λ k. 10 ^ k) c.saturating_sub.ensures in
     let some : 0 < size x = size_positive x.mantissa.digits x.exponent.biased x.mantissa.at_least x.mantissa.below in
     let text =
-    scientific_text-shown digits t m c.mantissa_decimals-decimals.ensures.most c.round-digits.ensures.exponent c.round-digits.ensures.least c.round-digits.ensures.most
-    c.args.format (size x) extra some c.mantissa_decimals-decimals.ensures.value c.round-digits.ensures.value c.extra_digits-extra.ensures.value
+    scientific_text-shown digits t m c.mantissa_decimals-decimals.ensures.most
+    c.round-digits.ensures.exponent c.round-digits.ensures.least c.round-digits.ensures.most
+    c.args.format (size x) extra some c.mantissa_decimals-decimals.ensures.value
+    c.round-digits.ensures.value c.extra_digits-extra.ensures.value
     c.extra_digits-extra.ensures.most c.extra_digits-extra.ensures.within in
     let mantissa = ap (λ d. mantissa_text c.args.format.radix d (digits * c.power_of_ten.result)) c.saturating_sub-2.ensures
     ∙ ap (λ p. mantissa_text c.args.format.radix (m - extra) (digits * p)) filled in
     let exponent = exponent_text (t - extra + 9) in
     c.push_exponent.ensures ∙ ap (λ b. b ++ exponent) c.push_mantissa.ensures.bytes
-    ∙ append_assoc c.args.text.now.bytes (mantissa_text c.args.format.radix c.saturating_sub-2.result (digits * c.power_of_ten.result)) exponent
+    ∙ append_assoc c.args.text.now.bytes
+    (mantissa_text c.args.format.radix c.saturating_sub-2.result (digits * c.power_of_ten.result)) exponent
     ∙ ap (λ b. c.args.text.now.bytes ++ b) (ap (λ b. b ++ exponent) mantissa ∙ text)

@@ -12,4 +12,6 @@ returns-in-Some c =
     let decimals = ap (λ d. steps_text format d c.in-Some.steps.count) facts.decimals in
     let count = ap (steps_text format (fixed_decimals format.digits (size c.args.x))) facts.count in
     let notation = ap (λ n. notation_text n format (size c.args.x)) (sym c.in-Fixed.is) in
-    c.push_steps.ensures ∙ ap (λ b. c.args.text.now.bytes ++ b) (decimals ∙ (count ∙ (sym (notation_text-fixed format (size c.args.x) (sym facts.fixed)) ∙ notation)))
+    c.push_steps.ensures
+    ∙ ap (λ b. c.args.text.now.bytes ++ b)
+    (decimals ∙ (count ∙ (sym (notation_text-fixed format (size c.args.x) (sym facts.fixed)) ∙ notation)))

@@ -7,7 +7,9 @@ use Rattle.h41_show.proofs.number.push_zero.Goals as goal
 pub returns-in-Fixed : goal.returns-in-Fixed
 returns-in-Fixed c =
     let notation = ap (λ n. notation_text n c.args.format 0) (sym c.in-Fixed.is) in
-    c.push_steps.ensures ∙ ap (λ b. c.args.text.now.bytes ++ b) (zero_fixed c.args.format c.fixed_decimals-decimals.result c.fixed_decimals-decimals.ensures ∙ notation)
+    c.push_steps.ensures
+    ∙ ap (λ b. c.args.text.now.bytes ++ b)
+    (zero_fixed c.args.format c.fixed_decimals-decimals.result c.fixed_decimals-decimals.ensures ∙ notation)
 
 pub returns-in-Scientific : goal.returns-in-Scientific
 returns-in-Scientific c =

@@ -13,14 +13,19 @@ returns-in_err-parameter-in-Some c =
 pub returns-in_err-parameter-in-None : goal.returns-in_err-parameter-in-None
 returns-in_err-parameter-in-None c =
     let none = parameter_none c.args.text.now c.in_err-parameter-in-None.ensures.none in
-    c.from_residual-in_err-parameter-in-None.ensures ∙ sym (ap (operand_from c.args.text.now) c.in-None.ensures.none ∙ ap (option_map Direct) none)
+    c.from_residual-in_err-parameter-in-None.ensures
+    ∙ sym (ap (operand_from c.args.text.now) c.in-None.ensures.none ∙ ap (option_map Direct) none)
 
 pub returns-in_ok-parameter-in-Some : goal.returns-in_ok-parameter-in-Some
 returns-in_ok-parameter-in-Some c =
-    let found = parameter_is c.in-Some.register.now c.in_ok-parameter-in-Some.field-0 c.in_ok-parameter-in-Some.ensures.inside c.in_ok-parameter-in-Some.ensures.named in
+    let found =
+    parameter_is c.in-Some.register.now c.in_ok-parameter-in-Some.field-0
+    c.in_ok-parameter-in-Some.ensures.inside c.in_ok-parameter-in-Some.ensures.named in
     sym (ap (operand_from c.args.text.now) c.in-Some.ensures.rest ∙ ap (option_map Indirect) found)
 
 pub returns-in_ok-parameter-in-None : goal.returns-in_ok-parameter-in-None
 returns-in_ok-parameter-in-None c =
-    let found = parameter_is c.args.text.now c.in_ok-parameter-in-None.field-0 c.in_ok-parameter-in-None.ensures.inside c.in_ok-parameter-in-None.ensures.named in
+    let found =
+    parameter_is c.args.text.now c.in_ok-parameter-in-None.field-0
+    c.in_ok-parameter-in-None.ensures.inside c.in_ok-parameter-in-None.ensures.named in
     sym (ap (operand_from c.args.text.now) c.in-None.ensures.none ∙ ap (option_map Direct) found)

@@ -8,14 +8,24 @@ returns-then-has_text-clause-line c =
     read_line_is c.args.text.now c.in-Some.line c.canon.result (c.if-has_text.ensures.0 refl) c.in-Some.ensures.text c.canon.ensures
 
 pub returns-then-has_text-clause-refused : goal.returns-then-has_text-clause-refused
-returns-then-has_text-clause-refused c =
-    (λ same. absurd (false≢true same), λ none. absurd (none _ (read_is c.args.text.now c.in-Some.line (c.if-has_text.ensures.0 refl) c.in-Some.ensures.text)))
+returns-then-has_text-clause-refused c = (
+  λ same. absurd (false≢true same),
+  λ none. absurd (none _ (read_is c.args.text.now c.in-Some.line (c.if-has_text.ensures.0 refl) c.in-Some.ensures.text)),
+)
 
 pub returns-else-has_text-clause-line : goal.returns-else-has_text-clause-line
-returns-else-has_text-clause-line c = λ line. (λ same. cc, λ of. absurd (other_text c.args.text.now c.in-Some.line c.in-Some.ensures.line (λ same. false≢true (c.if-has_text.ensures.1 same)) line of))
+returns-else-has_text-clause-line c =
+    λ line. (
+      λ same. cc,
+      λ of. absurd
+          (other_text c.args.text.now c.in-Some.line c.in-Some.ensures.line (λ same. false≢true (c.if-has_text.ensures.1 same)) line of),
+    )
 
 pub returns-else-has_text-clause-refused : goal.returns-else-has_text-clause-refused
-returns-else-has_text-clause-refused c = (λ same. other_text c.args.text.now c.in-Some.line c.in-Some.ensures.line (λ same. false≢true (c.if-has_text.ensures.1 same)), λ none. refl)
+returns-else-has_text-clause-refused c = (
+  λ same. other_text c.args.text.now c.in-Some.line c.in-Some.ensures.line (λ same. false≢true (c.if-has_text.ensures.1 same)),
+  λ none. refl,
+)
 
 pub returns-in-None-clause-line : goal.returns-in-None-clause-line
 returns-in-None-clause-line c = λ line. (λ same. cc, λ of. absurd (no_text c.args.text.now c.in-None.ensures.line line of))

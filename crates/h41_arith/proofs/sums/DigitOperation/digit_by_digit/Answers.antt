@@ -8,7 +8,9 @@ returns-then-carry_out c lo hi mask =
       digits = made.result.0;
       carry_out = made.result.1;
       rule = rw (is.0, is.1) at made.ensures.result;
-      number = rw c.if-carry_out.true (total_with made.result.0 lo hi _ _ mask.ordered (rw (is.0, is.1) at c.in_span-number.ensures.digits) (rw is.1 at c.first.ensures.next));
+      number =
+          rw c.if-carry_out.true (total_with made.result.0 lo hi _ _ mask.ordered
+          (rw (is.0, is.1) at c.in_span-number.ensures.digits) (rw is.1 at c.first.ensures.next));
     }
 
 pub returns-else-carry_out : goal.returns-else-carry_out

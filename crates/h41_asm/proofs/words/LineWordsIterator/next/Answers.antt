@@ -14,7 +14,9 @@ pub returns-then-is_empty-clause-steps : goal.returns-then-is_empty-clause-steps
 returns-then-is_empty-clause-steps c =
     let line = c.args.self.now.rest.now in
     let end : c.word_end.result ≡ part_length false (drop c.in_ok-start.start line) = simp take_rest at c.word_end.ensures.value in
-    let empty : part_length false (drop c.in_ok-start.start line) ≡ 0 = omega (arith, c.split_at.ensures.front_len, eqb-true (length c.split_at.result.0.now) 0 (sym c.is_empty.ensures ∙ c.if-is_empty.true)) in
+    let empty : part_length false (drop c.in_ok-start.start line) ≡ 0 =
+    omega
+    (arith, c.split_at.ensures.front_len, eqb-true (length c.split_at.result.0.now) 0 (sym c.is_empty.ensures ∙ c.if-is_empty.true)) in
     let none = words_of-comment_alone line c.in_ok-start.start c.in_ok-start.ensures empty in
     (none, none)
 
@@ -25,7 +27,8 @@ returns-clause-steps c =
     let within : c.word_end.result ≤ length (drop c.in_ok-start.start line) = simp take_rest at c.word_end.ensures.bound in
     let not_empty = eqb-false (length c.split_at.result.0.now) 0 (sym c.is_empty.ensures ∙ c.if-is_empty.false) in
     let some : 0 < c.word_end.result = omega (arith, c.split_at.ensures.front_len, not_empty) in
-    simp (c.split_at.ensures.front, c.split_at.ensures.back, take_rest) (words_of-first line c.in_ok-start.start c.word_end.result c.in_ok-start.ensures end within some)
+    simp (c.split_at.ensures.front, c.split_at.ensures.back, take_rest)
+    (words_of-first line c.in_ok-start.start c.word_end.result c.in_ok-start.ensures end within some)
 
 pub returns-clause-goes : goal.returns-clause-goes
 returns-clause-goes c =

@@ -23,4 +23,5 @@ returns-in-Nonzero-Nonzero c =
     let y : units c.args.other ≡ signed a.y_sign (size a.y) = ap units a.is-1 in
     let P : ℤ → Type 0 = λ t. NearestQuotient t (units c.args.other) c.divide.result in
     let Q : ℤ → Type 0 = λ t. NearestQuotient (signed a.x_sign (size a.x)) t c.divide.result in
-    subst P (sym x) (subst Q (sym y) (quotient_nearest a.x_sign a.y_sign a.x a.y _ (rounded_along _ _ _ _ c.times.ensures c.divide.ensures)))
+    subst P (sym x)
+    (subst Q (sym y) (quotient_nearest a.x_sign a.y_sign a.x a.y _ (rounded_along _ _ _ _ c.times.ensures c.divide.ensures)))

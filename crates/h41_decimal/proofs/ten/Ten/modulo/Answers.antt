@@ -13,10 +13,12 @@ pub returns-in-Zero-default : goal.returns-in-Zero-default
 returns-in-Zero-default c =
     let a = c.in-Zero-default in
     let P : Ten → Type 0 = λ t. NearestModulo c.args.self t (Ok Zero) in
-    subst P (sym a.is-1) (modulo_by c.args.self a.field-0-1 a.field-1-1 (pos 0) (Ok Zero) (ap units a.is-0) (rest_of_zero a.field-0-1 (size a.field-1-1) (size_pos a.field-1-1)))
+    subst P (sym a.is-1) (modulo_by c.args.self a.field-0-1 a.field-1-1 (pos 0) (Ok Zero)
+    (ap units a.is-0) (rest_of_zero a.field-0-1 (size a.field-1-1) (size_pos a.field-1-1)))
 
 pub returns-in-Nonzero-Nonzero : goal.returns-in-Nonzero-Nonzero
 returns-in-Nonzero-Nonzero c =
     let a = c.in-Nonzero-Nonzero in
     let P : Ten → Type 0 = λ t. NearestModulo c.args.self t c.modulo.result in
-    subst P (sym a.is-1) (modulo_by c.args.self a.x_sign a.x (signed a.y_sign (size a.y)) c.modulo.result (ap units a.is-0) c.modulo.ensures)
+    subst P (sym a.is-1)
+    (modulo_by c.args.self a.x_sign a.x (signed a.y_sign (size a.y)) c.modulo.result (ap units a.is-0) c.modulo.ensures)

@@ -12,6 +12,8 @@ where_none (Some a) P Q f p = tt
 pub returns-in-Nonzero-clause-many : goal.returns-in-Nonzero-clause-many
 returns-in-Nonzero-clause-many c =
     let x = c.in-Nonzero.x in
-    let e : unsigned_abs (units c.args.self) ≡ size x = ap (λ t. unsigned_abs (units t)) c.in-Nonzero.is ∙ unsigned_abs-signed c.in-Nonzero.field-0 (size x) in
+    let e : unsigned_abs (units c.args.self) ≡ size x =
+    ap (λ t. unsigned_abs (units t)) c.in-Nonzero.is ∙ unsigned_abs-signed c.in-Nonzero.field-0 (size x) in
     where_none c.ones.result (109 ≤ x.exponent.biased) _
-    (λ (high : 109 ≤ x.exponent.biased). omega (arith, e, many_ones x.mantissa.digits x.exponent.biased x.mantissa.at_least high)) c.ones.ensures.many
+    (λ (high : 109 ≤ x.exponent.biased). omega (arith, e, many_ones x.mantissa.digits x.exponent.biased x.mantissa.at_least high))
+    c.ones.ensures.many

@@ -7,4 +7,5 @@ use Rattle.h41_decimal.proofs.ten.Ten.sign.Goals as goal
 
 pub returns-in-Nonzero : goal.returns-in-Nonzero
 returns-in-Nonzero c =
-    sym (ap (λ t. sign_of (units t)) c.in-Nonzero.is ∙ sign_of-signed c.in-Nonzero.sign (size c.in-Nonzero.field-1) (size_pos c.in-Nonzero.field-1))
+    sym (ap (λ t. sign_of (units t)) c.in-Nonzero.is
+    ∙ sign_of-signed c.in-Nonzero.sign (size c.in-Nonzero.field-1) (size_pos c.in-Nonzero.field-1))

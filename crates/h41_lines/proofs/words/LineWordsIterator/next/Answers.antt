@@ -13,14 +13,19 @@ returns-in_err-start-clause-steps c =
 pub split_at-requires : goal.split_at-requires
 split_at-requires c =
     let line = c.args.self.now.rest.now in
-    let end : c.unwrap_or-end.result ≡ position_or_len is_blank (drop c.in_ok-start.start line) = word_end_is (drop c.in_ok-start.start line) c.word_end.result c.unwrap_or-end.result (simp take_rest at c.word_end.ensures) (simp take_rest at c.unwrap_or-end.ensures) in
+    let end : c.unwrap_or-end.result ≡ position_or_len is_blank (drop c.in_ok-start.start line) =
+    word_end_is (drop c.in_ok-start.start line) c.word_end.result c.unwrap_or-end.result
+    (simp take_rest at c.word_end.ensures) (simp take_rest at c.unwrap_or-end.ensures) in
     rw take_rest (word_end-le (drop c.in_ok-start.start line) c.unwrap_or-end.result end)
 
 pub returns-clause-steps : goal.returns-clause-steps
 returns-clause-steps c =
     let line = c.args.self.now.rest.now in
-    let end : c.unwrap_or-end.result ≡ position_or_len is_blank (drop c.in_ok-start.start line) = word_end_is (drop c.in_ok-start.start line) c.word_end.result c.unwrap_or-end.result (simp take_rest at c.word_end.ensures) (simp take_rest at c.unwrap_or-end.ensures) in
-    simp (c.split_at.ensures.front, c.split_at.ensures.back, take_rest) (words_of-first line c.in_ok-start.start c.unwrap_or-end.result c.in_ok-start.ensures end)
+    let end : c.unwrap_or-end.result ≡ position_or_len is_blank (drop c.in_ok-start.start line) =
+    word_end_is (drop c.in_ok-start.start line) c.word_end.result c.unwrap_or-end.result
+    (simp take_rest at c.word_end.ensures) (simp take_rest at c.unwrap_or-end.ensures) in
+    simp (c.split_at.ensures.front, c.split_at.ensures.back, take_rest)
+    (words_of-first line c.in_ok-start.start c.unwrap_or-end.result c.in_ok-start.ensures end)
 
 pub returns-clause-goes : goal.returns-clause-goes
 returns-clause-goes c =

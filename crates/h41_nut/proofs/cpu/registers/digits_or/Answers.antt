@@ -14,4 +14,5 @@ holding-requires c =
 pub returns : goal.returns
 returns c =
     is_digits_or c.args.x c.args.y c.holding.result c.to_u64.ensures.register c.to_u64-2.ensures.register c.holding.ensures.register
-    (c.holding.ensures.value ∙ ap (λ n. bit_or n c.to_u64-2.result) c.to_u64.ensures.value ∙ ap (bit_or (value c.args.x)) c.to_u64-2.ensures.value)
+    (c.holding.ensures.value ∙ ap (λ n. bit_or n c.to_u64-2.result) c.to_u64.ensures.value
+    ∙ ap (bit_or (value c.args.x)) c.to_u64-2.ensures.value)

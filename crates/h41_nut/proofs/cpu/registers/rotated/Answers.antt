@@ -23,5 +23,7 @@ returns c =
     let count : 13 - digits + 1 - 0 ≡ 14 - digits = omega (arith, c.requires) in
     let read : digits - 1 + 1 - 0 ≡ digits = omega (arith, c.if-digits-eq0.false) in
     let put : 14 - (14 - digits) ≡ digits = omega (arith, c.requires) in
-    exchanged_parts c.args.register c.with_number.result c.with_number-2.result digits c.requires c.number-staying.ensures.register c.with_number.ensures.register c.with_number-2.ensures.register
-    (rw count at c.with_number.ensures.number ∙ c.number-staying.ensures.number) (rw put at c.with_number-2.ensures.number ∙ rw read at c.number-leaving.ensures.number) c.with_number-2.ensures.below
+    exchanged_parts c.args.register c.with_number.result c.with_number-2.result digits c.requires
+    c.number-staying.ensures.register c.with_number.ensures.register c.with_number-2.ensures.register
+    (rw count at c.with_number.ensures.number ∙ c.number-staying.ensures.number)
+    (rw put at c.with_number-2.ensures.number ∙ rw read at c.number-leaving.ensures.number) c.with_number-2.ensures.below

@@ -23,17 +23,20 @@ here words name entry below passes =
 
 pub loop-entry-init : goal.loop-entry-init
 loop-entry-init c =
-    ap (λ entries. found_in c.args.name.now (map (function_in c.args.self.now.words) entries)) (up_to-zero (entry_count c.args.self.now.words))
+    ap (λ entries. found_in c.args.name.now (map (function_in c.args.self.now.words) entries))
+    (up_to-zero (entry_count c.args.self.now.words))
 
 pub loop-entry-preserved : goal.loop-entry-preserved
 loop-entry-preserved c =
-    let below : c.loop-entry.entry < entry_count c.args.self.now.words = omega (arith, c.entry_count-count.ensures.count, c.loop-entry-test.true) in
+    let below : c.loop-entry.entry < entry_count c.args.self.now.words =
+    omega (arith, c.entry_count-count.ensures.count, c.loop-entry-test.true) in
     c.loop-entry.invariant
     ∙ later c.args.self.now.words c.args.name.now c.loop-entry.entry below (sym c.is_named.ensures ∙ c.if-is_named.false)
 
 pub returns-then-is_named-clause-found : goal.returns-then-is_named-clause-found
 returns-then-is_named-clause-found c =
-    let below : c.loop-entry.entry < entry_count c.args.self.now.words = omega (arith, c.entry_count-count.ensures.count, c.loop-entry-test.true) in
+    let below : c.loop-entry.entry < entry_count c.args.self.now.words =
+    omega (arith, c.entry_count-count.ensures.count, c.loop-entry-test.true) in
     let found = c.loop-entry.invariant
     ∙ here c.args.self.now.words c.args.name.now c.loop-entry.entry below (sym c.is_named.ensures ∙ c.if-is_named.true) in
     ap (λ number. Some (number, c.loop-entry.entry)) c.number.ensures ∙ sym found

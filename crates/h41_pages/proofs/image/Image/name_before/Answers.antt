@@ -23,7 +23,8 @@ loop-distance-init c =
 
 -- one more character, which is not the last
 later : (words name : List ℕ) (offset distance : ℕ) → distance < min offset 11 → is_last (word_before words offset distance) ≡ false
-    → going_on name (rest_of words offset distance) ≡ going_on (name ++ character (word_before words offset distance) ∷ []) (rest_of words offset (distance + 1))
+    → going_on name (rest_of words offset distance)
+    ≡ going_on (name ++ character (word_before words offset distance) ∷ []) (rest_of words offset (distance + 1))
 later words name offset distance below fails =
     ap (going_on name) (map-step (word_before words offset) distance (min offset 11) below)
     ∙ name_goes_on name (word_before words offset distance) (rest_of words offset (distance + 1)) fails
@@ -70,4 +71,5 @@ returns c =
     let words = c.args.self.now.words in
     let offset = c.args.offset in
     let past : min offset 11 ≤ c.loop-distance.distance = omega (arith, c.min-count.ensures, c.loop-distance-test.false) in
-    sym (c.loop-distance.invariant.name ∙ ap (going_on c.loop-distance.name) (map-none (word_before words offset) c.loop-distance.distance (min offset 11) past))
+    sym (c.loop-distance.invariant.name
+    ∙ ap (going_on c.loop-distance.name) (map-none (word_before words offset) c.loop-distance.distance (min offset 11) past))

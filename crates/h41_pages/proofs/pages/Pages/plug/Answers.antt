@@ -12,7 +12,8 @@ invariant_of-self c =
     let before : PageMap = record { images = images; chosen = chosen } in
     let row = row_is images chosen c.from.result c.index_mut.result.now _ c.self.invariant.map (search rules) c.index_mut.ensures.value in
     let same =
-    plugged_as images chosen c.args.page c.args.bank c.args.writable c.args.words.now c.from.result c.bank_place.result c.index_mut.result.now c.in_ok-image.image
+    plugged_as images chosen c.args.page c.args.bank c.args.writable c.args.words.now
+    c.from.result c.bank_place.result c.index_mut.result.now c.in_ok-image.image
     c.from.ensures row (c.bank_place.ensures.place ∙ ap bank_place c.bank_numbered.ensures) c.in_ok-image.ensures in
     subst (λ pages. IsPages pages c.put.new.self) (sym same)
     (subst (IsPages _) (sym (c.put.ensures ∙ ap (λ page. with_page c.self.inside.space page c.args.words.now) c.from-2.ensures))

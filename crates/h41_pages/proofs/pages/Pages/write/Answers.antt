@@ -24,6 +24,8 @@ invariant_of-self c =
     let new = c.write.ensures.one ∙ ap (λ offset. rewritten offset c.args.word image) c.offset_of.ensures.offset in
     let writable : image.writable ≡ true = search rules in
     let same = written_as images chosen c.args.address c.args.word page place row image c.write.new.self at read bank found new in
-    let accepted = accepted_as before c.args.address image (chosen_as images chosen c.args.address page place row image at read bank found) writable in
+    let accepted =
+    accepted_as before c.args.address image (chosen_as images chosen c.args.address page place row image at read bank found) writable in
     subst (λ pages. IsPages pages c.set.new.self) (sym same)
-    (subst (IsPages _) (sym c.set.ensures) (pages_written before c.self.inside.space c.args.address c.args.word c.self.invariant (search rules) c.write.ensures.word accepted))
+    (subst (IsPages _) (sym c.set.ensures)
+    (pages_written before c.self.inside.space c.args.address c.args.word c.self.invariant (search rules) c.write.ensures.word accepted))

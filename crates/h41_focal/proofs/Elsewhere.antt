@@ -8,7 +8,7 @@ use Rattle.h41_focal.specs.Carrying.{TakesAs, how_of}
 use Rattle.h41_focal.specs.MachineCalls.{KeepsElsewhere}
 use Rattle.h41_focal.specs.LineStep.{AppliesTo, AppliesWith, CarriesOut, Ends, Fails, FailsIn, Left, Machine, TakesLine, answered, caught}
 use Rattle.h41_focal.specs.LineStep.{done, failed, named_by, placed}
-use Rattle.h41_focal.specs.Outcomes.{Answer, answer_of, is_elsewhere}
+use Rattle.h41_focal.specs.Outcomes.{Answer, is_elsewhere}
 use Rattle.h41_focal.specs.declared.origin.Origin.{Origin}
 use Rattle.h41_focal.specs.declared.outcome.LineOutcome.{LineOutcome}
 use Rattle.h41_focal.specs.declared.refusal.FocalRefusal.{FocalRefusal}

@@ -15,11 +15,8 @@ use Rattle.h41_focal.specs.LineStep.{named_by, passed, placed, worked}
 use Rattle.h41_focal.specs.Outcomes.{Answer}
 use Rattle.h41_focal.specs.declared.refusal.FocalRefusal.{FocalRefusal}
 use Rattle.h41_focal.specs.declared.refusal.FocalRefusal.TheVariants.{MemoryLost, NotInProfile}
-use Rattle.h41_program.specs.Lines.{is_final_end}
-use Rattle.h41_program.specs.ProgramBytes.{final_position, program_bytes}
-use Rattle.h41_program.specs.ProgramLaws.{FirstIsDetermined}
-use Rattle.h41_program.specs.ProgramLines.{AnswersFirst, AnswersNext, PositionBehind, PositionFrom, behind}
-use Rattle.h41_program.specs.SearchLaws.{AnswersAreDetermined, LocalIsDetermined}
+use Rattle.h41_program.specs.ProgramLines.{AnswersFirst, AnswersNext}
+use Rattle.h41_program.specs.SearchLaws.{AnswersAreDetermined, LineIsDetermined, LocalIsDetermined, NextIsDetermined}
 use Rattle.h41_program.specs.Searches.{named_in, position_of, start_in}
 use Rattle.h41_program.specs.declared.listed_line.ListedLine.{ListedLine}
 use Rattle.h41_program.specs.declared.refusal.ProgramRefusal as program
@@ -45,49 +42,26 @@ abbrev ByFirst : Machine → (Result ListedLine program.ProgramRefusal → Type 
 ByFirst machine holds =
     (first : Result ListedLine program.ProgramRefusal) × AnswersFirst machine.memory machine.focal.position first × holds first
 
--- lines and positions in program memory, and what a fault leaves, where no bytes have two first lines
-module _ (same_first : FirstIsDetermined) where
-  -- the line at a position
-  pub same_line : (memory : RegisterMap) (at : ℕ) (a b : Result ListedLine program.ProgramRefusal) → AnswersFirst memory at a
-      → AnswersFirst memory at b → a ≡ b
-  same_line memory at (Ok first) (Ok other) p q =
-      ap (λ (line : ListedLine). Ok line) (same_first (program_bytes memory) (final_position memory) at first other p q)
-  same_line memory at (Ok first) (Err refusal) p q = absurd (q.1 first p)
-  same_line memory at (Err refusal) (Ok other) p q = absurd (p.1 other q)
-  same_line memory at (Err refusal) (Err other) p q = ap (λ (why : program.ProgramRefusal). Err why) (p.0 ∙ sym q.0)
+-- each position has one line, or one refusal, and one next position
+pub record IsReadOnce : Type 0 where
+  pub line : LineIsDetermined
+  pub next : NextIsDetermined
 
-  -- and the position of the next one
-  same_from : (memory : RegisterMap) (at a b : ℕ) → PositionFrom memory at a → PositionFrom memory at b → a ≡ b
-  same_from memory at a b p q = elim p [
-    | inl first ↦ elim q [
-      | inl other ↦
-          let same = same_first (program_bytes memory) (final_position memory) at first.0 other.0 first.1 other.1 in
-          first.2 ∙ ap (λ (line : ListedLine). line.position) same ∙ sym other.2
-      | inr none ↦ absurd (none.0 first.0 first.1)
-    ]
-    | inr none ↦ elim q [
-      | inl other ↦ absurd (none.0 other.0 other.1)
-      | inr again ↦ none.1 ∙ sym again.1
-    ]
-  ]
+pub read_once : LineIsDetermined → NextIsDetermined → IsReadOnce
+read_once line next = record { line = line; next = next }
 
-  same_behind : (last : Bool) (memory : RegisterMap) (first : ListedLine) (a b : ℕ)
-      → MatchBool last (a ≡ first.position) (PositionFrom memory (behind first) a)
-      → MatchBool last (b ≡ first.position) (PositionFrom memory (behind first) b) → a ≡ b
-  same_behind true memory first a b p q = p ∙ sym q
-  same_behind false memory first a b p q = same_from memory (behind first) a b p q
+same_next : (once : IsReadOnce) (memory : RegisterMap) (at a b : ℕ)
+    → AnswersNext memory at (Ok a) → AnswersNext memory at (Ok b) → a ≡ b
+same_next once memory at a b p q = let same = once.next memory at (Ok a) (Ok b) p q in cc
 
-  same_next : (memory : RegisterMap) (at a b : ℕ) → AnswersNext memory at (Ok a) → AnswersNext memory at (Ok b) → a ≡ b
-  same_next memory at a b p q =
-      let same = same_first (program_bytes memory) (final_position memory) at p.0 q.0 p.1 q.1 in
-      same_behind (is_final_end q.0.line) memory q.0 a b (subst (λ (line : ListedLine). PositionBehind memory line a) same p.2) q.2
-
+-- what a fault leaves, where each position is read in one way
+module _ (once : IsReadOnce) where
   -- what a fault leaves: with flag 25 the program goes on
   same_stop : (flag_25 : Bool) (machine : Machine) (fault : LineFault) (a b : Left)
       → MatchBool flag_25 (GoesOn machine a) (a ≡ failed (placed machine.focal.position machine) fault)
       → MatchBool flag_25 (GoesOn machine b) (b ≡ failed (placed machine.focal.position machine) fault) → a ≡ b
   same_stop true machine fault a b p q =
-      let same = same_next machine.memory machine.focal.position p.0 q.0 p.1 q.1 in
+      let same = same_next once machine.memory machine.focal.position p.0 q.0 p.1 q.1 in
       p.2 ∙ ap (λ (next : ℕ). done (placed next (caught machine))) same ∙ sym q.2
   same_stop false machine fault a b p q = p ∙ sym q
 
@@ -111,7 +85,7 @@ module _ (same_first : FirstIsDetermined) where
       → MatchBool sound (ByFirst machine (λ first. FailsWith fault machine first a)) (a ≡ Err MemoryLost)
       → MatchBool sound (ByFirst machine (λ first. FailsWith fault machine first b)) (b ≡ Err MemoryLost) → a ≡ b
   same_failed true fault machine a b p q =
-      let same = same_line machine.memory machine.focal.position p.0 q.0 p.1 q.1 in
+      let same = once.line machine.memory machine.focal.position p.0 q.0 p.1 q.1 in
       same_outside fault machine q.0 a b
       (subst (λ (first : Result ListedLine program.ProgramRefusal). FailsWith fault machine first a) same p.2) q.2
   same_failed false fault machine a b p q = p ∙ sym q
@@ -133,7 +107,7 @@ module _ (same_first : FirstIsDetermined) where
   same_beyond : (machine : Machine) (first : Result ListedLine program.ProgramRefusal) (a b : Result Machine FocalRefusal)
       → PassesWith machine first a → PassesWith machine first b → a ≡ b
   same_beyond machine (Ok first) a b p q =
-      let same = same_next machine.memory machine.focal.position p.0 q.0 p.1 q.1 in
+      let same = same_next once machine.memory machine.focal.position p.0 q.0 p.1 q.1 in
       p.2 ∙ ap (λ (next : ℕ). Ok (passed first.line next machine)) same ∙ sym q.2
   same_beyond machine (Err refusal) a b p q = p ∙ sym q
 
@@ -141,7 +115,7 @@ module _ (same_first : FirstIsDetermined) where
       → MatchBool sound (ByFirst machine (λ first. PassesWith machine first a)) (a ≡ Err MemoryLost)
       → MatchBool sound (ByFirst machine (λ first. PassesWith machine first b)) (b ≡ Err MemoryLost) → a ≡ b
   same_passed true machine a b p q =
-      let same = same_line machine.memory machine.focal.position p.0 q.0 p.1 q.1 in
+      let same = once.line machine.memory machine.focal.position p.0 q.0 p.1 q.1 in
       same_beyond machine q.0 a b (subst (λ (first : Result ListedLine program.ProgramRefusal). PassesWith machine first a) same p.2) q.2
   same_passed false machine a b p q = p ∙ sym q
 
@@ -167,7 +141,7 @@ module _ (same_value : ValuesAreDetermined) where
 
 -- where a line goes, where besides each search has one answer
 module _
-    (same_first : FirstIsDetermined)
+    (once : IsReadOnce)
     (same_start : AnswersAreDetermined ℕ)
     (same_local : LocalIsDetermined)
     (same_global : AnswersAreDetermined (Option ℕ)) where
@@ -176,7 +150,7 @@ module _
   same_pass memory next returns a b p q = elim p [
     | inl past ↦ elim q [
       | inl again ↦
-          past.2 ∙ ap (λ (position : ℕ). Arrives position returns) (same_next same_first memory next past.0 again.0 past.1 again.1)
+          past.2 ∙ ap (λ (position : ℕ). Arrives position returns) (same_next once memory next past.0 again.0 past.1 again.1)
           ∙ sym again.2
       | inr none ↦ absurd (none.0.1 past.1.0 past.1.1)
     ]
@@ -231,42 +205,42 @@ module _
   same_course : (how : How) (going : rows.Going) (memory : RegisterMap) (named at : ℕ) (returns : List ℕ) (a b : Course)
       → Goes how going memory named at returns a → Goes how going memory named at returns b → a ≡ b
   same_course Stepped going memory named at returns a b p q =
-      let same = same_next same_first memory at p.0 q.0 p.1 q.1 in
+      let same = same_next once memory at p.0 q.0 p.1 q.1 in
       same_from_next going memory named at q.0 returns a b
       (subst (λ (next : ℕ). StepsFrom going memory named at next returns a) same p.2) q.2
   same_course Typed going memory named at returns a b p q = same_from_here going memory named at returns a b p q
 
 -- what a course leaves
-same_end : FirstIsDetermined → (how : How) (old new : Machine) (answer : Answer) (course : Course) (a b : Result Left FocalRefusal)
+same_end : IsReadOnce → (how : How) (old new : Machine) (answer : Answer) (course : Course) (a b : Result Left FocalRefusal)
     → Ends how old new answer course a → Ends how old new answer course b → a ≡ b
-same_end same_first how old new answer (Arrives position returns) a b p q = p ∙ sym q
-same_end same_first Stepped old new answer (Halts start) a b p q = p ∙ sym q
-same_end same_first Typed old new answer (Halts start) a b p q = p ∙ sym q
-same_end same_first how old new answer Stays a b p q = p ∙ sym q
-same_end same_first how old new answer (Tells holds) a b p q = p ∙ sym q
-same_end same_first how old new answer (Runs position) a b p q = p ∙ sym q
-same_end same_first how old new answer (Seeks name) a b p q = p ∙ sym q
-same_end same_first how old new answer HasNoLabel a b p q = same_failure same_first how old Nonexistent a b p q
-same_end same_first how old new answer HasNoLine a b p q = p ∙ sym q
+same_end once how old new answer (Arrives position returns) a b p q = p ∙ sym q
+same_end once Stepped old new answer (Halts start) a b p q = p ∙ sym q
+same_end once Typed old new answer (Halts start) a b p q = p ∙ sym q
+same_end once how old new answer Stays a b p q = p ∙ sym q
+same_end once how old new answer (Tells holds) a b p q = p ∙ sym q
+same_end once how old new answer (Runs position) a b p q = p ∙ sym q
+same_end once how old new answer (Seeks name) a b p q = p ∙ sym q
+same_end once how old new answer HasNoLabel a b p q = same_failure once how old Nonexistent a b p q
+same_end once how old new answer HasNoLine a b p q = p ∙ sym q
 
 -- a line, where all of this is so
 module _
     (same_value : ValuesAreDetermined)
-    (same_first : FirstIsDetermined)
+    (once : IsReadOnce)
     (same_start : AnswersAreDetermined ℕ)
     (same_local : LocalIsDetermined)
     (same_global : AnswersAreDetermined (Option ℕ)) where
   same_with : (how : How) (row : rows.Row) (named : ℕ) (machine : Machine)
       (result : Result (List ℕ) LineFault) (a b : Result Left FocalRefusal)
       → AppliesWith how row named machine result a → AppliesWith how row named machine result b → a ≡ b
-  same_with how row named machine (Err fault) a b p q = same_failure same_first how machine fault a b p q
+  same_with how row named machine (Err fault) a b p q = same_failure once how machine fault a b p q
   same_with how row named machine (Ok result) a b p q =
       let new = worked row named result machine in
       let answer = answered machine.memory named row.shows row.ends in
       let same =
-      same_course same_first same_start same_local same_global how row.goes machine.memory
+      same_course once same_start same_local same_global how row.goes machine.memory
       named machine.focal.position machine.focal.returns p.0 q.0 p.1 q.1 in
-      same_end same_first how machine new answer q.0 a b (subst (λ (course : Course). Ends how machine new answer course a) same p.2) q.2
+      same_end once how machine new answer q.0 a b (subst (λ (course : Course). Ends how machine new answer course a) same p.2) q.2
 
   same_row : (how : How) (row : rows.Row) (named : ℕ) (machine : Machine) (a b : Result Left FocalRefusal)
       → Applies how row named machine a → Applies how row named machine b → a ≡ b
@@ -277,7 +251,7 @@ module _
 
   same_meant : (how : How) (line : Line) (machine : Machine) (meant : Result Meant LineFault) (a b : Result Left FocalRefusal)
       → AppliesTo how line machine meant a → AppliesTo how line machine meant b → a ≡ b
-  same_meant how line machine (Err fault) a b p q = same_failure same_first how machine fault a b p q
+  same_meant how line machine (Err fault) a b p q = same_failure once how machine fault a b p q
   same_meant how line machine (Ok meant) a b p q = same_row how (row_of line meant) (named_by meant) machine a b p q
 
   same_carried : (how : How) (line : Line) (machine : Machine) (a b : Result Left FocalRefusal)
@@ -316,7 +290,7 @@ module _
       → MatchBool sound (ByFirst machine (λ first. StepsAs function machine first a)) (a ≡ Err MemoryLost)
       → MatchBool sound (ByFirst machine (λ first. StepsAs function machine first b)) (b ≡ Err MemoryLost) → a ≡ b
   same_stepped true function machine a b p q =
-      let same = same_line same_first machine.memory machine.focal.position p.0 q.0 p.1 q.1 in
+      let same = once.line machine.memory machine.focal.position p.0 q.0 p.1 q.1 in
       same_standing function machine q.0 a b
       (subst (λ (first : Result ListedLine program.ProgramRefusal). StepsAs function machine first a) same p.2) q.2
   same_stepped false function machine a b p q = p ∙ sym q

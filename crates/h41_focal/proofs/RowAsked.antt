@@ -14,7 +14,7 @@ use Rattle.h41_rows.specs.LineRows.{loop}
 use Rattle.h41_focal.specs.LineStep.{Applies, Machine, Works}
 use Rattle.h41_focal.specs.Outcomes as answers
 use Rattle.h41_rows.specs.Places.{Named, are_numbers, register_in}
-use Rattle.h41_rows.specs.RowEffects.{holds_in, memory_after}
+use Rattle.h41_rows.specs.RowEffects.{holds_in}
 use Rattle.h41_rows.specs.Rows.{Condition, Row}
 use Rattle.h41_rows.specs.Rows as rows
 use Rattle.h41_rows.specs.Values.{Computes, Counted}

@@ -4,7 +4,7 @@ use Rattle.std.proofs.lemmas.List.Elements.{All-head, All-tail}
 use Rattle.std.specs.Prelude.{IfOk, MatchBool, if◌then◌else◌}
 use Rattle.h41_codes.specs.declared.line.Line.{Line}
 use Rattle.h41_codes.specs.declared.line.Line.TheVariants.{Module}
-use Rattle.h41_focal.proofs.OneOutcome.{same_line, typed_determined}
+use Rattle.h41_focal.proofs.OneOutcome.{IsReadOnce, typed_determined}
 use Rattle.h41_focal.specs.Courses.{Arrives, Course, Stays, StepsFrom, Stepped, Typed, TypedFrom}
 use Rattle.h41_focal.specs.LineLaws.{AreAlike, GoesToNext, IsAt, NextIsHere, StepsInTurn, SteppedCanBeTyped, TypedAsStepped}
 use Rattle.h41_focal.specs.LineLaws.{TypedIsDetermined, TypesInTurn}
@@ -14,7 +14,6 @@ use Rattle.h41_focal.specs.LineStep.{shown_text, worked}
 use Rattle.h41_focal.specs.Outcomes.{is_elsewhere}
 use Rattle.h41_focal.specs.declared.refusal.FocalRefusal.{FocalRefusal}
 use Rattle.h41_focal.specs.declared.refusal.FocalRefusal.TheVariants.{MemoryLost, NotInProfile}
-use Rattle.h41_program.specs.ProgramLaws.{FirstIsDetermined}
 use Rattle.h41_program.specs.ProgramLines.{AnswersFirst, AnswersNext}
 use Rattle.h41_program.specs.SearchLaws.{AnswersAreDetermined, LocalIsDetermined}
 use Rattle.h41_program.specs.declared.listed_line.ListedLine.{ListedLine}
@@ -149,7 +148,7 @@ taken_alike : (line : Line) (machine : Machine) (focal : FocalState) (left : Lef
 taken_alike line machine focal left goes_on takes = profile_alike (is_left_out line) line machine focal left goes_on takes
 
 -- the line at the position, where no bytes have two first lines
-module _ (same_first : FirstIsDetermined) where
+module _ (once : IsReadOnce) where
   sound_alike : (sound : Bool) (line : Line) (machine : Machine) (focal : FocalState) (left : Left) → GoesToNext line → IsAt line machine
       → MatchBool sound ((first : Result ListedLine program.ProgramRefusal)
       × AnswersFirst machine.memory machine.focal.position first
@@ -157,7 +156,7 @@ module _ (same_first : FirstIsDetermined) where
       (◌≡◌ {A = Result Left FocalRefusal} (Ok left) (Err MemoryLost))
       → LeavesLike (λ carried. MatchBool sound (TakesLine Typed line (beside machine focal) carried) (carried ≡ Err MemoryLost)) left
   sound_alike true line machine focal left goes_on (own, stands, is) (first, answers, steps) =
-      let same = same_line same_first machine.memory machine.focal.position first (Ok own) answers stands in
+      let same = once.line machine.memory machine.focal.position first (Ok own) answers stands in
       let takes : TakesLine Stepped own.line machine (Ok left) =
       subst (λ (first : Result ListedLine program.ProgramRefusal). StepsAs None machine first (Ok left)) same steps in
       taken_alike line machine focal left goes_on (subst (λ (line : Line). TakesLine Stepped line machine (Ok left)) is takes)
@@ -200,13 +199,13 @@ same_turn determined (line ∷ lines) machine left other p q =
 -- so they leave what is like that which is left where they are stepped
 module _
     (same_value : ValuesAreDetermined)
-    (same_first : FirstIsDetermined)
+    (once : IsReadOnce)
     (same_start : AnswersAreDetermined ℕ)
     (same_local : LocalIsDetermined)
     (same_global : AnswersAreDetermined (Option ℕ)) where
   pub typed_alike : TypedAsStepped
   typed_alike lines machine other left typed go_on alike steps types =
-      let found = turn_alike same_first lines machine other left go_on alike steps in
+      let found = turn_alike once lines machine other left go_on alike steps in
       let same =
-      same_turn (typed_determined same_value same_first same_start same_local same_global) lines other found.0 typed found.1 types in
+      same_turn (typed_determined same_value once same_start same_local same_global) lines other found.0 typed found.1 types in
       subst (λ (typed : Machine). AreAlike left typed) same found.2

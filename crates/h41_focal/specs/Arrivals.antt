@@ -1,5 +1,5 @@
 -- What private functions promise one another of labels and returns.
-use Rattle.std.specs.Prelude.{◌≡◌, ℕ, true, false, List, [], ◌∷◌, reverse}
+use Rattle.std.specs.Prelude.{◌≡◌, ℕ, List, [], ◌∷◌, reverse}
 use Rattle.h41_codes.specs.declared.functions.Branch.{Branch}
 use Rattle.h41_codes.specs.declared.functions.Branch.TheVariants.{GoTo, Execute}
 use Rattle.h41_focal.specs.Outcomes.{answer_of}

@@ -6,7 +6,7 @@ ghost use Rattle.h41_focal.specs.LineLaws.{StepIsDetermined, SteppedCanBeTyped, 
 ghost use Rattle.h41_focal.specs.LineLaws.{TypedFailureIsDetermined, TypedIsDetermined};
 
 use crate::focal::Focal;
-use h41_program::laws::{lists_are_determined, searches_are_determined};
+use h41_program::laws::searches_are_determined;
 use h41_rows::laws::values_are_determined;
 
 /// How many positions there are to return to: six at most.
@@ -26,7 +26,6 @@ pub fn line_is_determined()
     ensures passing { PassingIsDetermined }
 {
     values_are_determined();
-    lists_are_determined();
     searches_are_determined();
 }
 
@@ -38,6 +37,5 @@ pub fn typed_as_stepped()
     ensures here { NextIsHere }
 {
     values_are_determined();
-    lists_are_determined();
     searches_are_determined();
 }

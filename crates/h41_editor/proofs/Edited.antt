@@ -1,12 +1,10 @@
 -- What changes of lines leave, by the answers of program memory.
-use Rattle.std.proofs.Common.{◌≡◌, ℕ, false, List, [], refl, sym, subst, Some, Result, Ok, Err}
+use Rattle.std.proofs.Common.{◌≡◌, ℕ, false, List, refl, sym, subst, Some, Result, Ok, Err}
 use Rattle.h41_codes.specs.declared.line.Line.{Line}
-use Rattle.h41_editor.specs.Changes.{Changed, InsertsAt, shown_in_front}
-use Rattle.h41_editor.specs.EditorCalls.{Deletes, Inserts, Replaces}
+use Rattle.h41_editor.specs.Changes.{Changed, Deletes, Inserts, InsertsAt, Replaces, shown_in_front, with_line_shown}
 use Rattle.h41_editor.specs.NumberedLines.{HasNumbered}
 use Rattle.h41_editor.specs.declared.numbered.NumberedLine.{NumberedLine}
-use Rattle.h41_focal.specs.LineCalls.{machine_of}
-use Rattle.h41_focal.specs.LineStep.{FocalState}
+use Rattle.h41_focal.specs.LineStep.{FocalState, Machine}
 use Rattle.h41_program.specs.Edits.{EditGives, Edits, StandsBefore, StandsNew, with_inserted, with_replaced, without_deleted}
 use Rattle.h41_program.specs.Lines.{is_final_end}
 use Rattle.h41_program.specs.ProgramLines.{AnswersFirst}
@@ -53,73 +51,75 @@ edit_refused memory new change at refusal edits = given_refused memory new chang
 
 -- a line is inserted
 pub line_inserted :
-    (line : Line) (memory new : RegisterMap) (seen focal after : FocalState) (numbered : NumberedLine) (before position : ℕ)
-    → seen ≡ focal
-    → HasNumbered memory seen.position (Some numbered)
-    → InsertsAt (machine_of memory focal) numbered.listed before
-    → Edits memory new (with_inserted line) before (Ok tt)
-    → StandsNew memory before new position
-    → after ≡ record focal { position = position; at_line_00 = false; returns = [] }
-    → Inserts line memory focal new after (Ok tt)
-line_inserted line memory new seen focal after numbered before position same has place edits stands is =
-    let here = rw (← same) at place in
-    rw (is, ← same)
-    (Some numbered, has, (before, here, Ok (new, tt), edit_made memory new (with_inserted line) before edits, (position, stands, refl)))
+    (line : Line) (from machine : Machine) (new : RegisterMap) (after : FocalState) (numbered : NumberedLine) (before position : ℕ)
+    → from ≡ machine
+    → HasNumbered machine.memory machine.focal.position (Some numbered)
+    → InsertsAt machine numbered.listed before
+    → Edits from.memory new (with_inserted line) before (Ok tt)
+    → StandsNew from.memory before new position
+    → after ≡ with_line_shown position from.focal
+    → Inserts line machine (Ok (record { memory = new; focal = after }))
+line_inserted line from machine new after numbered before position is has place edits stands shown =
+    let there = rw (← is) at has in
+    let here = rw (← is) at place in
+    rw (shown, ← is)
+    (Some numbered, there, (before, here, Ok (new, tt), edit_made from.memory new (with_inserted line) before edits, (position, stands, refl)))
 
 pub insert_refused :
-    (line : Line) (memory new : RegisterMap) (seen focal after : FocalState) (numbered : NumberedLine) (before : ℕ) (refusal : ProgramRefusal)
-    → seen ≡ focal
-    → HasNumbered memory seen.position (Some numbered)
-    → InsertsAt (machine_of memory focal) numbered.listed before
-    → Edits memory new (with_inserted line) before (Err refusal)
-    → Inserts line memory focal new after (Err refusal)
-insert_refused line memory new seen focal after numbered before refusal same has place edits =
-    let here = rw (← same) at place in
-    rw (← same) (Some numbered, has, (before, here, Err refusal, edit_refused memory new (with_inserted line) before refusal edits, refl))
+    (line : Line) (from machine : Machine) (new : RegisterMap) (numbered : NumberedLine) (before : ℕ) (refusal : ProgramRefusal)
+    → from ≡ machine
+    → HasNumbered machine.memory machine.focal.position (Some numbered)
+    → InsertsAt machine numbered.listed before
+    → Edits from.memory new (with_inserted line) before (Err refusal)
+    → Inserts line machine (Err refusal)
+insert_refused line from machine new numbered before refusal is has place edits =
+    let there = rw (← is) at has in
+    let here = rw (← is) at place in
+    rw (← is) (Some numbered, there, (before, here, Err refusal, edit_refused from.memory new (with_inserted line) before refusal edits, refl))
 
 -- one is put in the place of another
 pub line_replaced :
-    (line : Line) (memory new : RegisterMap) (seen focal after : FocalState) (position : ℕ)
-    → seen ≡ focal
-    → Edits memory new (with_replaced line) seen.position (Ok tt)
-    → StandsNew memory seen.position new position
-    → after ≡ record focal { position = position; at_line_00 = false; returns = [] }
-    → Replaces line memory focal new after (Ok tt)
-line_replaced line memory new seen focal after position same edits stands is =
-    rw (is, ← same) (Ok (new, tt), edit_made memory new (with_replaced line) seen.position edits, (position, stands, refl))
+    (line : Line) (from machine : Machine) (new : RegisterMap) (after : FocalState) (position : ℕ)
+    → from ≡ machine
+    → Edits from.memory new (with_replaced line) from.focal.position (Ok tt)
+    → StandsNew from.memory from.focal.position new position
+    → after ≡ with_line_shown position from.focal
+    → Replaces line machine (Ok (record { memory = new; focal = after }))
+line_replaced line from machine new after position is edits stands shown =
+    rw (shown, ← is)
+    (Ok (new, tt), edit_made from.memory new (with_replaced line) from.focal.position edits, (position, stands, refl))
 
 pub replace_refused :
-    (line : Line) (memory new : RegisterMap) (seen focal after : FocalState) (refusal : ProgramRefusal)
-    → seen ≡ focal
-    → Edits memory new (with_replaced line) seen.position (Err refusal)
-    → Replaces line memory focal new after (Err refusal)
-replace_refused line memory new seen focal after refusal same edits =
-    rw (← same) (Err refusal, edit_refused memory new (with_replaced line) seen.position refusal edits, refl)
+    (line : Line) (from machine : Machine) (new : RegisterMap) (refusal : ProgramRefusal)
+    → from ≡ machine
+    → Edits from.memory new (with_replaced line) from.focal.position (Err refusal)
+    → Replaces line machine (Err refusal)
+replace_refused line from machine new refusal is edits =
+    rw (← is) (Err refusal, edit_refused from.memory new (with_replaced line) from.focal.position refusal edits, refl)
 
 -- one is taken away
 pub line_deleted :
-    (memory new : RegisterMap) (seen focal after : FocalState) (first : ListedLine) (front : Front)
-    → seen ≡ focal
-    → seen.at_line_00 ≡ false
-    → AnswersFirst memory seen.position (Ok first)
-    → is_final_end first.line ≡ false
-    → Edits memory new without_deleted seen.position (Ok tt)
-    → StandsBefore memory seen.position new front
-    → machine_of new after ≡ shown_in_front (machine_of memory focal) new front
-    → Deletes memory focal new after (Ok tt)
-line_deleted memory new seen focal after first front same behind there inner edits stands is =
-    let shown = rw (← same) at is in
-    rw (← same, behind)
-    (Ok first, there, rw inner (Ok (new, tt), edit_made memory new without_deleted seen.position edits, (front, stands, rw shown refl)))
+    (from machine left : Machine) (new : RegisterMap) (first : ListedLine) (front : Front)
+    → from ≡ machine
+    → from.focal.at_line_00 ≡ false
+    → AnswersFirst from.memory from.focal.position (Ok first)
+    → false ≡ is_final_end first.line
+    → Edits from.memory new without_deleted from.focal.position (Ok tt)
+    → StandsBefore from.memory from.focal.position new front
+    → left ≡ shown_in_front from new front
+    → Deletes machine (Ok left)
+line_deleted from machine left new first front is behind there inner edits stands shown =
+    rw (shown, ← is, behind)
+    (Ok first, there, rw (sym inner) (Ok (new, tt), edit_made from.memory new without_deleted from.focal.position edits, (front, stands, refl)))
 
 pub delete_refused :
-    (memory new : RegisterMap) (seen focal after : FocalState) (first : ListedLine) (refusal : ProgramRefusal)
-    → seen ≡ focal
-    → seen.at_line_00 ≡ false
-    → AnswersFirst memory seen.position (Ok first)
-    → is_final_end first.line ≡ false
-    → Edits memory new without_deleted seen.position (Err refusal)
-    → Deletes memory focal new after (Err refusal)
-delete_refused memory new seen focal after first refusal same behind there inner edits =
-    rw (← same, behind)
-    (Ok first, there, rw inner (Err refusal, edit_refused memory new without_deleted seen.position refusal edits, refl))
+    (from machine : Machine) (new : RegisterMap) (first : ListedLine) (refusal : ProgramRefusal)
+    → from ≡ machine
+    → from.focal.at_line_00 ≡ false
+    → AnswersFirst from.memory from.focal.position (Ok first)
+    → false ≡ is_final_end first.line
+    → Edits from.memory new without_deleted from.focal.position (Err refusal)
+    → Deletes machine (Err refusal)
+delete_refused from machine new first refusal is behind there inner edits =
+    rw (← is, behind)
+    (Ok first, there, rw (sym inner) (Err refusal, edit_refused from.memory new without_deleted from.focal.position refusal edits, refl))

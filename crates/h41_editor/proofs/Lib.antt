@@ -1,4 +1,4 @@
 mod Edited
-mod GoneToEnd
 mod OneAnswer
+mod Opened
 mod Shown

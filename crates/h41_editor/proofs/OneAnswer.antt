@@ -5,11 +5,11 @@ use Rattle.std.specs.Option.{option_map}
 use Rattle.h41_codes.specs.declared.line.Line.{Line}
 use Rattle.h41_editor.specs.Changes.{Changed, Deletes, DeletesLine, DeletesShown, Inserts, InsertsBy, Replaces, ShowsFront, ShowsNew, showing_line, shown_in_front}
 use Rattle.h41_editor.specs.EditorLaws.{ChangeIsDetermined, MoveIsDetermined, NumberedIsDetermined, TextIsDetermined}
-use Rattle.h41_editor.specs.Moves.{EndsBy, GoesToEnd, ShowsAt, ShowsBefore, ShowsBeforeLine, ShowsBehind, ShowsEnd, ShowsInFront, ShowsNext, ShowsStart, at_line_00, is_last, returns_kept, shown_end}
+use Rattle.h41_editor.specs.Moves.{EndsBy, GoesToEnd, ShowsAt, ShowsBefore, ShowsBeforeLine, ShowsBehind, ShowsEnd, ShowsInFront, ShowsNext, ShowsStart, is_last, returns_kept, shown_end}
 use Rattle.h41_editor.specs.NumberedLines.{Numbers, with_number}
 use Rattle.h41_editor.specs.ProgramText.{ShowsLine, line_00_text, text_of, unknown_text}
 use Rattle.h41_editor.specs.declared.numbered.NumberedLine.{NumberedLine}
-use Rattle.h41_focal.specs.LineStep.{Machine, placed}
+use Rattle.h41_focal.specs.LineStep.{Machine, at_line_00, placed}
 use Rattle.h41_program.specs.Edits.{EditGives, PlacesAreDetermined, before_end, close_behind, position_behind, position_in_front, with_inserted, with_replaced, without_deleted}
 use Rattle.h41_program.specs.LastProgram.{open_in}
 use Rattle.h41_program.specs.Lines.{is_final_end}
@@ -75,7 +75,7 @@ module _ (same_start : AnswersAreDetermined ℕ) where
   same_shown_start : (machine : Machine) (a b : Moved) → ShowsStart machine a → ShowsStart machine b → a ≡ b
   same_shown_start machine a b p q =
       let same = same_start machine.memory (start_in machine.focal.position) 0 p.0 q.0 p.1 q.1 in
-      p.2 ∙ ap (λ (start : ℕ). Ok (at_line_00 start machine)) same ∙ sym q.2
+      p.2 ∙ ap (λ (start : ℕ). Ok (record machine { focal = at_line_00 start machine.focal })) same ∙ sym q.2
 
 -- the line that a position stands for, and the text, where besides each line has one number
 module _ (same_first : FirstIsDetermined) (same_program : ProgramIsDetermined (Option ℕ)) where

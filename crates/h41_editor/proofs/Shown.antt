@@ -1,22 +1,61 @@
--- The next line is shown.
-use Rattle.std.proofs.Common.{◌≡◌, ℕ, false, refl, Ok}
-use Rattle.h41_editor.specs.EditorCalls.{ShowsNext}
-use Rattle.h41_editor.specs.Moves.{is_last}
-use Rattle.h41_focal.specs.LineStep.{FocalState}
+-- A line is shown, by the answers of program memory.
+use Rattle.std.proofs.Common.{◌≡◌, ℕ, true, false, refl, sym, Some, Result, Ok, Err, IfOk}
+use Rattle.h41_editor.specs.Changes.{InsertsAt}
+use Rattle.h41_editor.specs.Moves.{ShowsBefore, ShowsEnd, ShowsNext, is_last}
+use Rattle.h41_editor.specs.NumberedLines.{HasNumbered}
+use Rattle.h41_editor.specs.declared.numbered.NumberedLine.{NumberedLine}
+use Rattle.h41_focal.specs.LineStep.{Machine, placed}
+use Rattle.h41_program.specs.Numbering.{AnswersProgram, before_in}
 use Rattle.h41_program.specs.ProgramLines.{AnswersFirst, AnswersNext}
 use Rattle.h41_program.specs.declared.listed_line.ListedLine.{ListedLine}
-use Rattle.h41_ram.specs.RegisterMap.{RegisterMap}
+use Rattle.h41_program.specs.declared.refusal.ProgramRefusal.{ProgramRefusal}
 
+-- the next one
 pub next_shown :
-    (memory : RegisterMap) (seen again focal after : FocalState) (first : ListedLine) (next : ℕ)
-    → seen ≡ focal
-    → again ≡ focal
-    → seen.at_line_00 ≡ false
-    → AnswersFirst memory seen.position (Ok first)
-    → is_last first ≡ false
-    → AnswersNext memory again.position (Ok next)
-    → after ≡ record focal { position = next; at_line_00 = false }
-    → ShowsNext memory focal memory after (Ok tt)
-next_shown memory seen again focal after first next same known behind there inner goes is =
-    let onward = rw (known, ← same) at goes in
-    rw (is, ← same, behind) (Ok first, there, rw inner (next, onward, refl))
+    (from machine moved : Machine) (first : ListedLine) (next : ℕ)
+    → from ≡ machine
+    → from.focal.at_line_00 ≡ false
+    → AnswersFirst from.memory from.focal.position (Ok first)
+    → false ≡ is_last first
+    → AnswersNext from.memory from.focal.position (Ok next)
+    → moved ≡ placed next machine
+    → ShowsNext machine (Ok moved)
+next_shown from machine moved first next is behind there inner goes placed =
+    rw (placed, ← is, behind) (Ok first, there, rw (sym inner) (next, goes, refl))
+
+-- the one before
+pub before_shown :
+    (from machine moved : Machine) (numbered : NumberedLine) (before : ℕ)
+    → from ≡ machine
+    → from.focal.at_line_00 ≡ false
+    → HasNumbered machine.memory machine.focal.position (Some numbered)
+    → AnswersProgram (before_in numbered.listed.position) from.memory numbered.listed.position (Some before)
+    → moved ≡ placed before machine
+    → ShowsBefore machine (Ok moved)
+before_shown from machine moved numbered before is behind has stands placed =
+    let there = rw (← is) at has in
+    rw (placed, ← is) (Some numbered, there, rw behind (Some before, stands, refl))
+
+-- the end, from line 00
+pub end_shown :
+    (from machine : Machine) (moved : Result Machine ProgramRefusal) (numbered : NumberedLine)
+    → from ≡ machine
+    → from.focal.at_line_00 ≡ true
+    → HasNumbered machine.memory machine.focal.position (Some numbered)
+    → ShowsEnd machine numbered.listed moved
+    → ShowsBefore machine moved
+end_shown from machine moved numbered is at_start has shows =
+    let there = rw (← is) at has in
+    let end = rw (← is) at shows in
+    rw (← is) (Some numbered, there, rw at_start end)
+
+-- where a line is inserted behind the shown one
+pub place_behind :
+    (from machine : Machine) (shown : ListedLine) (next : Result ℕ ProgramRefusal)
+    → from ≡ machine
+    → from.focal.at_line_00 ≡ false
+    → false ≡ is_last shown
+    → AnswersNext from.memory from.focal.position next
+    → IfOk next (InsertsAt machine shown)
+place_behind from machine shown (Ok before) is behind inner goes = rw (← is, behind, sym inner) goes
+place_behind from machine shown (Err refusal) is behind inner goes = tt

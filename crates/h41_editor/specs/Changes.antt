@@ -1,12 +1,12 @@
 -- Lines that are typed in program mode: inserted behind the shown line, put in its place, and taken away. Each change shows the new line, or
 -- the one before, and leaves nothing to return to. Where lines come, and what BACK does at line 00 and .END., is this project's choice but for
 -- what the Owner's Handbook shows.
-use Rattle.std.specs.Prelude.{◌≡◌, ℕ, false, true, [], MatchBool, Option, Some, None, Result, Ok, Err}
+use Rattle.std.specs.Prelude.{◌≡◌, ℕ, [], MatchBool, Option, Some, None, Result, Ok, Err}
 use Rattle.h41_codes.specs.declared.line.Line.{Line}
 use Rattle.h41_editor.specs.Moves.{is_last}
 use Rattle.h41_editor.specs.NumberedLines.{HasNumbered}
 use Rattle.h41_editor.specs.declared.numbered.NumberedLine.{NumberedLine}
-use Rattle.h41_focal.specs.LineStep.{Machine}
+use Rattle.h41_focal.specs.LineStep.{FocalState, Machine, at_position, halted_at}
 use Rattle.h41_program.specs.Edits.{EditGives, StandsBefore, StandsNew, with_inserted, with_replaced, without_deleted}
 use Rattle.h41_program.specs.Lines.{is_final_end}
 use Rattle.h41_program.specs.ProgramLines.{AnswersFirst, AnswersNext, AnswersOf}
@@ -22,14 +22,16 @@ use Rattle.h41_ram.specs.RegisterMap.{RegisterMap}
 abbrev pub Changed : Type 0
 Changed = Result (RegisterMap × Unit {0}) ProgramRefusal
 
+-- a line is shown, and nothing is left to return to
+abbrev pub with_line_shown : ℕ → FocalState → FocalState
+with_line_shown position focal = record (at_position position focal) { returns = [] }
+
 -- memory with its list of lines changed shows a line at a position, or line 00 of the program that begins there
 abbrev pub showing_line : Machine → RegisterMap → ℕ → Machine
-showing_line machine new position =
-    record { memory = new; focal = record machine.focal { position = position; at_line_00 = false; returns = [] } }
+showing_line machine new position = record { memory = new; focal = with_line_shown position machine.focal }
 
 abbrev pub showing_start : Machine → RegisterMap → ℕ → Machine
-showing_start machine new start =
-    record { memory = new; focal = record machine.focal { position = start; at_line_00 = true; returns = [] } }
+showing_start machine new start = record { memory = new; focal = halted_at start machine.focal }
 
 -- a new line is shown
 abbrev pub ShowsNew : Machine → ℕ → Changed → Result Machine ProgramRefusal → Type 0

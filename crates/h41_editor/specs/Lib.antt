@@ -1,5 +1,4 @@
 pub mod Changes
-pub mod EditorCalls
 pub mod EditorLaws
 pub mod Moves
 pub mod NumberedLines

@@ -3,7 +3,7 @@
 use Rattle.std.specs.Prelude.{◌≡◌, ℕ, Bool, true, ◌||◌, List, [], MatchBool, Option, Some, None, Result, Ok, Err}
 use Rattle.h41_editor.specs.NumberedLines.{HasNumbered}
 use Rattle.h41_editor.specs.declared.numbered.NumberedLine.{NumberedLine}
-use Rattle.h41_focal.specs.LineStep.{Machine, placed}
+use Rattle.h41_focal.specs.LineStep.{Machine, at_line_00, placed}
 use Rattle.h41_program.specs.Edits.{before_end, close_behind}
 use Rattle.h41_program.specs.LastProgram.{open_in}
 use Rattle.h41_program.specs.Lines.{is_end, is_final_end}
@@ -16,14 +16,15 @@ use Rattle.h41_program.specs.declared.refusal.ProgramRefusal.{ProgramRefusal}
 use Rattle.h41_program.specs.declared.refusal.ProgramRefusal.TheVariants.{BrokenProgram}
 use Rattle.h41_ram.specs.RegisterMap.{RegisterMap}
 
--- at line 00 of the program that begins at a position
-abbrev pub at_line_00 : ℕ → Machine → Machine
-at_line_00 start machine = record machine { focal = record machine.focal { position = start; at_line_00 = true } }
+-- what a key leaves, or why it is refused
+abbrev pub made_as : Machine → Result (Unit {0}) ProgramRefusal → Result Machine ProgramRefusal
+made_as machine (Ok done) = Ok machine
+made_as machine (Err refusal) = Err refusal
 
 -- to line 00 of the program of the position
 abbrev pub ShowsStart : Machine → Result Machine ProgramRefusal → Type 0
 ShowsStart machine moved =
-    (start : ℕ) × AnswersOf (start_in machine.focal.position) machine.memory 0 start × (moved ≡ Ok (at_line_00 start machine))
+    (start : ℕ) × AnswersOf (start_in machine.focal.position) machine.memory 0 start × (moved ≡ Ok (record machine { focal = at_line_00 start machine.focal }))
 
 -- whether a line is the last of its program
 abbrev pub is_last : ListedLine → Bool
@@ -80,7 +81,7 @@ EndsBy machine lines (Ok closed) moved =
     (start : ℕ) × AnswersOf (start_in (final_position closed.0)) closed.0 0 start
     × (moved ≡ Ok (record {
       memory = closed.0;
-      focal = record machine.focal { position = start; at_line_00 = true; returns = returns_kept (open_in lines) machine.focal.returns };
+      focal = record (at_line_00 start machine.focal) { returns = returns_kept (open_in lines) machine.focal.returns };
     }))
 EndsBy machine lines (Err refusal) moved = moved ≡ Err refusal
 

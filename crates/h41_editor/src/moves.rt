@@ -1,80 +1,76 @@
 //! What SST, BST and `GTO . .` do to the position.
-ghost use Rattle.std.specs.Prelude.{◌≡◌, true, false, IsTrue};
-ghost use Rattle.h41_editor.specs.EditorCalls.{GoesToEnd, Keeps, ShowsBefore, ShowsNext, ShowsNext00, ShowsOwnEnd, shown_last};
+ghost use Rattle.std.specs.Prelude.{◌≡◌, IsTrue, Ok, OnErr};
+ghost use Rattle.h41_editor.specs.Moves.{GoesToEnd, ShowsBefore, ShowsEnd, ShowsNext, ShowsStart, made_as};
 ghost use Rattle.h41_editor.specs.Moves as spec;
 ghost use Rattle.h41_ram.specs.RegisterMap.{is_sound};
 
 use crate::numbered::numbered_line;
-use h41_focal::Focal;
+use h41_focal::Machine;
 use h41_program::laws::lists_are_determined;
 use h41_program::{
     ListedLine, ProgramRefusal, close_last, end_of, final_position, is_end, is_final_end,
     is_last_open, line_at, line_before, next, start_of,
 };
-use h41_ram::Ram;
 
 /// `SST` in program mode shows the next line: from line 00 the line that the position stands for, from the last of a program its
 /// line 00. 14 where the shown line cannot be read; nothing is changed then.
-pub fn show_next<const REGS: usize>(
-    ram: &Ram<REGS>,
-    focal: &mut Focal,
-) -> Result<(), ProgramRefusal>
-    requires { IsTrue (is_sound ram.now) }
-    ensures line { ShowsNext ram.now focal.old ram.now focal.new result }
-    ensures unchanged { Keeps ram.now focal.old ram.now focal.new result }
+pub fn show_next<const REGS: usize>(machine: &mut Machine<REGS>) -> Result<(), ProgramRefusal>
+    requires { IsTrue (is_sound machine.old.memory) }
+    ensures line { ShowsNext machine.old (made_as machine.new result) }
+    ensures unchanged { OnErr result (machine.new ≡ machine.old) }
 {
-    if focal.is_at_line_00 {
-        focal.is_at_line_00 = false;
+    let position = machine.focal.position;
+    if machine.focal.is_at_line_00 {
+        machine.focal.go_to(position);
         return Ok(());
     }
-    if is_last(&line_at(ram, focal.position)?) {
-        show_start(ram, focal);
+    if is_last(&line_at(&machine.ram, position)?) {
+        show_start(machine);
     } else {
-        show(focal, next(ram, focal.position)?);
+        let behind = next(&machine.ram, position)?;
+        machine.focal.go_to(behind);
     }
     Ok(())
 }
 
 /// `BST` shows the line before: from line 1 line 00, from line 00 the program's END or `.END.`. 14 where the program has no line
 /// at the position, and from line 00 where it has no end; nothing is changed then.
-pub fn show_before<const REGS: usize>(
-    ram: &Ram<REGS>,
-    focal: &mut Focal,
-) -> Result<(), ProgramRefusal>
-    requires { IsTrue (is_sound ram.now) }
-    ensures line { ShowsBefore ram.now focal.old ram.now focal.new result }
-    ensures unchanged { Keeps ram.now focal.old ram.now focal.new result }
+pub fn show_before<const REGS: usize>(machine: &mut Machine<REGS>) -> Result<(), ProgramRefusal>
+    requires { IsTrue (is_sound machine.old.memory) }
+    ensures line { ShowsBefore machine.old (made_as machine.new result) }
+    ensures unchanged { OnErr result (machine.new ≡ machine.old) }
 {
-    let position = match numbered_line(ram, focal.position) {
-        Some(shown) => shown.listed.position,
+    let shown = match numbered_line(machine) {
+        Some(shown) => shown.listed,
         None => return Err(ProgramRefusal::BrokenProgram),
     };
-    if focal.is_at_line_00 {
-        return show_end(ram, focal, position);
+    if machine.focal.is_at_line_00 {
+        return show_end(machine, &shown);
     }
-    match line_before(ram, position) {
-        Some(before) => show(focal, before),
-        None => show_start(ram, focal),
+    match line_before(&machine.ram, shown.position) {
+        Some(before) => machine.focal.go_to(before),
+        None => show_start(machine),
     }
     Ok(())
 }
 
 /// `GTO . .` goes to line 00 of the last program, with an END behind it first where it has lines and none; what there is to return
 /// to goes then. 14 where the list of lines does not reach `.END.`, 16 where there is no room; nothing is changed then.
-pub fn go_to_end<const REGS: usize>(
-    ram: &mut Ram<REGS>,
-    focal: &mut Focal,
-) -> Result<(), ProgramRefusal>
-    requires { IsTrue (is_sound ram.old) }
-    ensures line { GoesToEnd ram.old focal.old ram.new focal.new result }
-    ensures unchanged { Keeps ram.old focal.old ram.new focal.new result }
-    ensures sound { IsTrue (is_sound ram.new) }
+pub fn go_to_end<const REGS: usize>(machine: &mut Machine<REGS>) -> Result<(), ProgramRefusal>
+    requires { IsTrue (is_sound machine.old.memory) }
+    ensures line { GoesToEnd machine.old (made_as machine.new result) }
+    ensures unchanged { OnErr result (machine.new ≡ machine.old) }
+    ensures sound { IsTrue (is_sound machine.new.memory) }
 {
     lists_are_determined();
-    let open = is_last_open(ram)?;
-    close_last(ram)?;
-    let start = start_of(ram, final_position(ram));
-    show_last(focal, start, open);
+    let open = is_last_open(&machine.ram)?;
+    close_last(&mut machine.ram)?;
+    let start = start_of(&machine.ram, final_position(&machine.ram));
+    if open {
+        machine.focal.halt_at(start);
+    } else {
+        machine.focal.go_to_line_00(start);
+    }
     Ok(())
 }
 
@@ -85,47 +81,27 @@ pub fn is_last(listed: &ListedLine) -> bool
     is_end(&listed.line) || is_final_end(listed.line)
 }
 
-/// A line is shown.
-fn show(focal: &mut Focal, position: u16)
-    ensures { focal.new ≡ record focal.old { position = position; at_line_00 = false } }
-{
-    focal.position = position;
-    focal.is_at_line_00 = false;
-}
-
 /// Line 00 of the position's program is shown.
-fn show_start<const REGS: usize>(ram: &Ram<REGS>, focal: &mut Focal)
-    requires { IsTrue (is_sound ram.now) }
-    ensures line { ShowsNext00 ram.now focal.old ram.now focal.new }
+fn show_start<const REGS: usize>(machine: &mut Machine<REGS>)
+    requires { IsTrue (is_sound machine.old.memory) }
+    ensures { ShowsStart machine.old (Ok machine.new) }
 {
-    focal.position = start_of(ram, focal.position);
-    focal.is_at_line_00 = true;
+    let start = start_of(&machine.ram, machine.focal.position);
+    machine.focal.go_to_line_00(start);
 }
 
-/// Line 00 of the last program is shown, which begins at a position; nothing is left to return to where it had to be closed.
-fn show_last(focal: &mut Focal, start: u16, closed: bool)
-    ensures { focal.new ≡ shown_last focal.old start closed }
-{
-    focal.position = start;
-    focal.is_at_line_00 = true;
-    if closed {
-        focal.returns.clear();
-    }
-}
-
-/// The end of the program is shown that a line at a position is of.
+/// The end of the program is shown that a line is of.
 fn show_end<const REGS: usize>(
-    ram: &Ram<REGS>,
-    focal: &mut Focal,
-    position: u16,
+    machine: &mut Machine<REGS>,
+    shown: &ListedLine,
 ) -> Result<(), ProgramRefusal>
-    requires { IsTrue (is_sound ram.now) }
-    ensures line { ShowsOwnEnd position ram.now focal.old ram.now focal.new result }
-    ensures unchanged { Keeps ram.now focal.old ram.now focal.new result }
+    requires { IsTrue (is_sound machine.old.memory) }
+    ensures line { ShowsEnd machine.old shown.now (made_as machine.new result) }
+    ensures unchanged { OnErr result (machine.new ≡ machine.old) }
 {
-    match end_of(ram, position) {
+    match end_of(&machine.ram, shown.position) {
         Some(end) => {
-            show(focal, end);
+            machine.focal.go_to(end);
             Ok(())
         }
         None => Err(ProgramRefusal::BrokenProgram),

@@ -3,8 +3,8 @@ ghost use Rattle.std.specs.Prelude.{IsTrue};
 ghost use Rattle.h41_editor.specs.NumberedLines.{HasNumbered};
 ghost use Rattle.h41_ram.specs.RegisterMap.{is_sound};
 
+use h41_focal::Machine;
 use h41_program::{ListedLine, line_at, line_number};
-use h41_ram::Ram;
 
 /// A line of a program with its number there.
 #[derive(Clone, Copy, Debug, PartialEq, Eq)]
@@ -15,17 +15,17 @@ pub struct NumberedLine {
     pub number: u16,
 }
 
-/// The line that a position stands for: the first from there on. `None` where no line can be read there, and where its program
+/// The line that the position stands for: the first from there on. `None` where no line can be read there, and where its program
 /// has none there, as within a line.
-pub fn numbered_line<const REGS: usize>(ram: &Ram<REGS>, at: u16) -> Option<NumberedLine>
-    requires { IsTrue (is_sound ram.now) }
-    ensures { HasNumbered ram.now at result }
+pub fn numbered_line<const REGS: usize>(machine: &Machine<REGS>) -> Option<NumberedLine>
+    requires { IsTrue (is_sound machine.now.memory) }
+    ensures { HasNumbered machine.now.memory machine.now.focal.position result }
 {
-    match line_at(ram, at) {
-        Ok(listed) => line_number(ram, listed.position).map(|number| NumberedLine {
-            listed,
-            number,
-        }),
+    match line_at(&machine.ram, machine.focal.position) {
+        Ok(listed) => {
+            let number = line_number(&machine.ram, listed.position)?;
+            Some(NumberedLine { listed, number })
+        }
         Err(_) => None,
     }
 }

@@ -1,12 +1,11 @@
 //! What the display shows in program mode.
 ghost use Rattle.std.specs.Prelude.{◌≡◌, ◌≤◌, ◌++◌, length, IsTrue};
 ghost use Rattle.h41_editor.specs.ProgramText as spec;
-ghost use Rattle.h41_focal.specs.LineCalls.{machine_of};
 ghost use Rattle.h41_ram.specs.RegisterMap.{is_sound};
 
 use crate::numbered::{NumberedLine, numbered_line};
 use arrayvec::ArrayString;
-use h41_focal::Focal;
+use h41_focal::Machine;
 use h41_ram::Ram;
 use h41_text::write_line;
 use itoa::Buffer;
@@ -20,17 +19,16 @@ const MAIN_START: u16 = 0x0C0;
 /// The line that the position shows: its number, of two digits at least, and its text; `00 REG n` at line 00, with the number of
 /// registers that are left for programs; `?` where its program has no line there, and where memory is not sound.
 pub fn program_text<const REGS: usize>(
-    ram: &Ram<REGS>,
-    focal: &Focal,
+    machine: &Machine<REGS>,
 ) -> ArrayString<PROGRAM_TEXT_CAPACITY>
-    ensures { spec.ShowsProgram (machine_of ram.now focal.now) result.bytes }
+    ensures { spec.ShowsProgram machine.now result.bytes }
 {
-    if !ram.is_sound() {
+    if !machine.ram.is_sound() {
         unknown_text()
-    } else if focal.is_at_line_00 {
-        line_00_text(ram)
+    } else if machine.focal.is_at_line_00 {
+        line_00_text(&machine.ram)
     } else {
-        match numbered_line(ram, focal.position) {
+        match numbered_line(machine) {
             Some(numbered) => numbered_text(&numbered),
             None => unknown_text(),
         }

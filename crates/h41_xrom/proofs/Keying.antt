@@ -1,14 +1,12 @@
 -- What a key that has a meaning leaves, by the effect of its action.
 use Rattle.std.proofs.Common.{◌≡◌, Some, None, Result, Ok, Err, refl, sym, subst, ap, ◌∙◌}
-use Rattle.h41_focal.specs.LineStep.{FocalState}
+use Rattle.h41_focal.specs.LineStep.{Machine}
 use Rattle.h41_keys.specs.declared.action.Action.{Action}
 use Rattle.h41_keys.specs.declared.input.Input.{Input}
 use Rattle.h41_keys.specs.declared.key.Key.{Key}
-use Rattle.h41_ram.specs.RegisterMap.{RegisterMap}
-use Rattle.h41_xrom.proofs.Loading.{with_place}
-use Rattle.h41_xrom.specs.Calculator.{CalculatorState}
-use Rattle.h41_xrom.specs.KeyActions.{after_key, key_refusal, told}
-use Rattle.h41_xrom.specs.KeyCalls.{Accepts, ActsAs, after_effect, effect_with}
+use Rattle.h41_xrom.specs.Calculator.{CalculatorState, machine_of, with_machine}
+use Rattle.h41_xrom.specs.KeyActions.{Acts, after_key, key_refusal, told}
+use Rattle.h41_xrom.specs.PrivateCalls.{Accepts, after_effect, effect_as, effect_with}
 use Rattle.h41_xrom.specs.declared.acting.Effect.{Effect}
 use Rattle.h41_xrom.specs.declared.acting.Effect.TheVariants as effects
 use Rattle.h41_xrom.specs.declared.lines.LineEnd.TheVariants as ends
@@ -20,33 +18,33 @@ pub key_lost : (key : Key) (input : Input) (action : Action) (s : CalculatorStat
 key_lost key input action s why e = (Err why, rw (sym e) refl, (refl, refl))
 
 -- its action, where that is what was there before
-abbrev pub ActsIn : Input → Action → CalculatorState → RegisterMap → FocalState → Result Effect CalculatorRefusal → Type 0
-ActsIn input action s new after result = ActsAs s.nut.pages input.program_mode action s.nut.ram s.focal new after result
+abbrev pub ActsIn : Input → Action → CalculatorState → Machine → Result Effect CalculatorRefusal → Type 0
+ActsIn input action s new result = Acts s.nut.pages input.program_mode action (machine_of s) (effect_as new result)
 
 -- the action is refused
-pub key_failed : (key : Key) (input : Input) (action : Action) (from s : CalculatorState) (new : RegisterMap) (after : FocalState) (why : CalculatorRefusal)
-    → from ≡ s → None ≡ key_refusal s → ActsIn input action from new after (Err why)
-    → (new ≡ from.nut.ram) × (after ≡ from.focal) → Accepts key input action s (with_place new after from) (Some why)
-key_failed key input action from s new after why is accepted acts (memory, focal) = (
+pub key_failed : (key : Key) (input : Input) (action : Action) (from s : CalculatorState) (new : Machine) (why : CalculatorRefusal)
+    → from ≡ s → None ≡ key_refusal s → ActsIn input action from new (Err why)
+    → new ≡ machine_of from → Accepts key input action s (with_machine new from) (Some why)
+key_failed key input action from s new why is accepted acts same = (
   Err why,
-  rw (sym accepted) (Err why, subst (λ (of : CalculatorState). ActsIn input action of new after (Err why)) is acts, refl),
-  ((λ i. with_place (memory i) (focal i) from) ∙ is, refl),
+  rw (sym accepted) (Err why, subst (λ (of : CalculatorState). ActsIn input action of new (Err why)) is acts, refl),
+  (ap (λ (of : Machine). with_machine of from) same ∙ is, refl),
 )
 
 -- the action is done, and then what is left to do
-effect_same : (effect : Effect) (key : Key) (input : Input) (s : CalculatorState) (new : RegisterMap) (after : FocalState)
-    → after_effect effect (told key input (with_place new after s)) ≡ after_key (told key input s) (effect_with new after effect)
-effect_same effects.Nothing key input s new after = refl
-effect_same (effects.Line (ends.Answers outcome)) key input s new after = refl
-effect_same (effects.Line (ends.Begins address)) key input s new after = refl
-effect_same effects.Stops key input s new after = refl
-effect_same effects.Starts key input s new after = refl
+effect_same : (effect : Effect) (key : Key) (input : Input) (s : CalculatorState) (new : Machine)
+    → after_effect effect (told key input (with_machine new s)) ≡ after_key (told key input s) (effect_with new effect)
+effect_same effects.Nothing key input s new = refl
+effect_same (effects.Line (ends.Answers outcome)) key input s new = refl
+effect_same (effects.Line (ends.Begins address)) key input s new = refl
+effect_same effects.Stops key input s new = refl
+effect_same effects.Starts key input s new = refl
 
-pub key_done : (key : Key) (input : Input) (action : Action) (from s t : CalculatorState) (new : RegisterMap) (after : FocalState) (effect : Effect)
-    → from ≡ s → None ≡ key_refusal s → ActsIn input action from new after (Ok effect)
-    → t ≡ after_effect effect (told key input (with_place new after from)) → Accepts key input action s t None
-key_done key input action from s t new after effect is accepted acts left = (
-  Ok (after_key (told key input s) (effect_with new after effect)),
-  rw (sym accepted) (Ok (effect_with new after effect), subst (λ (of : CalculatorState). ActsIn input action of new after (Ok effect)) is acts, refl),
-  (left ∙ effect_same effect key input from new after ∙ ap (λ (of : CalculatorState). after_key (told key input of) (effect_with new after effect)) is, refl),
+pub key_done : (key : Key) (input : Input) (action : Action) (from s t : CalculatorState) (new : Machine) (effect : Effect)
+    → from ≡ s → None ≡ key_refusal s → ActsIn input action from new (Ok effect)
+    → t ≡ after_effect effect (told key input (with_machine new from)) → Accepts key input action s t None
+key_done key input action from s t new effect is accepted acts left = (
+  Ok (after_key (told key input s) (effect_with new effect)),
+  rw (sym accepted) (Ok (effect_with new effect), subst (λ (of : CalculatorState). ActsIn input action of new (Ok effect)) is acts, refl),
+  (left ∙ effect_same effect key input from new ∙ ap (λ (of : CalculatorState). after_key (told key input of) (effect_with new effect)) is, refl),
 )

@@ -138,6 +138,10 @@ with_text memory characters = with_alpha memory (last_24 characters)
 abbrev pub with_letters : RegisterMap → List ℕ → RegisterMap
 with_letters memory characters = with_flag (with_text memory characters) text_flag true
 
+-- flag 48 is the other way
+abbrev pub with_alpha_toggled : RegisterMap → RegisterMap
+with_alpha_toggled memory = with_flag memory alpha_flag (not (flag_of memory alpha_flag))
+
 -- EACH ACTION, where lines are stored in program mode
 abbrev pub Acts : PageMap → (program_mode : Bool) → Action → Machine → Result Effect CalculatorRefusal → Type 0
 Acts pages program_mode actions.Nothing machine effect = effect ≡ Ok (Leaves machine)
@@ -155,8 +159,7 @@ Acts pages program_mode actions.Delete machine effect = Edits Deletes machine ef
 Acts pages program_mode (actions.BeginNumber text) machine effect = BeginsNumber text machine effect
 Acts pages program_mode (actions.ChangeNumber text) machine effect = ChangesNumber text machine effect
 Acts pages program_mode actions.EndNumber machine effect = Carries (sources.Keys (lines.Plain ClearX)) pages machine effect
-Acts pages program_mode actions.ToggleAlpha machine effect =
-    effect ≡ leaves_memory (with_flag machine.memory alpha_flag (not (flag_of machine.memory alpha_flag))) machine
+Acts pages program_mode actions.ToggleAlpha machine effect = effect ≡ leaves_memory (with_alpha_toggled machine.memory) machine
 Acts pages program_mode (actions.BeginText letter) machine effect = effect ≡ leaves_memory (with_letters machine.memory (letter ∷ [])) machine
 Acts pages program_mode (actions.AddLetter letter) machine effect =
     effect ≡ leaves_memory (with_letters machine.memory (alpha_of machine.memory ++ letter ∷ [])) machine

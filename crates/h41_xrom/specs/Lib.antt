@@ -2,8 +2,7 @@ pub mod Calculator
 pub mod CalculatorLaws
 pub mod Display
 pub mod KeyActions
-pub mod KeyCalls
-pub mod LineCalls
 pub mod Lines
 pub mod Messages
+pub mod PrivateCalls
 pub mod Programs

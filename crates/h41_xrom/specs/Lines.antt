@@ -84,10 +84,14 @@ CallsName source (Some numbers) pages name machine ended = CallsEntry source (en
 CallsName source None pages name machine ended =
     (function : Option Function) × IsNamed name function × CarriesNamed source function machine ended
 
+-- a name is looked up so
+abbrev pub Seeks : Source → PageMap → List ℕ → Machine → Result Ended FocalRefusal → Type 0
+Seeks source pages name machine ended = CallsName source (found pages name) pages name machine ended
+
 -- by what the line answers
 abbrev pub GoesOn : Source → PageMap → Machine → Left → Answer → Result Ended FocalRefusal → Type 0
 GoesOn source pages machine left (answers.Calls number entry) ended = CallsEntry source (entry_at pages number entry) machine ended
-GoesOn source pages machine left (answers.Seeks name) ended = CallsName source (found pages name) pages name machine ended
+GoesOn source pages machine left (answers.Seeks name) ended = Seeks source pages name machine ended
 GoesOn source pages machine left answer ended = ended ≡ Ok (Answers left)
 
 abbrev pub GoesOnFrom : Source → PageMap → Machine → Result Left FocalRefusal → Result Ended FocalRefusal → Type 0

@@ -1,9 +1,9 @@
 -- Programs in memory: loaded, and the number of data registers above them. What memory becomes by a load is said by the list of its lines.
-use Rattle.std.specs.Prelude.{◌≡◌, ℕ, true, not, List, [], Option, Some, None, MatchOption, Result, Ok, Err}
+use Rattle.std.specs.Prelude.{◌≡◌, ℕ, not, List, Option, Some, None, MatchOption, Result, Ok, Err}
 use Rattle.std.specs.Bool.{then_some}
 use Rattle.std.specs.Option.{option_or}
 use Rattle.std.specs.Result.{result_err, result_unwrap_or}
-use Rattle.h41_focal.specs.LineStep.{FocalState}
+use Rattle.h41_focal.specs.LineStep.{halted_at}
 use Rattle.h41_program.specs.declared.refusal.ProgramRefusal as program
 use Rattle.h41_program.specs.Edits.{LoadGives}
 use Rattle.h41_program.specs.Size.{size_outcome}
@@ -21,11 +21,8 @@ abbrev pub with_memory : RegisterMap → CalculatorState → CalculatorState
 with_memory memory s = record s { nut = record s.nut { ram = memory } }
 
 -- and at line 00 of the program that begins at a position, with nowhere to return to; lift and message stay
-abbrev pub at_program : ℕ → FocalState → FocalState
-at_program position focal = record focal { position = position; at_line_00 = true; returns = [] }
-
 abbrev pub with_program : RegisterMap → ℕ → CalculatorState → CalculatorState
-with_program memory position s = record (with_memory memory s) { focal = at_program position s.focal }
+with_program memory position s = record (with_memory memory s) { focal = halted_at position s.focal }
 
 -- what a change of program memory makes of the calculator, where no number and no text is being typed any more; or why it is refused
 abbrev pub loaded : CalculatorState → Result (RegisterMap × ℕ) program.ProgramRefusal → Result CalculatorState CalculatorRefusal

@@ -1,7 +1,8 @@
 //! What a key's action makes of memory and of what lines work on.
 
-ghost use Rattle.std.specs.Prelude.{◌≡◌};
-ghost use Rattle.h41_xrom.specs.KeyCalls.{ActsAs, CarriesAs, IsActed, KeepsActed, edited_as};
+ghost use Rattle.std.specs.Prelude.{◌≡◌, OnErr};
+ghost use Rattle.h41_xrom.specs.KeyActions.{Acts, Carries};
+ghost use Rattle.h41_xrom.specs.PrivateCalls.{IsActed, edited_as, effect_as};
 
 use crate::lines::{LineEnd, Source, carry_line};
 use crate::refusal::CalculatorRefusal;
@@ -11,11 +12,10 @@ use crate::typing::{
 };
 use h41_codes::{Function, Line};
 use h41_editor::{delete_line, go_to_end, insert_line, replace_line, show_before, show_next};
-use h41_focal::Focal;
+use h41_focal::Machine;
 use h41_keys::Action;
 use h41_pages::Pages;
 use h41_program::ProgramRefusal;
-use h41_ram::Ram;
 
 /// The line of CLX.
 const CLEAR_X: Line = Line::Plain(Function::ClearX);
@@ -35,36 +35,35 @@ pub enum Effect {
 
 /// What a key asks for is done, but for the display and the mode. Refused as 14, 13 or 16; nothing is changed then.
 pub fn act<const REGS: usize>(
-    ram: &mut Ram<REGS>,
-    focal: &mut Focal,
+    machine: &mut Machine<REGS>,
     pages: &Pages,
     program_mode: bool,
     action: Action,
 ) -> Result<Effect, CalculatorRefusal>
-    requires { IsActed action ram.old }
-    ensures effect { ActsAs pages.now program_mode action ram.old focal.old ram.new focal.new result }
-    ensures unchanged { KeepsActed ram.old focal.old ram.new focal.new result }
+    requires { IsActed action machine.old.memory }
+    ensures effect { Acts pages.now program_mode action machine.old (effect_as machine.new result) }
+    ensures unchanged { OnErr result (machine.new ≡ machine.old) }
 {
     match action {
         Action::Nothing => Ok(Effect::Nothing),
         Action::Stop => Ok(Effect::Stops),
         Action::Run => Ok(Effect::Starts),
-        Action::Step if program_mode => edited(show_next(ram, focal)),
-        Action::Step => carried(ram, focal, pages, &Source::Program),
-        Action::StepBack => edited(show_before(ram, focal)),
-        Action::GoToEnd => edited(go_to_end(ram, focal)),
-        Action::CarryOut(line) => carried(ram, focal, pages, &Source::Keys(line)),
-        Action::Insert(line) => edited(insert_line(ram, focal, stored_line(ram, pages, line))),
-        Action::Replace(line) => edited(replace_line(ram, focal, line)),
-        Action::Delete => edited(delete_line(ram, focal)),
-        Action::EndNumber => carried(ram, focal, pages, &Source::Keys(CLEAR_X)),
-        Action::BeginNumber(number) => Ok(begin_number(ram, focal, &number)),
-        Action::ChangeNumber(number) => Ok(change_number(ram, &number)),
-        Action::ToggleAlpha => Ok(toggle_alpha(ram)),
-        Action::BeginText(letter) => Ok(begin_text(ram, letter)),
-        Action::AddLetter(letter) => Ok(add_letter(ram, letter)),
-        Action::TakeLetter => Ok(take_letter(ram)),
-        Action::ClearAlpha => Ok(clear_alpha(ram)),
+        Action::Step if program_mode => edited(show_next(machine)),
+        Action::Step => carried(machine, pages, &Source::Program),
+        Action::StepBack => edited(show_before(machine)),
+        Action::GoToEnd => edited(go_to_end(machine)),
+        Action::CarryOut(line) => carried(machine, pages, &Source::Keys(line)),
+        Action::Insert(line) => edited(insert_line(machine, stored_line(machine, pages, line))),
+        Action::Replace(line) => edited(replace_line(machine, line)),
+        Action::Delete => edited(delete_line(machine)),
+        Action::EndNumber => carried(machine, pages, &Source::Keys(CLEAR_X)),
+        Action::BeginNumber(number) => Ok(begin_number(machine, &number)),
+        Action::ChangeNumber(number) => Ok(change_number(machine, &number)),
+        Action::ToggleAlpha => Ok(toggle_alpha(&mut machine.ram)),
+        Action::BeginText(letter) => Ok(begin_text(&mut machine.ram, letter)),
+        Action::AddLetter(letter) => Ok(add_letter(&mut machine.ram, letter)),
+        Action::TakeLetter => Ok(take_letter(&mut machine.ram)),
+        Action::ClearAlpha => Ok(clear_alpha(&mut machine.ram)),
     }
 }
 
@@ -80,13 +79,12 @@ fn edited(given: Result<(), ProgramRefusal>) -> Result<Effect, CalculatorRefusal
 
 /// A line is carried out: the one at the position, or one that was typed.
 fn carried<const REGS: usize>(
-    ram: &mut Ram<REGS>,
-    focal: &mut Focal,
+    machine: &mut Machine<REGS>,
     pages: &Pages,
     source: &Source,
 ) -> Result<Effect, CalculatorRefusal>
-    ensures line { CarriesAs source.now pages.now ram.old focal.old ram.new focal.new result }
-    ensures unchanged { KeepsActed ram.old focal.old ram.new focal.new result }
+    ensures line { Carries source.now pages.now machine.old (effect_as machine.new result) }
+    ensures unchanged { OnErr result (machine.new ≡ machine.old) }
 {
-    Ok(Effect::Line(carry_line(ram, focal, pages, source)?))
+    Ok(Effect::Line(carry_line(machine, pages, source)?))
 }

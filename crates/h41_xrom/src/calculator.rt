@@ -3,20 +3,19 @@
 ghost use Rattle.std.specs.Prelude.{◌≡◌, None, IfOk, IfErr, OnOk, OnErr, option_map};
 ghost use Rattle.std.specs.Result.{result_err};
 ghost use Rattle.h41_pages.specs.PageMap.{unplug_refusal};
-ghost use Rattle.h41_xrom.specs.Calculator.{RefusesLine, RefusesPage, RefusesStep, RefusesStepIn, Step, StepIn, StepsByLine, TakesPage, after_answer, call_refusal, called, caller_in, entering, mode_after, mode_behind_word, mode_of, not_typing, restarted, start, with_page, with_shown, without_page};
+ghost use Rattle.h41_xrom.specs.Calculator.{RefusesLine, RefusesPage, RefusesStep, RefusesStepIn, Step, StepIn, StepsByLine, TakesPage, after_answer, call_refusal, called, caller_in, entering, machine_of, mode_after, mode_behind_word, mode_of, not_typing, restarted, start, with_page, with_shown, without_page};
 ghost use Rattle.h41_xrom.specs.KeyActions as keys;
-ghost use Rattle.h41_xrom.specs.KeyCalls.{after_effect, after_end};
-ghost use Rattle.h41_xrom.specs.KeyCalls as keys_calls;
+ghost use Rattle.h41_xrom.specs.PrivateCalls.{Accepts, IsAccepted, after_effect, after_end};
 ghost use Rattle.h41_keys.specs.declared.input.Entry.TheVariants as entries;
 ghost use Rattle.h41_focal.specs.Outcomes.{answer_of};
 ghost use Rattle.h41_xrom.specs.declared.calculator.Mode.TheVariants.{Micro};
-ghost use Rattle.h41_xrom.specs.Programs.{Becomes, Loads, at_program, change_refusal, size_makes};
+ghost use Rattle.h41_xrom.specs.Programs.{Becomes, Loads, change_refusal, size_makes};
 
 use crate::acting::{Effect, act};
 use crate::lines::{LineEnd, Source, carry_line};
 use crate::messages::{fault_text, test_text};
 use crate::refusal::CalculatorRefusal;
-use h41_focal::{DisplayText, Focal, LineOutcome};
+use h41_focal::{DisplayText, Focal, LineOutcome, Machine};
 use h41_keys::{Action, Entry, Flags, Input, Key, press};
 use h41_nut::{Cpu, END_OF_FUNCTION, Keys, WordRefusal, step};
 use h41_pages::{FIRST_ADDRESS, Pages, PlugRefusal, UnplugRefusal};
@@ -78,11 +77,10 @@ impl Caller {
 #[derive(Drop)]
 pub struct Calculator {
     cpu: Cpu,
-    ram: Ram<REGISTERS>,
+    /// Memory, and what lines work on beside it.
+    machine: Machine<REGISTERS>,
     pages: Pages,
     keys: Keys,
-    /// What lines work on, beside memory.
-    focal: Focal,
     /// What the keyboard keeps from key to key.
     input: Input,
     /// The text that the display shows before all else, where there is one.
@@ -98,8 +96,8 @@ impl Model for Calculator {
     ghost Value = { CalculatorState };
 
     ghost view = { λ all. record {
-      nut = nut_of all.cpu all.ram all.pages all.keys;
-      focal = all.focal;
+      nut = nut_of all.cpu all.machine.memory all.pages all.keys;
+      focal = all.machine.focal;
       input = all.input;
       message = option_map (λ text. text.bytes) all.message;
       mode = all.mode;
@@ -113,10 +111,9 @@ impl Calculator {
     {
         Ok(Calculator {
             cpu: Cpu::new(),
-            ram: Ram::new(),
+            machine: Machine::new(),
             pages: Pages::new(alloc)?,
             keys: Keys::new(),
-            focal: Focal::new(),
             input: Input::new(),
             message: None,
             mode: Mode::Idle,
@@ -134,7 +131,7 @@ impl Calculator {
     pub fn ram(&self) -> &Ram<REGISTERS>
         ensures { result.now ≡ self.now.nut.ram }
     {
-        &self.ram
+        &self.machine.ram
     }
 
     /// The pages.
@@ -162,7 +159,14 @@ impl Calculator {
     pub fn focal(&self) -> &Focal
         ensures { result.now ≡ self.now.focal }
     {
-        &self.focal
+        &self.machine.focal
+    }
+
+    /// Memory, and what lines work on beside it.
+    pub fn machine(&self) -> &Machine<REGISTERS>
+        ensures { result.now ≡ machine_of self.now }
+    {
+        &self.machine
     }
 
     /// What the keyboard keeps from key to key: SHIFT, program mode, a prompt, and the number or text that is being typed.
@@ -238,12 +242,7 @@ impl Calculator {
         ensures change { OnOk result (StepsByLine self.old self.new) }
         ensures err { OnErr result (self.new ≡ self.old) }
     {
-        match carry_line(
-            &mut self.ram,
-            &mut self.focal,
-            &self.pages,
-            &Source::Program,
-        ) {
+        match carry_line(&mut self.machine, &self.pages, &Source::Program) {
             Ok(end) => {
                 self.end_entry();
                 self.end_line(end);
@@ -308,17 +307,11 @@ impl Calculator {
 
     /// A key that has a meaning is done, or refused.
     fn accept(&mut self, key: Key, input: Input, action: Action) -> Result<(), CalculatorRefusal>
-        requires { keys_calls.IsAccepted self.old action }
-        ensures { keys_calls.Accepts key input action self.old self.new (result_err result) }
+        requires { IsAccepted self.old action }
+        ensures { Accepts key input action self.old self.new (result_err result) }
     {
         self.check_memory()?;
-        match act(
-            &mut self.ram,
-            &mut self.focal,
-            &self.pages,
-            input.program_mode,
-            action,
-        ) {
+        match act(&mut self.machine, &self.pages, input.program_mode, action) {
             Ok(effect) => {
                 self.tell(key, input);
                 self.finish(effect);
@@ -332,7 +325,7 @@ impl Calculator {
     fn check_memory(&self) -> Result<(), CalculatorRefusal>
         ensures { result_err result ≡ keys.key_refusal self.now }
     {
-        if self.mode == Mode::Idle && !self.ram.is_sound() {
+        if self.mode == Mode::Idle && !self.machine.ram.is_sound() {
             return Err(CalculatorRefusal::MemoryLost);
         }
         Ok(())
@@ -354,7 +347,7 @@ impl Calculator {
         ensures { result ≡ keys.flags_of self.now }
     {
         Flags {
-            alpha: self.ram.flag(ALPHA_FLAG),
+            alpha: self.machine.ram.flag(ALPHA_FLAG),
             message: self.message.is_some(),
         }
     }
@@ -398,13 +391,14 @@ impl Calculator {
     {
         step(
             &mut self.cpu,
-            &mut self.ram,
+            &mut self.machine.ram,
             &mut self.pages,
             &mut self.keys,
         )?;
         if self.cpu.pc() == END_OF_FUNCTION {
             self.mode = caller.mode();
-            self.focal.lift = true;
+            let focal = &mut self.machine.focal;
+            focal.lift = true;
             return Ok(false);
         }
         Ok(true)
@@ -417,8 +411,8 @@ impl Calculator {
         ensures { Loads bytes.now self.old self.new (result_err result) }
     {
         self.check_change()?;
-        let position = load(&mut self.ram, bytes)?;
-        go_to_program(&mut self.focal, position);
+        let position = load(&mut self.machine.ram, bytes)?;
+        self.machine.focal.halt_at(position);
         self.input.entry = Entry::Nothing;
         Ok(())
     }
@@ -429,7 +423,7 @@ impl Calculator {
         ensures { Becomes (size_makes self.old count) self.old self.new (result_err result) }
     {
         self.check_change()?;
-        set_size(&mut self.ram, count)?;
+        set_size(&mut self.machine.ram, count)?;
         self.end_entry();
         Ok(())
     }
@@ -441,7 +435,7 @@ impl Calculator {
         if self.mode != Mode::Idle {
             return Err(CalculatorRefusal::Busy);
         }
-        if !self.ram.is_sound() {
+        if !self.machine.ram.is_sound() {
             return Err(CalculatorRefusal::MemoryLost);
         }
         Ok(())
@@ -481,10 +475,9 @@ impl Calculator {
         ensures { self.new ≡ restarted self.old }
     {
         self.cpu = Cpu::new();
-        self.ram = Ram::new();
+        self.machine = Machine::new();
         self.pages.choose_first_banks();
         self.keys = Keys::new();
-        self.focal = Focal::new();
         self.input = Input::new();
         self.message = None;
         self.mode = Mode::Idle;
@@ -504,13 +497,4 @@ fn mode_behind(mode: Mode, outcome: &LineOutcome) -> Mode
         LineOutcome::Runs => Mode::Run,
         _ => mode,
     }
-}
-
-/// To line 00 of the program that begins at a position, with nowhere to return to; lift stays.
-fn go_to_program(focal: &mut Focal, position: u16)
-    ensures { focal.new ≡ at_program position focal.old }
-{
-    focal.position = position;
-    focal.is_at_line_00 = true;
-    focal.returns.clear();
 }

@@ -2,7 +2,6 @@
 
 ghost use Rattle.std.specs.Prelude.{◌≡◌, ◌≤◌, ◌++◌, length};
 ghost use Rattle.arrayvec.specs.ArrayString.{array_string_len};
-ghost use Rattle.h41_focal.specs.LineCalls.{machine_of};
 ghost use Rattle.h41_lines.specs.Characters.{characters_text};
 ghost use Rattle.h41_xrom.specs.Display as spec;
 ghost use Rattle.h41_xrom.specs.Display.{ShowsDisplay};
@@ -11,7 +10,7 @@ use crate::calculator::{ALPHA_FLAG, Calculator};
 use arrayvec::ArrayString;
 use h41_codes::{Line, Number};
 use h41_editor::program_text;
-use h41_focal::Focal;
+use h41_focal::Machine;
 use h41_keys::{Entry, Input, Prompt};
 use h41_lines::characters::character_text;
 use h41_ram::{Ram, StatusRegister};
@@ -36,7 +35,7 @@ impl Calculator {
         let input = self.input();
         match input.prompt {
             Some(prompt) => prompt_text(&prompt),
-            None if input.program_mode => shown_line(self.ram(), self.focal(), input.entry),
+            None if input.program_mode => shown_line(self.machine(), input.entry),
             None => entry_text(self.ram(), input.entry),
         }
     }
@@ -64,14 +63,13 @@ fn push_characters(text: &mut ArrayString<TEXT_CAPACITY>, characters: &[u8])
 
 /// In program mode the line, with what stands behind it while it is being typed.
 fn shown_line<const REGS: usize>(
-    ram: &Ram<REGS>,
-    focal: &Focal,
+    machine: &Machine<REGS>,
     entry: Entry,
 ) -> ArrayString<TEXT_CAPACITY>
-    ensures { spec.ShowsShownLine (machine_of ram.now focal.now) entry result.bytes }
+    ensures { spec.ShowsShownLine machine.now entry result.bytes }
 {
     let mut text = ArrayString::new();
-    text.push_str(program_text(ram, focal).as_str());
+    text.push_str(program_text(machine).as_str());
     text.push_str(cursor_of(entry));
     text
 }

@@ -1,17 +1,13 @@
 //! A line that calls what memory does not have.
 
 ghost use Rattle.std.specs.Prelude.{◌≡◌, None, Some, OnErr};
-ghost use Rattle.h41_focal.specs.LineCalls.{KeepsAll, KeepsElsewhere};
-ghost use Rattle.h41_xrom.specs.LineCalls.{Called, CallsNamed, Carried, Carries, Enters, Failed, FailsThere, IsFunction, Keeps, Passed};
-ghost use Rattle.h41_xrom.specs.Lines.{IsNamed};
+ghost use Rattle.h41_focal.specs.MachineCalls.{KeepsElsewhere, carried_as, passed_as};
+ghost use Rattle.h41_xrom.specs.Lines.{BeginsEntry, CallsEntry, CarriesFrom, CarriesLine, Fails, FailsFrom, IsNamed, PassesFrom, Seeks};
+ghost use Rattle.h41_xrom.specs.PrivateCalls.{CarriesFunction, IsFunction, ended_as};
 
 use h41_codes::{Function, Line};
-use h41_focal::{
-    Focal, FocalRefusal, LineFault, LineOutcome, fail_line, fail_typed, key_line, pass_line,
-    step_as, step_line,
-};
+use h41_focal::{FocalRefusal, LineFault, LineOutcome, Machine};
 use h41_pages::{Entry, Pages};
-use h41_ram::Ram;
 use h41_text::read_line;
 
 /// Where a line comes from.
@@ -36,24 +32,22 @@ pub enum LineEnd {
 /// among the calculator's own.
 #[inline(always)]
 pub fn carry_line<const REGS: usize>(
-    ram: &mut Ram<REGS>,
-    focal: &mut Focal,
+    machine: &mut Machine<REGS>,
     pages: &Pages,
     source: &Source,
 ) -> Result<LineEnd, FocalRefusal>
-    ensures line { Carries source.now pages.now ram.old focal.old ram.new focal.new result }
-    ensures unchanged { Keeps ram.old focal.old ram.new focal.new result }
+    ensures line { CarriesLine source.now pages.now machine.old (ended_as machine.new result) }
+    ensures unchanged { OnErr result (machine.new ≡ machine.old) }
 {
-    match carry(ram, focal, source)? {
-        LineOutcome::Calls(number, entry) => call_entry(
-            ram,
-            focal,
-            pages,
-            source,
-            number.number(),
-            entry.number(),
-        ),
-        LineOutcome::Seeks(name) => call_named(ram, focal, pages, source, name.characters()),
+    match carry(machine, source)? {
+        LineOutcome::Calls(number, entry) => {
+            call_entry(
+                machine,
+                source,
+                pages.entry(number.number(), entry.number()),
+            )
+        }
+        LineOutcome::Seeks(name) => call_named(machine, pages, source, name.characters()),
         outcome => Ok(LineEnd::Answers(outcome)),
     }
 }
@@ -61,131 +55,118 @@ pub fn carry_line<const REGS: usize>(
 /// The line is carried out by itself.
 #[inline(always)]
 fn carry<const REGS: usize>(
-    ram: &mut Ram<REGS>,
-    focal: &mut Focal,
+    machine: &mut Machine<REGS>,
     source: &Source,
 ) -> Result<LineOutcome, FocalRefusal>
-    ensures line { Carried source.now None ram.old focal.old ram.new focal.new result }
-    ensures unchanged { KeepsAll ram.old focal.old ram.new focal.new result }
-    ensures elsewhere { KeepsElsewhere ram.old focal.old ram.new focal.new result }
+    ensures line { CarriesFrom source.now None machine.old (carried_as machine.new result) }
+    ensures unchanged { OnErr result (machine.new ≡ machine.old) }
+    ensures elsewhere { KeepsElsewhere machine.old machine.new result }
 {
     match source {
-        Source::Program => step_line(ram, focal),
-        Source::Keys(line) => key_line(ram, focal, line),
+        Source::Program => machine.step(),
+        Source::Keys(line) => machine.key(line),
     }
 }
 
 /// A function is carried out in place of the line.
 fn carry_function<const REGS: usize>(
-    ram: &mut Ram<REGS>,
-    focal: &mut Focal,
+    machine: &mut Machine<REGS>,
     source: &Source,
     function: Function,
 ) -> Result<LineOutcome, FocalRefusal>
-    ensures line { Carried source.now (Some function) ram.old focal.old ram.new focal.new result }
-    ensures unchanged { KeepsAll ram.old focal.old ram.new focal.new result }
+    ensures line { CarriesFunction source.now function machine.old (carried_as machine.new result) }
+    ensures unchanged { OnErr result (machine.new ≡ machine.old) }
 {
     match source {
-        Source::Program => step_as(ram, focal, function),
-        Source::Keys(_) => key_line(ram, focal, &Line::Plain(function)),
+        Source::Program => machine.step_as(function),
+        Source::Keys(_) => machine.key(&Line::Plain(function)),
     }
 }
 
-/// A function of a module, by its two numbers: one in microcode begins, one in keystrokes is 13, until such programs are carried
-/// out; NONEXISTENT where there is none.
+/// A function of a module, by its entry: one in microcode begins, one in keystrokes is 13, until such programs are carried out;
+/// NONEXISTENT where there is none.
 fn call_entry<const REGS: usize>(
-    ram: &mut Ram<REGS>,
-    focal: &mut Focal,
-    pages: &Pages,
+    machine: &mut Machine<REGS>,
     source: &Source,
-    number: u8,
-    entry: u8,
+    entry: Option<Entry>,
 ) -> Result<LineEnd, FocalRefusal>
-    ensures line { Called source.now pages.now number entry ram.old focal.old ram.new focal.new result }
-    ensures unchanged { Keeps ram.old focal.old ram.new focal.new result }
+    ensures line { CallsEntry source.now entry machine.old (ended_as machine.new result) }
+    ensures unchanged { OnErr result (machine.new ≡ machine.old) }
 {
-    match pages.entry(number, entry) {
-        Some(entry) => begin_entry(ram, focal, source, entry),
-        None => fail(ram, focal, source),
+    match entry {
+        Some(entry) => begin_entry(machine, source, entry),
+        None => fail(machine, source),
     }
 }
 
 /// The function of an entry begins, and the line is passed; 13 for one in keystrokes.
 fn begin_entry<const REGS: usize>(
-    ram: &Ram<REGS>,
-    focal: &mut Focal,
+    machine: &mut Machine<REGS>,
     source: &Source,
     entry: Entry,
 ) -> Result<LineEnd, FocalRefusal>
-    ensures line { Enters source.now entry ram.now focal.old ram.now focal.new result }
-    ensures unchanged { Keeps ram.now focal.old ram.now focal.new result }
+    ensures line { BeginsEntry source.now entry machine.old (ended_as machine.new result) }
+    ensures unchanged { OnErr result (machine.new ≡ machine.old) }
 {
     if entry.keystroke {
         return Err(FocalRefusal::NotInProfile);
     }
-    pass(ram, focal, source)?;
+    pass(machine, source)?;
     Ok(LineEnd::Begins(entry.address))
 }
 
 /// The line is passed: a program will go on behind it, and a typed line leaves all as it was.
-fn pass<const REGS: usize>(
-    ram: &Ram<REGS>,
-    focal: &mut Focal,
-    source: &Source,
-) -> Result<(), FocalRefusal>
-    ensures line { Passed source.now ram.now focal.old focal.new result }
-    ensures unchanged { OnErr result (focal.new ≡ focal.old) }
+fn pass<const REGS: usize>(machine: &mut Machine<REGS>, source: &Source) -> Result<(), FocalRefusal>
+    ensures line { PassesFrom source.now machine.old (passed_as machine.new result) }
+    ensures unchanged { OnErr result (machine.new ≡ machine.old) }
 {
     match source {
-        Source::Program => pass_line(ram, focal),
+        Source::Program => machine.pass(),
         Source::Keys(_) => Ok(()),
     }
 }
 
 /// The line fails: what it calls is nowhere.
 fn fail<const REGS: usize>(
-    ram: &mut Ram<REGS>,
-    focal: &mut Focal,
+    machine: &mut Machine<REGS>,
     source: &Source,
 ) -> Result<LineEnd, FocalRefusal>
-    ensures line { FailsThere source.now ram.old focal.old ram.new focal.new result }
-    ensures unchanged { Keeps ram.old focal.old ram.new focal.new result }
+    ensures line { Fails source.now machine.old (ended_as machine.new result) }
+    ensures unchanged { OnErr result (machine.new ≡ machine.old) }
 {
-    Ok(LineEnd::Answers(fault_of(ram, focal, source)?))
+    Ok(LineEnd::Answers(fault_of(machine, source)?))
 }
 
 /// The answer of a line that fails.
 fn fault_of<const REGS: usize>(
-    ram: &mut Ram<REGS>,
-    focal: &mut Focal,
+    machine: &mut Machine<REGS>,
     source: &Source,
 ) -> Result<LineOutcome, FocalRefusal>
-    ensures line { Failed source.now ram.old focal.old ram.new focal.new result }
-    ensures unchanged { KeepsAll ram.old focal.old ram.new focal.new result }
+    ensures line { FailsFrom source.now machine.old (carried_as machine.new result) }
+    ensures unchanged { OnErr result (machine.new ≡ machine.old) }
 {
     match source {
-        Source::Program => fail_line(ram, focal, LineFault::Nonexistent),
-        Source::Keys(_) => fail_typed(ram, focal, LineFault::Nonexistent),
+        Source::Program => machine.fail(LineFault::Nonexistent),
+        Source::Keys(_) => machine.fail_typed(LineFault::Nonexistent),
     }
 }
 
 /// What has a name: a function of a module, else one of the calculator in place of the line, else NONEXISTENT.
 fn call_named<const REGS: usize>(
-    ram: &mut Ram<REGS>,
-    focal: &mut Focal,
+    machine: &mut Machine<REGS>,
     pages: &Pages,
     source: &Source,
     name: &[u8],
 ) -> Result<LineEnd, FocalRefusal>
-    ensures line { CallsNamed source.now pages.now name.now ram.old focal.old ram.new focal.new result }
-    ensures unchanged { Keeps ram.old focal.old ram.new focal.new result }
+    ensures line { Seeks source.now pages.now name.now machine.old (ended_as machine.new result) }
+    ensures unchanged { OnErr result (machine.new ≡ machine.old) }
 {
     if let Some((number, entry)) = pages.find(name) {
-        return call_entry(ram, focal, pages, source, number, entry);
+        return call_entry(machine, source, pages.entry(number, entry));
     }
     match function_named(name) {
-        Some(function) => Ok(LineEnd::Answers(carry_function(ram, focal, source, function)?)),
-        None => fail(ram, focal, source),
+        Some(function) => Ok(LineEnd::Answers(carry_function(machine, source, function)?)),
+        None => fail(machine, source),
     }
 }
 

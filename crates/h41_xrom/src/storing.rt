@@ -4,25 +4,25 @@ ghost use Rattle.std.specs.Prelude.{IfSome, IsTrue};
 ghost use Rattle.h41_program.specs.Lines.{is_inner};
 ghost use Rattle.h41_ram.specs.RegisterMap.{is_sound};
 ghost use Rattle.h41_xrom.specs.KeyActions.{IsStoredAs};
-ghost use Rattle.h41_xrom.specs.KeyCalls.{StoresFor};
+ghost use Rattle.h41_xrom.specs.PrivateCalls.{StoresFor};
 
 use crate::lines::function_named;
 use h41_codes::{EntryNumber, Line, ModuleNumber, NameFunction};
+use h41_focal::Machine;
 use h41_pages::Pages;
 use h41_program::global;
-use h41_ram::Ram;
 
 /// The line that is stored for one that was typed: itself, but for XEQ of a name that memory does not have as a label, which is the
 /// XROM of a module's function of the name, or else the calculator's own, where there is one.
-pub fn stored_line<const REGS: usize>(ram: &Ram<REGS>, pages: &Pages, line: Line) -> Line
-    requires sound { IsTrue (is_sound ram.now) }
+pub fn stored_line<const REGS: usize>(machine: &Machine<REGS>, pages: &Pages, line: Line) -> Line
+    requires sound { IsTrue (is_sound machine.now.memory) }
     requires inner { IsTrue (is_inner line) }
-    ensures line { IsStoredAs pages.now ram.now line result }
+    ensures line { IsStoredAs pages.now machine.now.memory line result }
     ensures inner { IsTrue (is_inner result) }
 {
     match &line {
         Line::Named(NameFunction::ExecuteName, name) => {
-            match stored_for(ram, pages, name.characters()) {
+            match stored_for(machine, pages, name.characters()) {
                 Some(stored) => stored,
                 None => line,
             }
@@ -32,12 +32,16 @@ pub fn stored_line<const REGS: usize>(ram: &Ram<REGS>, pages: &Pages, line: Line
 }
 
 /// The line that is stored in place of XEQ of a name, where there is one.
-fn stored_for<const REGS: usize>(ram: &Ram<REGS>, pages: &Pages, name: &[u8]) -> Option<Line>
-    requires { IsTrue (is_sound ram.now) }
-    ensures line { StoresFor pages.now ram.now name.now result }
+fn stored_for<const REGS: usize>(
+    machine: &Machine<REGS>,
+    pages: &Pages,
+    name: &[u8],
+) -> Option<Line>
+    requires { IsTrue (is_sound machine.now.memory) }
+    ensures line { StoresFor pages.now machine.now.memory name.now result }
     ensures inner { IfSome result (λ line. IsTrue (is_inner line)) }
 {
-    if global(ram, name).is_some() {
+    if global(&machine.ram, name).is_some() {
         return None;
     }
     if let Some((number, entry)) = pages.find(name) {

@@ -1,14 +1,13 @@
 //! What numbers and letters that are typed make of memory. Nothing more is to be done then.
 
-ghost use Rattle.std.specs.Prelude.{◌≡◌, [], ◌∷◌, ◌++◌, take};
+ghost use Rattle.std.specs.Prelude.{◌≡◌, [], ◌∷◌, ◌++◌, take, Ok};
 ghost use Rattle.h41_ram.specs.RegisterMap.{alpha_of};
-ghost use Rattle.h41_xrom.specs.KeyActions.{with_letters, with_text};
-ghost use Rattle.h41_xrom.specs.KeyCalls as calls;
+ghost use Rattle.h41_xrom.specs.KeyActions.{BeginsNumber, ChangesNumber, Leaves, with_alpha_toggled, with_letters, with_text};
 ghost use Rattle.h41_xrom.specs.declared.acting.Effect.TheVariants.{Nothing};
 
 use crate::acting::Effect;
 use h41_codes::Number;
-use h41_focal::Focal;
+use h41_focal::Machine;
 use h41_ram::{ALPHA_LENGTH, Ram};
 use h41_rows::{append_text, bring_in, replace_text, written};
 
@@ -22,32 +21,29 @@ const TEXT_FLAG: usize = 23;
 const ALPHA_FLAG: usize = 48;
 
 /// A number comes into X as it begins; the stack is lifted first where lift is on, which it is then.
-pub fn begin_number<const REGS: usize>(
-    ram: &mut Ram<REGS>,
-    focal: &mut Focal,
-    number: &Number,
-) -> Effect
-    ensures memory { calls.Begins number.now ram.old focal.old ram.new focal.new }
+pub fn begin_number<const REGS: usize>(machine: &mut Machine<REGS>, number: &Number) -> Effect
+    ensures number { BeginsNumber number.now machine.old (Ok (Leaves machine.new)) }
     ensures effect { result ≡ Nothing }
 {
-    bring_in(ram, written(number), focal.lift);
-    ram.set_flag(NUMBER_FLAG, true);
+    let focal = &mut machine.focal;
+    bring_in(&mut machine.ram, written(number), focal.lift);
+    machine.ram.set_flag(NUMBER_FLAG, true);
     focal.lift = true;
     Effect::Nothing
 }
 
 /// The number in X changes.
-pub fn change_number<const REGS: usize>(ram: &mut Ram<REGS>, number: &Number) -> Effect
-    ensures memory { calls.Changes number.now ram.old ram.new }
+pub fn change_number<const REGS: usize>(machine: &mut Machine<REGS>, number: &Number) -> Effect
+    ensures number { ChangesNumber number.now machine.old (Ok (Leaves machine.new)) }
     ensures effect { result ≡ Nothing }
 {
-    bring_in(ram, written(number), false);
+    bring_in(&mut machine.ram, written(number), false);
     Effect::Nothing
 }
 
 /// ALPHA is shown and written, or no longer.
 pub fn toggle_alpha<const REGS: usize>(ram: &mut Ram<REGS>) -> Effect
-    ensures memory { ram.new ≡ calls.with_alpha_toggled ram.old }
+    ensures memory { ram.new ≡ with_alpha_toggled ram.old }
     ensures effect { result ≡ Nothing }
 {
     let on = !ram.flag(ALPHA_FLAG);

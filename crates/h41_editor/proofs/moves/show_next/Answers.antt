@@ -1,9 +1,11 @@
-use Rattle.std.proofs.Common.{sym}
+use Rattle.std.proofs.Common.{refl}
+use Rattle.h41_editor.proofs.Opened.{read_of}
 use Rattle.h41_editor.proofs.Shown.{next_shown}
 use Rattle.h41_editor.proofs.moves.show_next.Goals as goal
 
-pub returns-in_ok-next-clause-line : goal.returns-in_ok-next-clause-line
-returns-in_ok-next-clause-line g c =
-    next_shown c.args.ram.now _ _ c.args.focal.now c.show.new.focal c.in_ok-line_at.field-0 c.in_ok-next.field-0
-    c.focal.view_is c.focal-else-is_last.view_is c.if-focal.false c.in_ok-line_at.ensures (sym c.if-is_last.ensures)
-    c.in_ok-next.ensures c.show.ensures
+pub returns-in_ok-behind-clause-line : goal.returns-in_ok-behind-clause-line
+returns-in_ok-behind-clause-line g c =
+    next_shown _ c.args.machine.now _ c.in_ok-line_at.field-0 c.in_ok-behind.behind
+    (read_of _ _ _ _ _ refl (λ i. (c.machine-inside.view_is i).focal) c.machine.view_is)
+    c.if-machine.false c.in_ok-line_at.ensures c.if-is_last.ensures c.in_ok-behind.ensures
+    (rw (c.go_to-else-is_last.ensures, ← c.machine.view_is) refl)

@@ -1,12 +1,13 @@
-use Rattle.std.proofs.Common.{Ok, ap}
+use Rattle.std.proofs.Common.{Ok, ap, ◌∙◌}
+use Rattle.h41_focal.specs.LineStep.{Machine}
 use Rattle.h41_ram.specs.RegisterMap.{RegisterMap}
-use Rattle.h41_focal.specs.LineCalls.{machine_of}
-use Rattle.h41_xrom.specs.KeyActions as spec
+use Rattle.h41_xrom.specs.KeyActions.{Leaves, changed}
 use Rattle.h41_xrom.proofs.typing.change_number.Goals as goal
 
-pub returns-clause-memory : goal.returns-clause-memory
-returns-clause-memory g c = λ focal. (
+pub returns-clause-number : goal.returns-clause-number
+returns-clause-number g c = (
   c.written.result,
-  c.written.ensures c.args.ram.now 0,
-  ap (λ (of : RegisterMap). Ok (spec.Leaves (machine_of of focal))) (c.bring_in.ensures 0),
+  c.written.ensures c.args.machine.now.memory 0,
+  ap (λ (of : RegisterMap). Ok (Leaves (record { memory = of; focal = c.machine.inside.focal }))) (c.bring_in.ensures 0)
+      ∙ ap (λ (of : Machine). Ok (Leaves (changed of c.written.result))) c.machine.view_is,
 )

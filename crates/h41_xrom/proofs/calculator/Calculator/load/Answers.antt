@@ -1,5 +1,7 @@
+use Rattle.std.proofs.Common.{ap, ◌∙◌}
 use Rattle.std.proofs.lemmas.Result.{err_from_is_err_and}
 use Rattle.h41_xrom.proofs.Loading.{load_done, load_failed, load_refused}
+use Rattle.h41_xrom.specs.contracts.calculator.Calculator.{the_view}
 use Rattle.h41_xrom.proofs.calculator.Calculator.load.Goals as goal
 
 pub returns-in_err-check_change : goal.returns-in_err-check_change
@@ -10,9 +12,9 @@ returns-in_err-check_change c =
 pub returns-in_err-position : goal.returns-in_err-position
 returns-in_err-position c =
     let p = err_from_is_err_and c.from_residual-in_err-position.result c.from_residual-in_err-position.ensures.1 in
-    rw (p.1, p.2) (load_failed c.args.bytes.now _ c.args.self.now c.load.new.ram _ c.self.view_is (c.in_ok-check_change.ensures) (c.in_err-position.ensures).lines)
+    rw (p.1, p.2) (load_failed c.args.bytes.now _ c.args.self.now c.load.new.ram _ (ap the_view c.self-inside.view_is ∙ c.self.view_is) (c.in_ok-check_change.ensures) (c.in_err-position.ensures).lines)
 
 pub returns : goal.returns
 returns c =
-    load_done c.args.bytes.now _ c.args.self.now c.load.new.ram c.in_ok-position.position c.go_to_program.new.focal c.self.view_is c.go_to_program.ensures
+    load_done c.args.bytes.now _ c.args.self.now c.load.new.ram c.in_ok-position.position c.halt_at.new.self (ap the_view c.self-inside.view_is ∙ c.self.view_is) c.halt_at.ensures
     (c.in_ok-check_change.ensures) (c.in_ok-position.ensures).lines

@@ -19,6 +19,7 @@ use Rattle.h41_dis.specs.Spelling.{spell}
 use Rattle.h41_jobs.specs.declared.arguments.Job.{Job}
 use Rattle.h41_jobs.specs.declared.arguments.Task.{Task}
 use Rattle.h41_jobs.specs.declared.arguments.Task.TheVariants as tasks
+use Rattle.h41_jobs.specs.declared.ended.Answer.{Answer}
 use Rattle.h41_jobs.specs.declared.ended.Ended.{Ended}
 use Rattle.h41_jobs.specs.declared.ended.Ended.TheVariants.{Accepted, Refused, WrongWord}
 use Rattle.h41_jobs.specs.WordTexts.{WritesWords, word_lines, wrong_word}
@@ -79,17 +80,10 @@ WritesFrontOf text_of old new input =
 abbrev pub WritesTaskText : {W : Type 0} → Task → Option (List ℕ) → (W → Option (List ℕ)) → W → W → Type 0
 WritesTaskText task known contents old new = IfSome known (WritesTextOf (HasText task) (contents old) (contents new))
 
--- where a task ends without a fault, it is: any task, a source at an origin, a list of words
+-- where a task ends without a fault, it is
 abbrev pub OkWritesText : {E R W : Type 0} → Result Ended E → Task → sources.Ghosts R → sinks.Ghosts W → R → W → W → Type 0
 OkWritesText result task source sink before old new =
     OnOk result (WritesTaskText task (source.remaining before) sink.contents old new)
-
-abbrev pub Assembled : {E R W : Type 0} → ℕ → Result Ended E → sources.Ghosts R → sinks.Ghosts W → R → W → W → Type 0
-Assembled origin result source sink before old new = OkWritesText result (tasks.Assemble origin) source sink before old new
-
-abbrev pub Listed : {E R W : Type 0} → Result Ended E → sources.Ghosts R → sinks.Ghosts W → R → W → W → Type 0
-Listed result source sink before old new =
-    OnOk result (IfSome (source.remaining before) (WritesTextOf ListingText (sink.contents old) (sink.contents new)))
 
 -- and where a job's status is not that of a fault
 abbrev pub JobWritesText : {R W : Type 0} → ℕ → Job → sources.Ghosts R → sinks.Ghosts W → R → W → W → Type 0
@@ -134,6 +128,12 @@ MayEnd tasks.Run = HasNoWrongWord
 MayEnd (tasks.Assemble origin) = HasNoWrongWord
 MayEnd (tasks.List origin) = IsNotRefused
 
+-- what is printed of an input, and how the task ends by it
+pub record HasAnswer (task : Task) (input : List ℕ) (answer : Answer) : Type 0 where
+  pub text : HasText task input answer.text.items
+  pub ends : TaskEnds task answer.ended input
+  pub kind : MayEnd task answer.ended
+
 -- an input that is too long, of which nothing is printed
 pub record IsTooLong (input text : List ℕ) : Type 0 where
   pub too_long : most_bytes < length input
@@ -165,15 +165,6 @@ Ends result task known = IfOk result (λ ended. IfSome known (TaskEnds task ende
 abbrev pub NotRead : {A R W : Type 0} → Result A Fault → Task → sources.Ghosts R → sinks.Ghosts W → R → R → W → W → Type 0
 NotRead result task source sink before after old new =
     result ≡ Err ReadFault → FailedOrTooLong task source sink before after old new
-
--- where a write or the flush failed, a front of the text of a source or of a list of words is written
-abbrev pub AssemblyCut : {A R W : Type 0} → ℕ → Result A Fault → sources.Ghosts R → sinks.Ghosts W → R → W → W → Type 0
-AssemblyCut origin result source sink before old new = result ≡ Err WriteFault
-    → IfSome (source.remaining before) (WritesFrontOf (AssemblyText origin) (sink.contents old) (sink.contents new))
-
-abbrev pub ListingCut : {A R W : Type 0} → Result A Fault → sources.Ghosts R → sinks.Ghosts W → R → W → W → Type 0
-ListingCut result source sink before old new = result ≡ Err WriteFault
-    → IfSome (source.remaining before) (WritesFrontOf ListingText (sink.contents old) (sink.contents new))
 
 -- what a task leaves written where its input or memory failed: of a deck the replies to some first commands, of a source and of a
 -- list of words nothing

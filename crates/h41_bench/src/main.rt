@@ -1,7 +1,8 @@
 //! The HP-41 bench: runs decks of commands, assembles sources and lists words.
 #![tactic(auto)]
 
-ghost use Rattle.std.specs.Prelude.{◌≡◌, ◌≢◌, ◌∷◌, ◌≤◌, true, Err, IfOk, IfSome, IsSome, Ok, OnErr, codes, drop, map, string_bytes};
+ghost use Rattle.std.specs.Prelude.{◌≡◌, ◌≢◌, ◌∷◌, ◌≤◌, true, Err, IfOk, IfSome, IsSome, Ok, OnErr};
+ghost use Rattle.std.specs.Prelude.{codes, drop, map, string_bytes};
 ghost use Rattle.h41_bench.specs.ProgramWords.{named};
 ghost use Rattle.h41_jobs.specs.CommandLine.{asks_help, asks_version, file_to_run, is_mistake};
 ghost use Rattle.h41_jobs.specs.Ending.{status_of};

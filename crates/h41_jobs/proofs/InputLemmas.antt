@@ -1,5 +1,6 @@
 -- What was read of an input, and what a task makes of it.
-use Rattle.std.proofs.Common.{inl, inr, ◌⊎◌, ◌≡◌, ◌≢◌, ℕ, ◌<◌, ◌≤◌, Bool, true, false, nat_le, List, [], ◌++◌, length, take, Option, Some, None, IfSome, Result, Ok, Err, IfErr, OnErr, arith, ap, refl, sym, subst, ◌∙◌}
+use Rattle.std.proofs.Common.{inl, inr, ◌⊎◌, ◌≡◌, ◌≢◌, ℕ, ◌<◌, ◌≤◌, Bool, true, false, nat_le, List, [], ◌++◌, length, take, Option, Some}
+use Rattle.std.proofs.Common.{None, IfSome, Result, Ok, Err, IfErr, OnErr, arith, ap, refl, sym, subst, ◌∙◌}
 use Rattle.std.proofs.lemmas.Bool.{leb-true}
 use Rattle.std.proofs.lemmas.List.{append-nil, take_all}
 use Rattle.std.specs.Io.KnownBytes.{Appends, Keeps}

@@ -4,4 +4,5 @@ use Rattle.std.specs.Io.KnownBytes.{Appends}
 
 -- a front of the text is written, which may be all of it
 abbrev pub AppendsFront : {W : Type 0} → (W → Option (List ℕ)) → W → W → List ℕ → Type 0
-AppendsFront contents old new text = (count : ℕ) × Appends (contents old) (contents new) (take count text)
+AppendsFront contents old new text =
+    (count : ℕ) × Appends (contents old) (contents new) (take count text)

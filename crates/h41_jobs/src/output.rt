@@ -33,7 +33,8 @@ pub fn write_answer<W: Sink>(writer: &mut W, answer: &Answer) -> Result<Ended, W
     requires { W.failed writer.old ≡ false }
     ensures ended { IfOk result (λ ended. ended ≡ answer.now.ended) }
     ensures text { OnOk result (Appended W.contents writer.old writer.new answer.now.text.items) }
-    ensures front { OnErr result (AppendsFront W.contents writer.old writer.new answer.now.text.items) }
+    ensures front { OnErr result
+        (AppendsFront W.contents writer.old writer.new answer.now.text.items) }
     ensures flushed { OnOk result (W.flushed writer.new ≡ true) }
     ensures clear { OnOk result (W.failed writer.new ≡ false) }
     ensures mark { OnErr result (W.failed writer.new ≡ true) }

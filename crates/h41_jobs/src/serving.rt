@@ -4,7 +4,10 @@ ghost use Rattle.std.specs.Prelude.{◌≡◌, ◌≢◌, ◌≤◌, true, false
 ghost use Rattle.std.specs.Io.KnownBytes.{Keeps};
 ghost use Rattle.h41_ends.specs.Ends.{Appended};
 ghost use Rattle.h41_jobs.specs.Statuses.{EndsJob, IsTaskStatus, TellsFault, TellsMark, fault_line};
-ghost use Rattle.h41_jobs.specs.Tasks.{Ends, ErrLeavesBegun, ErrLeavesFront, JobBegun, JobLeavesFront, JobLeavesUnread, JobWritesText, LeavesUnread, MayEnd, OkWritesText, Tells, TellsWord, NotRead, mistake_line};
+ghost use Rattle.h41_jobs.specs.Tasks.{Ends, ErrLeavesBegun, ErrLeavesFront, JobBegun};
+ghost use Rattle.h41_jobs.specs.Tasks.{JobLeavesFront, JobLeavesUnread, JobWritesText};
+ghost use Rattle.h41_jobs.specs.Tasks.{LeavesUnread, MayEnd, OkWritesText, Tells, TellsWord};
+ghost use Rattle.h41_jobs.specs.Tasks.{NotRead, mistake_line};
 
 use crate::arguments::{Job, Task};
 use crate::assemble::assembly;

@@ -8,12 +8,16 @@ use Rattle.h41_jobs.proofs.serving.do_task.Goals as goal
 
 pub returns-in_err-source-in-Assemble-clause-read : goal.returns-in_err-source-in-Assemble-clause-read
 returns-in_err-source-in-Assemble-clause-read g c = λ is.
-    let why : c.from_residual-in_err-source-in-Assemble.result ≡ Err ReadFault → IsUnread g.R.Source c.args.reader.now c.read_input.new.reader = search rules in
+    let why : c.from_residual-in_err-source-in-Assemble.result ≡ Err ReadFault
+    → IsUnread g.R.Source c.args.reader.now c.read_input.new.reader =
+    search rules in
     rw c.in-Assemble.is (why_unread _ _ (why is))
 
 pub returns-in_err-words-in-List-clause-read : goal.returns-in_err-words-in-List-clause-read
 returns-in_err-words-in-List-clause-read g c = λ is.
-    let why : c.from_residual-in_err-words-in-List.result ≡ Err ReadFault → IsUnread g.R.Source c.args.reader.now c.read_input-in-List.new.reader = search rules in
+    let why : c.from_residual-in_err-words-in-List.result ≡ Err ReadFault
+    → IsUnread g.R.Source c.args.reader.now c.read_input-in-List.new.reader =
+    search rules in
     rw c.in-List.is (why_unread _ _ (why is))
 
 pub returns-in_err-write_answer-in-List-clause-cut : goal.returns-in_err-write_answer-in-List-clause-cut

@@ -46,11 +46,6 @@ pub source_refused : (source : List ℕ) (origin line : ℕ) (fault : asm.Source
     → assembly_fault source origin ≡ Some (fault, line) → why ≡ Source fault line → SourceMakes source origin (Err why)
 source_refused source origin line fault why found own = rw (found, own) refl
 
--- the fault that an answer ends with
-pub read_failed : {A : Type 0} (answer : Result A Fault) (own fault : Fault) → answer ≡ Err own → own ≡ fault
-    → answer ≡ Err ReadFault → fault ≡ ReadFault
-read_failed answer own fault is same read = cc
-
 -- nothing is written of an input that is too long
 nothing_long : (known old : Option (List ℕ)) → IfSome known (λ input. most_bytes < length input)
     → IfSome known (WritesTextOf IsTooLong old old)

@@ -55,10 +55,12 @@ help_turn : turn_fault top names (at [] None 1 false) (codes "help") ≡ kind.Di
 unfolding clap_on_literals
 help_turn = refl
 
-top_walks : (name : Text) (rest : List Text) → fault_of bench_app (name ∷ rest) ≡ [] → walk_fault top names (walk_from nothing_held) rest ≡ []
+top_walks : (name : Text) (rest : List Text) → fault_of bench_app (name ∷ rest) ≡ []
+    → walk_fault top names (walk_from nothing_held) rest ≡ []
 top_walks name rest e = (nothing_left _ _ e).0
 
-mark_then : (rest : List Text) → walk_fault top names (walk_from nothing_held) (last_flag ∷ rest) ≡ [] → walk_fault top names (at [] None 1 true) rest ≡ []
+mark_then : (rest : List Text) → walk_fault top names (walk_from nothing_held) (last_flag ∷ rest) ≡ []
+    → walk_fault top names (at [] None 1 true) rest ≡ []
 unfolding walk_fault walked
 mark_then rest e = e
 
@@ -176,7 +178,8 @@ helps (name ∷ a ∷ b ∷ []) is =
     let c = command_named a parts.0 in
     let flags = after_command c.0 name in
     subst (λ (x : Text). FaultIs (name ∷ x ∷ b ∷ []) kind.DisplayHelp) c.1
-    (either_of (λ word. FaultIs (name ∷ name_text c.0 ∷ word ∷ []) kind.DisplayHelp) (codes "--help") (codes "-h") flags.0 flags.1 b parts.1)
+    (either_of (λ word. FaultIs (name ∷ name_text c.0 ∷ word ∷ []) kind.DisplayHelp)
+    (codes "--help") (codes "-h") flags.0 flags.1 b parts.1)
 helps (name ∷ a ∷ b ∷ c ∷ rest) is = cc
 
 pub versions : (words : List Text) → asks_version words ≡ true → FaultIs words kind.DisplayVersion
@@ -219,7 +222,8 @@ two_files c a b rest plain other =
     let first = first_plain c a plain in
     let walks : walk_fault (leaf c) [] (walk_from nothing_held) (a ∷ b ∷ rest) ≡ kind.UnknownArgument ∷ [] =
     ap₂ (λ k w. or_else k (walk_fault (leaf c) [] w (b ∷ rest))) first.0 first.1
-    ∙ first_kinds _ (walk_fault (leaf c) [] (walked (leaf c).rules [] (taken a false) b) rest) kind.UnknownArgument [] (second_plain c a b other) in
+    ∙ first_kinds _ (walk_fault (leaf c) [] (walked (leaf c).rules [] (taken a false) b) rest)
+    kind.UnknownArgument [] (second_plain c a b other) in
     first_kinds (level_fault (leaf c) [] nothing_held (a ∷ b ∷ rest) false []) [] kind.UnknownArgument []
     (first_kinds (walk_fault (leaf c) [] (walk_from nothing_held) (a ∷ b ∷ rest)) _ kind.UnknownArgument [] walks)
 
@@ -264,7 +268,8 @@ mistakes (name ∷ word ∷ rest) is = go (is_command word) refl
     go false none =
         let wrong : stray ≡ true = ap (λ t. cond t (has_wrong_files rest) stray) (sym none) ∙ is in
         let parts = both (not (bytes_eq (codes "help") word)) (not (is_flag word)) wrong in
-        stray_word name word rest (other_command word none (not-true (bytes_eq (codes "help") word) parts.0)) (not-true (is_flag word) parts.1)
+        stray_word name word rest (other_command word none (not-true (bytes_eq (codes "help") word) parts.0))
+        (not-true (is_flag word) parts.1)
 
 -- ---- what a parse answers
 
@@ -282,10 +287,12 @@ met_row (Some p) name rows named held =
     λ i. Some (sym one i, sym other i)
 
 pub named_rows : (m : ArgMatches) → command_in (subcommand_rows_of m) ≡ subcommand_name_of m
-named_rows m = elim (out-ArgMatches m).subcommand as (λ o. command_in (subcommand_rows o) ≡ option_map (λ b. (out-SubCommand (box_value b)).name.now) o) [
-  | None ↦ refl
-  | Some b ↦ refl
-]
+named_rows m =
+    elim (out-ArgMatches m).subcommand as
+    (λ o. command_in (subcommand_rows o) ≡ option_map (λ b. (out-SubCommand (box_value b)).name.now) o) [
+      | None ↦ refl
+      | Some b ↦ refl
+    ]
 
 -- words that a parse takes fail by memory alone, and others by their one kind too
 pub failed_memory : (words : List Text) (e : Error) → HasKind (fault_of bench_app words) e → fault_of bench_app words ≡ []
@@ -344,7 +351,8 @@ runs_none words (Ok job) none passed gives = λ run. go (job_asked words) refl g
     go : (asked : Option (Task × Text)) → job_asked words ≡ asked → GivesJob asked (Ok job) → job.task ≡ tasks.Run → ⊥
     go None is gives run = absurd gives
     go (Some parts) is gives run =
-        no_run words job.file.now none passed (is ∙ sym (ap (λ (p : Task × Text). Some p) gives) ∙ ap (λ (t : Task). Some (t, job.file.now)) run)
+        no_run words job.file.now none passed
+        (is ∙ sym (ap (λ (p : Task × Text). Some p) gives) ∙ ap (λ (t : Task). Some (t, job.file.now)) run)
 runs_none words (Err ending) none passed gives = tt
 
 -- memory may run out

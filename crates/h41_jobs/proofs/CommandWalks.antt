@@ -99,20 +99,15 @@ abbrev Reads : CommandName → List Text → Text → Type 0
 Reads c rest file = (t : Bool) × (walk (leaf c).rules [] nothing_held rest ≡ taken file t)
     × (walk_fault (leaf c) [] (walk_from nothing_held) rest ≡ [])
 
-reads_after : (c : CommandName) (file : Text) → Reads c (last_flag ∷ file ∷ []) file
-unfolding walk_fault walked
-reads_after run_name file = (true, refl, refl)
-reads_after asm_name file = (true, refl, refl)
-reads_after dis_name file = (true, refl, refl)
-
--- the mark behind FILE
-mark_behind : (c : CommandName) (file : Text)
-    → (walked (leaf c).rules [] (taken file false) last_flag ≡ taken file true)
+-- the mark before FILE, and behind it
+around_mark : (c : CommandName) (file : Text)
+    → Reads c (last_flag ∷ file ∷ []) file
+    × (walked (leaf c).rules [] (taken file false) last_flag ≡ taken file true)
     × (walk_fault (leaf c) [] (taken file false) (last_flag ∷ []) ≡ [])
 unfolding walk_fault walked
-mark_behind run_name file = (refl, refl)
-mark_behind asm_name file = (refl, refl)
-mark_behind dis_name file = (refl, refl)
+around_mark run_name file = ((true, refl, refl), refl, refl)
+around_mark asm_name file = ((true, refl, refl), refl, refl)
+around_mark dis_name file = ((true, refl, refl), refl, refl)
 
 module _ (c : CommandName) where
   reads_one : (file : Text) → is_flag file ≡ false → Reads c (file ∷ []) file
@@ -123,10 +118,10 @@ module _ (c : CommandName) where
   unfolding walk_fault
   reads_before file plain =
       let first = first_plain c file plain in
-      let mark = mark_behind c file in (
+      let mark = around_mark c file in (
         true,
-        ap (λ w. walked (leaf c).rules [] w last_flag) first.1 ∙ mark.0,
-        ap₂ (λ k w. or_else k (walk_fault (leaf c) [] w (last_flag ∷ []))) first.0 first.1 ∙ mark.1,
+        ap (λ w. walked (leaf c).rules [] w last_flag) first.1 ∙ mark.1,
+        ap₂ (λ k w. or_else k (walk_fault (leaf c) [] w (last_flag ∷ []))) first.0 first.1 ∙ mark.2,
       )
 
   reads_file : (rest : List Text) (file : Text) → only_file rest ≡ Some file → Reads c rest file
@@ -147,7 +142,7 @@ module _ (c : CommandName) where
           let same : Some b ≡ Some file = rw last at is in
           let equal : b ≡ file = cc in
           subst (λ (x : Text). Reads c (a ∷ b ∷ []) x) equal
-          (subst (λ (x : Text). Reads c (x ∷ b ∷ []) b) (sym (is_last a last)) (reads_after c b))
+          (subst (λ (x : Text). Reads c (x ∷ b ∷ []) b) (sym (is_last a last)) (around_mark c b).0)
       go false more false none v _ = let bad : None ≡ Some file = rw (more, none) at is in cc
       go false more true last true flag = let bad : None ≡ Some file = rw (more, last, flag) at is in cc
       go false more true last false plain =
@@ -236,7 +231,7 @@ stops_taken a (b ∷ rest) more plain is = go (is_last_flag b) refl rest is
     go true last [] is = let bad : Some a ≡ None = rw (more, last, plain) at is in cc
     go true last (d ∷ rest) is =
         subst (λ (x : Text). FailsFrom (taken a false) (x ∷ d ∷ rest)) (sym (is_last b last))
-        (goes_on (taken a false) (taken a true) last_flag (d ∷ rest) (mark_behind run_name a).0 (third_fails a d rest))
+        (goes_on (taken a false) (taken a true) last_flag (d ∷ rest) (around_mark run_name a).1 (third_fails a d rest))
 
 stops : (rest : List Text) → only_file rest ≡ None → Stops rest
 stops [] is = no_file
@@ -292,7 +287,8 @@ command_fault c name rest = ap₂ top_end (command_walk c rest) (command_walk_fa
 abbrev pub rows_below : CommandName → List Text → List Row
 rows_below c rest = finished (leaf c).rules (walk (leaf c).rules [] nothing_held rest).held
 
-command_rows : (c : CommandName) (rest : List Text) → entered (built bench_app) (Some (name_text c, rest)) ≡ Some (name_text c, rows_below c rest)
+command_rows : (c : CommandName) (rest : List Text)
+    → entered (built bench_app) (Some (name_text c, rest)) ≡ Some (name_text c, rows_below c rest)
 command_rows run_name rest = refl
 command_rows asm_name rest = refl
 command_rows dis_name rest = refl

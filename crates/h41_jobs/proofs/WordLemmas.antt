@@ -1,5 +1,6 @@
 -- Numbers as their digits come, and words of a text as its parts come.
-use Rattle.std.proofs.Common.{◌≡◌, ℕ, ◌+◌, ◌<◌, ◌≤◌, ◌&&◌, true, false, Bool, List, [], ◌∷◌, map, length, take, get_or, nat_le, Option, Some, None, is_none, if◌then◌else◌, arith, sym, refl, ap, ◌∙◌, add-zero, drop}
+use Rattle.std.proofs.Common.{◌≡◌, ℕ, ◌+◌, ◌<◌, ◌≤◌, ◌&&◌, true, false, Bool, List, [], ◌∷◌, map, length, take, get_or, nat_le, Option}
+use Rattle.std.proofs.Common.{Some, None, is_none, if◌then◌else◌, arith, sym, refl, ap, ◌∙◌, add-zero, drop}
 use Rattle.std.specs.Borrow.{Bor}
 use Rattle.std.specs.List.{position_from}
 use Rattle.std.specs.Str.Parse.{digits_value}
@@ -13,8 +14,9 @@ abbrev pub is_wrong : List ℕ → Bool
 is_wrong part = is_none (word_value part)
 
 -- the parts before a wrong one write words
-pub first_wrong : (start : ℕ) (words : List ℕ) (parts : List (List ℕ)) (part : List ℕ) → map word_value (take (length words) parts) ≡ map (λ word. Some word) words
-    → length words < length parts → part ≡ get_or parts (length words) part → word_value part ≡ None → position_from is_wrong start parts ≡ Some (start + length words)
+pub first_wrong : (start : ℕ) (words : List ℕ) (parts : List (List ℕ)) (part : List ℕ)
+    → map word_value (take (length words) parts) ≡ map (λ word. Some word) words → length words < length parts
+    → part ≡ get_or parts (length words) part → word_value part ≡ None → position_from is_wrong start parts ≡ Some (start + length words)
 first_wrong start words [] part before within at wrong = absurd (omega arith)
 first_wrong start [] (p ∷ parts) part before within at wrong =
     let none : is_wrong p ≡ true = rw (sym at, wrong) refl in
@@ -32,13 +34,16 @@ map_now [] = refl
 map_now (part ∷ parts) = ap (λ (rest : List (Option ℕ)). word_value part.now ∷ rest) (map_now parts)
 
 -- as many words as parts
-words_counted : (parts : List (Bor (List ℕ))) (words : List ℕ) → map (λ part. word_value part.now) parts ≡ map (λ word. Some word) words → length parts ≡ length words
+words_counted : (parts : List (Bor (List ℕ))) (words : List ℕ) → map (λ part. word_value part.now) parts ≡ map (λ word. Some word) words
+    → length parts ≡ length words
 words_counted parts words same =
-    sym (length-map parts (λ part. word_value part.now)) ∙ ap (λ (all : List (Option ℕ)). length all) same ∙ length-map words (λ word. Some word)
+    sym (length-map parts (λ part. word_value part.now)) ∙ ap (λ (all : List (Option ℕ)). length all) same
+    ∙ length-map words (λ word. Some word)
 
 -- the parts so far write words, and the next does not
-pub first_wrong_at : (front : List (Bor (List ℕ))) (words : List ℕ) (parts : List (List ℕ)) (part : List ℕ) → map (λ part. word_value part.now) front ≡ map (λ word. Some word) words
-    → map (λ part. part.now) front ≡ take (length front) parts → length front < length parts → part ≡ get_or parts (length front) part → word_value part ≡ None
+pub first_wrong_at : (front : List (Bor (List ℕ))) (words : List ℕ) (parts : List (List ℕ)) (part : List ℕ)
+    → map (λ part. word_value part.now) front ≡ map (λ word. Some word) words → map (λ part. part.now) front ≡ take (length front) parts
+    → length front < length parts → part ≡ get_or parts (length front) part → word_value part ≡ None
     → position_from is_wrong 1 parts ≡ Some (1 + length words)
 first_wrong_at front words parts part same so_far within at wrong =
     let count : length front ≡ length words = words_counted front words same in
@@ -47,6 +52,7 @@ first_wrong_at front words parts part same so_far within at wrong =
     first_wrong 1 words parts part before (omega arith) (at ∙ ap (λ (n : ℕ). get_or parts n part) count) wrong
 
 -- the first digits alone are above the greatest value
-pub number_too_large : {A : Type 0} (radix most n : ℕ) (word : List ℕ) (good bad : A) → 1 ≤ radix → most < digits_value radix (take n word) → bad ≡ (if is_numeral radix word && nat_le (digits_value radix word) most then good else bad)
+pub number_too_large : {A : Type 0} (radix most n : ℕ) (word : List ℕ) (good bad : A) → 1 ≤ radix → most < digits_value radix (take n word)
+    → bad ≡ (if is_numeral radix word && nat_le (digits_value radix word) most then good else bad)
 number_too_large radix most n word good bad low over =
     sym (cond-false _ good bad (and_right (is_numeral radix word) _ (lt-leb _ most (omega (arith, digits_value-take-le radix word n low)))))

@@ -16,6 +16,7 @@ use Rattle.clap.specs.Lexer.{long_of, long_of_rest, short_of, short_of_rest, str
 use Rattle.clap.specs.Kinds.{Kinds, or_else}
 use Rattle.clap.specs.Faults.{other_fault, word_fault, flag_word_fault, long_fault, short_fault, bundle_fault}
 use Rattle.clap.specs.Faults.{bundle_step_fault, flags_fault, turn_fault, walk_fault, step_fault}
+use Rattle.clap.specs.declared.error.kind.ErrorKind.{ErrorKind}
 use Rattle.clap.specs.declared.error.kind.ErrorKind.TheVariants as kind
 use Rattle.clap.proofs.FaultLemmas.{fault_ends}
 use Rattle.clap.proofs.WalkLemmas.{both, bundle_ends}
@@ -26,6 +27,12 @@ use Rattle.h41_jobs.specs.CommandLine.{is_flag, is_last_flag}
 pub nothing_left : (a b : Kinds) → or_else a b ≡ [] → (a ≡ []) × (b ≡ [])
 nothing_left [] b e = (refl, e)
 nothing_left (k ∷ ks) b e = cc
+
+answered : (a : Kinds) (k : ErrorKind) → or_else a (k ∷ []) ≡ [] → ⊥
+answered a k e = let asked : k ∷ [] ≡ [] = (nothing_left a (k ∷ []) e).1 in cc
+
+answered_then : (a b : Kinds) (k : ErrorKind) → or_else (or_else a (k ∷ [])) b ≡ [] → ⊥
+answered_then a b k e = answered a k (nothing_left (or_else a (k ∷ [])) b e).0
 
 abbrev pub holding : List Row → Option (Text × List Text) → Held
 holding rows pending = record { rows = rows; pending = pending; skip = 0 }
@@ -47,24 +54,12 @@ module _ (rules : List Rule) (again : Bool) where
   RefusesAll = ((n : Text) → Refuses (arg_by_long rules n)) × ((x : ℕ) → Refuses (arg_by_short rules x))
 
   refuses_help : Refuses (Some help)
-  refuses_help None rest rows pending next = (
-    λ e. let asked : kind.DisplayHelp ∷ [] ≡ [] = (nothing_left _ _ e).1 in cc,
-    λ e. let asked : kind.DisplayHelp ∷ [] ≡ [] = (nothing_left _ _ (nothing_left _ _ e).0).1 in cc,
-  )
-  refuses_help (Some v) rest rows pending next = (
-    λ e. cc,
-    λ e. let asked : kind.DisplayHelp ∷ [] ≡ [] = (nothing_left _ _ (nothing_left _ _ e).0).1 in cc,
-  )
+  refuses_help None rest rows pending next = (answered _ kind.DisplayHelp, answered_then _ _ kind.DisplayHelp)
+  refuses_help (Some v) rest rows pending next = (λ e. cc, answered_then _ _ kind.DisplayHelp)
 
   refuses_version : Refuses (Some version)
-  refuses_version None rest rows pending next = (
-    λ e. let asked : kind.DisplayVersion ∷ [] ≡ [] = (nothing_left _ _ e).1 in cc,
-    λ e. let asked : kind.DisplayVersion ∷ [] ≡ [] = (nothing_left _ _ (nothing_left _ _ e).0).1 in cc,
-  )
-  refuses_version (Some v) rest rows pending next = (
-    λ e. cc,
-    λ e. let asked : kind.DisplayVersion ∷ [] ≡ [] = (nothing_left _ _ (nothing_left _ _ e).0).1 in cc,
-  )
+  refuses_version None rest rows pending next = (answered _ kind.DisplayVersion, answered_then _ _ kind.DisplayVersion)
+  refuses_version (Some v) rest rows pending next = (λ e. cc, answered_then _ _ kind.DisplayVersion)
 
   -- the flag for help, else the one for the version, else none
   pub refuses_either : (t u : Bool) → Refuses (cond t (Some help) (cond u (Some version) None))

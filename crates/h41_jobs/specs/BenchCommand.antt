@@ -1,7 +1,10 @@
--- The command `bench`, with its subcommands, as what a parse reads of it, and the job that the parse of some words asks for.
-use Rattle.std.specs.Prelude.{ℕ, Bool, List, Option, Some, None, true, codes, if◌then◌else◌, option_and_then, option_map}
+-- The command `bench`, with its subcommands, as what a parse reads of it, and the job that the
+-- parse of some words asks for.
+use Rattle.std.specs.Prelude.{ℕ, Bool, List, Option, Some, None, true, codes, if◌then◌else◌}
+use Rattle.std.specs.Prelude.{option_and_then, option_map}
 use Rattle.std.specs.Str.{bytes_eq}
-use Rattle.clap.specs.Words.{App, Row, Rule, Text, first_of, found_of, new_app, new_rule, rows_of, subcommand_of, with_rule, with_subcommand}
+use Rattle.clap.specs.Words.{App, Row, Rule, Text, first_of, found_of, new_app, new_rule, rows_of}
+use Rattle.clap.specs.Words.{subcommand_of, with_rule, with_subcommand}
 use Rattle.clap.specs.declared.builder.command.Command.{Command}
 use Rattle.clap.specs.declared.builder.command.Command.TheViews.{out-Command}
 use Rattle.clap.specs.declared.parser.matches.ArgMatches.{ArgMatches}
@@ -14,7 +17,11 @@ abbrev pub file_rule : Rule
 file_rule = record (new_rule (codes "FILE")) { required = true; action = Some Set }
 
 abbrev pub origin_rule : Rule
-origin_rule = record (new_rule (codes "origin")) { long = Some (codes "origin"); action = Some Set; value_names = 1 }
+origin_rule = record (new_rule (codes "origin")) {
+  long = Some (codes "origin");
+  action = Some Set;
+  value_names = 1;
+}
 
 abbrev pub run_app : App
 run_app = with_rule (new_app (codes "run")) file_rule
@@ -31,7 +38,9 @@ empty_bench =
     }
 
 abbrev pub bench_app : App
-bench_app = with_subcommand (with_subcommand (with_subcommand empty_bench run_app.top) (origin_app (codes "asm")).top)
+bench_app =
+    with_subcommand
+    (with_subcommand (with_subcommand empty_bench run_app.top) (origin_app (codes "asm")).top)
     (origin_app (codes "dis")).top
 
 -- whether an argument of a command is global
@@ -59,12 +68,17 @@ origin_in command = first_of (codes "origin") (rows_of (found_of command))
 abbrev pub task_asked : Text → Option Text → Option Task
 task_asked name origin =
     if bytes_eq name (codes "run") then Some tasks.Run
-    else (if bytes_eq name (codes "asm") then option_map (λ address. tasks.Assemble address) (origin_asked origin)
-    else (if bytes_eq name (codes "dis") then option_map (λ address. tasks.List address) (origin_asked origin) else None))
+    else (if bytes_eq name (codes "asm")
+    then option_map (λ address. tasks.Assemble address) (origin_asked origin)
+    else (if bytes_eq name (codes "dis")
+    then option_map (λ address. tasks.List address) (origin_asked origin)
+    else None))
 
 -- the task of a command that was met, and its FILE
 abbrev pub job_in : Option (Text × List Row) → Option (Task × Text)
-job_in = option_and_then (λ p. option_and_then (λ task. option_map (λ file. (task, file)) (first_of (codes "FILE") p.1))
+job_in =
+    option_and_then
+    (λ p. option_and_then (λ task. option_map (λ file. (task, file)) (first_of (codes "FILE") p.1))
     (task_asked p.0 (first_of (codes "origin") p.1)))
 
 -- the task and the FILE of the command that a parse of these words meets

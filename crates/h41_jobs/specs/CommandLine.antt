@@ -1,5 +1,6 @@
 -- What the words of a command line ask for. The first word is the program's name.
-use Rattle.std.specs.Prelude.{map, ◌==◌, ◌&&◌, ◌||◌, ℕ, Bool, true, false, not, List, [], ◌∷◌, Option, Some, None, is_some, if◌then◌else◌, codes, slice_get}
+use Rattle.std.specs.Prelude.{map, ◌==◌, ◌&&◌, ◌||◌, ℕ, Bool, true, false, not, List, [], ◌∷◌}
+use Rattle.std.specs.Prelude.{Option, Some, None, is_some, if◌then◌else◌, codes, slice_get}
 use Rattle.std.specs.Borrow.{Bor}
 use Rattle.std.specs.Str.{bytes_eq, chars}
 
@@ -32,7 +33,8 @@ file_to_run = file_for (codes "run")
 
 -- the names of the commands
 abbrev pub is_command : List ℕ → Bool
-is_command word = bytes_eq (codes "run") word || (bytes_eq (codes "asm") word || bytes_eq (codes "dis") word)
+is_command word =
+    bytes_eq (codes "run") word || (bytes_eq (codes "asm") word || bytes_eq (codes "dis") word)
 
 -- a flag for help stands alone, or alone after a command
 abbrev pub is_help_flag : List ℕ → Bool

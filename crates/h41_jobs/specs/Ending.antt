@@ -1,5 +1,6 @@
 -- What the words of a command line are answered with: a job, or how the program ends.
-use Rattle.std.specs.Prelude.{◌≡◌, ◌≢◌, ◌⊎◌, ℕ, List, [], Option, MatchOption, string_bytes, Result, MatchResult, IfOk, IsErrAnd}
+use Rattle.std.specs.Prelude.{◌≡◌, ◌≢◌, ◌⊎◌, ℕ, List, [], Option, MatchOption, string_bytes, Result}
+use Rattle.std.specs.Prelude.{MatchResult, IfOk, IsErrAnd}
 use Rattle.clap.specs.Words.{fault_of}
 use Rattle.h41_jobs.specs.BenchCommand.{bench_app, job_asked}
 use Rattle.clap.specs.declared.error.kind.ErrorKind.{ErrorKind}
@@ -47,7 +48,8 @@ parts_of job = (job.task, job.file.now)
 
 -- a job with these parts, where memory did not run out
 abbrev pub AsksFor : Result Job Ending → Task × List ℕ → Type 0
-AsksFor result parts = MatchResult result (λ job. parts_of job ≡ parts) (λ ending. ending ≡ endings.OutOfMemory)
+AsksFor result parts =
+    MatchResult result (λ job. parts_of job ≡ parts) (λ ending. ending ≡ endings.OutOfMemory)
 
 -- this task over this file, where memory did not run out
 abbrev pub AsksTo : Result Job Ending → Task → List ℕ → Type 0
@@ -59,7 +61,8 @@ AsksForNoRun result = IfOk result (λ job. job.task ≢ tasks.Run)
 
 -- a run of this file, where memory did not run out
 abbrev pub AsksToRun : Result Job Ending → List ℕ → Type 0
-AsksToRun result file = MatchResult result (λ job. IsJob job tasks.Run file) (λ ending. ending ≡ endings.OutOfMemory)
+AsksToRun result file =
+    MatchResult result (λ job. IsJob job tasks.Run file) (λ ending. ending ≡ endings.OutOfMemory)
 
 -- the job with these parts, or status 2 where there are none
 abbrev pub GivesJob : Option (Task × List ℕ) → Result Job Ending → Type 0

@@ -32,10 +32,12 @@ IsTaskStatus (tasks.List origin) = IsListStatus
 abbrev pub IsOrFailed : ℕ → ℕ → Type 0
 IsOrFailed status result = (result ≡ status) ⊎ (result ≡ 3)
 
--- where a parse takes the words, a status of the task that it meets, or 2 or 3 where its origin is wrong
+-- where a parse takes the words, a status of the task that it meets, or 2 or 3 where its origin is
+-- wrong
 abbrev pub EndsJobOf : List (List ℕ) → ℕ → Type 0
 EndsJobOf words status =
-    fault_of bench_app words ≡ [] → MatchOption (job_asked words) (IsOrFailed 2 status) (λ parts. IsTaskStatus parts.0 status)
+    fault_of bench_app words ≡ []
+    → MatchOption (job_asked words) (IsOrFailed 2 status) (λ parts. IsTaskStatus parts.0 status)
 
 -- the status that tells how a job ended
 abbrev pub status_of_ended : Ended → ℕ
@@ -45,7 +47,8 @@ status_of_ended (WrongWord number) = 2
 
 -- the task ends over the input so that this is its status
 abbrev pub EndsTask : Task → ℕ → List ℕ → Type 0
-EndsTask task status input = (ended : Ended) × TaskEnds task ended input × (status ≡ status_of_ended ended)
+EndsTask task status input =
+    (ended : Ended) × TaskEnds task ended input × (status ≡ status_of_ended ended)
 
 abbrev pub EndsJob : Job → ℕ → List ℕ → Type 0
 EndsJob job status input = EndsTask job.task status input
@@ -58,8 +61,8 @@ fault_line fault = refusal_line (of_fault fault)
 abbrev pub TellsMark : ℕ → Bool → Type 0
 TellsMark status mark = mark ≡ true → status ≡ 3
 
--- what a fault says of the ends: a read's that reading failed or the input was too long, a write's that
--- writing failed, and any other that neither did
+-- what a fault says of the ends: a read's that reading failed or the input was too long, a write's
+-- that writing failed, and any other that neither did
 pub record IsCause {R W : Type 0} (fault : Fault) (task : Task) (source : sources.Ghosts R)
     (sink : sinks.Ghosts W) (before after : R) (old new : W) : Type 0 where
   pub read : fault ≡ ReadFault → FailedOrTooLong task source sink before after old new

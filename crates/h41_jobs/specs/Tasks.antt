@@ -1,6 +1,8 @@
--- What a job makes of its input: the text that it prints, how it ends, and what is said where it goes wrong.
+-- What a job makes of its input: the text that it prints, how it ends, and what is said where it
+-- goes wrong.
 use Rattle.std.specs.Global.{Global}
-use Rattle.std.specs.Prelude.{◌≡◌, ◌≢◌, ◌⊎◌, ℕ, ◌<◌, ◌≤◌, true, false, Vec, List, [], ◌++◌, length, take, codes, Option, Some, IfSome, Result, Ok, Err, IfErr, IfOk, OnOk}
+use Rattle.std.specs.Prelude.{◌≡◌, ◌≢◌, ◌⊎◌, ℕ, ◌<◌, ◌≤◌, true, false, Vec, List, [], ◌++◌, length}
+use Rattle.std.specs.Prelude.{take, codes, Option, Some, IfSome, Result, Ok, Err, IfErr, IfOk, OnOk}
 use Rattle.std.specs.Fmt.{decimal}
 use Rattle.std.specs.Io.KnownBytes.{Appends, Keeps}
 use Rattle.h41_ends.specs.declared.sink.Sink as sinks
@@ -19,12 +21,15 @@ use Rattle.h41_dis.specs.Spelling.{spell}
 use Rattle.h41_jobs.specs.declared.arguments.Job.{Job}
 use Rattle.h41_jobs.specs.declared.arguments.Task.{Task}
 use Rattle.h41_jobs.specs.declared.arguments.Task.TheVariants as tasks
+use Rattle.h41_jobs.specs.declared.ended.Answer.{Answer}
 use Rattle.h41_jobs.specs.declared.ended.Ended.{Ended}
 use Rattle.h41_jobs.specs.declared.ended.Ended.TheVariants.{Accepted, Refused, WrongWord}
 use Rattle.h41_jobs.specs.WordTexts.{WritesWords, word_lines, wrong_word}
 
--- what a source gives at an origin, where it isn't too long: the words that it spells, or its refusal
-pub record SourceAssemblesTo (origin : ℕ) (source : List ℕ) (given : Result (List ℕ) LineRefusal) : Type 0 where
+-- what a source gives at an origin, where it isn't too long: the words that it spells, or its
+-- refusal
+pub record SourceAssemblesTo (origin : ℕ) (source : List ℕ)
+    (given : Result (List ℕ) LineRefusal) : Type 0 where
   pub bound : length source ≤ most_bytes
   pub gives : SourceMakes source origin given
 
@@ -35,7 +40,9 @@ given_text (Err refusal) = refusal_line (Line refusal)
 
 abbrev pub AssemblyText : ℕ → List ℕ → List ℕ → Type 0
 AssemblyText origin source text =
-    (given : Result (List ℕ) LineRefusal) × SourceAssemblesTo origin source given × (text ≡ given_text given)
+    (given : Result (List ℕ) LineRefusal)
+    × SourceAssemblesTo origin source given
+    × (text ≡ given_text given)
 
 -- what a text of words says: the words that it writes, or the number of its first part that is none
 abbrev pub ReadsAs : List ℕ → Result (List ℕ) ℕ → Type 0
@@ -58,7 +65,8 @@ list_text (Ok words) = spell words
 list_text (Err number) = []
 
 abbrev pub ListingText : List ℕ → List ℕ → Type 0
-ListingText input text = (said : Result (List ℕ) ℕ) × ListReadsAs input said × (text ≡ list_text said)
+ListingText input text =
+    (said : Result (List ℕ) ℕ) × ListReadsAs input said × (text ≡ list_text said)
 
 -- the text that a task prints of an input; the listing of words is the same at each origin
 abbrev pub HasText : Task → List ℕ → List ℕ → Type 0
@@ -67,32 +75,31 @@ HasText (tasks.Assemble origin) = AssemblyText origin
 HasText (tasks.List origin) = ListingText
 
 -- what is written is a text that the input has
-abbrev pub WritesTextOf : (List ℕ → List ℕ → Type 0) → Option (List ℕ) → Option (List ℕ) → List ℕ → Type 0
+abbrev pub WritesTextOf : (List ℕ → List ℕ → Type 0) → Option (List ℕ) → Option (List ℕ) → List ℕ
+    → Type 0
 WritesTextOf text_of old new input = (text : List ℕ) × text_of input text × Appends old new text
 
 -- a front of such a text, which may be all of it
-abbrev pub WritesFrontOf : (List ℕ → List ℕ → Type 0) → Option (List ℕ) → Option (List ℕ) → List ℕ → Type 0
+abbrev pub WritesFrontOf : (List ℕ → List ℕ → Type 0) → Option (List ℕ) → Option (List ℕ) → List ℕ
+    → Type 0
 WritesFrontOf text_of old new input =
     (text : List ℕ) × text_of input text × (count : ℕ) × Appends old new (take count text)
 
 -- where the input is known, its text is written
-abbrev pub WritesTaskText : {W : Type 0} → Task → Option (List ℕ) → (W → Option (List ℕ)) → W → W → Type 0
-WritesTaskText task known contents old new = IfSome known (WritesTextOf (HasText task) (contents old) (contents new))
+abbrev pub WritesTaskText : {W : Type 0} → Task → Option (List ℕ) → (W → Option (List ℕ)) → W → W
+    → Type 0
+WritesTaskText task known contents old new =
+    IfSome known (WritesTextOf (HasText task) (contents old) (contents new))
 
--- where a task ends without a fault, it is: any task, a source at an origin, a list of words
-abbrev pub OkWritesText : {E R W : Type 0} → Result Ended E → Task → sources.Ghosts R → sinks.Ghosts W → R → W → W → Type 0
+-- where a task ends without a fault, it is
+abbrev pub OkWritesText : {E R W : Type 0} → Result Ended E → Task → sources.Ghosts R
+    → sinks.Ghosts W → R → W → W → Type 0
 OkWritesText result task source sink before old new =
     OnOk result (WritesTaskText task (source.remaining before) sink.contents old new)
 
-abbrev pub Assembled : {E R W : Type 0} → ℕ → Result Ended E → sources.Ghosts R → sinks.Ghosts W → R → W → W → Type 0
-Assembled origin result source sink before old new = OkWritesText result (tasks.Assemble origin) source sink before old new
-
-abbrev pub Listed : {E R W : Type 0} → Result Ended E → sources.Ghosts R → sinks.Ghosts W → R → W → W → Type 0
-Listed result source sink before old new =
-    OnOk result (IfSome (source.remaining before) (WritesTextOf ListingText (sink.contents old) (sink.contents new)))
-
 -- and where a job's status is not that of a fault
-abbrev pub JobWritesText : {R W : Type 0} → ℕ → Job → sources.Ghosts R → sinks.Ghosts W → R → W → W → Type 0
+abbrev pub JobWritesText : {R W : Type 0} → ℕ → Job → sources.Ghosts R → sinks.Ghosts W → R → W → W
+    → Type 0
 JobWritesText status job source sink before old new =
     status ≢ 3 → WritesTaskText job.task (source.remaining before) sink.contents old new
 
@@ -111,10 +118,14 @@ ended_of_list (Err number) = WrongWord number
 
 -- how a task ends over an input
 abbrev pub TaskEnds : Task → Ended → List ℕ → Type 0
-TaskEnds tasks.Run ended input = (outcome : Outcome) × decks.DeckEnds input outcome × (ended ≡ ended_of_deck outcome)
+TaskEnds tasks.Run ended input =
+    (outcome : Outcome) × decks.DeckEnds input outcome × (ended ≡ ended_of_deck outcome)
 TaskEnds (tasks.Assemble origin) ended input =
-    (given : Result (List ℕ) LineRefusal) × SourceAssemblesTo origin input given × (ended ≡ ended_of_source given)
-TaskEnds (tasks.List origin) ended input = (said : Result (List ℕ) ℕ) × ListReadsAs input said × (ended ≡ ended_of_list said)
+    (given : Result (List ℕ) LineRefusal)
+    × SourceAssemblesTo origin input given
+    × (ended ≡ ended_of_source given)
+TaskEnds (tasks.List origin) ended input =
+    (said : Result (List ℕ) ℕ) × ListReadsAs input said × (ended ≡ ended_of_list said)
 
 -- a deck and a source have no wrong word
 abbrev pub HasNoWrongWord : Ended → Type 0
@@ -134,6 +145,12 @@ MayEnd tasks.Run = HasNoWrongWord
 MayEnd (tasks.Assemble origin) = HasNoWrongWord
 MayEnd (tasks.List origin) = IsNotRefused
 
+-- what is printed of an input, and how the task ends by it
+pub record HasAnswer (task : Task) (input : List ℕ) (answer : Answer) : Type 0 where
+  pub text : HasText task input answer.text.items
+  pub ends : TaskEnds task answer.ended input
+  pub kind : MayEnd task answer.ended
+
 -- an input that is too long, of which nothing is printed
 pub record IsTooLong (input text : List ℕ) : Type 0 where
   pub too_long : most_bytes < length input
@@ -151,35 +168,33 @@ PassesOn tasks.Run sink new = sink.flushed new ≡ true
 PassesOn (tasks.Assemble origin) sink new = Unit {0}
 PassesOn (tasks.List origin) sink new = Unit {0}
 
--- why reading ends with a fault: a read failed, or the input is too long, and its text within the bound is written
-abbrev pub FailedOrTooLong : {R W : Type 0} → Task → sources.Ghosts R → sinks.Ghosts W → R → R → W → W → Type 0
+-- why reading ends with a fault: a read failed, or the input is too long, and its text within the
+-- bound is written
+abbrev pub FailedOrTooLong : {R W : Type 0} → Task → sources.Ghosts R → sinks.Ghosts W → R → R → W
+    → W → Type 0
 FailedOrTooLong task source sink before after old new =
     (source.failed after ≡ true)
-    ⊎ (IfSome (source.remaining before) (WritesTextOf (LongText task) (sink.contents old) (sink.contents new)) × PassesOn task sink new)
+    ⊎ (IfSome (source.remaining before)
+    (WritesTextOf (LongText task) (sink.contents old) (sink.contents new))
+    × PassesOn task sink new)
 
 -- where a task ends without a fault, it ends so over the input, where that is known
 abbrev pub Ends : {E : Type 0} → Result Ended E → Task → Option (List ℕ) → Type 0
 Ends result task known = IfOk result (λ ended. IfSome known (TaskEnds task ended))
 
 -- where a task ends with a fault of reading, this is why
-abbrev pub NotRead : {A R W : Type 0} → Result A Fault → Task → sources.Ghosts R → sinks.Ghosts W → R → R → W → W → Type 0
+abbrev pub NotRead : {A R W : Type 0} → Result A Fault → Task → sources.Ghosts R → sinks.Ghosts W
+    → R → R → W → W → Type 0
 NotRead result task source sink before after old new =
     result ≡ Err ReadFault → FailedOrTooLong task source sink before after old new
 
--- where a write or the flush failed, a front of the text of a source or of a list of words is written
-abbrev pub AssemblyCut : {A R W : Type 0} → ℕ → Result A Fault → sources.Ghosts R → sinks.Ghosts W → R → W → W → Type 0
-AssemblyCut origin result source sink before old new = result ≡ Err WriteFault
-    → IfSome (source.remaining before) (WritesFrontOf (AssemblyText origin) (sink.contents old) (sink.contents new))
-
-abbrev pub ListingCut : {A R W : Type 0} → Result A Fault → sources.Ghosts R → sinks.Ghosts W → R → W → W → Type 0
-ListingCut result source sink before old new = result ≡ Err WriteFault
-    → IfSome (source.remaining before) (WritesFrontOf ListingText (sink.contents old) (sink.contents new))
-
--- what a task leaves written where its input or memory failed: of a deck the replies to some first commands, of a source and of a
--- list of words nothing
+-- what a task leaves written where its input or memory failed: of a deck the replies to some first
+-- commands, of a source and of a list of words nothing
 abbrev pub LeavesBegun : {W : Type 0} → Task → Option (List ℕ) → sinks.Ghosts W → W → W → Type 0
-LeavesBegun tasks.Run known sink old new = IfSome known (WritesTextOf decks.FirstText (sink.contents old) (sink.contents new))
-LeavesBegun (tasks.Assemble origin) known sink old new = Keeps (sink.contents old) (sink.contents new)
+LeavesBegun tasks.Run known sink old new =
+    IfSome known (WritesTextOf decks.FirstText (sink.contents old) (sink.contents new))
+LeavesBegun (tasks.Assemble origin) known sink old new =
+    Keeps (sink.contents old) (sink.contents new)
 LeavesBegun (tasks.List origin) known sink old new = Keeps (sink.contents old) (sink.contents new)
 
 -- and where reading failed: nothing
@@ -188,44 +203,56 @@ LeavesUnread sink old new = Keeps (sink.contents old) (sink.contents new)
 
 -- and where the output failed: a front of these replies, or of their text
 abbrev pub LeavesFront : {W : Type 0} → Task → Option (List ℕ) → sinks.Ghosts W → W → W → Type 0
-LeavesFront tasks.Run known sink old new = IfSome known (WritesFrontOf decks.FirstText (sink.contents old) (sink.contents new))
+LeavesFront tasks.Run known sink old new =
+    IfSome known (WritesFrontOf decks.FirstText (sink.contents old) (sink.contents new))
 LeavesFront (tasks.Assemble origin) known sink old new =
     IfSome known (WritesFrontOf (AssemblyText origin) (sink.contents old) (sink.contents new))
 LeavesFront (tasks.List origin) known sink old new =
     IfSome known (WritesFrontOf ListingText (sink.contents old) (sink.contents new))
 
 -- where a task ends with a fault of another end than the output, and of the output
-abbrev pub ErrLeavesBegun : {A R W : Type 0} → Result A Fault → Task → sources.Ghosts R → sinks.Ghosts W → R → W → W → Type 0
+abbrev pub ErrLeavesBegun : {A R W : Type 0} → Result A Fault → Task → sources.Ghosts R
+    → sinks.Ghosts W → R → W → W → Type 0
 ErrLeavesBegun result task source sink before old new =
-    IfErr result (λ fault. fault ≢ WriteFault → LeavesBegun task (source.remaining before) sink old new)
+    IfErr result
+    (λ fault. fault ≢ WriteFault → LeavesBegun task (source.remaining before) sink old new)
 
-abbrev pub ErrLeavesFront : {A R W : Type 0} → Result A Fault → Task → sources.Ghosts R → sinks.Ghosts W → R → W → W → Type 0
+abbrev pub ErrLeavesFront : {A R W : Type 0} → Result A Fault → Task → sources.Ghosts R
+    → sinks.Ghosts W → R → W → W → Type 0
 ErrLeavesFront result task source sink before old new =
     result ≡ Err WriteFault → LeavesFront task (source.remaining before) sink old new
 
 -- where a job has the status of a fault, and the output did not fail, or did
-abbrev pub JobBegun : {R W : Type 0} → ℕ → Job → sources.Ghosts R → sinks.Ghosts W → R → W → W → Type 0
+abbrev pub JobBegun : {R W : Type 0} → ℕ → Job → sources.Ghosts R → sinks.Ghosts W → R → W → W
+    → Type 0
 JobBegun status job source sink before old new =
-    status ≡ 3 → sink.failed new ≡ false → LeavesBegun job.task (source.remaining before) sink old new
+    status ≡ 3 → sink.failed new ≡ false
+    → LeavesBegun job.task (source.remaining before) sink old new
 
 abbrev pub JobLeavesUnread : {R W : Type 0} → sources.Ghosts R → sinks.Ghosts W → R → W → W → Type 0
 JobLeavesUnread source sink after old new = source.failed after ≡ true → LeavesUnread sink old new
 
-abbrev pub JobLeavesFront : {R W : Type 0} → ℕ → Job → sources.Ghosts R → sinks.Ghosts W → R → W → W → Type 0
+abbrev pub JobLeavesFront : {R W : Type 0} → ℕ → Job → sources.Ghosts R → sinks.Ghosts W → R → W → W
+    → Type 0
 JobLeavesFront status job source sink before old new =
-    status ≡ 3 → sink.failed new ≡ true → LeavesFront job.task (source.remaining before) sink old new
+    status ≡ 3 → sink.failed new ≡ true
+    → LeavesFront job.task (source.remaining before) sink old new
 
 -- the text that tells a wrong word by its number
 abbrev pub mistake_line : ℕ → List ℕ
-mistake_line number = codes "error: word " ++ (decimal number ++ codes " is not a hexadecimal number up to 3FF\n")
+mistake_line number =
+    codes "error: word " ++ (decimal number ++ codes " is not a hexadecimal number up to 3FF\n")
 
 -- where the end for faults did not fail, the number of the wrong word is told, and nothing else
 abbrev pub TellsMistake : {E : Type 0} → Task → Option (List ℕ) → sinks.Ghosts E → E → E → Type 0
 TellsMistake task known told old new = told.failed new ≡ false
-    → (number : ℕ) × IfSome known (TaskEnds task (WrongWord number)) × Appended told.contents old new (mistake_line number)
+    → (number : ℕ)
+    × IfSome known (TaskEnds task (WrongWord number))
+    × Appended told.contents old new (mistake_line number)
 
 -- where a job has the status of a wrong word
-abbrev pub TellsWord : {R E : Type 0} → ℕ → Job → sources.Ghosts R → sinks.Ghosts E → R → E → E → Type 0
+abbrev pub TellsWord : {R E : Type 0} → ℕ → Job → sources.Ghosts R → sinks.Ghosts E → R → E → E
+    → Type 0
 TellsWord status job source told before old new =
     status ≡ 2 → TellsMistake job.task (source.remaining before) told old new
 

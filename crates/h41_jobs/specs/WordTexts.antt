@@ -1,5 +1,8 @@
--- Words of the HP-41 as text: a line for each, and the words that a text writes. Both forms are this project's own.
-use Rattle.std.specs.Prelude.{◌≡◌, ℕ, Bool, ◌==◌, ◌&&◌, ◌||◌, List, ◌++◌, length, map, filter, flat_map, codes, not, nat_le, if◌then◌else◌, Option, Some, None, is_none}
+-- Words of the HP-41 as text: a line for each, and the words that a text writes. Both forms are
+-- this project's own.
+use Rattle.std.specs.Prelude.{◌≡◌, ℕ, Bool, ◌==◌, ◌&&◌, ◌||◌, List, ◌++◌, length, map, filter}
+use Rattle.std.specs.Prelude.{flat_map, codes, not, nat_le, if◌then◌else◌, Option, Some, None}
+use Rattle.std.specs.Prelude.{is_none}
 use Rattle.std.specs.List.{position_from, slice_split}
 use Rattle.std.specs.Str.Parse.{digits_value}
 use Rattle.h41_digits.specs.Register.{hexadecimal_text}
@@ -21,10 +24,13 @@ is_white_space byte = byte == 9 || (byte == 10 || (byte == 12 || (byte == 13 || 
 abbrev pub parts_of : List ℕ → List (List ℕ)
 parts_of text = filter (λ part. not (length part == 0)) (slice_split is_white_space text)
 
--- the number that hexadecimal digits write, of either case and with any count of leading zeros, up to a greatest one
+-- the number that hexadecimal digits write, of either case and with any count of leading zeros, up
+-- to a greatest one
 abbrev pub hexadecimal_up_to : ℕ → List ℕ → Option ℕ
 hexadecimal_up_to most digits =
-    if is_numeral 16 digits && nat_le (digits_value 16 digits) most then Some (digits_value 16 digits) else None
+    if is_numeral 16 digits && nat_le (digits_value 16 digits) most
+    then Some (digits_value 16 digits)
+    else None
 
 -- the word that a part of a text writes: a number up to 3FF
 abbrev pub word_value : List ℕ → Option ℕ

@@ -1,11 +1,18 @@
 //! Reads the command line.
 
-ghost use Rattle.std.specs.Prelude.{◌≡◌, ◌≢◌, [], true, false, codes, map, IfOk, IfSome, IfNone, IsErr, option_map};
-ghost use Rattle.clap.specs.Words.{FailsBy, HasMatchesOf, app_of, fault_of, kind_of, rule_of, subcommand_rows_of};
+ghost use Rattle.std.specs.Prelude.{◌≡◌, ◌≢◌, [], true, false, codes, map, IfOk, IfSome, IfNone};
+ghost use Rattle.std.specs.Prelude.{IsErr, option_map};
+ghost use Rattle.clap.specs.Words.{FailsBy, HasMatchesOf, app_of, fault_of, kind_of, rule_of};
+ghost use Rattle.clap.specs.Words.{subcommand_rows_of};
 ghost use Rattle.clap.specs.declared.error.kind.ErrorKind.TheVariants as kind;
-ghost use Rattle.h41_jobs.specs.BenchCommand.{bench_app, file_rule, has_globals, job_in, origin_app, origin_asked, origin_in, origin_rule, run_app, task_asked};
-ghost use Rattle.h41_jobs.specs.CommandLine.{asks_help, asks_version, asm_file, dis_file, file_to_run, is_mistake};
-ghost use Rattle.h41_jobs.specs.Ending.{AsksForNoRun, AsksTo, AsksToRun, EndsAtOnce, EndsWith, GivesJob, GivesJobOf, IsNoHelp, parts_of, status_of, text_of};
+ghost use Rattle.h41_jobs.specs.BenchCommand.{bench_app, file_rule, has_globals, job_in};
+ghost use Rattle.h41_jobs.specs.BenchCommand.{origin_app, origin_asked, origin_in, origin_rule};
+ghost use Rattle.h41_jobs.specs.BenchCommand.{run_app, task_asked};
+ghost use Rattle.h41_jobs.specs.CommandLine.{asks_help, asks_version, asm_file, dis_file};
+ghost use Rattle.h41_jobs.specs.CommandLine.{file_to_run, is_mistake};
+ghost use Rattle.h41_jobs.specs.Ending.{AsksForNoRun, AsksTo, AsksToRun, EndsAtOnce, EndsWith};
+ghost use Rattle.h41_jobs.specs.Ending.{GivesJob, GivesJobOf, IsNoHelp, parts_of, status_of};
+ghost use Rattle.h41_jobs.specs.Ending.{text_of};
 
 use crate::numbers::origin_value;
 use clap::error::ErrorKind;

@@ -21,6 +21,13 @@ pub enum Ended {
     WrongWord(usize),
 }
 
+/// What is printed of an input, and how the job ends by it.
+#[derive(Debug, Drop)]
+pub struct Answer {
+    pub text: Vec<u8>,
+    pub ended: Ended,
+}
+
 impl From<Outcome> for Ended {
     ghost use Rattle.std.specs.Prelude.{◌≡◌};
     ghost use Rattle.h41_jobs.specs.Tasks.{ended_of_deck};

@@ -1,6 +1,7 @@
 //! Reads an input whole, or refuses it where it is too long.
 
-ghost use Rattle.std.specs.Prelude.{◌≡◌, ◌≢◌, true, false, Err, IfOk, IfSome};
+ghost use Rattle.std.specs.Prelude.{◌≡◌, ◌≢◌, ◌≤◌, true, false, Err, IfOk, IfSome, vec_len};
+ghost use Rattle.h41_ends.specs.Ends.{most_bytes};
 ghost use Rattle.h41_jobs.specs.Inputs.{IsUnread, IsWhole};
 
 use h41_deck::{Fault, Source, read_whole};
@@ -14,6 +15,7 @@ use std::alloc::Global;
 pub fn read_input<R: Source>(alloc: Global, reader: &mut R) -> Result<Vec<u8>, Fault>
     requires { R.failed reader.old ≡ false }
     ensures bytes { IfOk result (λ bytes. IfSome (R.remaining reader.old) (IsWhole bytes.items)) }
+    ensures bound { IfOk result (λ bytes. vec_len bytes ≤ most_bytes) }
     ensures read_fault { result ≡ Err Fault.ReadFault → IsUnread R.Source reader.old reader.new }
     ensures no_write { result ≢ Err Fault.WriteFault }
     ensures clear { result ≢ Err Fault.ReadFault → R.failed reader.new ≡ false }

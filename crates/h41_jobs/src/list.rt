@@ -1,62 +1,32 @@
-//! Lists words from one end to another.
+//! What is printed of a list of words.
 
-ghost use Rattle.std.specs.Prelude.{◌≡◌, ◌≢◌, true, false, Err, IfOk, OnOk};
+ghost use Rattle.std.specs.Prelude.{◌≡◌, ◌≤◌, IfOk, length};
+ghost use Rattle.h41_ends.specs.Ends.{most_bytes};
 ghost use Rattle.h41_jobs.specs.declared.arguments.Task.TheVariants as tasks;
-ghost use Rattle.h41_jobs.specs.Inputs.{IsUnread};
-ghost use Rattle.h41_jobs.specs.Outputs.{ErrKeeps};
-ghost use Rattle.h41_jobs.specs.Tasks.{Ends, Listed, ListingCut, MayEnd, ReadsAs, words_or_number};
+ghost use Rattle.h41_jobs.specs.Tasks.{HasAnswer, ReadsAs, words_or_number};
 ghost use Rattle.h41_jobs.specs.WordTexts.{is_white_space};
 
-use crate::ended::Ended;
-use crate::input::read_input;
+use crate::ended::{Answer, Ended};
 use crate::numbers::word_value;
-use crate::output::write_text;
-use h41_deck::{Fault, Sink, Source};
 use h41_dis::disassemble;
 use h41_words::Word;
 use std::alloc::{AllocError, Global};
 
-/// Reads the words of a text whole, which white space parts, and writes their listing: a line for each instruction. Writes
-/// nothing where a word is wrong. Both ends' marks are clear before.
-///
-/// # Errors
-///
-/// `ReadFault` (22) where a read fails, or the text has more than 67,108,864 bytes; `WriteFault` (23) where a write fails;
-/// `OutOfMemory` (21). Where reading or memory fails, nothing is written.
-pub fn list_input<R: Source, W: Sink>(
-    alloc: Global,
-    origin: u16,
-    reader: &mut R,
-    writer: &mut W,
-) -> Result<Ended, Fault>
-    requires reader_clear { R.failed reader.old ≡ false }
-    requires writer_clear { W.failed writer.old ≡ false }
-    ensures text { Listed result R.Source W.Sink reader.old writer.old writer.new }
-    ensures ends { Ends result (tasks.List origin) (R.remaining reader.old) }
-    ensures kind { IfOk result (MayEnd (tasks.List origin)) }
-    ensures flushed { OnOk result (W.flushed writer.new ≡ true) }
-
-    // What stands written where it fails.
-    ensures read { result ≡ Err Fault.ReadFault → IsUnread R.Source reader.old reader.new }
-    ensures unwritten { ErrKeeps result W.Sink writer.old writer.new }
-    ensures cut { ListingCut result R.Source W.Sink reader.old writer.old writer.new }
-
-    // The marks tell which end failed.
-    ensures write_fault { result ≡ Err Fault.WriteFault → W.failed writer.new ≡ true }
-    ensures reader { result ≢ Err Fault.ReadFault → R.failed reader.new ≡ false }
-    ensures writer { result ≢ Err Fault.WriteFault → W.failed writer.new ≡ false }
+/// The listing of the words that a text writes, which white space parts: a line for each instruction. Nothing where a word is wrong.
+/// Refuses only memory.
+pub fn listing(alloc: Global, text: &[u8], origin: u16) -> Result<Answer, AllocError>
+    requires { length text.now ≤ most_bytes }
+    ensures { IfOk result (HasAnswer (tasks.List origin) text.now) }
 {
-    let input = read_input(alloc, reader)?;
-    match words_in(alloc, &input)? {
-        Ok(words) => {
-            let text = disassemble(alloc, &words, origin)?;
-            write_text(writer, text.as_str().as_bytes())?;
-            Ok(Ended::Accepted)
-        }
-        Err(number) => {
-            write_text(writer, b"")?;
-            Ok(Ended::WrongWord(number))
-        }
+    match words_in(alloc, text)? {
+        Ok(words) => Ok(Answer {
+            text: disassemble(alloc, &words, origin)?.into_bytes(),
+            ended: Ended::Accepted,
+        }),
+        Err(number) => Ok(Answer {
+            text: Vec::new(alloc),
+            ended: Ended::WrongWord(number),
+        }),
     }
 }
 

@@ -1,9 +1,10 @@
-//! Writes a text and passes it on.
+//! Writes a text, or an answer's, and passes it on.
 
-ghost use Rattle.std.specs.Prelude.{◌≡◌, true, false, OnOk, OnErr};
+ghost use Rattle.std.specs.Prelude.{◌≡◌, true, false, IfOk, OnOk, OnErr};
 ghost use Rattle.h41_ends.specs.Ends.{Appended};
 ghost use Rattle.h41_jobs.specs.Outputs.{AppendsFront};
 
+use crate::ended::{Answer, Ended};
 use h41_deck::{Sink, WriteFault, flush, write_whole};
 
 /// Writes a text whole, and flushes it.
@@ -21,4 +22,23 @@ pub fn write_text<W: Sink>(writer: &mut W, text: &[u8]) -> Result<(), WriteFault
 {
     write_whole(writer, text)?;
     flush(writer)
+}
+
+/// Writes an answer's text likewise, and tells how the job ended.
+///
+/// # Errors
+///
+/// `WriteFault` (23), as above.
+pub fn write_answer<W: Sink>(writer: &mut W, answer: &Answer) -> Result<Ended, WriteFault>
+    requires { W.failed writer.old ≡ false }
+    ensures ended { IfOk result (λ ended. ended ≡ answer.now.ended) }
+    ensures text { OnOk result (Appended W.contents writer.old writer.new answer.now.text.items) }
+    ensures front { OnErr result
+        (AppendsFront W.contents writer.old writer.new answer.now.text.items) }
+    ensures flushed { OnOk result (W.flushed writer.new ≡ true) }
+    ensures clear { OnOk result (W.failed writer.new ≡ false) }
+    ensures mark { OnErr result (W.failed writer.new ≡ true) }
+{
+    write_text(writer, &answer.text)?;
+    Ok(answer.ended)
 }

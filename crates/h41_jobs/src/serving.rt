@@ -4,13 +4,17 @@ ghost use Rattle.std.specs.Prelude.{◌≡◌, ◌≢◌, ◌≤◌, true, false
 ghost use Rattle.std.specs.Io.KnownBytes.{Keeps};
 ghost use Rattle.h41_ends.specs.Ends.{Appended};
 ghost use Rattle.h41_jobs.specs.Statuses.{EndsJob, IsTaskStatus, TellsFault, TellsMark, fault_line};
-ghost use Rattle.h41_jobs.specs.Tasks.{Ends, ErrLeavesBegun, ErrLeavesFront, JobBegun, JobLeavesFront, JobLeavesUnread, JobWritesText, LeavesUnread, MayEnd, OkWritesText, Tells, TellsWord, NotRead, mistake_line};
+ghost use Rattle.h41_jobs.specs.Tasks.{Ends, ErrLeavesBegun, ErrLeavesFront, JobBegun};
+ghost use Rattle.h41_jobs.specs.Tasks.{JobLeavesFront, JobLeavesUnread, JobWritesText};
+ghost use Rattle.h41_jobs.specs.Tasks.{LeavesUnread, MayEnd, OkWritesText, Tells, TellsWord};
+ghost use Rattle.h41_jobs.specs.Tasks.{NotRead, mistake_line};
 
 use crate::arguments::{Job, Task};
-use crate::assemble::assemble_input;
+use crate::assemble::assembly;
 use crate::ended::{Ended, mistake_line};
-use crate::list::list_input;
-use crate::output::write_text;
+use crate::input::read_input;
+use crate::list::listing;
+use crate::output::{write_answer, write_text};
 use h41_deck::{Fault, Sink, Source, WriteFault, run_deck};
 use std::alloc::Global;
 
@@ -94,8 +98,16 @@ fn do_task<R: Source, W: Sink>(
 {
     match task {
         Task::Run => Ok(Ended::from(run_deck(alloc, reader, writer)?)),
-        Task::Assemble { origin } => assemble_input(alloc, origin, reader, writer),
-        Task::List { origin } => list_input(alloc, origin, reader, writer),
+        Task::Assemble { origin } => {
+            let source = read_input(alloc, reader)?;
+            let answer = assembly(alloc, &source, origin)?;
+            Ok(write_answer(writer, &answer)?)
+        }
+        Task::List { origin } => {
+            let words = read_input(alloc, reader)?;
+            let answer = listing(alloc, &words, origin)?;
+            Ok(write_answer(writer, &answer)?)
+        }
     }
 }
 

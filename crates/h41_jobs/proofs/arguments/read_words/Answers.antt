@@ -14,7 +14,8 @@ returns-in-Ok-clause-run c =
     let words : List (List ℕ) = map (λ w. w.now) c.args.words.now in
     let gives : GivesJob (job_asked words) c.job_or_mistake.result =
     rw (asked_of words c.in-Ok.matches c.in-Ok.ensures.matches) at c.job_or_mistake.ensures in
-    if_some (file_to_run words) _ (λ file is. runs_file (job_asked words) c.job_or_mistake.result file (file_meets run_name words file is).asked gives)
+    if_some (file_to_run words) _
+    (λ file is. runs_file (job_asked words) c.job_or_mistake.result file (file_meets run_name words file is).asked gives)
 
 pub returns-in-Ok-clause-no_run : goal.returns-in-Ok-clause-no_run
 returns-in-Ok-clause-no_run c =
@@ -47,7 +48,8 @@ pub returns-in-Err-clause-run : goal.returns-in-Err-clause-run
 returns-in-Err-clause-run c =
     let words : List (List ℕ) = map (λ w. w.now) c.args.words.now in
     if_some (file_to_run words) _
-    (λ file is. c.make_ending.ensures.memory (failed_memory words c.in-Err.error c.in-Err.ensures.kinds (file_meets run_name words file is).no_fault))
+    (λ file is. c.make_ending.ensures.memory
+    (failed_memory words c.in-Err.error c.in-Err.ensures.kinds (file_meets run_name words file is).no_fault))
 
 pub returns-in-Err-clause-help : goal.returns-in-Err-clause-help
 returns-in-Err-clause-help c = λ is.
@@ -74,7 +76,8 @@ returns-in-Err-clause-mistake c = λ is.
 pub returns-in-Err-clause-job : goal.returns-in-Err-clause-job
 returns-in-Err-clause-job c = λ passed.
     let words : List (List ℕ) = map (λ w. w.now) c.args.words.now in
-    runs_out (job_asked words) c.make_ending.result (c.make_ending.ensures.memory (failed_memory words c.in-Err.error c.in-Err.ensures.kinds passed))
+    runs_out (job_asked words) c.make_ending.result
+    (c.make_ending.ensures.memory (failed_memory words c.in-Err.error c.in-Err.ensures.kinds passed))
 
 pub returns-in-Ok-clause-asm : goal.returns-in-Ok-clause-asm
 returns-in-Ok-clause-asm c =
@@ -82,13 +85,15 @@ returns-in-Ok-clause-asm c =
     let gives : GivesJob (job_asked words) c.job_or_mistake.result =
     rw (asked_of words c.in-Ok.matches c.in-Ok.ensures.matches) at c.job_or_mistake.ensures in
     if_some (file_for (codes "asm") words) _
-    (λ file is. gives_these (job_asked words) c.job_or_mistake.result (tasks.Assemble 0x8000) file (file_meets asm_name words file is).asked gives)
+    (λ file is.
+    gives_these (job_asked words) c.job_or_mistake.result (tasks.Assemble 0x8000) file (file_meets asm_name words file is).asked gives)
 
 pub returns-in-Err-clause-asm : goal.returns-in-Err-clause-asm
 returns-in-Err-clause-asm c =
     let words : List (List ℕ) = map (λ w. w.now) c.args.words.now in
     if_some (file_for (codes "asm") words) _
-    (λ file is. c.make_ending.ensures.memory (failed_memory words c.in-Err.error c.in-Err.ensures.kinds (file_meets asm_name words file is).no_fault))
+    (λ file is. c.make_ending.ensures.memory
+    (failed_memory words c.in-Err.error c.in-Err.ensures.kinds (file_meets asm_name words file is).no_fault))
 
 pub returns-in-Ok-clause-dis : goal.returns-in-Ok-clause-dis
 returns-in-Ok-clause-dis c =
@@ -96,10 +101,12 @@ returns-in-Ok-clause-dis c =
     let gives : GivesJob (job_asked words) c.job_or_mistake.result =
     rw (asked_of words c.in-Ok.matches c.in-Ok.ensures.matches) at c.job_or_mistake.ensures in
     if_some (file_for (codes "dis") words) _
-    (λ file is. gives_these (job_asked words) c.job_or_mistake.result (tasks.List 0x8000) file (file_meets dis_name words file is).asked gives)
+    (λ file is.
+    gives_these (job_asked words) c.job_or_mistake.result (tasks.List 0x8000) file (file_meets dis_name words file is).asked gives)
 
 pub returns-in-Err-clause-dis : goal.returns-in-Err-clause-dis
 returns-in-Err-clause-dis c =
     let words : List (List ℕ) = map (λ w. w.now) c.args.words.now in
     if_some (file_for (codes "dis") words) _
-    (λ file is. c.make_ending.ensures.memory (failed_memory words c.in-Err.error c.in-Err.ensures.kinds (file_meets dis_name words file is).no_fault))
+    (λ file is. c.make_ending.ensures.memory
+    (failed_memory words c.in-Err.error c.in-Err.ensures.kinds (file_meets dis_name words file is).no_fault))

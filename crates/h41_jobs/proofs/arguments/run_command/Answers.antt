@@ -12,10 +12,14 @@ globals fields = fields.has_globals
 
 pub returns-clause-app : goal.returns-clause-app
 returns-clause-app c =
-    let before = ap app_of_fields c.after_help.ensures ∙ ap app_of_fields c.override_usage.ensures ∙ ap app_of_fields c.about.ensures ∙ c.new.ensures.app in
-    IfOk-weaker c.arg.result _ _ (λ r h. h.shape c.file_argument.ensures.local ∙ ap₂ with_rule before c.file_argument.ensures.rule) c.arg.ensures
+    let before =
+    ap app_of_fields c.after_help.ensures ∙ ap app_of_fields c.override_usage.ensures ∙ ap app_of_fields c.about.ensures
+    ∙ c.new.ensures.app in
+    IfOk-weaker c.arg.result _ _
+    (λ r h. h.shape c.file_argument.ensures.local ∙ ap₂ with_rule before c.file_argument.ensures.rule) c.arg.ensures
 
 pub returns-clause-local : goal.returns-clause-local
 returns-clause-local c =
-    let before : (out-Command c.after_help.result).has_globals ≡ false = ap globals c.after_help.ensures ∙ ap globals c.override_usage.ensures ∙ ap globals c.about.ensures ∙ c.new.ensures.local in
+    let before : (out-Command c.after_help.result).has_globals ≡ false =
+    ap globals c.after_help.ensures ∙ ap globals c.override_usage.ensures ∙ ap globals c.about.ensures ∙ c.new.ensures.local in
     IfOk-weaker c.arg.result _ _ (λ r h. h.globals ∙ ap₂ (λ a b. a || b) before c.file_argument.ensures.local) c.arg.ensures

@@ -11,7 +11,8 @@ pub returns-then-number-from : goal.returns-then-number-from
 returns-then-number-from c =
     let digits = c.args.digits.now in
     let i = c.loop-byte.byte-index in
-    let more : digits_value 16 (take (i + 1) digits) ≡ digits_value 16 (take i digits) * 16 + digit_value (get_or digits i 0) = digits_value_more 16 digits i (omega arith) in
+    let more : digits_value 16 (take (i + 1) digits) ≡ digits_value 16 (take i digits) * 16 + digit_value (get_or digits i 0) =
+    digits_value_more 16 digits i (omega arith) in
     let read = c.in_ok-digit.ensures.value in
     let value : c.loop-byte.number * 16 + c.in_ok-digit.digit ≡ digits_value 16 (take (i + 1) digits) = cc in
     number_too_large 16 c.args.most (i + 1) digits _ _ (omega arith) (omega arith)
@@ -20,7 +21,8 @@ pub loop-byte-preserved : goal.loop-byte-preserved
 loop-byte-preserved c =
     let digits = c.args.digits.now in
     let i = c.loop-byte.byte-index in
-    let more : digits_value 16 (take (i + 1) digits) ≡ digits_value 16 (take i digits) * 16 + digit_value (get_or digits i 0) = digits_value_more 16 digits i (omega arith) in
+    let more : digits_value 16 (take (i + 1) digits) ≡ digits_value 16 (take i digits) * 16 + digit_value (get_or digits i 0) =
+    digits_value_more 16 digits i (omega arith) in
     let read = c.in_ok-digit.ensures.value in
     let digit : digit_value (get_or digits i 0) < 16 = rw c.from.ensures at read.0 in
     record {

@@ -1,19 +1,33 @@
-use Rattle.h41_jobs.proofs.InputLemmas.{kept_where_failed, why_unread}
+use Rattle.std.proofs.Common.{◌≡◌, Err, rules}
+use Rattle.h41_deck.specs.declared.fault.Fault.TheVariants.{ReadFault}
+use Rattle.h41_jobs.specs.declared.arguments.Task.TheVariants as tasks
+use Rattle.h41_jobs.specs.Inputs.{IsUnread}
+use Rattle.h41_jobs.specs.Tasks.{HasText}
+use Rattle.h41_jobs.proofs.InputLemmas.{whole_front, whole_text, why_unread}
 use Rattle.h41_jobs.proofs.serving.do_task.Goals as goal
 
-pub returns-in-Assemble-clause-read : goal.returns-in-Assemble-clause-read
-returns-in-Assemble-clause-read g c = λ is.
-    rw c.in-Assemble.is
-    (why_unread c.assemble_input.result _ _ _ is (c.assemble_input.ensures.read is) c.assemble_input.ensures.unwritten)
+pub returns-in_err-source-in-Assemble-clause-read : goal.returns-in_err-source-in-Assemble-clause-read
+returns-in_err-source-in-Assemble-clause-read g c = λ is.
+    let why : c.from_residual-in_err-source-in-Assemble.result ≡ Err ReadFault
+    → IsUnread g.R.Source c.args.reader.now c.read_input.new.reader =
+    search rules in
+    rw c.in-Assemble.is (why_unread _ _ (why is))
 
-pub returns-in-List-clause-read : goal.returns-in-List-clause-read
-returns-in-List-clause-read g c = λ is.
-    rw c.in-List.is (why_unread c.list_input.result _ _ _ is (c.list_input.ensures.read is) c.list_input.ensures.unwritten)
+pub returns-in_err-words-in-List-clause-read : goal.returns-in_err-words-in-List-clause-read
+returns-in_err-words-in-List-clause-read g c = λ is.
+    let why : c.from_residual-in_err-words-in-List.result ≡ Err ReadFault
+    → IsUnread g.R.Source c.args.reader.now c.read_input-in-List.new.reader =
+    search rules in
+    rw c.in-List.is (why_unread _ _ (why is))
 
-pub returns-in-Assemble-clause-unread : goal.returns-in-Assemble-clause-unread
-returns-in-Assemble-clause-unread g c = λ failed.
-    kept_where_failed c.assemble_input.result _ _ _ failed c.assemble_input.ensures.reader c.assemble_input.ensures.unwritten
+pub returns-in_err-write_answer-in-List-clause-cut : goal.returns-in_err-write_answer-in-List-clause-cut
+returns-in_err-write_answer-in-List-clause-cut g c = λ cut.
+    let has = rw c.deref-in-List.ensures.value at c.in_ok-answer-in-List.ensures.text in
+    rw c.in-List.is (whole_front (HasText (tasks.List c.in-List.origin)) _ _ _ c.in_ok-words-in-List.words.items
+    c.in_ok-answer-in-List.answer.text.items c.in_ok-words-in-List.ensures.bytes has c.in_err-write_answer-in-List.ensures.front)
 
-pub returns-in-List-clause-unread : goal.returns-in-List-clause-unread
-returns-in-List-clause-unread g c = λ failed.
-    kept_where_failed c.list_input.result _ _ _ failed c.list_input.ensures.reader c.list_input.ensures.unwritten
+pub returns-in_ok-write_answer-in-List-clause-text : goal.returns-in_ok-write_answer-in-List-clause-text
+returns-in_ok-write_answer-in-List-clause-text g c =
+    let has = rw c.deref-in-List.ensures.value at c.in_ok-answer-in-List.ensures.text in
+    rw c.in-List.is (whole_text (HasText (tasks.List c.in-List.origin)) _ _ _ c.in_ok-words-in-List.words.items
+    c.in_ok-answer-in-List.answer.text.items c.in_ok-words-in-List.ensures.bytes has c.in_ok-write_answer-in-List.ensures.text)

@@ -8,7 +8,8 @@ use Rattle.h41_program.specs.declared.listed_line.ListedLine.{ListedLine}
 use Rattle.h41_program.specs.declared.refusal.ProgramRefusal.{ProgramRefusal}
 use Rattle.h41_program.specs.declared.refusal.ProgramRefusal.TheVariants.{BrokenProgram}
 use Rattle.h41_program.specs.ProgramBytes.{final_position, program_bytes}
-use Rattle.h41_program.specs.ProgramLaws.{FirstIsDetermined, OneList}
+use Rattle.h41_program.specs.SearchLaws.{LineIsDetermined}
+use Rattle.h41_program.specs.ProgramLaws.{OneList}
 use Rattle.h41_program.specs.ProgramLines.{AnswersFirst, Reads}
 use Rattle.h41_ram.specs.RegisterMap.{RegisterMap, is_sound}
 use Rattle.h41_text.specs.LineText.{line_text}
@@ -93,22 +94,14 @@ module _ (one : OneList) where
   steps_traced count s t text refusal tells p = told_from count (all_told count) s t text refusal tells p
 
 -- WHAT COMES NEXT IS TOLD IN ONE WAY
-module _ (same_first : FirstIsDetermined) where
-  same_line : (memory : RegisterMap) (at : ℕ) (a b : Result ListedLine ProgramRefusal) → AnswersFirst memory at a → AnswersFirst memory at b
-      → line_or_unknown a ≡ line_or_unknown b
-  same_line memory at (Ok first) (Ok other) p q =
-      ap (λ (listed : ListedLine). line_text listed.line) (same_first (program_bytes memory) (final_position memory) at first other p q)
-  same_line memory at (Ok first) (Err why) p q = absurd (q.1 first p)
-  same_line memory at (Err why) (Ok other) p q = absurd (p.1 other q)
-  same_line memory at (Err why) (Err other) p q = refl
-
+module _ (same_line : LineIsDetermined) where
   same_told : (memory : RegisterMap) (at : ℕ) (sound : Bool) (text other : List ℕ)
       → MatchBool sound ((answer : Result ListedLine ProgramRefusal) × AnswersFirst memory at answer × (text ≡ line_or_unknown answer))
       (text ≡ unknown_text)
       → MatchBool sound ((answer : Result ListedLine ProgramRefusal) × AnswersFirst memory at answer × (other ≡ line_or_unknown answer))
       (other ≡ unknown_text)
       → text ≡ other
-  same_told memory at true text other p q = p.2 ∙ same_line memory at p.0 q.0 p.1 q.1 ∙ sym q.2
+  same_told memory at true text other p q = p.2 ∙ ap line_or_unknown (same_line memory at p.0 q.0 p.1 q.1) ∙ sym q.2
   same_told memory at false text other p q = p ∙ sym q
 
   same_at : (at : Location) (s : CalculatorState) (text other : List ℕ) → TellsAt at s text → TellsAt at s other → text ≡ other

@@ -62,8 +62,11 @@ pub line_inserted :
 line_inserted line from machine new after numbered before position is has place edits stands shown =
     let there = rw (← is) at has in
     let here = rw (← is) at place in
-    rw (shown, ← is)
-    (Some numbered, there, (before, here, Ok (new, tt), edit_made from.memory new (with_inserted line) before edits, (position, stands, refl)))
+    rw (shown, ← is) (
+      Some numbered,
+      there,
+      (before, here, Ok (new, tt), edit_made from.memory new (with_inserted line) before edits, (position, stands, refl)),
+    )
 
 pub insert_refused :
     (line : Line) (from machine : Machine) (new : RegisterMap) (numbered : NumberedLine) (before : ℕ) (refusal : ProgramRefusal)
@@ -75,7 +78,8 @@ pub insert_refused :
 insert_refused line from machine new numbered before refusal is has place edits =
     let there = rw (← is) at has in
     let here = rw (← is) at place in
-    rw (← is) (Some numbered, there, (before, here, Err refusal, edit_refused from.memory new (with_inserted line) before refusal edits, refl))
+    rw (← is)
+    (Some numbered, there, (before, here, Err refusal, edit_refused from.memory new (with_inserted line) before refusal edits, refl))
 
 -- one is put in the place of another
 pub line_replaced :
@@ -109,8 +113,11 @@ pub line_deleted :
     → left ≡ shown_in_front from new front
     → Deletes machine (Ok left)
 line_deleted from machine left new first front is behind there inner edits stands shown =
-    rw (shown, ← is, behind)
-    (Ok first, there, rw (sym inner) (Ok (new, tt), edit_made from.memory new without_deleted from.focal.position edits, (front, stands, refl)))
+    rw (shown, ← is, behind) (
+      Ok first,
+      there,
+      rw (sym inner) (Ok (new, tt), edit_made from.memory new without_deleted from.focal.position edits, (front, stands, refl)),
+    )
 
 pub delete_refused :
     (from machine : Machine) (new : RegisterMap) (first : ListedLine) (refusal : ProgramRefusal)

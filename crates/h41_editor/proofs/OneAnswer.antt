@@ -3,22 +3,25 @@ use Rattle.std.proofs.Common.{◌≡◌, ℕ, Bool, true, false, List, Option, S
 use Rattle.std.specs.Prelude.{MatchBool}
 use Rattle.std.specs.Option.{option_map}
 use Rattle.h41_codes.specs.declared.line.Line.{Line}
-use Rattle.h41_editor.specs.Changes.{Changed, Deletes, DeletesLine, DeletesShown, Inserts, InsertsBy, Replaces, ShowsFront, ShowsNew, showing_line, shown_in_front}
+use Rattle.h41_editor.specs.Changes.{Changed, Deletes, DeletesLine, DeletesShown, Inserts, InsertsBy, Replaces, ShowsFront, ShowsNew}
+use Rattle.h41_editor.specs.Changes.{showing_line, shown_in_front}
 use Rattle.h41_editor.specs.EditorLaws.{ChangeIsDetermined, MoveIsDetermined, NumberedIsDetermined, TextIsDetermined}
-use Rattle.h41_editor.specs.Moves.{EndsBy, GoesToEnd, ShowsAt, ShowsBefore, ShowsBeforeLine, ShowsBehind, ShowsEnd, ShowsInFront, ShowsNext, ShowsStart, is_last, returns_kept, shown_end}
+use Rattle.h41_editor.specs.Moves.{EndsBy, GoesToEnd, ShowsAt, ShowsBefore, ShowsBeforeLine, ShowsBehind, ShowsEnd, ShowsInFront, ShowsNext}
+use Rattle.h41_editor.specs.Moves.{ShowsStart, is_last, returns_kept, shown_end}
 use Rattle.h41_editor.specs.NumberedLines.{Numbers, with_number}
 use Rattle.h41_editor.specs.ProgramText.{ShowsLine, line_00_text, text_of, unknown_text}
 use Rattle.h41_editor.specs.declared.numbered.NumberedLine.{NumberedLine}
 use Rattle.h41_focal.specs.LineStep.{Machine, at_line_00, placed}
-use Rattle.h41_program.specs.Edits.{EditGives, PlacesAreDetermined, before_end, close_behind, position_behind, position_in_front, with_inserted, with_replaced, without_deleted}
+use Rattle.h41_program.specs.Edits.{EditGives, PlacesAreDetermined, before_end, close_behind, position_behind, position_in_front}
+use Rattle.h41_program.specs.Edits.{with_inserted, with_replaced, without_deleted}
 use Rattle.h41_program.specs.LastProgram.{open_in}
 use Rattle.h41_program.specs.Lines.{is_final_end}
-use Rattle.h41_program.specs.Numbering.{before_in, end_in, number_in}
-use Rattle.h41_program.specs.ProgramBytes.{final_position, program_bytes}
-use Rattle.h41_program.specs.ProgramLaws.{EditsAreDetermined, FirstIsDetermined, ListsAreDetermined}
-use Rattle.h41_program.specs.ProgramLines.{AnswersFirst, AnswersNext, AnswersOf, PositionBehind, PositionFrom, behind}
-use Rattle.h41_program.specs.SearchLaws.{AnswersAreDetermined, ProgramIsDetermined}
-use Rattle.h41_program.specs.Searches.{start_in}
+use Rattle.h41_program.specs.Numbering.{before_in, number_in}
+use Rattle.h41_program.specs.ProgramBytes.{final_position}
+use Rattle.h41_program.specs.ProgramLaws.{EditsAreDetermined, ListsAreDetermined}
+use Rattle.h41_program.specs.ProgramLines.{AnswersFirst, AnswersNext, AnswersOf}
+use Rattle.h41_program.specs.SearchLaws.{AnswersAreDetermined, LineIsDetermined, NextIsDetermined, ProgramIsDetermined}
+use Rattle.h41_program.specs.Searches.{end_in, start_in}
 use Rattle.h41_program.specs.declared.editing.Front.{Front}
 use Rattle.h41_program.specs.declared.listed_line.ListedLine.{ListedLine}
 use Rattle.h41_program.specs.declared.refusal.ProgramRefusal.{ProgramRefusal}
@@ -36,39 +39,17 @@ GoesOn machine moved = (next : ℕ) × AnswersNext machine.memory machine.focal.
 abbrev ByFirst : Machine → (Result ListedLine ProgramRefusal → Type 0) → Type 0
 ByFirst machine holds = (first : Result ListedLine ProgramRefusal) × AnswersFirst machine.memory machine.focal.position first × holds first
 
--- lines and positions, where no bytes have two first lines
-module _ (same_first : FirstIsDetermined) where
-  same_line : (memory : RegisterMap) (at : ℕ) (a b : Result ListedLine ProgramRefusal) → AnswersFirst memory at a → AnswersFirst memory at b → a ≡ b
-  same_line memory at (Ok first) (Ok other) p q =
-      ap (λ (line : ListedLine). Ok line) (same_first (program_bytes memory) (final_position memory) at first other p q)
-  same_line memory at (Ok first) (Err refusal) p q = absurd (q.1 first p)
-  same_line memory at (Err refusal) (Ok other) p q = absurd (p.1 other q)
-  same_line memory at (Err refusal) (Err other) p q = ap (λ (why : ProgramRefusal). Err why) (p.0 ∙ sym q.0)
+-- each position has one line, or one refusal, and one next position
+pub record IsReadOnce : Type 0 where
+  pub line : LineIsDetermined
+  pub next : NextIsDetermined
 
-  same_from : (memory : RegisterMap) (at a b : ℕ) → PositionFrom memory at a → PositionFrom memory at b → a ≡ b
-  same_from memory at a b p q = elim p [
-    | inl first ↦ elim q [
-      | inl other ↦
-          let same = same_first (program_bytes memory) (final_position memory) at first.0 other.0 first.1 other.1 in
-          first.2 ∙ ap (λ (line : ListedLine). line.position) same ∙ sym other.2
-      | inr none ↦ absurd (none.0 first.0 first.1)
-    ]
-    | inr none ↦ elim q [
-      | inl other ↦ absurd (none.0 other.0 other.1)
-      | inr again ↦ none.1 ∙ sym again.1
-    ]
-  ]
+pub read_once : LineIsDetermined → NextIsDetermined → IsReadOnce
+read_once line next = record { line = line; next = next }
 
-  same_behind : (last : Bool) (memory : RegisterMap) (first : ListedLine) (a b : ℕ)
-      → MatchBool last (a ≡ first.position) (PositionFrom memory (behind first) a)
-      → MatchBool last (b ≡ first.position) (PositionFrom memory (behind first) b) → a ≡ b
-  same_behind true memory first a b p q = p ∙ sym q
-  same_behind false memory first a b p q = same_from memory (behind first) a b p q
-
-  same_next : (memory : RegisterMap) (at a b : ℕ) → AnswersNext memory at (Ok a) → AnswersNext memory at (Ok b) → a ≡ b
-  same_next memory at a b p q =
-      let same = same_first (program_bytes memory) (final_position memory) at p.0 q.0 p.1 q.1 in
-      same_behind (is_final_end q.0.line) memory q.0 a b (subst (λ (line : ListedLine). PositionBehind memory line a) same p.2) q.2
+same_next : (once : IsReadOnce) (memory : RegisterMap) (at a b : ℕ)
+    → AnswersNext memory at (Ok a) → AnswersNext memory at (Ok b) → a ≡ b
+same_next once memory at a b p q = let same = once.next memory at (Ok a) (Ok b) p q in cc
 
 -- line 00, where each program has one start
 module _ (same_start : AnswersAreDetermined ℕ) where
@@ -78,7 +59,7 @@ module _ (same_start : AnswersAreDetermined ℕ) where
       p.2 ∙ ap (λ (start : ℕ). Ok (record machine { focal = at_line_00 start machine.focal })) same ∙ sym q.2
 
 -- the line that a position stands for, and the text, where besides each line has one number
-module _ (same_first : FirstIsDetermined) (same_program : ProgramIsDetermined (Option ℕ)) where
+module _ (once : IsReadOnce) (same_program : ProgramIsDetermined (Option ℕ)) where
   same_number : (memory : RegisterMap) (first : Result ListedLine ProgramRefusal) (a b : Option NumberedLine)
       → Numbers memory first a → Numbers memory first b → a ≡ b
   same_number memory (Ok first) a b p q =
@@ -88,7 +69,7 @@ module _ (same_first : FirstIsDetermined) (same_program : ProgramIsDetermined (O
 
   pub numbered_determined : NumberedIsDetermined
   numbered_determined memory at a b p q =
-      let same = same_line same_first memory at p.0 q.0 p.1 q.1 in
+      let same = once.line memory at p.0 q.0 p.1 q.1 in
       same_number memory q.0 a b (subst (λ (first : Result ListedLine ProgramRefusal). Numbers memory first a) same p.2) q.2
 
   same_shown : (machine : Machine) (a b : List ℕ) → ShowsLine machine a → ShowsLine machine b → a ≡ b
@@ -103,7 +84,8 @@ module _ (same_first : FirstIsDetermined) (same_program : ProgramIsDetermined (O
 
   same_text : (sound : Bool) (machine : Machine) (a b : List ℕ)
       → MatchBool sound (MatchBool machine.focal.at_line_00 (a ≡ line_00_text machine.memory) (ShowsLine machine a)) (a ≡ unknown_text)
-      → MatchBool sound (MatchBool machine.focal.at_line_00 (b ≡ line_00_text machine.memory) (ShowsLine machine b)) (b ≡ unknown_text) → a ≡ b
+      → MatchBool sound (MatchBool machine.focal.at_line_00 (b ≡ line_00_text machine.memory) (ShowsLine machine b)) (b ≡ unknown_text)
+      → a ≡ b
   same_text true machine a b p q = same_in_sound machine.focal.at_line_00 machine a b p q
   same_text false machine a b p q = p ∙ sym q
 
@@ -111,12 +93,12 @@ module _ (same_first : FirstIsDetermined) (same_program : ProgramIsDetermined (O
   text_determined machine a b p q = same_text (is_sound machine.memory) machine a b p q
 
 -- SST
-module _ (same_first : FirstIsDetermined) (same_start : AnswersAreDetermined ℕ) where
+module _ (once : IsReadOnce) (same_start : AnswersAreDetermined ℕ) where
   same_onward : (last : Bool) (machine : Machine) (a b : Moved)
       → MatchBool last (ShowsStart machine a) (GoesOn machine a) → MatchBool last (ShowsStart machine b) (GoesOn machine b) → a ≡ b
   same_onward true machine a b p q = same_shown_start same_start machine a b p q
   same_onward false machine a b p q =
-      let same = same_next same_first machine.memory machine.focal.position p.0 q.0 p.1 q.1 in
+      let same = same_next once machine.memory machine.focal.position p.0 q.0 p.1 q.1 in
       p.2 ∙ ap (λ (next : ℕ). Ok (placed next machine)) same ∙ sym q.2
 
   same_shown_behind : (machine : Machine) (first : Result ListedLine ProgramRefusal) (a b : Moved)
@@ -126,17 +108,18 @@ module _ (same_first : FirstIsDetermined) (same_start : AnswersAreDetermined ℕ
 
   same_step : (at_line_00 : Bool) (machine : Machine) (a b : Moved)
       → MatchBool at_line_00 (a ≡ Ok (placed machine.focal.position machine)) (ByFirst machine (λ first. ShowsBehind machine first a))
-      → MatchBool at_line_00 (b ≡ Ok (placed machine.focal.position machine)) (ByFirst machine (λ first. ShowsBehind machine first b)) → a ≡ b
+      → MatchBool at_line_00 (b ≡ Ok (placed machine.focal.position machine)) (ByFirst machine (λ first. ShowsBehind machine first b))
+      → a ≡ b
   same_step true machine a b p q = p ∙ sym q
   same_step false machine a b p q =
-      let same = same_line same_first machine.memory machine.focal.position p.0 q.0 p.1 q.1 in
+      let same = once.line machine.memory machine.focal.position p.0 q.0 p.1 q.1 in
       same_shown_behind machine q.0 a b (subst (λ (first : Result ListedLine ProgramRefusal). ShowsBehind machine first a) same p.2) q.2
 
   pub next_determined : MoveIsDetermined ShowsNext
   next_determined machine a b p q = same_step machine.focal.at_line_00 machine a b p q
 
 -- BST
-module _ (same_first : FirstIsDetermined) (same_start : AnswersAreDetermined ℕ) (same_program : ProgramIsDetermined (Option ℕ)) where
+module _ (once : IsReadOnce) (same_start : AnswersAreDetermined ℕ) (same_program : ProgramIsDetermined (Option ℕ)) where
   same_shown_end : (machine : Machine) (first : ListedLine) (a b : Moved) → ShowsEnd machine first a → ShowsEnd machine first b → a ≡ b
   same_shown_end machine first a b p q =
       p.2 ∙ ap (shown_end machine) (same_program machine.memory end_in first.position p.0 q.0 p.1 q.1) ∙ sym q.2
@@ -145,7 +128,8 @@ module _ (same_first : FirstIsDetermined) (same_start : AnswersAreDetermined ℕ
   same_shown_at machine (Some position) a b p q = p ∙ sym q
   same_shown_at machine None a b p q = same_shown_start same_start machine a b p q
 
-  same_in_front : (machine : Machine) (first : ListedLine) (a b : Moved) → ShowsInFront machine first a → ShowsInFront machine first b → a ≡ b
+  same_in_front : (machine : Machine) (first : ListedLine) (a b : Moved) → ShowsInFront machine first a → ShowsInFront machine first b
+      → a ≡ b
   same_in_front machine first a b p q =
       let same = same_program machine.memory (before_in first.position) first.position p.0 q.0 p.1 q.1 in
       same_shown_at machine q.0 a b (subst (λ (before : Option ℕ). ShowsAt machine before a) same p.2) q.2
@@ -163,7 +147,7 @@ module _ (same_first : FirstIsDetermined) (same_start : AnswersAreDetermined ℕ
 
   pub before_determined : MoveIsDetermined ShowsBefore
   before_determined machine a b p q =
-      let same = numbered_determined same_first same_program machine.memory machine.focal.position p.0 q.0 p.1 q.1 in
+      let same = numbered_determined once same_program machine.memory machine.focal.position p.0 q.0 p.1 q.1 in
       same_before_line machine q.0 a b (subst (λ (numbered : Option NumberedLine). ShowsBeforeLine machine numbered a) same p.2) q.2
 
 -- GTO . .
@@ -193,7 +177,8 @@ module _ (same_edit : EditsAreDetermined) (same_place : PlacesAreDetermined (Opt
   same_position : (position other : ℕ) → Some position ≡ Some other → position ≡ other
   same_position position other is = cc
 
-  same_new : (machine : Machine) (at : ℕ) (changed : Changed) (a b : Moved) → ShowsNew machine at changed a → ShowsNew machine at changed b → a ≡ b
+  same_new : (machine : Machine) (at : ℕ) (changed : Changed) (a b : Moved) → ShowsNew machine at changed a → ShowsNew machine at changed b
+      → a ≡ b
   same_new machine at (Ok changed) a b p q =
       let same = same_place position_behind machine.memory at changed.0 (Some p.0) (Some q.0) p.1 q.1 in
       p.2 ∙ ap (λ (position : ℕ). Ok (showing_line machine changed.0 position)) (same_position p.0 q.0 same) ∙ sym q.2
@@ -202,15 +187,16 @@ module _ (same_edit : EditsAreDetermined) (same_place : PlacesAreDetermined (Opt
   pub replacement_determined : ChangeIsDetermined Replaces
   replacement_determined line machine a b p q =
       let same = same_edit machine.memory (with_replaced line) machine.focal.position p.0 q.0 p.1 q.1 in
-      same_new machine machine.focal.position q.0 a b (subst (λ (changed : Changed). ShowsNew machine machine.focal.position changed a) same p.2) q.2
+      same_new machine machine.focal.position q.0 a b
+      (subst (λ (changed : Changed). ShowsNew machine machine.focal.position changed a) same p.2) q.2
 
   -- a line that is inserted
-  module _ (same_first : FirstIsDetermined) (same_start : AnswersAreDetermined ℕ) (same_program : ProgramIsDetermined (Option ℕ)) where
+  module _ (once : IsReadOnce) (same_start : AnswersAreDetermined ℕ) (same_program : ProgramIsDetermined (Option ℕ)) where
     same_behind_shown : (last : Bool) (machine : Machine) (shown : ListedLine) (a b : ℕ)
         → MatchBool last (a ≡ shown.position) (AnswersNext machine.memory machine.focal.position (Ok a))
         → MatchBool last (b ≡ shown.position) (AnswersNext machine.memory machine.focal.position (Ok b)) → a ≡ b
     same_behind_shown true machine shown a b p q = p ∙ sym q
-    same_behind_shown false machine shown a b p q = same_next same_first machine.memory machine.focal.position a b p q
+    same_behind_shown false machine shown a b p q = same_next once machine.memory machine.focal.position a b p q
 
     same_point : (at_line_00 : Bool) (machine : Machine) (shown : ListedLine) (a b : ℕ)
         → MatchBool at_line_00 (AnswersOf (start_in machine.focal.position) machine.memory 0 a)
@@ -238,12 +224,13 @@ module _ (same_edit : EditsAreDetermined) (same_place : PlacesAreDetermined (Opt
 
     pub insertion_determined : ChangeIsDetermined Inserts
     insertion_determined line machine a b p q =
-        let same = numbered_determined same_first same_program machine.memory machine.focal.position p.0 q.0 p.1 q.1 in
+        let same = numbered_determined once same_program machine.memory machine.focal.position p.0 q.0 p.1 q.1 in
         same_inserted line machine q.0 a b (subst (λ (numbered : Option NumberedLine). InsertsBy line machine numbered a) same p.2) q.2
 
 -- BACK
-module _ (same_edit : EditsAreDetermined) (same_front : PlacesAreDetermined Front) (same_first : FirstIsDetermined) where
-  same_shown_front : (machine : Machine) (changed : Changed) (a b : Moved) → ShowsFront machine changed a → ShowsFront machine changed b → a ≡ b
+module _ (same_edit : EditsAreDetermined) (same_front : PlacesAreDetermined Front) (once : IsReadOnce) where
+  same_shown_front : (machine : Machine) (changed : Changed) (a b : Moved) → ShowsFront machine changed a → ShowsFront machine changed b
+      → a ≡ b
   same_shown_front machine (Ok changed) a b p q =
       let same = same_front position_in_front machine.memory machine.focal.position changed.0 p.0 q.0 p.1 q.1 in
       p.2 ∙ ap (λ (front : Front). Ok (shown_in_front machine changed.0 front)) same ∙ sym q.2
@@ -269,7 +256,7 @@ module _ (same_edit : EditsAreDetermined) (same_front : PlacesAreDetermined Fron
       → MatchBool at_line_00 (b ≡ Ok machine) (ByFirst machine (λ first. DeletesLine machine first b)) → a ≡ b
   same_deletion true machine a b p q = p ∙ sym q
   same_deletion false machine a b p q =
-      let same = same_line same_first machine.memory machine.focal.position p.0 q.0 p.1 q.1 in
+      let same = once.line machine.memory machine.focal.position p.0 q.0 p.1 q.1 in
       same_deleted machine q.0 a b (subst (λ (first : Result ListedLine ProgramRefusal). DeletesLine machine first a) same p.2) q.2
 
   pub deletion_determined : MoveIsDetermined Deletes

@@ -1,13 +1,15 @@
--- Lines that are typed in program mode: inserted behind the shown line, put in its place, and taken away. Each change shows the new line, or
--- the one before, and leaves nothing to return to. Where lines come, and what BACK does at line 00 and .END., is this project's choice but for
--- what the Owner's Handbook shows.
+-- Lines that are typed in program mode: inserted behind the shown line, put in its place, and taken
+-- away. Each change shows the new line, or the one before, and leaves nothing to return to. Where
+-- lines come, and what BACK does at line 00 and .END., is this project's choice but for what the
+-- Owner's Handbook shows.
 use Rattle.std.specs.Prelude.{◌≡◌, ℕ, [], MatchBool, Option, Some, None, Result, Ok, Err}
 use Rattle.h41_codes.specs.declared.line.Line.{Line}
 use Rattle.h41_editor.specs.Moves.{is_last}
 use Rattle.h41_editor.specs.NumberedLines.{HasNumbered}
 use Rattle.h41_editor.specs.declared.numbered.NumberedLine.{NumberedLine}
 use Rattle.h41_focal.specs.LineStep.{FocalState, Machine, at_position, halted_at}
-use Rattle.h41_program.specs.Edits.{EditGives, StandsBefore, StandsNew, with_inserted, with_replaced, without_deleted}
+use Rattle.h41_program.specs.Edits.{EditGives, StandsBefore, StandsNew, with_inserted}
+use Rattle.h41_program.specs.Edits.{with_replaced, without_deleted}
 use Rattle.h41_program.specs.Lines.{is_final_end}
 use Rattle.h41_program.specs.ProgramLines.{AnswersFirst, AnswersNext, AnswersOf}
 use Rattle.h41_program.specs.Searches.{start_in}
@@ -26,9 +28,11 @@ Changed = Result (RegisterMap × Unit {0}) ProgramRefusal
 abbrev pub with_line_shown : ℕ → FocalState → FocalState
 with_line_shown position focal = record (at_position position focal) { returns = [] }
 
--- memory with its list of lines changed shows a line at a position, or line 00 of the program that begins there
+-- memory with its list of lines changed shows a line at a position, or line 00 of the program that
+-- begins there
 abbrev pub showing_line : Machine → RegisterMap → ℕ → Machine
-showing_line machine new position = record { memory = new; focal = with_line_shown position machine.focal }
+showing_line machine new position =
+    record { memory = new; focal = with_line_shown position machine.focal }
 
 abbrev pub showing_start : Machine → RegisterMap → ℕ → Machine
 showing_start machine new start = record { memory = new; focal = halted_at start machine.focal }
@@ -36,17 +40,22 @@ showing_start machine new start = record { memory = new; focal = halted_at start
 -- a new line is shown
 abbrev pub ShowsNew : Machine → ℕ → Changed → Result Machine ProgramRefusal → Type 0
 ShowsNew machine at (Ok changed) made =
-    (position : ℕ) × StandsNew machine.memory at changed.0 position × (made ≡ Ok (showing_line machine changed.0 position))
+    (position : ℕ)
+    × StandsNew machine.memory at changed.0 position
+    × (made ≡ Ok (showing_line machine changed.0 position))
 ShowsNew machine at (Err refusal) made = made ≡ Err refusal
 
--- where a line is inserted: at line 00 in front of the program's first line, in front of an END or .END. that is shown, and else
--- behind the shown line
+-- where a line is inserted: at line 00 in front of the program's first line, in front of an END or
+-- .END. that is shown, and else behind the shown line
 abbrev pub InsertsAt : Machine → ListedLine → ℕ → Type 0
 InsertsAt machine shown before =
-    MatchBool machine.focal.at_line_00 (AnswersOf (start_in machine.focal.position) machine.memory 0 before)
-    (MatchBool (is_last shown) (before ≡ shown.position) (AnswersNext machine.memory machine.focal.position (Ok before)))
+    MatchBool machine.focal.at_line_00
+    (AnswersOf (start_in machine.focal.position) machine.memory 0 before)
+    (MatchBool (is_last shown) (before ≡ shown.position)
+    (AnswersNext machine.memory machine.focal.position (Ok before)))
 
--- 14 where the position's program has no line there, at line 00 too, and where the list of lines does not reach .END.; 16 where there is no room
+-- 14 where the position's program has no line there, at line 00 too, and where the list of lines
+-- does not reach .END.; 16 where there is no room
 abbrev pub InsertsBy : Line → Machine → Option NumberedLine → Result Machine ProgramRefusal → Type 0
 InsertsBy line machine (Some numbered) made =
     (before : ℕ) × InsertsAt machine numbered.listed before
@@ -56,34 +65,46 @@ InsertsBy line machine None made = made ≡ Err BrokenProgram
 
 abbrev pub Inserts : Line → Machine → Result Machine ProgramRefusal → Type 0
 Inserts line machine made =
-    (numbered : Option NumberedLine) × HasNumbered machine.memory machine.focal.position numbered × InsertsBy line machine numbered made
+    (numbered : Option NumberedLine)
+    × HasNumbered machine.memory machine.focal.position numbered
+    × InsertsBy line machine numbered made
 
 -- a line comes in the place of the shown one
 abbrev pub Replaces : Line → Machine → Result Machine ProgramRefusal → Type 0
 Replaces line machine made =
-    (changed : Changed) × EditGives machine.memory (with_replaced line) machine.focal.position changed
+    (changed : Changed)
+    × EditGives machine.memory (with_replaced line) machine.focal.position changed
     × ShowsNew machine machine.focal.position changed made
 
--- what is shown where a line went: the one before it in its program, or line 00 where it was the first
+-- what is shown where a line went: the one before it in its program, or line 00 where it was the
+-- first
 abbrev pub shown_in_front : Machine → RegisterMap → Front → Machine
 shown_in_front machine new (fronts.Line position) = showing_line machine new position
 shown_in_front machine new (fronts.Start start) = showing_start machine new start
 
 abbrev pub ShowsFront : Machine → Changed → Result Machine ProgramRefusal → Type 0
 ShowsFront machine (Ok changed) made =
-    (front : Front) × StandsBefore machine.memory machine.focal.position changed.0 front × (made ≡ Ok (shown_in_front machine changed.0 front))
+    (front : Front)
+    × StandsBefore machine.memory machine.focal.position changed.0 front
+    × (made ≡ Ok (shown_in_front machine changed.0 front))
 ShowsFront machine (Err refusal) made = made ≡ Err refusal
 
 abbrev pub DeletesShown : Machine → Result Machine ProgramRefusal → Type 0
 DeletesShown machine made =
-    (changed : Changed) × EditGives machine.memory without_deleted machine.focal.position changed × ShowsFront machine changed made
+    (changed : Changed)
+    × EditGives machine.memory without_deleted machine.focal.position changed
+    × ShowsFront machine changed made
 
 -- BACK: the shown line goes; line 00 and .END. stay, whatever else stands in memory
-abbrev pub DeletesLine : Machine → Result ListedLine ProgramRefusal → Result Machine ProgramRefusal → Type 0
-DeletesLine machine (Ok first) made = MatchBool (is_final_end first.line) (made ≡ Ok machine) (DeletesShown machine made)
+abbrev pub DeletesLine : Machine → Result ListedLine ProgramRefusal → Result Machine ProgramRefusal
+    → Type 0
+DeletesLine machine (Ok first) made =
+    MatchBool (is_final_end first.line) (made ≡ Ok machine) (DeletesShown machine made)
 DeletesLine machine (Err refusal) made = made ≡ Err BrokenProgram
 
 abbrev pub Deletes : Machine → Result Machine ProgramRefusal → Type 0
 Deletes machine made =
     MatchBool machine.focal.at_line_00 (made ≡ Ok machine)
-    ((first : Result ListedLine ProgramRefusal) × AnswersFirst machine.memory machine.focal.position first × DeletesLine machine first made)
+    ((first : Result ListedLine ProgramRefusal)
+    × AnswersFirst machine.memory machine.focal.position first
+    × DeletesLine machine first made)

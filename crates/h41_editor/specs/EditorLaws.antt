@@ -1,4 +1,5 @@
--- Laws of program mode, whatever the code does: what a position shows, what a key does, and the text of the display are determined.
+-- Laws of program mode, whatever the code does: what a position shows, what a key does, and the
+-- text of the display are determined.
 use Rattle.std.specs.Prelude.{◌≡◌, ℕ, List, Option, Result}
 use Rattle.h41_codes.specs.declared.line.Line.{Line}
 use Rattle.h41_editor.specs.NumberedLines.{HasNumbered}
@@ -11,7 +12,8 @@ use Rattle.h41_ram.specs.RegisterMap.{RegisterMap}
 -- what a key does has one outcome: what it leaves, or its refusal
 abbrev pub MoveIsDetermined : (Machine → Result Machine ProgramRefusal → Type 0) → Type 0
 MoveIsDetermined Moves =
-    (machine : Machine) (moved other : Result Machine ProgramRefusal) → Moves machine moved → Moves machine other → moved ≡ other
+    (machine : Machine) (moved other : Result Machine ProgramRefusal) → Moves machine moved
+    → Moves machine other → moved ≡ other
 
 -- so has what it does with a line, whatever the line
 abbrev pub ChangeIsDetermined : (Line → Machine → Result Machine ProgramRefusal → Type 0) → Type 0
@@ -25,4 +27,6 @@ NumberedIsDetermined =
 
 -- the display shows one text
 abbrev pub TextIsDetermined : Type 0
-TextIsDetermined = (machine : Machine) (text other : List ℕ) → ShowsProgram machine text → ShowsProgram machine other → text ≡ other
+TextIsDetermined =
+    (machine : Machine) (text other : List ℕ) → ShowsProgram machine text
+    → ShowsProgram machine other → text ≡ other

@@ -2,7 +2,8 @@
 use Rattle.std.specs.Prelude.{◌≡◌, ℕ, Option, None, Result, Ok, Err}
 use Rattle.std.specs.Option.{option_map}
 use Rattle.h41_editor.specs.declared.numbered.NumberedLine.{NumberedLine}
-use Rattle.h41_program.specs.Numbering.{AnswersProgram, number_in}
+use Rattle.h41_program.specs.Numbering.{number_in}
+use Rattle.h41_program.specs.Searches.{AnswersProgram}
 use Rattle.h41_program.specs.ProgramLines.{AnswersFirst}
 use Rattle.h41_program.specs.declared.listed_line.ListedLine.{ListedLine}
 use Rattle.h41_program.specs.declared.refusal.ProgramRefusal.{ProgramRefusal}
@@ -12,7 +13,8 @@ use Rattle.h41_ram.specs.RegisterMap.{RegisterMap}
 abbrev pub with_number : ListedLine → ℕ → NumberedLine
 with_number listed number = record { listed = listed; number = number }
 
--- the first line from a position on is numbered in its program; none where no line can be read there, or its program has none there
+-- the first line from a position on is numbered in its program; none where no line can be read
+-- there, or its program has none there
 abbrev pub Numbers : RegisterMap → Result ListedLine ProgramRefusal → Option NumberedLine → Type 0
 Numbers memory (Ok first) numbered =
     (number : Option ℕ) × AnswersProgram (number_in first.position) memory first.position number
@@ -21,4 +23,6 @@ Numbers memory (Err refusal) numbered = numbered ≡ None
 
 abbrev pub HasNumbered : RegisterMap → ℕ → Option NumberedLine → Type 0
 HasNumbered memory at numbered =
-    (first : Result ListedLine ProgramRefusal) × AnswersFirst memory at first × Numbers memory first numbered
+    (first : Result ListedLine ProgramRefusal)
+    × AnswersFirst memory at first
+    × Numbers memory first numbered

@@ -1,5 +1,7 @@
--- What the display shows in program mode. Line 00, the registers that are left and ? are this project's choices.
-use Rattle.std.specs.Prelude.{◌≡◌, ℕ, ◌-◌, List, [], ◌++◌, codes, nat_lt, MatchBool, if◌then◌else◌, Option, Some, None}
+-- What the display shows in program mode. Line 00, the registers that are left and ? are this
+-- project's choices.
+use Rattle.std.specs.Prelude.{◌≡◌, ℕ, ◌-◌, List, [], ◌++◌, codes, nat_lt, MatchBool, if◌then◌else◌}
+use Rattle.std.specs.Prelude.{Option, Some, None}
 use Rattle.std.specs.Fmt.{decimal}
 use Rattle.h41_editor.specs.NumberedLines.{HasNumbered}
 use Rattle.h41_editor.specs.declared.numbered.NumberedLine.{NumberedLine}
@@ -30,11 +32,14 @@ text_of None = unknown_text
 -- the line that a position stands for
 abbrev pub ShowsLine : Machine → List ℕ → Type 0
 ShowsLine machine text =
-    (numbered : Option NumberedLine) × HasNumbered machine.memory machine.focal.position numbered × (text ≡ text_of numbered)
+    (numbered : Option NumberedLine)
+    × HasNumbered machine.memory machine.focal.position numbered
+    × (text ≡ text_of numbered)
 
 -- line 00, or that line; nothing is known of memory that is not sound
 abbrev pub ShowsProgram : Machine → List ℕ → Type 0
 ShowsProgram machine text =
     MatchBool (is_sound machine.memory)
-    (MatchBool machine.focal.at_line_00 (text ≡ line_00_text machine.memory) (ShowsLine machine text))
+    (MatchBool machine.focal.at_line_00
+    (text ≡ line_00_text machine.memory) (ShowsLine machine text))
     (text ≡ unknown_text)

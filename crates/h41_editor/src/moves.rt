@@ -1,6 +1,7 @@
 //! What SST, BST and `GTO . .` do to the position.
 ghost use Rattle.std.specs.Prelude.{◌≡◌, IsTrue, Ok, OnErr};
-ghost use Rattle.h41_editor.specs.Moves.{GoesToEnd, ShowsBefore, ShowsEnd, ShowsNext, ShowsStart, made_as};
+ghost use Rattle.h41_editor.specs.Moves.{GoesToEnd, ShowsBefore, ShowsEnd, ShowsNext, ShowsStart};
+ghost use Rattle.h41_editor.specs.Moves.{made_as};
 ghost use Rattle.h41_editor.specs.Moves as spec;
 ghost use Rattle.h41_ram.specs.RegisterMap.{is_sound};
 

@@ -25,6 +25,7 @@ use Rattle.h41_focal.specs.declared.refusal.FocalRefusal.TheVariants.{NotInProfi
 use Rattle.h41_program.specs.ProgramLines.{AnswersFirst, AnswersNext}
 use Rattle.h41_program.specs.declared.listed_line.ListedLine.{ListedLine}
 use Rattle.h41_program.specs.declared.refusal.ProgramRefusal as program
+use Rattle.h41_ram.specs.NamedFlags.{error_ignore}
 use Rattle.h41_ram.specs.RegisterMap.{RegisterMap, flag_of, is_sound, register_at, with_flag, zeros}
 use Rattle.h41_show.specs.DisplayFormat.{format_of}
 use Rattle.h41_show.specs.RegisterText.{alpha_text, register_text}
@@ -112,7 +113,7 @@ halted start machine = record machine { focal = halted_at start machine.focal }
 -- flag is cleared, and the program goes on with the next line. Where the line was typed, the
 -- position stays.
 abbrev pub error_flag : ℕ
-error_flag = 25
+error_flag = error_ignore
 
 abbrev pub caught : Machine → Machine
 caught machine = record machine { memory = with_flag machine.memory error_flag false }

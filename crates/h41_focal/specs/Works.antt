@@ -2,6 +2,7 @@
 -- operand, by what is done for them.
 use Rattle.std.specs.Prelude.{◌≡◌, ℕ, true, false, [], ◌∷◌, Some, pos}
 use Rattle.h41_codes.specs.declared.functions.ParameterFunction.{ParameterFunction}
+use Rattle.h41_ram.specs.NamedFlags as flags_named
 use Rattle.h41_rows.specs.Computing.{condition_of, value_of_one, value_of_two}
 use Rattle.h41_rows.specs.Counters.{Up, Down}
 use Rattle.h41_rows.specs.FunctionRows.{angles, pi}
@@ -50,7 +51,7 @@ move_row moves.ClearX =
 abbrev pub alpha_row : AlphaWork → Row
 alpha_row alphas.Clear = record nothing { alpha = Some (Becomes []) }
 alpha_row alphas.Shift = record nothing { alpha = Some LosesSix }
-alpha_row (alphas.Mode on) = record nothing { flags = record { flag = 48; on = on } ∷ [] }
+alpha_row (alphas.Mode on) = record nothing { flags = record { flag = flags_named.alpha_mode; on = on } ∷ [] }
 
 -- what the display shows, and whether the program goes on
 abbrev pub display_row : DisplayWork → Row
@@ -74,7 +75,9 @@ row_of_work (works.Move movement) = move_row movement
 row_of_work (works.Alpha work) = alpha_row work
 row_of_work (works.Display work) = display_row work
 row_of_work (works.Angles grads radians) =
-    angles (record { flag = 42; on = grads }) (record { flag = 43; on = radians })
+    angles
+    (record { flag = flags_named.grads; on = grads })
+    (record { flag = flags_named.radians; on = radians })
 row_of_work works.ClearRegisters = record nothing { clears_data = true }
 row_of_work works.Return = record silent { goes = Returns }
 row_of_work works.Nothing = nothing

@@ -24,7 +24,8 @@ module _ (same_program : TextIsDetermined) where
   same_prompt (Some prompt) s a b p q = p ∙ sym q
   same_prompt None s a b p q = same_entry s.input.program_mode s a b p q
 
-  same_message : (message : Option (List ℕ)) (s : CalculatorState) (a b : List ℕ) → ShowsMessage s message a → ShowsMessage s message b → a ≡ b
+  same_message : (message : Option (List ℕ)) (s : CalculatorState) (a b : List ℕ) → ShowsMessage s message a → ShowsMessage s message b
+      → a ≡ b
   same_message (Some message) s a b p q = p ∙ sym q
   same_message None s a b p q = same_prompt s.input.prompt s a b p q
 

@@ -32,7 +32,9 @@ use Rattle.h41_text.specs.TextLaws.{OneLineOfText}
 use Rattle.h41_xrom.proofs.StepLaws.{line_determined, same_function}
 use Rattle.h41_xrom.specs.Calculator.{CalculatorState, machine_of}
 use Rattle.h41_xrom.specs.CalculatorLaws.{KeyIsDetermined}
-use Rattle.h41_xrom.specs.KeyActions.{Acts, BeginsNumber, Carries, ChangesNumber, Edits, Effect, IsStoredAs, KeyMakes, Leaves, StoredElsewhere, StoredFunction, StoredName, StoresLine, begun, changed, edit_effect, finished, key_refusal, line_effect, pressed, told}
+use Rattle.h41_xrom.specs.KeyActions.{Acts, BeginsNumber, Carries, ChangesNumber, Edits, Effect, IsStoredAs, KeyMakes, Leaves}
+use Rattle.h41_xrom.specs.KeyActions.{StoredElsewhere, StoredFunction, StoredName, StoresLine, begun, changed, edit_effect, finished}
+use Rattle.h41_xrom.specs.KeyActions.{key_refusal, line_effect, pressed, told}
 use Rattle.h41_xrom.specs.declared.lines.Source.{Source}
 use Rattle.h41_xrom.specs.declared.lines.Source.TheVariants as sources
 use Rattle.h41_xrom.specs.declared.refusal.CalculatorRefusal.{CalculatorRefusal}
@@ -53,24 +55,33 @@ same_register register other is = cc
 module _ (same_value : ValuesAreDetermined) where
   same_written : (text : List Character) (memory : RegisterMap) (register other : List ℕ)
       → Computes (Written text) memory 0 (Ok register) → Computes (Written text) memory 0 (Ok other) → register ≡ other
-  same_written text memory register other p q = same_register register other (same_value (Written text) memory 0 (Ok register) (Ok other) p q)
+  same_written text memory register other p q =
+      same_register register other (same_value (Written text) memory 0 (Ok register) (Ok other) p q)
 
-  same_beginning : (text : List Character) (machine : Machine) (a b : Made) → BeginsNumber text machine a → BeginsNumber text machine b → a ≡ b
+  same_beginning : (text : List Character) (machine : Machine) (a b : Made) → BeginsNumber text machine a → BeginsNumber text machine b
+      → a ≡ b
   same_beginning text machine a b (p, p_computes, p_is) (q, q_computes, q_is) =
       p_is ∙ ap (λ (of : List ℕ). Ok (Leaves (begun machine of))) (same_written text machine.memory p q p_computes q_computes) ∙ sym q_is
 
-  same_change : (text : List Character) (machine : Machine) (a b : Made) → ChangesNumber text machine a → ChangesNumber text machine b → a ≡ b
+  same_change : (text : List Character) (machine : Machine) (a b : Made) → ChangesNumber text machine a → ChangesNumber text machine b
+      → a ≡ b
   same_change text machine a b (p, p_computes, p_is) (q, q_computes, q_is) =
       p_is ∙ ap (λ (of : List ℕ). Ok (Leaves (changed machine of))) (same_written text machine.memory p q p_computes q_computes) ∙ sym q_is
 
-module _ (same_step : StepIsDetermined) (same_typing : TypedIsDetermined) (same_failure : FailureIsDetermined) (same_passing : PassingIsDetermined) (one_line : OneLineOfText) where
+module _ (same_step : StepIsDetermined) (same_typing : TypedIsDetermined) (same_failure : FailureIsDetermined)
+    (same_passing : PassingIsDetermined) (one_line : OneLineOfText) where
   -- a line that is carried out
-  same_carry : (source : Source) (pages : PageMap) (machine : Machine) (a b : Made) → Carries source pages machine a → Carries source pages machine b → a ≡ b
+  same_carry : (source : Source) (pages : PageMap) (machine : Machine) (a b : Made) → Carries source pages machine a
+      → Carries source pages machine b → a ≡ b
   same_carry source pages machine a b (p, p_carries, p_is) (q, q_carries, q_is) =
-      p_is ∙ ap line_effect (line_determined same_step same_typing same_failure same_passing one_line source pages machine p q p_carries q_carries) ∙ sym q_is
+      p_is
+      ∙ ap line_effect
+      (line_determined same_step same_typing same_failure same_passing one_line source pages machine p q p_carries q_carries)
+      ∙ sym q_is
 
   -- the line that is stored
-  same_stored_function : (function : Option Function) (line a b : Line) → StoredFunction line function a → StoredFunction line function b → a ≡ b
+  same_stored_function : (function : Option Function) (line a b : Line) → StoredFunction line function a → StoredFunction line function b
+      → a ≡ b
   same_stored_function (Some function) line a b p q = p ∙ sym q
   same_stored_function None line a b p q = p ∙ sym q
 
@@ -87,9 +98,11 @@ module _ (same_step : StepIsDetermined) (same_typing : TypedIsDetermined) (same_
   same_stored_name None pages line name a b p q = same_elsewhere (found pages name) line name a b p q
 
   module _ (same_search : AnswersAreDetermined (Option ℕ)) where
-    same_stored : (line : Line) (pages : PageMap) (memory : RegisterMap) (a b : Line) → IsStoredAs pages memory line a → IsStoredAs pages memory line b → a ≡ b
+    same_stored : (line : Line) (pages : PageMap) (memory : RegisterMap) (a b : Line) → IsStoredAs pages memory line a
+        → IsStoredAs pages memory line b → a ≡ b
     same_stored (lines.Named ExecuteName name) pages memory a b (p, p_answers, p_stored) (q, q_answers, q_stored) =
-        let same : p ≡ q = same_search memory (λ (listed : List ListedLine). position_of (named_in name listed)) 0 p q p_answers q_answers in
+        let same : p ≡ q =
+        same_search memory (λ (listed : List ListedLine). position_of (named_in name listed)) 0 p q p_answers q_answers in
         same_stored_name q pages (lines.Named ExecuteName name) name a b
         (subst (λ (label : Option ℕ). StoredName pages (lines.Named ExecuteName name) name label a) same p_stored) q_stored
     same_stored (lines.Named GoToName name) pages memory a b p q = p ∙ sym q
@@ -109,8 +122,11 @@ module _ (same_step : StepIsDetermined) (same_typing : TypedIsDetermined) (same_
     same_stored (lines.BranchTo branch distance backwards label) pages memory a b p q = p ∙ sym q
     same_stored (lines.Text text) pages memory a b p q = p ∙ sym q
 
-    module _ (same_next : MoveIsDetermined ShowsNext) (same_before : MoveIsDetermined ShowsBefore) (same_ending : MoveIsDetermined GoesToEnd) (same_insertion : ChangeIsDetermined Inserts) (same_replacement : ChangeIsDetermined Replaces) (same_deletion : MoveIsDetermined Deletes) (same_value : ValuesAreDetermined) where
-      same_storing : (pages : PageMap) (line : Line) (machine : Machine) (a b : Made) → StoresLine pages line machine a → StoresLine pages line machine b → a ≡ b
+    module _ (same_next : MoveIsDetermined ShowsNext) (same_before : MoveIsDetermined ShowsBefore)
+        (same_ending : MoveIsDetermined GoesToEnd) (same_insertion : ChangeIsDetermined Inserts)
+        (same_replacement : ChangeIsDetermined Replaces) (same_deletion : MoveIsDetermined Deletes) (same_value : ValuesAreDetermined) where
+      same_storing : (pages : PageMap) (line : Line) (machine : Machine) (a b : Made) → StoresLine pages line machine a
+          → StoresLine pages line machine b → a ≡ b
       same_storing pages line machine a b (p, p_stored, p_edits) (q, q_stored, q_edits) =
           let same : p ≡ q = same_stored line pages machine.memory p q p_stored q_stored in
           same_edit (Inserts q) (same_insertion q) machine a b (subst (λ (of : Line). Edits (Inserts of) machine a) same p_edits) q_edits
@@ -145,9 +161,15 @@ module _ (same_step : StepIsDetermined) (same_typing : TypedIsDetermined) (same_
       same_act actions.ClearAlpha pages program_mode machine a b p q = p ∙ sym q
 
       -- what a key makes
-      same_made : (why : Option CalculatorRefusal) (s : CalculatorState) (key : Key) (action : Action) (input : Input) (a b : Result CalculatorState CalculatorRefusal)
-          → MatchOption why ((effect : Made) × Acts s.nut.pages input.program_mode action (machine_of s) effect × (a ≡ finished (told key input s) effect)) (λ why. a ≡ Err why)
-          → MatchOption why ((effect : Made) × Acts s.nut.pages input.program_mode action (machine_of s) effect × (b ≡ finished (told key input s) effect)) (λ why. b ≡ Err why) → a ≡ b
+      same_made : (why : Option CalculatorRefusal) (s : CalculatorState) (key : Key)
+          (action : Action) (input : Input) (a b : Result CalculatorState CalculatorRefusal)
+          → MatchOption why
+          ((effect : Made) × Acts s.nut.pages input.program_mode action (machine_of s) effect × (a ≡ finished (told key input s) effect))
+          (λ why. a ≡ Err why)
+          → MatchOption why
+          ((effect : Made) × Acts s.nut.pages input.program_mode action (machine_of s) effect × (b ≡ finished (told key input s) effect))
+          (λ why. b ≡ Err why)
+          → a ≡ b
       same_made None s key action input a b p q =
           p.2 ∙ ap (finished (told key input s)) (same_act action s.nut.pages input.program_mode (machine_of s) p.0 q.0 p.1 q.1) ∙ sym q.2
       same_made (Some why) s key action input a b p q = p ∙ sym q
@@ -159,5 +181,7 @@ module _ (same_step : StepIsDetermined) (same_typing : TypedIsDetermined) (same_
 
       pub key_determined : KeyIsDetermined
       key_determined key s t u a b p q =
-          let made : p.0 ≡ q.0 = same_key (pressed s key) s key p.0 q.0 p.1 q.1 in
-          (p.2.0 ∙ ap (λ (of : Result CalculatorState CalculatorRefusal). result_unwrap_or of s) made ∙ sym q.2.0, p.2.1 ∙ ap result_err made ∙ sym q.2.1)
+          let made : p.0 ≡ q.0 = same_key (pressed s key) s key p.0 q.0 p.1 q.1 in (
+            p.2.0 ∙ ap (λ (of : Result CalculatorState CalculatorRefusal). result_unwrap_or of s) made ∙ sym q.2.0,
+            p.2.1 ∙ ap result_err made ∙ sym q.2.1,
+          )

@@ -46,5 +46,9 @@ pub key_done : (key : Key) (input : Input) (action : Action) (from s t : Calcula
 key_done key input action from s t new effect is accepted acts left = (
   Ok (after_key (told key input s) (effect_with new effect)),
   rw (sym accepted) (Ok (effect_with new effect), subst (λ (of : CalculatorState). ActsIn input action of new (Ok effect)) is acts, refl),
-  (left ∙ effect_same effect key input from new ∙ ap (λ (of : CalculatorState). after_key (told key input of) (effect_with new effect)) is, refl),
+  (
+    left ∙ effect_same effect key input from new
+        ∙ ap (λ (of : CalculatorState). after_key (told key input of) (effect_with new effect)) is,
+    refl,
+  ),
 )

@@ -13,11 +13,13 @@ use Rattle.h41_xrom.specs.Calculator.{CalculatorState, not_typing, with_machine}
 use Rattle.h41_xrom.specs.Programs.{Becomes, Loads, change_refusal, resized, size_makes, with_memory, with_program}
 
 -- a load that is refused before program memory is asked
-pub load_refused : (bytes : List ℕ) (s : CalculatorState) (why : CalculatorRefusal) → Some why ≡ change_refusal s → Loads bytes s s (Some why)
+pub load_refused : (bytes : List ℕ) (s : CalculatorState) (why : CalculatorRefusal) → Some why ≡ change_refusal s
+    → Loads bytes s s (Some why)
 load_refused bytes s why e = (Err why, rw (sym e) refl, (refl, refl))
 
 -- one that program memory refuses
-failed_by : (bytes : List ℕ) (from s : CalculatorState) (memory : RegisterMap) (why : program.ProgramRefusal) (outcome : Result (RegisterMap × ℕ) program.ProgramRefusal)
+failed_by : (bytes : List ℕ) (from s : CalculatorState) (memory : RegisterMap)
+    (why : program.ProgramRefusal) (outcome : Result (RegisterMap × ℕ) program.ProgramRefusal)
     → from ≡ s → None ≡ change_refusal s → LoadGives from.nut.ram bytes outcome → HasOutcome from.nut.ram memory (Err why) outcome
     → Loads bytes s (with_memory memory from) (Some (Program why))
 failed_by bytes from s memory why (Ok made) is accepted given gives = let never : Err why ≡ Ok made.1 = gives.0 in cc
@@ -29,14 +31,17 @@ failed_by bytes from s memory why (Err other) is accepted given gives =
       (ap (λ (of : RegisterMap). with_memory of from) gives.1 ∙ is, ap (λ (of : program.ProgramRefusal). Some (Program of)) same),
     )
 
-pub load_failed : (bytes : List ℕ) (from s : CalculatorState) (memory : RegisterMap) (why : program.ProgramRefusal) → from ≡ s → None ≡ change_refusal s
-    → edits.Loads from.nut.ram memory bytes (Err why) → Loads bytes s (with_memory memory from) (Some (Program why))
+pub load_failed : (bytes : List ℕ) (from s : CalculatorState) (memory : RegisterMap) (why : program.ProgramRefusal) → from ≡ s
+    → None ≡ change_refusal s → edits.Loads from.nut.ram memory bytes (Err why)
+    → Loads bytes s (with_memory memory from) (Some (Program why))
 load_failed bytes from s memory why is accepted loads = failed_by bytes from s memory why loads.0 is accepted loads.1 loads.2
 
 -- and one that is done
-done_by : (bytes : List ℕ) (from s : CalculatorState) (memory : RegisterMap) (position : ℕ) (after : FocalState) (outcome : Result (RegisterMap × ℕ) program.ProgramRefusal)
+done_by : (bytes : List ℕ) (from s : CalculatorState) (memory : RegisterMap) (position : ℕ)
+    (after : FocalState) (outcome : Result (RegisterMap × ℕ) program.ProgramRefusal)
     → from ≡ s → after ≡ halted_at position from.focal → None ≡ change_refusal s → LoadGives from.nut.ram bytes outcome
-    → HasOutcome from.nut.ram memory (Ok position) outcome → Loads bytes s (not_typing (with_machine (record { memory = memory; focal = after }) from)) None
+    → HasOutcome from.nut.ram memory (Ok position) outcome
+    → Loads bytes s (not_typing (with_machine (record { memory = memory; focal = after }) from)) None
 done_by bytes from s memory position after (Ok made) is place accepted given gives =
     let done : Ok position ≡ Ok made.1 = gives.0 in
     let same : position ≡ made.1 = cc in
@@ -50,19 +55,22 @@ done_by bytes from s memory position after (Err other) is place accepted given g
 pub load_done : (bytes : List ℕ) (from s : CalculatorState) (memory : RegisterMap) (position : ℕ) (after : FocalState) → from ≡ s
     → after ≡ halted_at position from.focal → None ≡ change_refusal s → edits.Loads from.nut.ram memory bytes (Ok position)
     → Loads bytes s (not_typing (with_machine (record { memory = memory; focal = after }) from)) None
-load_done bytes from s memory position after is place accepted loads = done_by bytes from s memory position after loads.0 is place accepted loads.1 loads.2
+load_done bytes from s memory position after is place accepted loads =
+    done_by bytes from s memory position after loads.0 is place accepted loads.1 loads.2
 
 -- a new size that program memory refuses
-size_refused : (from : CalculatorState) (memory : RegisterMap) (why : program.ProgramRefusal) (outcome : Result (RegisterMap × Unit {0}) program.ProgramRefusal)
+size_refused : (from : CalculatorState) (memory : RegisterMap) (why : program.ProgramRefusal)
+    (outcome : Result (RegisterMap × Unit {0}) program.ProgramRefusal)
     → HasOutcome from.nut.ram memory (Err why) outcome → Becomes (resized from outcome) from (with_memory memory from) (Some (Program why))
-size_refused from memory why (Ok made) gives = let never : ◌≡◌ {A = Result (Unit {0}) program.ProgramRefusal} (Err why) (Ok made.1) = gives.0 in cc
+size_refused from memory why (Ok made) gives =
+    let never : ◌≡◌ {A = Result (Unit {0}) program.ProgramRefusal} (Err why) (Ok made.1) = gives.0 in cc
 size_refused from memory why (Err other) gives =
     let refused : ◌≡◌ {A = Result (Unit {0}) program.ProgramRefusal} (Err why) (Err other) = gives.0 in
     let same : why ≡ other = cc in
     (ap (λ (of : RegisterMap). with_memory of from) gives.1, ap (λ (of : program.ProgramRefusal). Some (Program of)) same)
 
-pub size_failed : (count : ℕ) (from s : CalculatorState) (memory : RegisterMap) (why : program.ProgramRefusal) → from ≡ s → None ≡ change_refusal s
-    → HasOutcome from.nut.ram memory (Err why) (size_outcome from.nut.ram count)
+pub size_failed : (count : ℕ) (from s : CalculatorState) (memory : RegisterMap) (why : program.ProgramRefusal) → from ≡ s
+    → None ≡ change_refusal s → HasOutcome from.nut.ram memory (Err why) (size_outcome from.nut.ram count)
     → Becomes (size_makes s count) s (with_memory memory from) (Some (Program why))
 size_failed count from s memory why is accepted gives =
     let free = rw (← is) at accepted in

@@ -22,7 +22,8 @@ use Rattle.h41_xrom.specs.declared.refusal.CalculatorRefusal.{CalculatorRefusal}
 use Rattle.h41_xrom.specs.declared.refusal.CalculatorRefusal.TheVariants.{KeyNotHeld}
 
 -- the action of what a key leads to
-same_action : (own action : Action) (input after : Input) → ◌≡◌ {A = Option Pressed} (Some (does own input)) (Some (does action after)) → own ≡ action
+same_action : (own action : Action) (input after : Input) → ◌≡◌ {A = Option Pressed} (Some (does own input)) (Some (does action after))
+    → own ≡ action
 same_action own action input after is =
     let same : does own input ≡ does action after = cc in ap (λ (of : Pressed). of.action) same
 
@@ -82,24 +83,26 @@ quiet modes.Run input key flags action after is = quiet_in_run (row_of key).plai
 quiet (modes.Micro caller) input key flags action after is = quiet_in_micro caller (row_of key).plain input action after is
 
 -- what the keyboard was asked
-asked : (from s : CalculatorState) (key : Key) (mode : keyboard_mode.Mode) (flags : Flags) → from ≡ s → mode ≡ waiting s.mode → flags ≡ flags_of s
-    → presses from.input key mode flags ≡ pressed s key
+asked : (from s : CalculatorState) (key : Key) (mode : keyboard_mode.Mode) (flags : Flags) → from ≡ s → mode ≡ waiting s.mode
+    → flags ≡ flags_of s → presses from.input key mode flags ≡ pressed s key
 asked from s key mode flags is waits held = λ i. presses (is i).input key (waits i) (held i)
 
-pub key_quiet : (input : Input) (s : CalculatorState) (key : Key) (mode : keyboard_mode.Mode) (flags : Flags) (action : Action) (after : Input)
+pub key_quiet : (input : Input) (s : CalculatorState) (key : Key)
+    (mode : keyboard_mode.Mode) (flags : Flags) (action : Action) (after : Input)
     → mode ≡ waiting s.mode → keyboard.Accepts input key mode flags action after → IsQuiet s.mode action
 key_quiet input s key mode flags action after waits accepts =
     quiet s.mode input key flags action after (ap (λ (of : keyboard_mode.Mode). presses input key of flags) (sym waits) ∙ accepts)
 
 -- it has no meaning
-pub key_unknown : (from s : CalculatorState) (key : Key) (mode : keyboard_mode.Mode) (flags : Flags) (why : CalculatorRefusal)
-    → from ≡ s → mode ≡ waiting s.mode → flags ≡ flags_of s → presses from.input key mode flags ≡ None → why ≡ KeyNotHeld → Presses key s s (Some why)
+pub key_unknown : (from s : CalculatorState) (key : Key) (mode : keyboard_mode.Mode) (flags : Flags) (why : CalculatorRefusal) → from ≡ s
+    → mode ≡ waiting s.mode → flags ≡ flags_of s → presses from.input key mode flags ≡ None → why ≡ KeyNotHeld → Presses key s s (Some why)
 key_unknown from s key mode flags why is waits held none same =
     (Err KeyNotHeld, rw (sym (asked from s key mode flags is waits held) ∙ none) refl, (refl, ap Some same))
 
 -- it has one
-pub key_known : (from s t : CalculatorState) (key : Key) (mode : keyboard_mode.Mode) (flags : Flags) (action : Action) (after : Input) (refusal : Option CalculatorRefusal)
-    → from ≡ s → mode ≡ waiting s.mode → flags ≡ flags_of s → keyboard.Accepts from.input key mode flags action after → Accepts key after action s t refusal
-    → Presses key s t refusal
+pub key_known : (from s t : CalculatorState) (key : Key) (mode : keyboard_mode.Mode)
+    (flags : Flags) (action : Action) (after : Input) (refusal : Option CalculatorRefusal)
+    → from ≡ s → mode ≡ waiting s.mode → flags ≡ flags_of s → keyboard.Accepts from.input key mode flags action after
+    → Accepts key after action s t refusal → Presses key s t refusal
 key_known from s t key mode flags action after refusal is waits held accepts (made, makes, becomes) =
     (made, rw (sym (asked from s key mode flags is waits held) ∙ accepts) makes, becomes)

@@ -25,10 +25,12 @@ use Rattle.h41_xrom.proofs.Named.{text_of}
 use Rattle.h41_xrom.specs.declared.calculator.Mode.{Mode}
 use Rattle.h41_xrom.specs.declared.calculator.Mode.TheVariants as modes
 use Rattle.h41_xrom.specs.declared.refusal.CalculatorRefusal.{CalculatorRefusal}
-use Rattle.h41_xrom.specs.Calculator.{CalculatorState, CarriesHere, RefusesLine, RefusesStepIn, StepIn, StepsByLine, after_line, after_word, machine_of, not_typing}
+use Rattle.h41_xrom.specs.Calculator.{CalculatorState, CarriesHere, RefusesLine, RefusesStepIn, StepIn, StepsByLine, after_line, after_word}
+use Rattle.h41_xrom.specs.Calculator.{machine_of, not_typing}
 use Rattle.h41_xrom.specs.CalculatorLaws as CalculatorLaws
 use Rattle.h41_xrom.specs.CalculatorLaws.{LoadIsDetermined, StepRefusalIsDetermined}
-use Rattle.h41_xrom.specs.Lines.{CallsEntry, CallsName, CarriesFrom, CarriesLine, CarriesNamed, Ended, Fails, FailsFrom, GoesOn, GoesOnFrom, IsNamed, PassesFrom, answered, begun_at, of_line}
+use Rattle.h41_xrom.specs.Lines.{CallsEntry, CallsName, CarriesFrom, CarriesLine, CarriesNamed, Ended, Fails, FailsFrom, GoesOn, GoesOnFrom}
+use Rattle.h41_xrom.specs.Lines.{IsNamed, PassesFrom, answered, begun_at, of_line}
 use Rattle.h41_xrom.specs.declared.lines.Source.{Source}
 use Rattle.h41_xrom.specs.declared.lines.Source.TheVariants as sources
 use Rattle.h41_xrom.specs.Programs.{change_refusal, loaded}
@@ -53,21 +55,25 @@ same_typed_fault : (sound : Bool) (machine : Machine) (a b : Result Left FocalRe
 same_typed_fault true machine a b p q = same_fault machine a b p q
 same_typed_fault false machine a b p q = p ∙ sym q
 
-module _ (same_step : StepIsDetermined) (same_typing : TypedIsDetermined) (same_failure : FailureIsDetermined) (same_passing : PassingIsDetermined) (one_line : OneLineOfText) where
+module _ (same_step : StepIsDetermined) (same_typing : TypedIsDetermined) (same_failure : FailureIsDetermined)
+    (same_passing : PassingIsDetermined) (one_line : OneLineOfText) where
   same_carried : (source : Source) (function : Option Function) (machine : Machine) (a b : Result Left FocalRefusal)
       → CarriesFrom source function machine a → CarriesFrom source function machine b → a ≡ b
   same_carried sources.Program function machine a b p q = same_step function machine a b p q
   same_carried (sources.Keys line) function machine a b p q = same_typing (line_as function line) machine a b p q
 
-  same_failing : (source : Source) (machine : Machine) (a b : Result Left FocalRefusal) → FailsFrom source machine a → FailsFrom source machine b → a ≡ b
+  same_failing : (source : Source) (machine : Machine) (a b : Result Left FocalRefusal) → FailsFrom source machine a
+      → FailsFrom source machine b → a ≡ b
   same_failing sources.Program machine a b p q = same_failure Nonexistent machine a b p q
   same_failing (sources.Keys line) machine a b p q = same_typed_fault (is_sound machine.memory) machine a b p q
 
-  same_passed : (source : Source) (machine : Machine) (a b : Result Machine FocalRefusal) → PassesFrom source machine a → PassesFrom source machine b → a ≡ b
+  same_passed : (source : Source) (machine : Machine) (a b : Result Machine FocalRefusal) → PassesFrom source machine a
+      → PassesFrom source machine b → a ≡ b
   same_passed sources.Program machine a b p q = same_passing machine a b p q
   same_passed (sources.Keys line) machine a b p q = p ∙ sym q
 
-  same_failed : (source : Source) (machine : Machine) (a b : Result Ended FocalRefusal) → Fails source machine a → Fails source machine b → a ≡ b
+  same_failed : (source : Source) (machine : Machine) (a b : Result Ended FocalRefusal) → Fails source machine a → Fails source machine b
+      → a ≡ b
   same_failed source machine a b (p, p_fails, p_is) (q, q_fails, q_is) =
       p_is ∙ ap answered (same_failing source machine p q p_fails q_fails) ∙ sym q_is
 
@@ -84,7 +90,8 @@ module _ (same_step : StepIsDetermined) (same_typing : TypedIsDetermined) (same_
   same_entry source None machine a b p q = same_failed source machine a b p q
 
   pub same_function : (name : List ℕ) (a b : Option Function) → IsNamed name a → IsNamed name b → a ≡ b
-  same_function name (Some a) (Some b) p q = ap Some (same_function_by a b (one_line name (Plain a) (Plain b) (text_of name a p) (text_of name b q)))
+  same_function name (Some a) (Some b) p q =
+      ap Some (same_function_by a b (one_line name (Plain a) (Plain b) (text_of name a p) (text_of name b q)))
   same_function name (Some a) None p q = absurd (q a p)
   same_function name None (Some b) p q = absurd (p b q)
   same_function name None None p q = refl
@@ -95,16 +102,19 @@ module _ (same_step : StepIsDetermined) (same_typing : TypedIsDetermined) (same_
       p_is ∙ ap answered (same_carried source (Some function) machine p q p_steps q_steps) ∙ sym q_is
   same_named source None machine a b p q = same_failed source machine a b p q
 
-  same_name : (source : Source) (numbers : Option (ℕ × ℕ)) (pages : PageMap) (name : List ℕ) (machine : Machine) (a b : Result Ended FocalRefusal)
+  same_name : (source : Source) (numbers : Option (ℕ × ℕ)) (pages : PageMap)
+      (name : List ℕ) (machine : Machine) (a b : Result Ended FocalRefusal)
       → CallsName source numbers pages name machine a → CallsName source numbers pages name machine b → a ≡ b
   same_name source (Some numbers) pages name machine a b p q = same_entry source (entry_at pages numbers.0 numbers.1) machine a b p q
   same_name source None pages name machine a b (f, f_named, f_carries) (g, g_named, g_carries) =
       let same : f ≡ g = same_function name f g f_named g_named in
-      same_named source g machine a b (subst (λ (function : Option Function). CarriesNamed source function machine a) same f_carries) g_carries
+      same_named source g machine a b
+      (subst (λ (function : Option Function). CarriesNamed source function machine a) same f_carries) g_carries
 
   same_going : (source : Source) (answer : Answer) (pages : PageMap) (machine : Machine) (left : Left) (a b : Result Ended FocalRefusal)
       → GoesOn source pages machine left answer a → GoesOn source pages machine left answer b → a ≡ b
-  same_going source (answers.Calls number entry) pages machine left a b p q = same_entry source (entry_at pages number entry) machine a b p q
+  same_going source (answers.Calls number entry) pages machine left a b p q =
+      same_entry source (entry_at pages number entry) machine a b p q
   same_going source (answers.Seeks name) pages machine left a b p q = same_name source (found pages name) pages name machine a b p q
   same_going source answers.Done pages machine left a b p q = p ∙ sym q
   same_going source answers.Stopped pages machine left a b p q = p ∙ sym q
@@ -125,9 +135,11 @@ module _ (same_step : StepIsDetermined) (same_typing : TypedIsDetermined) (same_
       → CarriesLine source pages machine a → CarriesLine source pages machine b → a ≡ b
   line_determined source pages machine a b (own, own_steps, own_goes) (other, other_steps, other_goes) =
       let same : own ≡ other = same_carried source None machine own other own_steps other_steps in
-      same_from source other pages machine a b (subst (λ (of : Result Left FocalRefusal). GoesOnFrom source pages machine of a) same own_goes) other_goes
+      same_from source other pages machine a b
+      (subst (λ (of : Result Left FocalRefusal). GoesOnFrom source pages machine of a) same own_goes) other_goes
 
-  same_line : (s : CalculatorState) (a b : Result Ended FocalRefusal) → CarriesHere sources.Program s a → CarriesHere sources.Program s b → a ≡ b
+  same_line : (s : CalculatorState) (a b : Result Ended FocalRefusal) → CarriesHere sources.Program s a → CarriesHere sources.Program s b
+      → a ≡ b
   same_line s a b p q = line_determined sources.Program s.nut.pages (machine_of s) a b p q
 
   -- why a step is refused
@@ -135,7 +147,8 @@ module _ (same_step : StepIsDetermined) (same_typing : TypedIsDetermined) (same_
   same_line_refusal s a b (p, p_carries, p_is) (q, q_carries, q_is) =
       p_is ∙ ap (λ (of : Result Ended FocalRefusal). option_map of_line (result_err of)) (same_line s p q p_carries q_carries) ∙ sym q_is
 
-  same_refusal : (mode : Mode) (s : CalculatorState) (a b : Option CalculatorRefusal) → RefusesStepIn mode s a → RefusesStepIn mode s b → a ≡ b
+  same_refusal : (mode : Mode) (s : CalculatorState) (a b : Option CalculatorRefusal) → RefusesStepIn mode s a → RefusesStepIn mode s b
+      → a ≡ b
   same_refusal modes.Idle s a b p q = same_line_refusal s a b p q
   same_refusal modes.Run s a b p q = same_line_refusal s a b p q
   same_refusal (modes.Micro caller) s a b p q = p ∙ sym q
@@ -163,12 +176,19 @@ module _ (same_step : StepIsDetermined) (same_typing : TypedIsDetermined) (same_
 -- what a load makes
 module _ (same_load : LoadsAreDetermined) where
   same_made_by : (why : Option CalculatorRefusal) (s : CalculatorState) (bytes : List ℕ) (a b : Result CalculatorState CalculatorRefusal)
-      → MatchOption why ((outcome : Result (RegisterMap × ℕ) program.ProgramRefusal) × LoadGives s.nut.ram bytes outcome × (a ≡ loaded s outcome)) (λ why. a ≡ Err why)
-      → MatchOption why ((outcome : Result (RegisterMap × ℕ) program.ProgramRefusal) × LoadGives s.nut.ram bytes outcome × (b ≡ loaded s outcome)) (λ why. b ≡ Err why) → a ≡ b
+      → MatchOption why
+      ((outcome : Result (RegisterMap × ℕ) program.ProgramRefusal) × LoadGives s.nut.ram bytes outcome × (a ≡ loaded s outcome))
+      (λ why. a ≡ Err why)
+      → MatchOption why
+      ((outcome : Result (RegisterMap × ℕ) program.ProgramRefusal) × LoadGives s.nut.ram bytes outcome × (b ≡ loaded s outcome))
+      (λ why. b ≡ Err why)
+      → a ≡ b
   same_made_by None s bytes a b p q = p.2 ∙ ap (loaded s) (same_load s.nut.ram bytes p.0 q.0 p.1 q.1) ∙ sym q.2
   same_made_by (Some why) s bytes a b p q = p ∙ sym q
 
   pub load_determined : LoadIsDetermined
   load_determined bytes s t u a b p q =
-      let made : p.0 ≡ q.0 = same_made_by (change_refusal s) s bytes p.0 q.0 p.1 q.1 in
-      (p.2.0 ∙ ap (λ (of : Result CalculatorState CalculatorRefusal). result_unwrap_or of s) made ∙ sym q.2.0, p.2.1 ∙ ap result_err made ∙ sym q.2.1)
+      let made : p.0 ≡ q.0 = same_made_by (change_refusal s) s bytes p.0 q.0 p.1 q.1 in (
+        p.2.0 ∙ ap (λ (of : Result CalculatorState CalculatorRefusal). result_unwrap_or of s) made ∙ sym q.2.0,
+        p.2.1 ∙ ap result_err made ∙ sym q.2.1,
+      )

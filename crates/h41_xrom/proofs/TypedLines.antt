@@ -64,21 +64,24 @@ by_line modes.Run s next takes step = step
 by_line (modes.Micro caller) s next takes step = cc
 
 module _ (here : NextIsHere) where
-  from_own : (line : Line) (s next : CalculatorState) (own : Result Left FocalRefusal) (ended : Ended) → GoesToNext line → IsAt line (machine_of s)
-      → takes_lines s.mode ≡ true → StepsLine None (machine_of s) own → GoesOnFrom Program s.nut.pages (machine_of s) own (Ok ended)
-      → next ≡ after_line (not_typing s) ended → LineStepped s next
+  from_own : (line : Line) (s next : CalculatorState) (own : Result Left FocalRefusal) (ended : Ended) → GoesToNext line
+      → IsAt line (machine_of s) → takes_lines s.mode ≡ true → StepsLine None (machine_of s) own
+      → GoesOnFrom Program s.nut.pages (machine_of s) own (Ok ended) → next ≡ after_line (not_typing s) ended → LineStepped s next
   from_own line s next (Err refusal) ended goes_on stands takes stepped goes is = absurd (no_end ended refusal goes)
   from_own line s next (Ok left) ended goes_on stands takes stepped goes is =
       let none = here line (machine_of s) left goes_on stands stepped in
       let done : ended ≡ Answers left = done_here s.nut.pages (machine_of s) left left.answer ended none goes in
-      let after : next ≡ after_line (not_typing s) (Answers left) = is ∙ ap (λ (ended : Ended). after_line (not_typing s) ended) done in record {
+      let after : next ≡ after_line (not_typing s) (Answers left) =
+      is ∙ ap (λ (ended : Ended). after_line (not_typing s) ended) done in
+      record {
         left = left;
         stepped = stepped;
         same = ap (λ (at : CalculatorState). machine_of at) after;
         takes = ap (λ (at : CalculatorState). takes_lines at.mode) after ∙ still_lines left.answer s.mode takes;
       }
 
-  one_line : (line : Line) (s next : CalculatorState) → GoesToNext line → IsAt line (machine_of s) → takes_lines s.mode ≡ true → Step s next → LineStepped s next
+  one_line : (line : Line) (s next : CalculatorState) → GoesToNext line → IsAt line (machine_of s) → takes_lines s.mode ≡ true → Step s next
+      → LineStepped s next
   one_line line s next goes_on stands takes step =
       let (ended, (own, carried, goes), is) = by_line s.mode s next takes step in
       from_own line s next own ended goes_on stands takes carried goes is

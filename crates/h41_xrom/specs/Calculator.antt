@@ -1,6 +1,7 @@
--- The calculator: its state, its mode, a call, pages, and single steps. All of it is this project's choice, but for what words, lines
--- and keys do.
-use Rattle.std.specs.Prelude.{◌≡◌, ℕ, Bool, true, false, not, nat_lt, ◌==◌, if◌then◌else◌, Option, None, List, option_map, Result, Ok}
+-- The calculator: its state, its mode, a call, pages, and single steps. All of it is this project's
+-- choice, but for what words, lines and keys do.
+use Rattle.std.specs.Prelude.{◌≡◌, ℕ, Bool, true, false, not, nat_lt, ◌==◌, if◌then◌else◌, Option}
+use Rattle.std.specs.Prelude.{None, List, option_map, Result, Ok}
 use Rattle.std.specs.Bool.{then_some}
 use Rattle.std.specs.Option.{option_or}
 use Rattle.std.specs.Result.{result_err}
@@ -38,7 +39,8 @@ pub record CalculatorState : Type 0 where
   pub nut : Nut
   -- what lines work on, beside memory
   pub focal : FocalState
-  -- what the keyboard keeps: SHIFT, program mode, a prompt, and the number or text that is being typed
+  -- what the keyboard keeps: SHIFT, program mode, a prompt, and the number or text that is being
+  -- typed
   pub input : Input
   -- the text that the display shows before all else, where there is one
   pub message : Option (List ℕ)
@@ -52,8 +54,8 @@ registers = 320
 abbrev pub no_key : Keys
 no_key = record { ky = 0; flag = false }
 
--- nothing is plugged, nothing runs, nothing is typed, there is no message, and memory has an empty program, at whose line 00 the
--- calculator stands
+-- nothing is plugged, nothing runs, nothing is typed, there is no message, and memory has an empty
+-- program, at whose line 00 the calculator stands
 abbrev pub start : CalculatorState
 start = record {
   nut = nut_of initial (ram.start registers) pages.no_pages no_key;
@@ -78,10 +80,12 @@ abbrev pub mode_of : Caller → Mode
 mode_of callers.Nothing = modes.Idle
 mode_of callers.Program = modes.Run
 
--- a call is refused as 24 while a program or a function runs, and else as 8 below address 4000, at 00F0 too: a call is no arrival
+-- a call is refused as 24 while a program or a function runs, and else as 8 below address 4000, at
+-- 00F0 too: a call is no arrival
 abbrev pub call_refusal : CalculatorState → ℕ → Option CalculatorRefusal
 call_refusal s address =
-    option_or (then_some (not (is_idle s.mode)) Busy) (then_some (nat_lt address first_address) (Word (words.SystemRom address)))
+    option_or (then_some (not (is_idle s.mode)) Busy)
+    (then_some (nat_lt address first_address) (Word (words.SystemRom address)))
 
 -- no number and no text is being typed any more; a prompt, SHIFT and program mode stay
 abbrev pub not_typing : CalculatorState → CalculatorState
@@ -89,7 +93,10 @@ not_typing s = record s { input = record s.input { entry = entries.Nothing } }
 
 -- the function at an address runs
 abbrev pub entering : ℕ → CalculatorState → CalculatorState
-entering address s = record s { nut = record s.nut { processor = entered s.nut.processor address }; mode = modes.Micro (caller_in s.mode) }
+entering address s = record s {
+  nut = record s.nut { processor = entered s.nut.processor address };
+  mode = modes.Micro (caller_in s.mode);
+}
 
 -- by a call
 abbrev pub called : ℕ → CalculatorState → CalculatorState
@@ -109,7 +116,8 @@ with_pages all s = record s { nut = record s.nut { pages = all } }
 
 -- the words plugged there
 abbrev pub with_page : ℕ → ℕ → Bool → List ℕ → CalculatorState → CalculatorState
-with_page page bank writable words s = with_pages (pages.plugged s.nut.pages page bank writable words) s
+with_page page bank writable words s =
+    with_pages (pages.plugged s.nut.pages page bank writable words) s
 
 -- all banks of a page taken out
 abbrev pub without_page : ℕ → CalculatorState → CalculatorState
@@ -132,9 +140,11 @@ with_shown answer s = record s {
 
 -- the calculator with another memory, and with other things that lines work on
 abbrev pub with_machine : Machine → CalculatorState → CalculatorState
-with_machine machine s = record s { nut = record s.nut { ram = machine.memory }; focal = machine.focal }
+with_machine machine s =
+    record s { nut = record s.nut { ram = machine.memory }; focal = machine.focal }
 
--- a running program stops at STOP, OFF, PROMPT, a return to nowhere, and a fault; a typed line that went to a label has it run
+-- a running program stops at STOP, OFF, PROMPT, a return to nowhere, and a fault; a typed line that
+-- went to a label has it run
 abbrev pub mode_after : Answer → Mode → Mode
 mode_after answers.Stopped mode = modes.Idle
 mode_after answers.TurnedOff mode = modes.Idle
@@ -158,7 +168,10 @@ CarriesHere source s ended = CarriesLine source s.nut.pages (machine_of s) ended
 
 -- why a step is refused, or that it is not: a word's refusal while a function runs, else a line's
 abbrev pub RefusesLine : CalculatorState → Option CalculatorRefusal → Type 0
-RefusesLine s why = (ended : Result Ended FocalRefusal) × CarriesHere Program s ended × (why ≡ option_map of_line (result_err ended))
+RefusesLine s why =
+    (ended : Result Ended FocalRefusal)
+    × CarriesHere Program s ended
+    × (why ≡ option_map of_line (result_err ended))
 
 abbrev pub RefusesStepIn : Mode → CalculatorState → Option CalculatorRefusal → Type 0
 RefusesStepIn modes.Idle s why = RefusesLine s why
@@ -187,10 +200,11 @@ after_word caller s nut = record s {
   mode = mode_at nut.processor.pc caller;
 }
 
--- one step: while a function runs a word, which is its end where it arrives at 00F0; else a line, with which a number or text that is being
--- typed ends
+-- one step: while a function runs a word, which is its end where it arrives at 00F0; else a line,
+-- with which a number or text that is being typed ends
 abbrev pub StepsByLine : CalculatorState → CalculatorState → Type 0
-StepsByLine s t = (ended : Ended) × CarriesHere Program s (Ok ended) × (t ≡ after_line (not_typing s) ended)
+StepsByLine s t =
+    (ended : Ended) × CarriesHere Program s (Ok ended) × (t ≡ after_line (not_typing s) ended)
 
 abbrev pub StepIn : Mode → CalculatorState → CalculatorState → Type 0
 StepIn modes.Idle s t = StepsByLine s t

@@ -15,7 +15,8 @@ use Rattle.h41_xrom.specs.declared.calculator.Mode.TheVariants as modes
 -- whether a step is refused, and as what, is determined, and so is the state that it leaves
 abbrev pub StepRefusalIsDetermined : Type 0
 StepRefusalIsDetermined =
-    (s : CalculatorState) (refusal other : Option CalculatorRefusal) → RefusesStep s refusal → RefusesStep s other → refusal ≡ other
+    (s : CalculatorState) (refusal other : Option CalculatorRefusal) → RefusesStep s refusal
+    → RefusesStep s other → refusal ≡ other
 
 abbrev pub StepIsDetermined : Type 0
 StepIsDetermined = (s t u : CalculatorState) → Step s t → Step s u → t ≡ u
@@ -34,7 +35,9 @@ KeyIsDetermined =
 
 -- the display shows one text
 abbrev pub DisplayIsDetermined : Type 0
-DisplayIsDetermined = (s : CalculatorState) (text other : List ℕ) → ShowsDisplay s text → ShowsDisplay s other → text ≡ other
+DisplayIsDetermined =
+    (s : CalculatorState) (text other : List ℕ) → ShowsDisplay s text → ShowsDisplay s other
+    → text ≡ other
 
 -- lines are stepped or run, and not the words of a function
 abbrev pub takes_lines : Mode → Bool
@@ -42,13 +45,15 @@ takes_lines modes.Idle = true
 takes_lines modes.Run = true
 takes_lines (modes.Micro caller) = false
 
--- lines that stand at the position in turn are stepped by the calculator, each in what the one before it left
+-- lines that stand at the position in turn are stepped by the calculator, each in what the one
+-- before it left
 abbrev pub StepsLines : List Line → CalculatorState → CalculatorState → Type 0
 StepsLines [] s t = t ≡ s
-StepsLines (line ∷ lines) s t = IsAt line (machine_of s) × (next : CalculatorState) × Step s next × StepsLines lines next t
+StepsLines (line ∷ lines) s t =
+    IsAt line (machine_of s) × (next : CalculatorState) × Step s next × StepsLines lines next t
 
--- lines that go on to the next leave the same where they are typed in turn as where the calculator steps them: stack, data registers, ALPHA
--- and flags, which memory has, and lift
+-- lines that go on to the next leave the same where they are typed in turn as where the calculator
+-- steps them: stack, data registers, ALPHA and flags, which memory has, and lift
 abbrev pub TypedAsStepped : Type 0
 TypedAsStepped =
     (lines : List Line) (s t : CalculatorState) (other typed : Machine)

@@ -1,5 +1,6 @@
 -- What the display shows. The order of the cases is the Owner's Handbook's.
-use Rattle.std.specs.Prelude.{◌≡◌, ℕ, List, [], ◌++◌, codes, MatchBool, if◌then◌else◌, Option, Some, None}
+use Rattle.std.specs.Prelude.{◌≡◌, ℕ, List, [], ◌++◌, codes, MatchBool, if◌then◌else◌, Option, Some}
+use Rattle.std.specs.Prelude.{None}
 use Rattle.h41_codes.specs.declared.characters.Character.{Character}
 use Rattle.h41_codes.specs.declared.line.Line.TheVariants.{Number}
 use Rattle.h41_editor.specs.ProgramText.{ShowsProgram}
@@ -37,7 +38,8 @@ x_text memory entry = register_text (format_of memory) (register_at memory x_add
 
 -- ALPHA with flag 48, and else X
 abbrev pub entry_text : RegisterMap → Entry → List ℕ
-entry_text memory entry = if flag_of memory alpha_flag then alpha_text memory else x_text memory entry
+entry_text memory entry =
+    if flag_of memory alpha_flag then alpha_text memory else x_text memory entry
 
 -- a line of a program that is being typed
 abbrev pub cursor_of : Entry → List ℕ
@@ -46,12 +48,14 @@ cursor_of (entries.TextLine text) = cursor
 cursor_of entry = []
 
 abbrev pub ShowsShownLine : Machine → Entry → List ℕ → Type 0
-ShowsShownLine machine entry text = (shown : List ℕ) × ShowsProgram machine shown × (text ≡ shown ++ cursor_of entry)
+ShowsShownLine machine entry text =
+    (shown : List ℕ) × ShowsProgram machine shown × (text ≡ shown ++ cursor_of entry)
 
 -- in program mode the line, and else ALPHA or X
 abbrev pub ShowsEntry : CalculatorState → List ℕ → Type 0
 ShowsEntry s text =
-    MatchBool s.input.program_mode (ShowsShownLine (machine_of s) s.input.entry text) (text ≡ entry_text s.nut.ram s.input.entry)
+    MatchBool s.input.program_mode (ShowsShownLine (machine_of s) s.input.entry text)
+    (text ≡ entry_text s.nut.ram s.input.entry)
 
 -- the function that waits for its parameter, by its characters
 abbrev pub shown_prompt : Prompt → List ℕ
@@ -66,7 +70,7 @@ abbrev pub ShowsMessage : CalculatorState → Option (List ℕ) → List ℕ →
 ShowsMessage s (Some message) text = text ≡ message
 ShowsMessage s None text = ShowsPrompt s s.input.prompt text
 
--- the first that applies: nothing while the display is off, the message, a prompt, in program mode the line, ALPHA with flag 48, the number that
--- is being typed, and else X in the display format
+-- the first that applies: nothing while the display is off, the message, a prompt, in program mode
+-- the line, ALPHA with flag 48, the number that is being typed, and else X in the display format
 abbrev pub ShowsDisplay : CalculatorState → List ℕ → Type 0
 ShowsDisplay s text = MatchBool s.nut.processor.display (ShowsMessage s s.message text) (text ≡ [])

@@ -1,6 +1,9 @@
--- What a key does to the calculator. What it means is the keyboard's (h41_keys); here is what becomes of memory, position, stack, ALPHA,
--- display and mode. The order of refusals, and what a refused key leaves, is this project's choice.
-use Rattle.std.specs.Prelude.{◌≡◌, ℕ, Bool, true, false, not, ◌&&◌, is_some, List, [], ◌∷◌, ◌++◌, take, MatchBool, MatchOption, if◌then◌else◌, Option, Some, None, Result, Ok, Err}
+-- What a key does to the calculator. What it means is the keyboard's (h41_keys); here is what
+-- becomes of memory, position, stack, ALPHA, display and mode. The order of refusals, and what a
+-- refused key leaves, is this project's choice.
+use Rattle.std.specs.Prelude.{◌≡◌, ℕ, Bool, true, false, not, ◌&&◌, is_some, List, [], ◌∷◌, ◌++◌}
+use Rattle.std.specs.Prelude.{take, MatchBool, MatchOption, if◌then◌else◌, Option, Some, None}
+use Rattle.std.specs.Prelude.{Result, Ok, Err}
 use Rattle.std.specs.Bool.{then_some}
 use Rattle.h41_codes.specs.declared.characters.Character.{Character}
 use Rattle.h41_codes.specs.declared.functions.Function.{Function}
@@ -28,12 +31,14 @@ use Rattle.h41_pages.specs.PageMap.{PageMap}
 use Rattle.h41_program.specs.ProgramLines.{AnswersOf}
 use Rattle.h41_program.specs.Searches.{named_in, position_of}
 use Rattle.h41_program.specs.declared.refusal.ProgramRefusal.{ProgramRefusal}
-use Rattle.h41_ram.specs.RegisterMap.{RegisterMap, alpha_of, flag_of, is_sound, with_alpha, with_flag}
+use Rattle.h41_ram.specs.RegisterMap.{RegisterMap, alpha_of, flag_of, is_sound, with_alpha}
+use Rattle.h41_ram.specs.RegisterMap.{with_flag}
 use Rattle.h41_rows.specs.Places.{X}
 use Rattle.h41_rows.specs.RowEffects.{last_24, takes_of, with_taken}
 use Rattle.h41_rows.specs.Rows.{coming_in, compute}
 use Rattle.h41_rows.specs.Values.{Computes, Written}
-use Rattle.h41_xrom.specs.Calculator.{CalculatorState, after_line, is_idle, machine_of, with_machine}
+use Rattle.h41_xrom.specs.Calculator.{CalculatorState, after_line, is_idle, machine_of}
+use Rattle.h41_xrom.specs.Calculator.{with_machine}
 use Rattle.h41_xrom.specs.Display.{alpha_flag}
 use Rattle.h41_xrom.specs.Lines.{CarriesLine, Ended, IsNamed, of_line}
 use Rattle.h41_xrom.specs.Programs.{Becomes}
@@ -42,7 +47,8 @@ use Rattle.h41_xrom.specs.declared.calculator.Mode.TheVariants as modes
 use Rattle.h41_xrom.specs.declared.lines.Source.{Source}
 use Rattle.h41_xrom.specs.declared.lines.Source.TheVariants as sources
 use Rattle.h41_xrom.specs.declared.refusal.CalculatorRefusal.{CalculatorRefusal}
-use Rattle.h41_xrom.specs.declared.refusal.CalculatorRefusal.TheVariants.{KeyNotHeld, MemoryLost, Program}
+use Rattle.h41_xrom.specs.declared.refusal.CalculatorRefusal.TheVariants.{KeyNotHeld, MemoryLost}
+use Rattle.h41_xrom.specs.declared.refusal.CalculatorRefusal.TheVariants.{Program}
 
 -- WHAT A KEY'S ACTION MAKES of memory and of what lines work on
 pub data Effect : Type 0 where
@@ -71,25 +77,31 @@ line_effect (Ok ended) = Ok (LineEnds ended)
 line_effect (Err refusal) = Err (of_line refusal)
 
 abbrev pub Carries : Source → PageMap → Machine → Result Effect CalculatorRefusal → Type 0
-Carries source pages machine effect = (ended : Result Ended FocalRefusal) × CarriesLine source pages machine ended × (effect ≡ line_effect ended)
+Carries source pages machine effect =
+    (ended : Result Ended FocalRefusal)
+    × CarriesLine source pages machine ended
+    × (effect ≡ line_effect ended)
 
 -- PROGRAM MODE: a change of the program, or a move
 abbrev pub edit_effect : Result Machine ProgramRefusal → Result Effect CalculatorRefusal
 edit_effect (Ok machine) = Ok (Leaves machine)
 edit_effect (Err refusal) = Err (Program refusal)
 
-abbrev pub Edits : (Machine → Result Machine ProgramRefusal → Type 0) → Machine → Result Effect CalculatorRefusal → Type 0
-Edits edit machine effect = (edited : Result Machine ProgramRefusal) × edit machine edited × (effect ≡ edit_effect edited)
+abbrev pub Edits : (Machine → Result Machine ProgramRefusal → Type 0) → Machine
+    → Result Effect CalculatorRefusal → Type 0
+Edits edit machine effect =
+    (edited : Result Machine ProgramRefusal) × edit machine edited × (effect ≡ edit_effect edited)
 
--- XEQ of a name is stored as it is where memory has the label; else as the XROM of a module's function, else as a function of the calculator,
--- where there is one of the name
+-- XEQ of a name is stored as it is where memory has the label; else as the XROM of a module's
+-- function, else as a function of the calculator, where there is one of the name
 abbrev pub StoredFunction : Line → Option Function → Line → Type 0
 StoredFunction line (Some function) stored = stored ≡ lines.Plain function
 StoredFunction line None stored = stored ≡ line
 
 abbrev pub StoredElsewhere : Line → List ℕ → Option (ℕ × ℕ) → Line → Type 0
 StoredElsewhere line name (Some numbers) stored = stored ≡ lines.Module numbers.0 numbers.1
-StoredElsewhere line name None stored = (function : Option Function) × IsNamed name function × StoredFunction line function stored
+StoredElsewhere line name None stored =
+    (function : Option Function) × IsNamed name function × StoredFunction line function stored
 
 abbrev pub StoredName : PageMap → Line → List ℕ → Option ℕ → Line → Type 0
 StoredName pages line name (Some position) stored = stored ≡ line
@@ -103,30 +115,39 @@ IsStoredAs pages memory line stored = stored ≡ line
 
 abbrev pub StoresLine : PageMap → Line → Machine → Result Effect CalculatorRefusal → Type 0
 StoresLine pages line machine effect =
-    (stored : Line) × IsStoredAs pages machine.memory line stored × Edits (Inserts stored) machine effect
+    (stored : Line)
+    × IsStoredAs pages machine.memory line stored
+    × Edits (Inserts stored) machine effect
 
--- A NUMBER that is typed is worth what a number line with these characters is. It comes into X as it begins: the stack is lifted where lift is
--- on, which it is then, and flag 22 is set. Where its last character was taken X is zero, and the stack does not lift
+-- A NUMBER that is typed is worth what a number line with these characters is. It comes into X as
+-- it begins: the stack is lifted where lift is on, which it is then, and flag 22 is set. Where its
+-- last character was taken X is zero, and the stack does not lift
 abbrev pub number_flag : ℕ
 number_flag = 22
 
 abbrev pub taken_in : RegisterMap → Bool → List ℕ → RegisterMap
-taken_in memory lift register = with_taken memory 0 register (takes_of (coming_in (compute X)) lift) memory
+taken_in memory lift register =
+    with_taken memory 0 register (takes_of (coming_in (compute X)) lift) memory
 
 abbrev pub begun : Machine → List ℕ → Machine
 begun machine register =
-    with_lift true (with_memory (with_flag (taken_in machine.memory machine.focal.lift register) number_flag true) machine)
+    with_lift true (with_memory
+    (with_flag (taken_in machine.memory machine.focal.lift register) number_flag true) machine)
 
 abbrev pub BeginsNumber : List Character → Machine → Result Effect CalculatorRefusal → Type 0
 BeginsNumber text machine effect =
-    (register : List ℕ) × Computes (Written text) machine.memory 0 (Ok register) × (effect ≡ Ok (Leaves (begun machine register)))
+    (register : List ℕ)
+    × Computes (Written text) machine.memory 0 (Ok register)
+    × (effect ≡ Ok (Leaves (begun machine register)))
 
 abbrev pub changed : Machine → List ℕ → Machine
 changed machine register = with_memory (taken_in machine.memory false register) machine
 
 abbrev pub ChangesNumber : List Character → Machine → Result Effect CalculatorRefusal → Type 0
 ChangesNumber text machine effect =
-    (register : List ℕ) × Computes (Written text) machine.memory 0 (Ok register) × (effect ≡ Ok (Leaves (changed machine register)))
+    (register : List ℕ)
+    × Computes (Written text) machine.memory 0 (Ok register)
+    × (effect ≡ Ok (Leaves (changed machine register)))
 
 -- ALPHA: its 24 bytes end with what it holds, behind nulls
 abbrev pub text_flag : ℕ
@@ -143,28 +164,38 @@ abbrev pub with_alpha_toggled : RegisterMap → RegisterMap
 with_alpha_toggled memory = with_flag memory alpha_flag (not (flag_of memory alpha_flag))
 
 -- EACH ACTION, where lines are stored in program mode
-abbrev pub Acts : PageMap → (program_mode : Bool) → Action → Machine → Result Effect CalculatorRefusal → Type 0
+abbrev pub Acts : PageMap → (program_mode : Bool) → Action → Machine
+    → Result Effect CalculatorRefusal → Type 0
 Acts pages program_mode actions.Nothing machine effect = effect ≡ Ok (Leaves machine)
 Acts pages program_mode actions.Stop machine effect = effect ≡ Ok (Stops machine)
 Acts pages program_mode actions.Run machine effect = effect ≡ Ok (Starts machine)
 -- SST carries a line out, or in program mode shows the next one
 Acts pages program_mode actions.Step machine effect =
-    MatchBool program_mode (Edits ShowsNext machine effect) (Carries sources.Program pages machine effect)
+    MatchBool program_mode (Edits ShowsNext machine effect)
+    (Carries sources.Program pages machine effect)
 Acts pages program_mode actions.StepBack machine effect = Edits ShowsBefore machine effect
 Acts pages program_mode actions.GoToEnd machine effect = Edits GoesToEnd machine effect
-Acts pages program_mode (actions.CarryOut line) machine effect = Carries (sources.Keys line) pages machine effect
+Acts pages program_mode (actions.CarryOut line) machine effect =
+    Carries (sources.Keys line) pages machine effect
 Acts pages program_mode (actions.Insert line) machine effect = StoresLine pages line machine effect
 Acts pages program_mode (actions.Replace line) machine effect = Edits (Replaces line) machine effect
 Acts pages program_mode actions.Delete machine effect = Edits Deletes machine effect
 Acts pages program_mode (actions.BeginNumber text) machine effect = BeginsNumber text machine effect
-Acts pages program_mode (actions.ChangeNumber text) machine effect = ChangesNumber text machine effect
-Acts pages program_mode actions.EndNumber machine effect = Carries (sources.Keys (lines.Plain ClearX)) pages machine effect
-Acts pages program_mode actions.ToggleAlpha machine effect = effect ≡ leaves_memory (with_alpha_toggled machine.memory) machine
-Acts pages program_mode (actions.BeginText letter) machine effect = effect ≡ leaves_memory (with_letters machine.memory (letter ∷ [])) machine
+Acts pages program_mode (actions.ChangeNumber text) machine effect =
+    ChangesNumber text machine effect
+Acts pages program_mode actions.EndNumber machine effect =
+    Carries (sources.Keys (lines.Plain ClearX)) pages machine effect
+Acts pages program_mode actions.ToggleAlpha machine effect =
+    effect ≡ leaves_memory (with_alpha_toggled machine.memory) machine
+Acts pages program_mode (actions.BeginText letter) machine effect =
+    effect ≡ leaves_memory (with_letters machine.memory (letter ∷ [])) machine
 Acts pages program_mode (actions.AddLetter letter) machine effect =
-    effect ≡ leaves_memory (with_letters machine.memory (alpha_of machine.memory ++ letter ∷ [])) machine
-Acts pages program_mode actions.TakeLetter machine effect = effect ≡ leaves_memory (with_text machine.memory (take 23 (alpha_of machine.memory))) machine
-Acts pages program_mode actions.ClearAlpha machine effect = effect ≡ leaves_memory (with_text machine.memory []) machine
+    effect
+    ≡ leaves_memory (with_letters machine.memory (alpha_of machine.memory ++ letter ∷ [])) machine
+Acts pages program_mode actions.TakeLetter machine effect =
+    effect ≡ leaves_memory (with_text machine.memory (take 23 (alpha_of machine.memory))) machine
+Acts pages program_mode actions.ClearAlpha machine effect =
+    effect ≡ leaves_memory (with_text machine.memory []) machine
 
 -- A KEY. What of the calculator decides what it means, beside what the keyboard keeps
 abbrev pub waiting : Mode → keyboard.Mode
@@ -178,13 +209,17 @@ flags_of s = record { alpha = flag_of s.nut.ram alpha_flag; message = is_some s.
 abbrev pub pressed : CalculatorState → Key → Option Pressed
 pressed s key = presses s.input key (waiting s.mode) (flags_of s)
 
--- a key that is accepted tells its code, sets the key flag and turns the display on; where nothing runs the message goes
+-- a key that is accepted tells its code, sets the key flag and turns the display on; where nothing
+-- runs the message goes
 abbrev pub message_told : Mode → Option (List ℕ) → Option (List ℕ)
 message_told mode message = if is_idle mode then None else message
 
 abbrev pub told : Key → Input → CalculatorState → CalculatorState
 told key input s = record s {
-  nut = record s.nut { keys = record { ky = code_of key; flag = true }; processor = with_display true s.nut.processor };
+  nut = record s.nut {
+    keys = record { ky = code_of key; flag = true };
+    processor = with_display true s.nut.processor;
+  };
   input = input;
   message = message_told s.mode s.message;
 }
@@ -196,27 +231,34 @@ after_key s (LineEnds ended) = after_line s ended
 after_key s (Stops machine) = record (with_machine machine s) { mode = modes.Idle }
 after_key s (Starts machine) = record (with_machine machine s) { mode = modes.Run }
 
-abbrev pub finished : CalculatorState → Result Effect CalculatorRefusal → Result CalculatorState CalculatorRefusal
+abbrev pub finished : CalculatorState → Result Effect CalculatorRefusal
+    → Result CalculatorState CalculatorRefusal
 finished s (Ok effect) = Ok (after_key s effect)
 finished s (Err refusal) = Err refusal
 
--- a key that has a meaning: 15 where nothing runs and memory is not sound, and then as its action: 14, 13, 16
+-- a key that has a meaning: 15 where nothing runs and memory is not sound, and then as its action:
+-- 14, 13, 16
 abbrev pub key_refusal : CalculatorState → Option CalculatorRefusal
 key_refusal s = then_some (is_idle s.mode && not (is_sound s.nut.ram)) MemoryLost
 
-abbrev pub ActionMakes : CalculatorState → Key → Action → Input → Result CalculatorState CalculatorRefusal → Type 0
+abbrev pub ActionMakes : CalculatorState → Key → Action → Input
+    → Result CalculatorState CalculatorRefusal → Type 0
 ActionMakes s key action input made =
     MatchOption (key_refusal s)
-    ((effect : Result Effect CalculatorRefusal) × Acts s.nut.pages input.program_mode action (machine_of s) effect
+    ((effect : Result Effect CalculatorRefusal)
+    × Acts s.nut.pages input.program_mode action (machine_of s) effect
     × (made ≡ finished (told key input s) effect))
     (λ why. made ≡ Err why)
 
 -- 18 where it has none
-abbrev pub KeyMakes : CalculatorState → Key → Option Pressed → Result CalculatorState CalculatorRefusal → Type 0
+abbrev pub KeyMakes : CalculatorState → Key → Option Pressed
+    → Result CalculatorState CalculatorRefusal → Type 0
 KeyMakes s key None made = made ≡ Err KeyNotHeld
 KeyMakes s key (Some pressed) made = ActionMakes s key pressed.action pressed.input made
 
 -- a key is accepted, or refused and nothing changes
 abbrev pub Presses : Key → CalculatorState → CalculatorState → Option CalculatorRefusal → Type 0
 Presses key s t refusal =
-    (made : Result CalculatorState CalculatorRefusal) × KeyMakes s key (pressed s key) made × Becomes made s t refusal
+    (made : Result CalculatorState CalculatorRefusal)
+    × KeyMakes s key (pressed s key) made
+    × Becomes made s t refusal

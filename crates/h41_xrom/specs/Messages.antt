@@ -5,7 +5,8 @@ use Rattle.h41_focal.specs.Outcomes as answers
 use Rattle.h41_nut.specs.Processor.{Processor}
 use Rattle.h41_nut.specs.RegisterWords.{with_display}
 use Rattle.h41_rows.specs.declared.fault.LineFault.{LineFault}
-use Rattle.h41_rows.specs.declared.fault.LineFault.TheVariants.{AlphaData, DataError, Nonexistent, OutOfRange}
+use Rattle.h41_rows.specs.declared.fault.LineFault.TheVariants.{AlphaData, DataError, Nonexistent}
+use Rattle.h41_rows.specs.declared.fault.LineFault.TheVariants.{OutOfRange}
 
 -- the message of a fault, as the Owner's Handbook has it
 abbrev pub fault_text : LineFault → List ℕ
@@ -19,7 +20,8 @@ abbrev pub test_text : Bool → List ℕ
 test_text true = codes "YES"
 test_text false = codes "NO"
 
--- the message after a line: its own, none where the display is cleared, and else the one from before
+-- the message after a line: its own, none where the display is cleared, and else the one from
+-- before
 abbrev pub message_after : Answer → Option (List ℕ) → Option (List ℕ)
 message_after (answers.Viewed text) message = Some text
 message_after (answers.Prompted text) message = Some text

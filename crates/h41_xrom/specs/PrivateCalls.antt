@@ -1,4 +1,5 @@
--- What private functions promise one another of lines and of keys. No public contract needs this file.
+-- What private functions promise one another of lines and of keys. No public contract needs this
+-- file.
 use Rattle.std.specs.Prelude.{◌≡◌, IsTrue, List, ℕ, Option, Some, None, Result, Ok, Err}
 use Rattle.std.specs.Option.{option_map_or}
 use Rattle.h41_codes.specs.declared.functions.Function.{Function}
@@ -58,7 +59,8 @@ effect_with new (effects.Line end) = spec.LineEnds (ended_with new end)
 effect_with new effects.Stops = spec.Stops new
 effect_with new effects.Starts = spec.Starts new
 
-abbrev pub effect_as : Machine → Result Effect CalculatorRefusal → Result spec.Effect CalculatorRefusal
+abbrev pub effect_as : Machine → Result Effect CalculatorRefusal
+    → Result spec.Effect CalculatorRefusal
 effect_as new (Ok effect) = Ok (effect_with new effect)
 effect_as new (Err refusal) = Err refusal
 
@@ -71,9 +73,11 @@ edited_as (Err refusal) = Err (Program refusal)
 abbrev pub StoresFor : PageMap → RegisterMap → List ℕ → Option Line → Type 0
 StoresFor pages memory name found =
     (label : Option ℕ) × AnswersOf (λ listed. position_of (named_in name listed)) memory 0 label
-    × ((line : Line) → spec.StoredName pages line name label (option_map_or (λ stored. stored) found line))
+    × ((line : Line)
+    → spec.StoredName pages line name label (option_map_or (λ stored. stored) found line))
 
--- what an action needs of memory: that it is sound where lines are changed or moved over, and that a line can be stored
+-- what an action needs of memory: that it is sound where lines are changed or moved over, and that
+-- a line can be stored
 abbrev pub IsActed : Action → RegisterMap → Type 0
 IsActed actions.Nothing memory = Unit {0}
 IsActed actions.Stop memory = Unit {0}
@@ -81,7 +85,8 @@ IsActed (actions.Insert line) memory = IsTrue (is_sound memory) × IsTrue (is_in
 IsActed (actions.Replace line) memory = IsTrue (is_sound memory) × IsTrue (is_inner line)
 IsActed action memory = IsTrue (is_sound memory)
 
--- the calculator, of which memory and what lines work on are changed already, behind the end of a line and behind an effect
+-- the calculator, of which memory and what lines work on are changed already, behind the end of a
+-- line and behind an effect
 abbrev pub after_end : LineEnd → CalculatorState → CalculatorState
 after_end (ends.Answers outcome) s = after_answer (answer_of outcome) s
 after_end (ends.Begins address) s = entering address s
@@ -93,9 +98,12 @@ after_effect effects.Stops s = record s { mode = modes.Idle }
 after_effect effects.Starts s = record s { mode = modes.Run }
 
 -- a key that has a meaning is done, or refused; what its action then needs
-abbrev pub Accepts : Key → Input → Action → CalculatorState → CalculatorState → Option CalculatorRefusal → Type 0
+abbrev pub Accepts : Key → Input → Action → CalculatorState → CalculatorState
+    → Option CalculatorRefusal → Type 0
 Accepts key input action s t refusal =
-    (made : Result CalculatorState CalculatorRefusal) × spec.ActionMakes s key action input made × Becomes made s t refusal
+    (made : Result CalculatorState CalculatorRefusal)
+    × spec.ActionMakes s key action input made
+    × Becomes made s t refusal
 
 -- while a program or a function runs a key does nothing but to stop it
 abbrev pub IsQuiet : Mode → Action → Type 0

@@ -1,4 +1,5 @@
--- Programs in memory: loaded, and the number of data registers above them. What memory becomes by a load is said by the list of its lines.
+-- Programs in memory: loaded, and the number of data registers above them. What memory becomes by a
+-- load is said by the list of its lines.
 use Rattle.std.specs.Prelude.{◌≡◌, ℕ, not, List, Option, Some, None, MatchOption, Result, Ok, Err}
 use Rattle.std.specs.Bool.{then_some}
 use Rattle.std.specs.Option.{option_or}
@@ -14,34 +15,45 @@ use Rattle.h41_xrom.specs.Calculator.{CalculatorState, is_idle, not_typing}
 
 -- programs are changed while nothing runs, else 24, and where memory is sound, else 15
 abbrev pub change_refusal : CalculatorState → Option CalculatorRefusal
-change_refusal s = option_or (then_some (not (is_idle s.mode)) Busy) (then_some (not (is_sound s.nut.ram)) MemoryLost)
+change_refusal s =
+    option_or (then_some (not (is_idle s.mode)) Busy)
+    (then_some (not (is_sound s.nut.ram)) MemoryLost)
 
 -- the calculator with another memory
 abbrev pub with_memory : RegisterMap → CalculatorState → CalculatorState
 with_memory memory s = record s { nut = record s.nut { ram = memory } }
 
--- and at line 00 of the program that begins at a position, with nowhere to return to; lift and message stay
+-- and at line 00 of the program that begins at a position, with nowhere to return to; lift and
+-- message stay
 abbrev pub with_program : RegisterMap → ℕ → CalculatorState → CalculatorState
-with_program memory position s = record (with_memory memory s) { focal = halted_at position s.focal }
+with_program memory position s =
+    record (with_memory memory s) { focal = halted_at position s.focal }
 
--- what a change of program memory makes of the calculator, where no number and no text is being typed any more; or why it is refused
-abbrev pub loaded : CalculatorState → Result (RegisterMap × ℕ) program.ProgramRefusal → Result CalculatorState CalculatorRefusal
+-- what a change of program memory makes of the calculator, where no number and no text is being
+-- typed any more; or why it is refused
+abbrev pub loaded : CalculatorState → Result (RegisterMap × ℕ) program.ProgramRefusal
+    → Result CalculatorState CalculatorRefusal
 loaded s (Ok outcome) = Ok (with_program outcome.0 outcome.1 (not_typing s))
 loaded s (Err why) = Err (Program why)
 
-abbrev pub resized : CalculatorState → Result (RegisterMap × Unit {0}) program.ProgramRefusal → Result CalculatorState CalculatorRefusal
+abbrev pub resized : CalculatorState → Result (RegisterMap × Unit {0}) program.ProgramRefusal
+    → Result CalculatorState CalculatorRefusal
 resized s (Ok outcome) = Ok (with_memory outcome.0 (not_typing s))
 resized s (Err why) = Err (Program why)
 
--- bytes are loaded behind the programs of memory, or refused: 24, 15, and then as their lines are, 14 or 16
+-- bytes are loaded behind the programs of memory, or refused: 24, 15, and then as their lines are,
+-- 14 or 16
 abbrev pub LoadMakes : CalculatorState → List ℕ → Result CalculatorState CalculatorRefusal → Type 0
 LoadMakes s bytes made =
     MatchOption (change_refusal s)
-    ((outcome : Result (RegisterMap × ℕ) program.ProgramRefusal) × LoadGives s.nut.ram bytes outcome × (made ≡ loaded s outcome))
+    ((outcome : Result (RegisterMap × ℕ) program.ProgramRefusal)
+    × LoadGives s.nut.ram bytes outcome
+    × (made ≡ loaded s outcome))
     (λ why. made ≡ Err why)
 
 -- what is made, unless there is a refusal
-abbrev pub unless_refused : Option CalculatorRefusal → Result CalculatorState CalculatorRefusal → Result CalculatorState CalculatorRefusal
+abbrev pub unless_refused : Option CalculatorRefusal → Result CalculatorState CalculatorRefusal
+    → Result CalculatorState CalculatorRefusal
 unless_refused None made = made
 unless_refused (Some why) made = Err why
 
@@ -50,9 +62,13 @@ abbrev pub size_makes : CalculatorState → ℕ → Result CalculatorState Calcu
 size_makes s count = unless_refused (change_refusal s) (resized s (size_outcome s.nut.ram count))
 
 -- the calculator becomes what was made of it, or stays and there is a refusal
-abbrev pub Becomes : Result CalculatorState CalculatorRefusal → CalculatorState → CalculatorState → Option CalculatorRefusal → Type 0
+abbrev pub Becomes : Result CalculatorState CalculatorRefusal → CalculatorState → CalculatorState
+    → Option CalculatorRefusal → Type 0
 Becomes made s t refusal = (t ≡ result_unwrap_or made s) × (refusal ≡ result_err made)
 
 -- bytes are loaded, or refused and nothing changes
 abbrev pub Loads : List ℕ → CalculatorState → CalculatorState → Option CalculatorRefusal → Type 0
-Loads bytes s t refusal = (made : Result CalculatorState CalculatorRefusal) × LoadMakes s bytes made × Becomes made s t refusal
+Loads bytes s t refusal =
+    (made : Result CalculatorState CalculatorRefusal)
+    × LoadMakes s bytes made
+    × Becomes made s t refusal

@@ -3,7 +3,11 @@
 ghost use Rattle.std.specs.Prelude.{◌≡◌, None, IfOk, IfErr, OnOk, OnErr, option_map};
 ghost use Rattle.std.specs.Result.{result_err};
 ghost use Rattle.h41_pages.specs.PageMap.{unplug_refusal};
-ghost use Rattle.h41_xrom.specs.Calculator.{RefusesLine, RefusesPage, RefusesStep, RefusesStepIn, Step, StepIn, StepsByLine, TakesPage, after_answer, call_refusal, called, caller_in, entering, machine_of, mode_after, mode_behind_word, mode_of, not_typing, restarted, start, with_page, with_shown, without_page};
+ghost use Rattle.h41_xrom.specs.Calculator.{RefusesLine, RefusesPage, RefusesStep, RefusesStepIn};
+ghost use Rattle.h41_xrom.specs.Calculator.{Step, StepIn, StepsByLine, TakesPage, after_answer};
+ghost use Rattle.h41_xrom.specs.Calculator.{call_refusal, called, caller_in, entering, machine_of};
+ghost use Rattle.h41_xrom.specs.Calculator.{mode_after, mode_behind_word, mode_of, not_typing};
+ghost use Rattle.h41_xrom.specs.Calculator.{restarted, start, with_page, with_shown, without_page};
 ghost use Rattle.h41_xrom.specs.KeyActions as keys;
 ghost use Rattle.h41_xrom.specs.PrivateCalls.{Accepts, IsAccepted, after_effect, after_end};
 ghost use Rattle.h41_keys.specs.declared.input.Entry.TheVariants as entries;

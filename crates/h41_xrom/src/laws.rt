@@ -1,6 +1,8 @@
 //! Laws of the calculator: each is the contract of a function with nothing to do but to call the laws it rests on.
 
-ghost use Rattle.h41_xrom.specs.CalculatorLaws.{DisplayIsDetermined, KeyIsDetermined, LoadIsDetermined, StepIsDetermined, StepRefusalIsDetermined, TypedAsStepped};
+ghost use Rattle.h41_xrom.specs.CalculatorLaws.{DisplayIsDetermined, KeyIsDetermined};
+ghost use Rattle.h41_xrom.specs.CalculatorLaws.{LoadIsDetermined, StepIsDetermined};
+ghost use Rattle.h41_xrom.specs.CalculatorLaws.{StepRefusalIsDetermined, TypedAsStepped};
 
 use h41_editor::laws::{changes_are_determined, moves_are_determined, text_is_determined};
 use h41_focal::laws::{line_is_determined, typed_as_stepped as lines_typed_as_stepped};

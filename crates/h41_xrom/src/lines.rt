@@ -2,7 +2,8 @@
 
 ghost use Rattle.std.specs.Prelude.{◌≡◌, None, Some, OnErr};
 ghost use Rattle.h41_focal.specs.MachineCalls.{KeepsElsewhere, carried_as, passed_as};
-ghost use Rattle.h41_xrom.specs.Lines.{BeginsEntry, CallsEntry, CarriesFrom, CarriesLine, Fails, FailsFrom, IsNamed, PassesFrom, Seeks};
+ghost use Rattle.h41_xrom.specs.Lines.{BeginsEntry, CallsEntry, CarriesFrom, CarriesLine, Fails};
+ghost use Rattle.h41_xrom.specs.Lines.{FailsFrom, IsNamed, PassesFrom, Seeks};
 ghost use Rattle.h41_xrom.specs.PrivateCalls.{CarriesFunction, IsFunction, ended_as};
 
 use h41_codes::{Function, Line};

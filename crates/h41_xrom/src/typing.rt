@@ -2,7 +2,8 @@
 
 ghost use Rattle.std.specs.Prelude.{◌≡◌, [], ◌∷◌, ◌++◌, take, Ok};
 ghost use Rattle.h41_ram.specs.RegisterMap.{alpha_of};
-ghost use Rattle.h41_xrom.specs.KeyActions.{BeginsNumber, ChangesNumber, Leaves, with_alpha_toggled, with_letters, with_text};
+ghost use Rattle.h41_xrom.specs.KeyActions.{BeginsNumber, ChangesNumber, Leaves};
+ghost use Rattle.h41_xrom.specs.KeyActions.{with_alpha_toggled, with_letters, with_text};
 ghost use Rattle.h41_xrom.specs.declared.acting.Effect.TheVariants.{Nothing};
 
 use crate::acting::Effect;

@@ -1,4 +1,5 @@
-use Rattle.h41_focal.proofs.OneOutcome.{failure_determined, passing_determined, read_once, step_determined, typed_determined, typed_failure_determined}
+use Rattle.h41_focal.proofs.OneOutcome.{failure_determined, passing_determined, read_once, step_determined, typed_determined}
+use Rattle.h41_focal.proofs.OneOutcome.{typed_failure_determined}
 use Rattle.h41_focal.proofs.laws.line_is_determined.Goals as goal
 
 pub returns-clause-step : goal.returns-clause-step

@@ -11,7 +11,8 @@ returns-in_err-check_memory c =
 
 pub returns-in-Ok : goal.returns-in-Ok
 returns-in-Ok c =
-    key_done c.args.key c.args.input c.args.action _ c.args.self.now _ c.act.new.machine c.in-Ok.effect c.self.view_is (c.in_ok-check_memory.ensures)
+    key_done c.args.key c.args.input c.args.action _ c.args.self.now _
+    c.act.new.machine c.in-Ok.effect c.self.view_is (c.in_ok-check_memory.ensures)
     (c.in-Ok.ensures).effect (c.finish.ensures ∙ ap (after_effect c.in-Ok.effect) c.tell.ensures)
 
 pub returns-in-Err : goal.returns-in-Err

@@ -10,10 +10,12 @@ accept-requires c = (
 
 pub returns-in-Ok : goal.returns-in-Ok
 returns-in-Ok c =
-    key_known _ c.args.self.now c.accept.new.self c.args.key c.waits.result c.key_flags.result c.in-Ok.action _ (result_err c.accept.result) c.self.view_is c.waits.ensures
+    key_known _ c.args.self.now c.accept.new.self c.args.key c.waits.result c.key_flags.result
+    c.in-Ok.action _ (result_err c.accept.result) c.self.view_is c.waits.ensures
     c.key_flags.ensures (c.in-Ok.ensures).accepted c.accept.ensures
 
 pub returns-in-Err : goal.returns-in-Err
 returns-in-Err c =
-    key_unknown _ c.args.self.now c.args.key c.waits.result c.key_flags.result c.into.result c.self.view_is c.waits.ensures c.key_flags.ensures (c.in-Err.ensures).refused
+    key_unknown _ c.args.self.now c.args.key c.waits.result c.key_flags.result c.into.result
+    c.self.view_is c.waits.ensures c.key_flags.ensures (c.in-Err.ensures).refused
     c.into.ensures

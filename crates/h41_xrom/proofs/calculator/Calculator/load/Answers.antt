@@ -12,9 +12,11 @@ returns-in_err-check_change c =
 pub returns-in_err-position : goal.returns-in_err-position
 returns-in_err-position c =
     let p = err_from_is_err_and c.from_residual-in_err-position.result c.from_residual-in_err-position.ensures.1 in
-    rw (p.1, p.2) (load_failed c.args.bytes.now _ c.args.self.now c.load.new.ram _ (ap the_view c.self-inside.view_is ∙ c.self.view_is) (c.in_ok-check_change.ensures) (c.in_err-position.ensures).lines)
+    rw (p.1, p.2) (load_failed c.args.bytes.now _ c.args.self.now c.load.new.ram _
+    (ap the_view c.self-inside.view_is ∙ c.self.view_is) (c.in_ok-check_change.ensures) (c.in_err-position.ensures).lines)
 
 pub returns : goal.returns
 returns c =
-    load_done c.args.bytes.now _ c.args.self.now c.load.new.ram c.in_ok-position.position c.halt_at.new.self (ap the_view c.self-inside.view_is ∙ c.self.view_is) c.halt_at.ensures
+    load_done c.args.bytes.now _ c.args.self.now c.load.new.ram c.in_ok-position.position
+    c.halt_at.new.self (ap the_view c.self-inside.view_is ∙ c.self.view_is) c.halt_at.ensures
     (c.in_ok-check_change.ensures) (c.in_ok-position.ensures).lines

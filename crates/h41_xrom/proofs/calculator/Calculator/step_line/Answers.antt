@@ -14,4 +14,5 @@ returns-in-Ok-clause-change c =
 
 pub returns-in-Err-clause-refusal : goal.returns-in-Err-clause-refusal
 returns-in-Err-clause-refusal c =
-    line_refused _ c.args.self.now c.carry_line.new.machine c.in-Err.refusal _ c.self.view_is (c.in-Err.ensures).line (ap Some c.into.ensures)
+    line_refused _ c.args.self.now c.carry_line.new.machine c.in-Err.refusal
+    _ c.self.view_is (c.in-Err.ensures).line (ap Some c.into.ensures)

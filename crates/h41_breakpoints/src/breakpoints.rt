@@ -103,7 +103,7 @@ impl Breakpoints {
     pub fn insert(&mut self, location: Location) -> Result<(), BreakFull>
         ensures refusal { is_err result ≡ refuses_breakpoint self.old location }
         ensures change { OnOk result (self.new ≡ with_breakpoint location self.old) }
-        ensures err { OnErr result (self.new ≡ self.old) }
+        ensures unchanged { OnErr result (self.new ≡ self.old) }
     {
         if self.contains(location) {
             return Ok(());
@@ -120,7 +120,7 @@ impl Breakpoints {
     pub fn remove(&mut self, location: Location) -> Result<(), NoBreak>
         ensures refusal { is_err result ≡ lacks_breakpoint self.old location }
         ensures change { OnOk result (self.new ≡ without_breakpoint location self.old) }
-        ensures err { OnErr result (self.new ≡ self.old) }
+        ensures unchanged { OnErr result (self.new ≡ self.old) }
     {
         match index_among(self.items.as_slice(), location) {
             Some(index) => {

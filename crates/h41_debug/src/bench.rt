@@ -85,7 +85,7 @@ impl Bench {
         ensures refusal { RefusesStep self.old.calculator (result_err result) }
         ensures change { OnOk result (Step self.old.calculator self.new.calculator) }
         ensures others { self.new ≡ with_calculator self.new.calculator self.old }
-        ensures err { OnErr result (self.new ≡ self.old) }
+        ensures unchanged { OnErr result (self.new ≡ self.old) }
     {
         let (_made, stop) = self.advance(1);
         if let Stop::Refused(refusal) = stop {
@@ -103,7 +103,7 @@ impl Bench {
         ensures change { OnOk result (Step self.old.calculator self.new.calculator) }
         ensures mode { IfOk result (λ on. self.new.calculator.mode ≡ mode_behind_word on caller) }
         ensures others { self.new ≡ with_calculator self.new.calculator self.old }
-        ensures err { OnErr result (self.new ≡ self.old) }
+        ensures unchanged { OnErr result (self.new ≡ self.old) }
     {
         self.calculator.step_word(caller)
     }
@@ -114,7 +114,7 @@ impl Bench {
         ensures refusal { RefusesLine self.old.calculator (result_err result) }
         ensures change { OnOk result (StepsByLine self.old.calculator self.new.calculator) }
         ensures others { self.new ≡ with_calculator self.new.calculator self.old }
-        ensures err { OnErr result (self.new ≡ self.old) }
+        ensures unchanged { OnErr result (self.new ≡ self.old) }
     {
         self.calculator.step_line()
     }
@@ -163,7 +163,7 @@ impl Bench {
     pub fn break_at(&mut self, location: Location) -> Result<(), BreakFull>
         ensures refusal { is_err result ≡ refuses_breakpoint self.old.breakpoints location }
         ensures change { OnOk result (self.new ≡ with_set location self.old) }
-        ensures err { OnErr result (self.new ≡ self.old) }
+        ensures unchanged { OnErr result (self.new ≡ self.old) }
     {
         self.breakpoints.insert(location)
     }
@@ -172,7 +172,7 @@ impl Bench {
     pub fn unbreak(&mut self, location: Location) -> Result<(), NoBreak>
         ensures refusal { is_err result ≡ lacks_breakpoint self.old.breakpoints location }
         ensures change { OnOk result (self.new ≡ without_set location self.old) }
-        ensures err { OnErr result (self.new ≡ self.old) }
+        ensures unchanged { OnErr result (self.new ≡ self.old) }
     {
         self.breakpoints.remove(location)
     }

@@ -168,7 +168,7 @@ fn plug(
     requires kind { IsForPage block }
     requires accepted { result_err (judgement block) ≡ None }
     ensures plugs { IfOk result (PlugsTaken block page writable bench.old bench.new) }
-    ensures err { OnErr result (bench.new ≡ bench.old) }
+    ensures unchanged { OnErr result (bench.new ≡ bench.old) }
 {
     match block.into_words(alloc, page)? {
         Ok(words) => plug_words(alloc, bench, page, writable, words),
@@ -186,7 +186,7 @@ fn plug_words(
 ) -> Result<Option<Refusal>, AllocError>
     requires { vec_len words ≤ page_size }
     ensures plugs { IfOk result (PlugsWordsOf words page writable bench.old bench.new) }
-    ensures err { OnErr result (bench.new ≡ bench.old) }
+    ensures unchanged { OnErr result (bench.new ≡ bench.old) }
 {
     let mut words = words;
     words.resize(PAGE_WORDS, 0)?;
@@ -207,7 +207,7 @@ fn load(alloc: Global, bench: &mut Bench, block: Block) -> Result<Option<Refusal
     requires kind { IsForProgram block }
     requires accepted { result_err (judgement block) ≡ None }
     ensures loads { IfOk result (LoadsTaken block bench.old bench.new) }
-    ensures err { OnErr result (bench.new ≡ bench.old) }
+    ensures unchanged { OnErr result (bench.new ≡ bench.old) }
 {
     match block.into_bytes(alloc)? {
         Ok(bytes) => Ok(load_bytes(bench, &bytes)),

@@ -51,7 +51,8 @@ move_row moves.ClearX =
 abbrev pub alpha_row : AlphaWork → Row
 alpha_row alphas.Clear = record nothing { alpha = Some (Becomes []) }
 alpha_row alphas.Shift = record nothing { alpha = Some LosesSix }
-alpha_row (alphas.Mode on) = record nothing { flags = record { flag = flags_named.alpha_mode; on = on } ∷ [] }
+alpha_row (alphas.Mode on) =
+    record nothing { flags = record { flag = flags_named.alpha_mode; on = on } ∷ [] }
 
 -- what the display shows, and whether the program goes on
 abbrev pub display_row : DisplayWork → Row

@@ -192,7 +192,7 @@ impl Calculator {
     pub fn call(&mut self, address: u16) -> Result<(), CalculatorRefusal>
         ensures refusal { result_err result ≡ call_refusal self.old address }
         ensures change { OnOk result (self.new ≡ called address self.old) }
-        ensures err { OnErr result (self.new ≡ self.old) }
+        ensures unchanged { OnErr result (self.new ≡ self.old) }
     {
         if self.mode != Mode::Idle {
             return Err(CalculatorRefusal::Busy);
@@ -227,7 +227,7 @@ impl Calculator {
     pub fn step(&mut self) -> Result<(), CalculatorRefusal>
         ensures refusal { RefusesStep self.old (result_err result) }
         ensures change { OnOk result (Step self.old self.new) }
-        ensures err { OnErr result (self.new ≡ self.old) }
+        ensures unchanged { OnErr result (self.new ≡ self.old) }
     {
         match self.mode {
             Mode::Idle | Mode::Run => self.step_line(),
@@ -244,7 +244,7 @@ impl Calculator {
     pub fn step_line(&mut self) -> Result<(), CalculatorRefusal>
         ensures refusal { RefusesLine self.old (result_err result) }
         ensures change { OnOk result (StepsByLine self.old self.new) }
-        ensures err { OnErr result (self.new ≡ self.old) }
+        ensures unchanged { OnErr result (self.new ≡ self.old) }
     {
         match carry_line(&mut self.machine, &self.pages, &Source::Program) {
             Ok(end) => {
@@ -391,7 +391,7 @@ impl Calculator {
         ensures refusal { RefusesStepIn (Micro caller) self.old (result_err result) }
         ensures change { OnOk result (StepIn (Micro caller) self.old self.new) }
         ensures running { IfOk result (λ runs. self.new.mode ≡ mode_behind_word runs caller) }
-        ensures err { OnErr result (self.new ≡ self.old) }
+        ensures unchanged { OnErr result (self.new ≡ self.old) }
     {
         step(
             &mut self.cpu,
@@ -458,7 +458,7 @@ impl Calculator {
     ) -> Result<(), PlugRefusal>
         ensures accepted { OnOk result (TakesPage self.old page bank words.now) }
         ensures change { OnOk result (self.new ≡ with_page page bank writable words.now self.old) }
-        ensures err { OnErr result (self.new ≡ self.old) }
+        ensures unchanged { OnErr result (self.new ≡ self.old) }
         ensures refusal { IfErr result (RefusesPage self.old page bank words.now) }
     {
         self.pages.plug(alloc, page, bank, writable, words)
@@ -469,7 +469,7 @@ impl Calculator {
     pub fn unplug(&mut self, page: u8) -> Result<(), UnplugRefusal>
         ensures refusal { result_err result ≡ unplug_refusal self.old.nut.pages page }
         ensures change { OnOk result (self.new ≡ without_page page self.old) }
-        ensures err { OnErr result (self.new ≡ self.old) }
+        ensures unchanged { OnErr result (self.new ≡ self.old) }
     {
         self.pages.unplug(page)
     }

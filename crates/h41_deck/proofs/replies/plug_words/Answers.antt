@@ -19,6 +19,7 @@ returns c =
       plugs =
           rw c.from.ensures (plugs_refused c.args.bench.now c.args.page c.args.writable
           c.args.words.items c.deref.result.now c.calculator_mut.result.now c.plug.new.self
-          c.calculator_mut.ensures.value words c.in-Err.refusal c.in-Err.ensures.refusal c.in_default.not-OutOfMemory c.in-Err.ensures.err);
-      err = tt;
+          c.calculator_mut.ensures.value words c.in-Err.refusal c.in-Err.ensures.refusal
+          c.in_default.not-OutOfMemory c.in-Err.ensures.unchanged);
+      unchanged = tt;
     }

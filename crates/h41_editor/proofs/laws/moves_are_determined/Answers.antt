@@ -9,7 +9,8 @@ returns-clause-next c = next_determined
 pub returns-clause-before : goal.returns-clause-before
 returns-clause-before c =
     before_determined
-    (read_once c.searches_are_determined.ensures.line c.searches_are_determined.ensures.next) c.searches_are_determined.ensures.start c.searches_are_determined.ensures.program
+    (read_once c.searches_are_determined.ensures.line c.searches_are_determined.ensures.next)
+    c.searches_are_determined.ensures.start c.searches_are_determined.ensures.program
 
 pub returns-clause-end : goal.returns-clause-end
 returns-clause-end c = end_determined c.lists_are_determined.ensures.lines c.searches_are_determined.ensures.start

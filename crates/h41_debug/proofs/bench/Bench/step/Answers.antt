@@ -21,4 +21,4 @@ returns c =
     let made =
     one_made c.args.self.now c.advance-made.new.self
     (subst (λ n. Steps n c.args.self.now c.advance-made.new.self None) one c.advance-made.ensures.steps) in
-    record { refusal = made.0; change = made.1; others = made.2; err = tt }
+    record { refusal = made.0; change = made.1; others = made.2; unchanged = tt }

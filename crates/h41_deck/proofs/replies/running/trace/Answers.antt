@@ -39,7 +39,7 @@ returns-in-Err-step-clause-text g c = λ values.
     let said = traces_refused c.args.count (c.args.count - (c.loop-made.made + 1)) values c.args.bench.now c.loop-made.bench
     _ (g.W.Sink.contents c.loop-made.writer) _ c.traced_line-line.result.bytes c.in-Err-step.refusal
     on c.traced_line-line.ensures written c.in-Err-step.ensures.refusal in
-    rw c.in-Err-step.ensures.err said
+    rw c.in-Err-step.ensures.unchanged said
 
 pub loop-made-preserved : goal.loop-made-preserved
 loop-made-preserved g c =

@@ -24,4 +24,4 @@ returns-in-Err c =
     refused_piece c.args.limit c.args.from c.args.from c.args.self.now c.args.self.now c.step_line.new.self c.in-Err.refusal
     (λ start begun. begun) refl c.requires.clear c.requires.below
     (line_refuses c.args.self.now.calculator.mode c.args.self.now.calculator (Some c.in-Err.refusal) none (c.in-Err.ensures).refusal)
-    (c.in-Err.ensures).err
+    (c.in-Err.ensures).unchanged

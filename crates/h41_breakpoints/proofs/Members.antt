@@ -16,48 +16,49 @@ use Rattle.std.proofs.lemmas.List.Sorted.{IsPermutation-swap_remove, list_any-Is
 use Rattle.std.specs.Ordering.{ordering_reverse}
 use Rattle.h41_breakpoints.specs.Breakpoints.{BreakpointSet, location_cmp, is_set, with_breakpoint, without_breakpoint}
 use Rattle.std.proofs.lemmas.Bool.{cases_eq}
-use Rattle.h41_breakpoints.specs.Members.{AreMarked, IsEachOnce, is_same, low_byte, set_of}
+use Rattle.h41_breakpoints.specs.private.Members.{AreMarked, IsEachOnce, is_same, low_byte, set_of}
 use Rattle.h41_breakpoints.specs.declared.location.Location.{Location}
 use Rattle.h41_breakpoints.specs.declared.location.Location.TheVariants.{Line, Word}
+use Rattle.h41_program.specs.declared.position.Position.TheVariants.{Memory}
 
 -- the order of locations is total, and only the same one shares a place
 cmp_reversed : (x y : Location) → location_cmp x y ≡ ordering_reverse (location_cmp y x)
 cmp_reversed (Word a) (Word b) = nat_cmp_total.antisymm a b
-cmp_reversed (Word a) (Line b) = refl
-cmp_reversed (Line a) (Word b) = refl
-cmp_reversed (Line a) (Line b) = nat_cmp_total.antisymm a b
+cmp_reversed (Word a) (Line (Memory b)) = refl
+cmp_reversed (Line (Memory a)) (Word b) = refl
+cmp_reversed (Line (Memory a)) (Line (Memory b)) = nat_cmp_total.antisymm a b
 
 cmp_below : (x y z : Location) → location_cmp x y ≡ Less → location_cmp y z ≡ Less → location_cmp x z ≡ Less
 cmp_below (Word a) (Word b) (Word c) p q = nat_cmp_total.trans a b c p q
-cmp_below (Word a) (Word b) (Line c) p q = refl
-cmp_below (Word a) (Line b) (Word c) p q = cc
-cmp_below (Word a) (Line b) (Line c) p q = refl
-cmp_below (Line a) (Word b) z p q = cc
-cmp_below (Line a) (Line b) (Word c) p q = cc
-cmp_below (Line a) (Line b) (Line c) p q = nat_cmp_total.trans a b c p q
+cmp_below (Word a) (Word b) (Line (Memory c)) p q = refl
+cmp_below (Word a) (Line (Memory b)) (Word c) p q = cc
+cmp_below (Word a) (Line (Memory b)) (Line (Memory c)) p q = refl
+cmp_below (Line (Memory a)) (Word b) z p q = cc
+cmp_below (Line (Memory a)) (Line (Memory b)) (Word c) p q = cc
+cmp_below (Line (Memory a)) (Line (Memory b)) (Line (Memory c)) p q = nat_cmp_total.trans a b c p q
 
 cmp_tied : (x y z : Location) → location_cmp x y ≡ Equal → location_cmp x z ≡ location_cmp y z
 cmp_tied (Word a) (Word b) (Word c) p = nat_cmp_total.congr a b c p
-cmp_tied (Word a) (Word b) (Line c) p = refl
-cmp_tied (Word a) (Line b) z p = cc
-cmp_tied (Line a) (Word b) z p = cc
-cmp_tied (Line a) (Line b) (Word c) p = refl
-cmp_tied (Line a) (Line b) (Line c) p = nat_cmp_total.congr a b c p
+cmp_tied (Word a) (Word b) (Line (Memory c)) p = refl
+cmp_tied (Word a) (Line (Memory b)) z p = cc
+cmp_tied (Line (Memory a)) (Word b) z p = cc
+cmp_tied (Line (Memory a)) (Line (Memory b)) (Word c) p = refl
+cmp_tied (Line (Memory a)) (Line (Memory b)) (Line (Memory c)) p = nat_cmp_total.congr a b c p
 
 pub cmp_total : IsTotalOrder location_cmp
 cmp_total = record { antisymm = cmp_reversed; trans = cmp_below; congr = cmp_tied }
 
 pub cmp_apart : (x y : Location) → location_cmp x y ≡ Equal → x ≡ y
 cmp_apart (Word a) (Word b) p = ap Word (nat_cmp-IsAntisymmetric a b p)
-cmp_apart (Word a) (Line b) p = cc
-cmp_apart (Line a) (Word b) p = cc
-cmp_apart (Line a) (Line b) p = ap Line (nat_cmp-IsAntisymmetric a b p)
+cmp_apart (Word a) (Line (Memory b)) p = cc
+cmp_apart (Line (Memory a)) (Word b) p = cc
+cmp_apart (Line (Memory a)) (Line (Memory b)) p = ap (λ (n : ℕ). Line (Memory n)) (nat_cmp-IsAntisymmetric a b p)
 
 same_is : (x y : Location) → is_same x y ≡ eq_by_cmp location_cmp x y
 same_is (Word a) (Word b) = sym (unsigned_tied a b)
-same_is (Word a) (Line b) = refl
-same_is (Line a) (Word b) = refl
-same_is (Line a) (Line b) = sym (unsigned_tied a b)
+same_is (Word a) (Line (Memory b)) = refl
+same_is (Line (Memory a)) (Word b) = refl
+same_is (Line (Memory a)) (Line (Memory b)) = sym (unsigned_tied a b)
 
 equal_are : (x y : Location) → eq_by_cmp location_cmp x y ≡ true → x ≡ y
 equal_are x y p = cmp_apart x y ((Equal-is (location_cmp x y)).0 p)

@@ -7,6 +7,7 @@ use Rattle.std.specs.declared.cmp.Ordering.{Ordering}
 use Rattle.std.specs.declared.cmp.Ordering.TheVariants.{Greater, Less}
 use Rattle.h41_breakpoints.specs.declared.location.Location.{Location}
 use Rattle.h41_breakpoints.specs.declared.location.Location.TheVariants.{Line, Word}
+use Rattle.h41_program.specs.declared.position.Position.TheVariants.{Memory}
 
 -- the order of locations, which only the same one shares a place in: words before lines, and each
 -- by their numbers
@@ -14,7 +15,7 @@ abbrev pub location_cmp : Location → Location → Ordering
 location_cmp (Word address) (Word other) = nat_cmp address other
 location_cmp (Word address) (Line position) = Less
 location_cmp (Line position) (Word address) = Greater
-location_cmp (Line position) (Line other) = nat_cmp position other
+location_cmp (Line (Memory byte)) (Line (Memory other)) = nat_cmp byte other
 
 abbrev pub BreakpointSet : Type 0
 BreakpointSet = FinSet location_cmp

@@ -1,2 +1,2 @@
 pub mod Breakpoints
-pub mod Members
+pub mod private

@@ -7,10 +7,11 @@ ghost use Rattle.h41_breakpoints.specs.declared.location.Location.TheVariants.{L
 ghost use Rattle.h41_breakpoints.specs.Breakpoints.{is_set, most_breakpoints, no_breakpoints};
 ghost use Rattle.h41_breakpoints.specs.Breakpoints.{lacks_breakpoint, refuses_breakpoint};
 ghost use Rattle.h41_breakpoints.specs.Breakpoints.{with_breakpoint, without_breakpoint};
-ghost use Rattle.h41_breakpoints.specs.Members.{is_same, low_byte};
+ghost use Rattle.h41_breakpoints.specs.private.Members.{is_same, low_byte};
 
 use crate::location::Location;
 use arrayvec::ArrayVec;
+use h41_program::Position;
 use std::marker::Model;
 
 /// How many breakpoints can be set.
@@ -39,7 +40,7 @@ pub struct Breakpoints {
 impl Model for Breakpoints {
     ghost use Rattle.std.specs.FinSet as set;
     ghost use Rattle.h41_breakpoints.specs.Breakpoints.{BreakpointSet};
-    ghost use Rattle.h41_breakpoints.specs.Members.{AreMarked, IsEachOnce, set_of};
+    ghost use Rattle.h41_breakpoints.specs.private.Members.{AreMarked, IsEachOnce, set_of};
     ghost use Rattle.h41_breakpoints.specs.contracts.location.Location as member;
 
     ghost Value = { BreakpointSet };
@@ -84,10 +85,12 @@ impl Breakpoints {
     /// Whether a line's breakpoint may be set. Its machine code stands apart, so that words have the
     /// shorter way.
     #[inline(never)]
-    fn may_contain_line(&self, position: u16) -> bool
+    fn may_contain_line(&self, position: Position) -> bool
         ensures { result ≡ false → is_set self.now (Line position) ≡ false }
     {
-        self.low_bytes[usize::from(position % 256)]
+        match position {
+            Position::Memory(byte) => self.low_bytes[usize::from(byte % 256)],
+        }
     }
 
     /// How many are set.

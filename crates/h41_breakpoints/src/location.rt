@@ -1,16 +1,18 @@
 //! Where the calculator can be, and a run can stop.
 
 ghost use Rattle.std.specs.Prelude.{◌≡◌, ◌<◌};
-ghost use Rattle.h41_breakpoints.specs.Members.{is_same, low_byte};
+ghost use Rattle.h41_breakpoints.specs.private.Members.{is_same, low_byte};
 ghost use Rattle.h41_breakpoints.specs.declared.location.Location.TheVariants.{Word};
+
+use h41_program::Position;
 
 /// Where the calculator can be. A breakpoint is such a place, and has a run stop there.
 #[derive(Clone, Copy, Debug, PartialEq, Eq)]
 pub enum Location {
     /// While a function runs: before the word at this address.
     Word(u16),
-    /// While no function runs: before the line at this position in program memory.
-    Line(u16),
+    /// While no function runs: before the line at this position.
+    Line(Position),
 }
 
 impl Default for Location {
@@ -28,7 +30,10 @@ impl Location {
     {
         match (self, other) {
             (Location::Word(address), Location::Word(other)) => address == other,
-            (Location::Line(position), Location::Line(other)) => position == other,
+            (
+                Location::Line(Position::Memory(byte)),
+                Location::Line(Position::Memory(other)),
+            ) => byte == other,
             _ => false,
         }
     }
@@ -39,7 +44,9 @@ impl Location {
         ensures bound { result < 256 }
     {
         match self {
-            Location::Word(number) | Location::Line(number) => usize::from(number % 256),
+            Location::Word(number) | Location::Line(Position::Memory(number)) => {
+                usize::from(number % 256)
+            }
         }
     }
 }

@@ -7,6 +7,7 @@ use Rattle.h41_keys.specs.declared.key.Key.{Key}
 use Rattle.h41_keys.specs.Keyboard.{key_named}
 use Rattle.h41_breakpoints.specs.declared.location.Location.{Location}
 use Rattle.h41_breakpoints.specs.declared.location.Location.TheVariants.{Line, Word}
+use Rattle.h41_program.specs.declared.position.Position.TheVariants.{Memory}
 use Rattle.h41_commands.specs.declared.commands.Command.{Command}
 use Rattle.h41_commands.specs.declared.commands.Command.TheVariants.{Plug, Load, Unplug, Size}
 use Rattle.h41_commands.specs.declared.commands.Command.TheVariants.{Reset, Call, Step, Run, Trace}
@@ -106,7 +107,7 @@ abbrev pub location_by : List ℕ → List ℕ → Result Location LineRefusal
 location_by kind number =
     if bytes_eq kind (codes "w") then and_then (hexadecimal 4 number) (λ address. Ok (Word address))
     else (if bytes_eq kind (codes "l")
-    then and_then (number_up_to most_position 10 number) (λ position. Ok (Line position))
+    then and_then (number_up_to most_position 10 number) (λ byte. Ok (Line (Memory byte)))
     else Err BadCommand)
 
 abbrev pub break_location : List (List ℕ) → Result Location LineRefusal

@@ -7,11 +7,11 @@ use Rattle.h41_xrom.specs.declared.calculator.Mode.TheVariants as modes
 use Rattle.h41_xrom.specs.declared.refusal.CalculatorRefusal.{CalculatorRefusal}
 use Rattle.h41_xrom.specs.Calculator.{CalculatorState, RefusesLine, RefusesStep, RefusesStepIn, Step, StepIn, StepsByLine, is_idle}
 use Rattle.h41_xrom.specs.CalculatorLaws.{StepIsDetermined, StepRefusalIsDetermined}
-use Rattle.h41_debug.specs.Advancing.{Advances, MakesSteps}
+use Rattle.h41_debug.specs.private.Advancing.{Advances, MakesSteps}
 use Rattle.h41_debug.specs.Bench.{BenchState, with_calculator}
 use Rattle.h41_breakpoints.specs.Breakpoints.{is_set}
 use Rattle.h41_debug.specs.Positions.{location_of}
-use Rattle.h41_debug.specs.Running.{stop_at, stop_behind, stop_running}
+use Rattle.h41_debug.specs.private.Running.{stop_at, stop_behind, stop_running}
 use Rattle.h41_debug.specs.declared.run.Stop.TheVariants.{Break, Idle}
 use Rattle.h41_debug.proofs.Runs.{made_more}
 

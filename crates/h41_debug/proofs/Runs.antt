@@ -12,8 +12,8 @@ use Rattle.h41_debug.specs.BenchLaws.{RefusedStepIsRun, RunsAddUp, RunsAreDeterm
 use Rattle.h41_breakpoints.specs.Breakpoints.{is_set}
 use Rattle.h41_debug.specs.Positions.{location_of}
 use Rattle.h41_debug.specs.Run.{Run, StopsFor, turn_of}
-use Rattle.h41_debug.specs.Advancing.{EndsFor, MakesSteps, NoneBefore}
-use Rattle.h41_debug.specs.Running.{stop_at, stop_behind}
+use Rattle.h41_debug.specs.private.Advancing.{EndsFor, MakesSteps, NoneBefore}
+use Rattle.h41_debug.specs.private.Running.{stop_at, stop_behind}
 use Rattle.h41_debug.specs.declared.run.Stop.{Stop}
 use Rattle.h41_debug.specs.declared.run.Stop.TheVariants.{Break, Idle, Limit, Refused}
 use Rattle.h41_debug.proofs.StepsInTurn.{steps-refused, steps_determined}

@@ -4,15 +4,12 @@ use Rattle.std.proofs.Common.{subst, ◌∙◌}
 use Rattle.std.specs.Prelude.{MatchBool, MatchOption, codes}
 use Rattle.h41_breakpoints.specs.declared.location.Location.{Location}
 use Rattle.h41_breakpoints.specs.declared.location.Location.TheVariants.{Line, Word}
-use Rattle.h41_program.specs.declared.listed_line.ListedLine.{ListedLine}
+use Rattle.h41_program.specs.declared.position.PlacedLine.{PlacedLine}
+use Rattle.h41_program.specs.declared.position.Position.{Position}
 use Rattle.h41_program.specs.declared.refusal.ProgramRefusal.{ProgramRefusal}
-use Rattle.h41_program.specs.declared.refusal.ProgramRefusal.TheVariants.{BrokenProgram}
-use Rattle.h41_program.specs.ProgramBytes.{final_position, program_bytes}
-use Rattle.h41_program.specs.SearchLaws.{LineIsDetermined}
-use Rattle.h41_program.specs.ProgramLaws.{OneList}
-use Rattle.h41_program.specs.ProgramLines.{AnswersFirst, Reads}
+use Rattle.h41_program.specs.PositionLaws.{EachIsRead, IsReadOnce}
+use Rattle.h41_program.specs.Positions.{LineAt}
 use Rattle.h41_ram.specs.RegisterMap.{RegisterMap, is_sound}
-use Rattle.h41_text.specs.LineText.{line_text}
 use Rattle.h41_xrom.specs.Calculator.{CalculatorState, Step}
 use Rattle.h41_xrom.specs.CalculatorLaws.{StepIsDetermined, StepRefusalIsDetermined}
 use Rattle.h41_xrom.specs.declared.refusal.CalculatorRefusal.{CalculatorRefusal}
@@ -37,20 +34,14 @@ pub traces_make : TracesAreSteps
 traces_make zero s t lines refusal p = (p.0, p.2)
 traces_make (suc count) s t lines refusal p = (p.4, p.5, made_after count (traces_make count) p.4 s t p.2 refusal p.6)
 
--- THE NEXT LINE CAN BE TOLD, since memory has one list of lines from each position on
-line_of : (memory : RegisterMap) (at : ℕ) (lines : List ListedLine) → Reads (program_bytes memory) (final_position memory) at lines
-    → (text : List ℕ) × ((answer : Result ListedLine ProgramRefusal) × AnswersFirst memory at answer × (text ≡ line_or_unknown answer))
-line_of memory at [] reads = (unknown_text, (Err BrokenProgram, (refl, reads), refl))
-line_of memory at (first ∷ rest) reads = (line_text first.line, (Ok first, reads.0, refl))
-
-module _ (one : OneList) where
-  line_told : (memory : RegisterMap) (at : ℕ) → (text : List ℕ) × TellsLine memory at text
+-- THE NEXT LINE CAN BE TOLD, since each position is read
+module _ (each : EachIsRead) where
+  line_told : (memory : RegisterMap) (at : Position) → (text : List ℕ) × TellsLine memory at text
   line_told memory at =
-      let all = one memory at in
       elim (is_sound memory) as (λ sound. is_sound memory ≡ sound → (text : List ℕ)
-      × MatchBool sound ((answer : Result ListedLine ProgramRefusal) × AnswersFirst memory at answer × (text ≡ line_or_unknown answer))
+      × MatchBool sound ((answer : Result PlacedLine ProgramRefusal) × LineAt memory at answer × (text ≡ line_or_unknown answer))
       (text ≡ unknown_text)) [
-        | true ↦ λ sound. line_of memory at all.lines (all.from.sound sound)
+        | true ↦ λ sound. let found = each memory at sound in (line_or_unknown found.0, (found.0, found.1, refl))
         | false ↦ λ _. (unknown_text, refl)
       ] refl
 
@@ -94,14 +85,14 @@ module _ (one : OneList) where
   steps_traced count s t text refusal tells p = told_from count (all_told count) s t text refusal tells p
 
 -- WHAT COMES NEXT IS TOLD IN ONE WAY
-module _ (same_line : LineIsDetermined) where
-  same_told : (memory : RegisterMap) (at : ℕ) (sound : Bool) (text other : List ℕ)
-      → MatchBool sound ((answer : Result ListedLine ProgramRefusal) × AnswersFirst memory at answer × (text ≡ line_or_unknown answer))
+module _ (once : IsReadOnce) where
+  same_told : (memory : RegisterMap) (at : Position) (sound : Bool) (text other : List ℕ)
+      → MatchBool sound ((answer : Result PlacedLine ProgramRefusal) × LineAt memory at answer × (text ≡ line_or_unknown answer))
       (text ≡ unknown_text)
-      → MatchBool sound ((answer : Result ListedLine ProgramRefusal) × AnswersFirst memory at answer × (other ≡ line_or_unknown answer))
+      → MatchBool sound ((answer : Result PlacedLine ProgramRefusal) × LineAt memory at answer × (other ≡ line_or_unknown answer))
       (other ≡ unknown_text)
       → text ≡ other
-  same_told memory at true text other p q = p.2 ∙ ap line_or_unknown (same_line memory at p.0 q.0 p.1 q.1) ∙ sym q.2
+  same_told memory at true text other p q = p.2 ∙ ap line_or_unknown (once.line memory at p.0 q.0 p.1 q.1) ∙ sym q.2
   same_told memory at false text other p q = p ∙ sym q
 
   same_at : (at : Location) (s : CalculatorState) (text other : List ℕ) → TellsAt at s text → TellsAt at s other → text ≡ other

@@ -5,6 +5,7 @@ use Rattle.h41_breakpoints.specs.declared.location.Location.TheVariants.{Line, W
 use Rattle.h41_digits.specs.Register.{hexadecimal_text}
 use Rattle.h41_lines.specs.Characters.{two_digits}
 use Rattle.h41_debug.specs.Bench.{BenchState}
+use Rattle.h41_program.specs.declared.position.Position.TheVariants.{Memory}
 use Rattle.h41_xrom.specs.Calculator.{CalculatorState}
 use Rattle.h41_xrom.specs.declared.calculator.Mode.{Mode}
 use Rattle.h41_xrom.specs.declared.calculator.Mode.TheVariants as modes
@@ -19,14 +20,14 @@ location_in s (modes.Micro caller) = Word s.nut.processor.pc
 abbrev pub location_of : CalculatorState → Location
 location_of s = location_in s s.mode
 
--- a position of program memory by its last four decimal digits
-abbrev pub position_digits : ℕ → List ℕ
-position_digits position = two_digits (position / 100 % 100) ++ two_digits (position % 100)
+-- a byte of program memory by its last four decimal digits
+abbrev pub byte_digits : ℕ → List ℕ
+byte_digits byte = two_digits (byte / 100 % 100) ++ two_digits (byte % 100)
 
 -- a location by four digits
 abbrev pub location_digits : Location → List ℕ
 location_digits (Word address) = hexadecimal_text 4 address
-location_digits (Line position) = position_digits position
+location_digits (Line (Memory byte)) = byte_digits byte
 
 abbrev pub mode_name : Mode → List ℕ
 mode_name modes.Idle = codes "Idle"

@@ -8,9 +8,10 @@ use Rattle.h41_dis.specs.Spelling.{piece_text}
 use Rattle.h41_nut.specs.Addresses.{address_after}
 use Rattle.h41_pages.specs.PageMap.{PageMap, fetched}
 use Rattle.h41_pages.specs.declared.refusal.FetchRefusal.{FetchRefusal}
-use Rattle.h41_program.specs.declared.listed_line.ListedLine.{ListedLine}
+use Rattle.h41_program.specs.declared.position.PlacedLine.{PlacedLine}
+use Rattle.h41_program.specs.declared.position.Position.{Position}
 use Rattle.h41_program.specs.declared.refusal.ProgramRefusal.{ProgramRefusal}
-use Rattle.h41_program.specs.ProgramLines.{AnswersFirst}
+use Rattle.h41_program.specs.Positions.{LineAt}
 use Rattle.h41_ram.specs.RegisterMap.{RegisterMap, is_sound}
 use Rattle.h41_text.specs.LineText.{line_text}
 use Rattle.h41_words.specs.WordTable.{length_of}
@@ -39,16 +40,16 @@ abbrev pub instruction_at : PageMap → ℕ → List ℕ
 instruction_at pages address = instruction_text pages address (fetched pages address)
 
 -- the text of a line, by what a position stands for
-abbrev pub line_or_unknown : Result ListedLine ProgramRefusal → List ℕ
-line_or_unknown (Ok listed) = line_text listed.line
+abbrev pub line_or_unknown : Result PlacedLine ProgramRefusal → List ℕ
+line_or_unknown (Ok placed) = line_text placed.line
 line_or_unknown (Err refusal) = unknown_text
 
 -- the text of the line at a position; memory that is not sound has none
-abbrev pub TellsLine : RegisterMap → ℕ → List ℕ → Type 0
+abbrev pub TellsLine : RegisterMap → Position → List ℕ → Type 0
 TellsLine memory at text =
     MatchBool (is_sound memory)
-    ((answer : Result ListedLine ProgramRefusal)
-    × AnswersFirst memory at answer
+    ((answer : Result PlacedLine ProgramRefusal)
+    × LineAt memory at answer
     × (text ≡ line_or_unknown answer))
     (text ≡ unknown_text)
 

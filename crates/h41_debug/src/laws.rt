@@ -5,7 +5,7 @@ ghost use Rattle.h41_debug.specs.BenchLaws.{RunsAreDetermined, StatesAreTold, St
 ghost use Rattle.h41_debug.specs.BenchLaws.{StepsAreDetermined, StepsAreTraced};
 ghost use Rattle.h41_debug.specs.BenchLaws.{TracesAreDetermined, TracesAreSteps};
 
-use h41_program::laws::{one_list, searches_are_determined};
+use h41_program::laws::positions_are_read;
 use h41_xrom::laws::{key_is_determined, step_is_determined};
 
 /// So many single steps are determined: whether one is refused, its refusal, and the state that they leave.
@@ -49,7 +49,7 @@ pub fn traces_are_determined()
     ensures { TracesAreDetermined }
 {
     step_is_determined();
-    searches_are_determined();
+    positions_are_read();
 }
 
 /// What comes next can be told of every state, and steps that were begun can be traced to their end.
@@ -57,7 +57,7 @@ pub fn steps_are_traced()
     ensures told { StatesAreTold }
     ensures traced { StepsAreTraced }
 {
-    one_list();
+    positions_are_read();
 }
 
 /// A trace makes its steps, and leaves what they leave.

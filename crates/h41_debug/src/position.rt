@@ -7,6 +7,7 @@ use crate::bench::Bench;
 use arrayvec::ArrayString;
 use h41_breakpoints::Location;
 use h41_lines::characters::{address_digits, two_digits};
+use h41_program::Position;
 use h41_xrom::Mode;
 
 /// The most bytes of a position's text: `Micro`, a blank, and four digits.
@@ -37,22 +38,22 @@ fn mode_name(mode: Mode) -> &'static str
     }
 }
 
-/// The four digits of a location: those of an address, or the last four of a position.
+/// The four digits of a location: those of an address, or the last four of a byte of program memory.
 fn location_digits(location: Location) -> ArrayString<4>
     ensures { result.bytes ≡ spec.location_digits location }
 {
     match location {
         Location::Word(address) => address_digits(address),
-        Location::Line(position) => position_digits(position),
+        Location::Line(Position::Memory(byte)) => byte_digits(byte),
     }
 }
 
-/// The last four decimal digits of a position.
-pub fn position_digits(position: u16) -> ArrayString<4>
-    ensures { result.bytes ≡ spec.position_digits position }
+/// The last four decimal digits of the index of a byte of program memory.
+pub fn byte_digits(byte: u16) -> ArrayString<4>
+    ensures { result.bytes ≡ spec.byte_digits byte }
 {
     let mut digits = ArrayString::new();
-    digits.push_str(two_digits((position / 100 % 100) as u8).as_str());
-    digits.push_str(two_digits((position % 100) as u8).as_str());
+    digits.push_str(two_digits((byte / 100 % 100) as u8).as_str());
+    digits.push_str(two_digits((byte % 100) as u8).as_str());
     digits
 }

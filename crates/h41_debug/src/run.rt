@@ -2,10 +2,10 @@
 
 ghost use Rattle.std.specs.Prelude.{◌≡◌, ◌<◌, ◌≤◌, false, nat_lt, None};
 ghost use Rattle.std.specs.FinSet.{len};
-ghost use Rattle.h41_debug.specs.Advancing.{Advances, EndsFor, IfRunning};
+ghost use Rattle.h41_debug.specs.private.Advancing.{Advances, EndsFor, IfRunning};
 ghost use Rattle.h41_debug.specs.Bench.{Steps};
 ghost use Rattle.h41_debug.specs.Run.{Run};
-ghost use Rattle.h41_debug.specs.Running.{stop_behind, stop_running};
+ghost use Rattle.h41_debug.specs.private.Running.{stop_behind, stop_running};
 ghost use Rattle.h41_xrom.specs.declared.calculator.Mode.TheVariants.{Micro};
 
 use crate::bench::Bench;

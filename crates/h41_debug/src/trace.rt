@@ -9,7 +9,7 @@ use arrayvec::ArrayString;
 use h41_breakpoints::Location;
 use h41_dis::instruction;
 use h41_pages::{FetchRefusal, Pages};
-use h41_program::line_at;
+use h41_program::{Position, line_at};
 use h41_ram::Ram;
 use h41_text::write_line;
 use h41_words::{Word, length};
@@ -49,7 +49,7 @@ fn text_at(calculator: &Calculator, location: Location) -> ArrayString<NEXT>
 }
 
 /// The text of the line at a position.
-fn line_text(ram: &Ram<REGISTERS>, position: u16) -> ArrayString<NEXT>
+fn line_text(ram: &Ram<REGISTERS>, position: Position) -> ArrayString<NEXT>
     ensures { TellsLine ram.now position result.bytes }
 {
     let mut text = ArrayString::new();
@@ -58,7 +58,7 @@ fn line_text(ram: &Ram<REGISTERS>, position: u16) -> ArrayString<NEXT>
         return text;
     }
     match line_at(ram, position) {
-        Ok(listed) => text.push_str(write_line(listed.line).as_str()),
+        Ok(placed) => text.push_str(write_line(placed.line).as_str()),
         Err(_) => text.push_str(UNKNOWN),
     }
     text

@@ -1,6 +1,6 @@
 -- What `show lines` prints: the lines of program memory. The form is this project's choice.
 use Rattle.std.specs.Prelude.{◌≡◌, ℕ, ◌++◌, List, flat_map, codes}
-use Rattle.h41_debug.specs.Positions.{position_digits}
+use Rattle.h41_debug.specs.Positions.{byte_digits}
 use Rattle.h41_program.specs.declared.listed_line.ListedLine.{ListedLine}
 use Rattle.h41_program.specs.ProgramLines.{LinesFrom}
 use Rattle.h41_ram.specs.RegisterMap.{RegisterMap}
@@ -9,7 +9,7 @@ use Rattle.h41_text.specs.LineText as text
 -- a line of the list by its position and its text
 unfoldable pub listed_line : ListedLine → List ℕ
 listed_line listed =
-    position_digits listed.position ++ codes " " ++ text.line_text listed.line ++ codes "\n"
+    byte_digits listed.position ++ codes " " ++ text.line_text listed.line ++ codes "\n"
 
 -- the lines of memory from the first on; memory that is not sound has none
 abbrev pub ListsProgram : RegisterMap → List ℕ → Type 0

@@ -7,10 +7,13 @@ use Rattle.h41_editor.specs.declared.numbered.NumberedLine.{NumberedLine}
 use Rattle.h41_focal.specs.LineStep.{FocalState, Machine}
 use Rattle.h41_program.specs.Edits.{EditGives, Edits, StandsBefore, StandsNew, with_inserted, with_replaced, without_deleted}
 use Rattle.h41_program.specs.Lines.{is_final_end}
-use Rattle.h41_program.specs.ProgramLines.{AnswersFirst}
+use Rattle.h41_program.specs.Positions.{LineAt}
 use Rattle.h41_program.specs.Rewriting.{HasOutcome}
-use Rattle.h41_program.specs.declared.editing.Front.{Front}
+use Rattle.h41_program.specs.declared.editing.InFront.{InFront}
 use Rattle.h41_program.specs.declared.listed_line.ListedLine.{ListedLine}
+use Rattle.h41_program.specs.declared.position.PlacedLine.{PlacedLine}
+use Rattle.h41_program.specs.declared.position.Position.{Position}
+use Rattle.h41_program.specs.declared.position.Position.TheVariants.{Memory}
 use Rattle.h41_program.specs.declared.refusal.ProgramRefusal.{ProgramRefusal}
 use Rattle.h41_ram.specs.RegisterMap.{RegisterMap}
 
@@ -51,82 +54,92 @@ edit_refused memory new change at refusal edits = given_refused memory new chang
 
 -- a line is inserted
 pub line_inserted :
-    (line : Line) (from machine : Machine) (new : RegisterMap) (after : FocalState) (numbered : NumberedLine) (before position : ℕ)
+    (line : Line) (from machine : Machine) (new : RegisterMap) (after : FocalState) (numbered : NumberedLine)
+    (place : Position) (before position : ℕ)
     → from ≡ machine
     → HasNumbered machine.memory machine.focal.position (Some numbered)
-    → InsertsAt machine numbered.listed before
+    → InsertsAt machine numbered.placed place
+    → place ≡ Memory before
     → Edits from.memory new (with_inserted line) before (Ok tt)
     → StandsNew from.memory before new position
-    → after ≡ with_line_shown position from.focal
+    → after ≡ with_line_shown (Memory position) from.focal
     → Inserts line machine (Ok (record { memory = new; focal = after }))
-line_inserted line from machine new after numbered before position is has place edits stands shown =
+line_inserted line from machine new after numbered place before position is has at_place byte edits stands shown =
     let there = rw (← is) at has in
-    let here = rw (← is) at place in
+    let here = rw (← is, byte) at at_place in
     rw (shown, ← is) (
       Some numbered,
       there,
-      (before, here, Ok (new, tt), edit_made from.memory new (with_inserted line) before edits, (position, stands, refl)),
+      (Memory before, here, (Ok (new, tt), edit_made from.memory new (with_inserted line) before edits, (position, stands, refl))),
     )
 
 pub insert_refused :
-    (line : Line) (from machine : Machine) (new : RegisterMap) (numbered : NumberedLine) (before : ℕ) (refusal : ProgramRefusal)
+    (line : Line) (from machine : Machine) (new : RegisterMap) (numbered : NumberedLine) (place : Position) (before : ℕ)
+    (refusal : ProgramRefusal)
     → from ≡ machine
     → HasNumbered machine.memory machine.focal.position (Some numbered)
-    → InsertsAt machine numbered.listed before
+    → InsertsAt machine numbered.placed place
+    → place ≡ Memory before
     → Edits from.memory new (with_inserted line) before (Err refusal)
     → Inserts line machine (Err refusal)
-insert_refused line from machine new numbered before refusal is has place edits =
+insert_refused line from machine new numbered place before refusal is has at_place byte edits =
     let there = rw (← is) at has in
-    let here = rw (← is) at place in
-    rw (← is)
-    (Some numbered, there, (before, here, Err refusal, edit_refused from.memory new (with_inserted line) before refusal edits, refl))
+    let here = rw (← is, byte) at at_place in
+    rw (← is) (
+      Some numbered,
+      there,
+      (Memory before, here, (Err refusal, edit_refused from.memory new (with_inserted line) before refusal edits, refl)),
+    )
 
 -- one is put in the place of another
 pub line_replaced :
-    (line : Line) (from machine : Machine) (new : RegisterMap) (after : FocalState) (position : ℕ)
+    (line : Line) (from machine : Machine) (new : RegisterMap) (after : FocalState) (at position : ℕ)
     → from ≡ machine
-    → Edits from.memory new (with_replaced line) from.focal.position (Ok tt)
-    → StandsNew from.memory from.focal.position new position
-    → after ≡ with_line_shown position from.focal
+    → from.focal.position ≡ Memory at
+    → Edits from.memory new (with_replaced line) at (Ok tt)
+    → StandsNew from.memory at new position
+    → after ≡ with_line_shown (Memory position) from.focal
     → Replaces line machine (Ok (record { memory = new; focal = after }))
-line_replaced line from machine new after position is edits stands shown =
-    rw (shown, ← is)
-    (Ok (new, tt), edit_made from.memory new (with_replaced line) from.focal.position edits, (position, stands, refl))
+line_replaced line from machine new after at position is byte edits stands shown =
+    rw (shown, ← is, byte) (Ok (new, tt), edit_made from.memory new (with_replaced line) at edits, (position, stands, refl))
 
 pub replace_refused :
-    (line : Line) (from machine : Machine) (new : RegisterMap) (refusal : ProgramRefusal)
+    (line : Line) (from machine : Machine) (new : RegisterMap) (at : ℕ) (refusal : ProgramRefusal)
     → from ≡ machine
-    → Edits from.memory new (with_replaced line) from.focal.position (Err refusal)
+    → from.focal.position ≡ Memory at
+    → Edits from.memory new (with_replaced line) at (Err refusal)
     → Replaces line machine (Err refusal)
-replace_refused line from machine new refusal is edits =
-    rw (← is) (Err refusal, edit_refused from.memory new (with_replaced line) from.focal.position refusal edits, refl)
+replace_refused line from machine new at refusal is byte edits =
+    rw (← is, byte) (Err refusal, edit_refused from.memory new (with_replaced line) at refusal edits, refl)
 
 -- one is taken away
 pub line_deleted :
-    (from machine left : Machine) (new : RegisterMap) (first : ListedLine) (front : Front)
+    (from machine left : Machine) (new : RegisterMap) (first : PlacedLine) (at : ℕ) (front : InFront)
     → from ≡ machine
     → from.focal.at_line_00 ≡ false
-    → AnswersFirst from.memory from.focal.position (Ok first)
+    → LineAt from.memory from.focal.position (Ok first)
     → false ≡ is_final_end first.line
-    → Edits from.memory new without_deleted from.focal.position (Ok tt)
-    → StandsBefore from.memory from.focal.position new front
+    → from.focal.position ≡ Memory at
+    → Edits from.memory new without_deleted at (Ok tt)
+    → StandsBefore from.memory at new front
     → left ≡ shown_in_front from new front
     → Deletes machine (Ok left)
-line_deleted from machine left new first front is behind there inner edits stands shown =
+line_deleted from machine left new first at front is behind there inner byte edits stands shown =
     rw (shown, ← is, behind) (
       Ok first,
       there,
-      rw (sym inner) (Ok (new, tt), edit_made from.memory new without_deleted from.focal.position edits, (front, stands, refl)),
+      rw (sym inner, byte) (Ok (new, tt), edit_made from.memory new without_deleted at edits, (front, stands, refl)),
     )
 
 pub delete_refused :
-    (from machine : Machine) (new : RegisterMap) (first : ListedLine) (refusal : ProgramRefusal)
+    (from machine : Machine) (new : RegisterMap) (first : PlacedLine) (at : ℕ) (refusal : ProgramRefusal)
     → from ≡ machine
     → from.focal.at_line_00 ≡ false
-    → AnswersFirst from.memory from.focal.position (Ok first)
+    → LineAt from.memory from.focal.position (Ok first)
     → false ≡ is_final_end first.line
-    → Edits from.memory new without_deleted from.focal.position (Err refusal)
+    → from.focal.position ≡ Memory at
+    → Edits from.memory new without_deleted at (Err refusal)
     → Deletes machine (Err refusal)
-delete_refused from machine new first refusal is behind there inner edits =
+delete_refused from machine new first at refusal is behind there inner byte edits =
     rw (← is, behind)
-    (Ok first, there, rw (sym inner) (Err refusal, edit_refused from.memory new without_deleted from.focal.position refusal edits, refl))
+    (Ok first, there, rw (sym inner, byte) (Err refusal, edit_refused from.memory new without_deleted at refusal edits, refl))

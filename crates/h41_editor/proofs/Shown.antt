@@ -5,20 +5,19 @@ use Rattle.h41_editor.specs.Moves.{ShowsBefore, ShowsEnd, ShowsNext, is_last}
 use Rattle.h41_editor.specs.NumberedLines.{HasNumbered}
 use Rattle.h41_editor.specs.declared.numbered.NumberedLine.{NumberedLine}
 use Rattle.h41_focal.specs.LineStep.{Machine, placed}
-use Rattle.h41_program.specs.Numbering.{before_in}
-use Rattle.h41_program.specs.Searches.{AnswersProgram}
-use Rattle.h41_program.specs.ProgramLines.{AnswersFirst, AnswersNext}
-use Rattle.h41_program.specs.declared.listed_line.ListedLine.{ListedLine}
+use Rattle.h41_program.specs.Positions.{LineAt, LineBefore, NextAt}
+use Rattle.h41_program.specs.declared.position.PlacedLine.{PlacedLine}
+use Rattle.h41_program.specs.declared.position.Position.{Position}
 use Rattle.h41_program.specs.declared.refusal.ProgramRefusal.{ProgramRefusal}
 
 -- the next one
 pub next_shown :
-    (from machine moved : Machine) (first : ListedLine) (next : ℕ)
+    (from machine moved : Machine) (first : PlacedLine) (next : Position)
     → from ≡ machine
     → from.focal.at_line_00 ≡ false
-    → AnswersFirst from.memory from.focal.position (Ok first)
+    → LineAt from.memory from.focal.position (Ok first)
     → false ≡ is_last first
-    → AnswersNext from.memory from.focal.position (Ok next)
+    → NextAt from.memory from.focal.position (Ok next)
     → moved ≡ placed next machine
     → ShowsNext machine (Ok moved)
 next_shown from machine moved first next is behind there inner goes placed =
@@ -26,11 +25,11 @@ next_shown from machine moved first next is behind there inner goes placed =
 
 -- the one before
 pub before_shown :
-    (from machine moved : Machine) (numbered : NumberedLine) (before : ℕ)
+    (from machine moved : Machine) (numbered : NumberedLine) (before : Position)
     → from ≡ machine
     → from.focal.at_line_00 ≡ false
     → HasNumbered machine.memory machine.focal.position (Some numbered)
-    → AnswersProgram (before_in numbered.listed.position) from.memory numbered.listed.position (Some before)
+    → LineBefore from.memory numbered.placed.position (Some before)
     → moved ≡ placed before machine
     → ShowsBefore machine (Ok moved)
 before_shown from machine moved numbered before is behind has stands placed =
@@ -43,7 +42,7 @@ pub end_shown :
     → from ≡ machine
     → from.focal.at_line_00 ≡ true
     → HasNumbered machine.memory machine.focal.position (Some numbered)
-    → ShowsEnd machine numbered.listed moved
+    → ShowsEnd machine numbered.placed moved
     → ShowsBefore machine moved
 end_shown from machine moved numbered is at_start has shows =
     let there = rw (← is) at has in
@@ -52,11 +51,11 @@ end_shown from machine moved numbered is at_start has shows =
 
 -- where a line is inserted behind the shown one
 pub place_behind :
-    (from machine : Machine) (shown : ListedLine) (next : Result ℕ ProgramRefusal)
+    (from machine : Machine) (shown : PlacedLine) (next : Result Position ProgramRefusal)
     → from ≡ machine
     → from.focal.at_line_00 ≡ false
     → false ≡ is_last shown
-    → AnswersNext from.memory from.focal.position next
+    → NextAt from.memory from.focal.position next
     → IfOk next (InsertsAt machine shown)
 place_behind from machine shown (Ok before) is behind inner goes = rw (← is, behind, sym inner) goes
 place_behind from machine shown (Err refusal) is behind inner goes = tt

@@ -11,11 +11,12 @@ use Rattle.h41_focal.specs.LineStep.{FocalState, Machine, at_position, halted_at
 use Rattle.h41_program.specs.Edits.{EditGives, StandsBefore, StandsNew, with_inserted}
 use Rattle.h41_program.specs.Edits.{with_replaced, without_deleted}
 use Rattle.h41_program.specs.Lines.{is_final_end}
-use Rattle.h41_program.specs.ProgramLines.{AnswersFirst, AnswersNext, AnswersOf}
-use Rattle.h41_program.specs.Searches.{start_in}
-use Rattle.h41_program.specs.declared.editing.Front.{Front}
-use Rattle.h41_program.specs.declared.editing.Front.TheVariants as fronts
-use Rattle.h41_program.specs.declared.listed_line.ListedLine.{ListedLine}
+use Rattle.h41_program.specs.Positions.{LineAt, NextAt, StartOf}
+use Rattle.h41_program.specs.declared.editing.InFront.{InFront}
+use Rattle.h41_program.specs.declared.editing.InFront.TheVariants as fronts
+use Rattle.h41_program.specs.declared.position.PlacedLine.{PlacedLine}
+use Rattle.h41_program.specs.declared.position.Position.{Position}
+use Rattle.h41_program.specs.declared.position.Position.TheVariants.{Memory}
 use Rattle.h41_program.specs.declared.refusal.ProgramRefusal.{ProgramRefusal}
 use Rattle.h41_program.specs.declared.refusal.ProgramRefusal.TheVariants.{BrokenProgram}
 use Rattle.h41_ram.specs.RegisterMap.{RegisterMap}
@@ -25,17 +26,18 @@ abbrev pub Changed : Type 0
 Changed = Result (RegisterMap × Unit {0}) ProgramRefusal
 
 -- a line is shown, and nothing is left to return to
-abbrev pub with_line_shown : ℕ → FocalState → FocalState
+abbrev pub with_line_shown : Position → FocalState → FocalState
 with_line_shown position focal = record (at_position position focal) { returns = [] }
 
 -- memory with its list of lines changed shows a line at a position, or line 00 of the program that
 -- begins there
 abbrev pub showing_line : Machine → RegisterMap → ℕ → Machine
-showing_line machine new position =
-    record { memory = new; focal = with_line_shown position machine.focal }
+showing_line machine new byte =
+    record { memory = new; focal = with_line_shown (Memory byte) machine.focal }
 
 abbrev pub showing_start : Machine → RegisterMap → ℕ → Machine
-showing_start machine new start = record { memory = new; focal = halted_at start machine.focal }
+showing_start machine new start =
+    record { memory = new; focal = halted_at (Memory start) machine.focal }
 
 -- a new line is shown
 abbrev pub ShowsNew : Machine → ℕ → Changed → Result Machine ProgramRefusal → Type 0
@@ -47,20 +49,25 @@ ShowsNew machine at (Err refusal) made = made ≡ Err refusal
 
 -- where a line is inserted: at line 00 in front of the program's first line, in front of an END or
 -- .END. that is shown, and else behind the shown line
-abbrev pub InsertsAt : Machine → ListedLine → ℕ → Type 0
+abbrev pub InsertsAt : Machine → PlacedLine → Position → Type 0
 InsertsAt machine shown before =
-    MatchBool machine.focal.at_line_00
-    (AnswersOf (start_in machine.focal.position) machine.memory 0 before)
+    MatchBool machine.focal.at_line_00 (StartOf machine.memory machine.focal.position before)
     (MatchBool (is_last shown) (before ≡ shown.position)
-    (AnswersNext machine.memory machine.focal.position (Ok before)))
+    (NextAt machine.memory machine.focal.position (Ok before)))
+
+abbrev pub InsertsBefore : Line → Machine → Position → Result Machine ProgramRefusal → Type 0
+InsertsBefore line machine (Memory before) made =
+    (changed : Changed)
+    × EditGives machine.memory (with_inserted line) before changed
+    × ShowsNew machine before changed made
 
 -- 14 where the position's program has no line there, at line 00 too, and where the list of lines
 -- does not reach .END.; 16 where there is no room
 abbrev pub InsertsBy : Line → Machine → Option NumberedLine → Result Machine ProgramRefusal → Type 0
 InsertsBy line machine (Some numbered) made =
-    (before : ℕ) × InsertsAt machine numbered.listed before
-    × (changed : Changed) × EditGives machine.memory (with_inserted line) before changed
-    × ShowsNew machine before changed made
+    (before : Position)
+    × InsertsAt machine numbered.placed before
+    × InsertsBefore line machine before made
 InsertsBy line machine None made = made ≡ Err BrokenProgram
 
 abbrev pub Inserts : Line → Machine → Result Machine ProgramRefusal → Type 0
@@ -70,41 +77,45 @@ Inserts line machine made =
     × InsertsBy line machine numbered made
 
 -- a line comes in the place of the shown one
-abbrev pub Replaces : Line → Machine → Result Machine ProgramRefusal → Type 0
-Replaces line machine made =
+abbrev pub ReplacesAt : Line → Machine → Position → Result Machine ProgramRefusal → Type 0
+ReplacesAt line machine (Memory at) made =
     (changed : Changed)
-    × EditGives machine.memory (with_replaced line) machine.focal.position changed
-    × ShowsNew machine machine.focal.position changed made
+    × EditGives machine.memory (with_replaced line) at changed
+    × ShowsNew machine at changed made
+
+abbrev pub Replaces : Line → Machine → Result Machine ProgramRefusal → Type 0
+Replaces line machine made = ReplacesAt line machine machine.focal.position made
 
 -- what is shown where a line went: the one before it in its program, or line 00 where it was the
 -- first
-abbrev pub shown_in_front : Machine → RegisterMap → Front → Machine
+abbrev pub shown_in_front : Machine → RegisterMap → InFront → Machine
 shown_in_front machine new (fronts.Line position) = showing_line machine new position
 shown_in_front machine new (fronts.Start start) = showing_start machine new start
 
-abbrev pub ShowsFront : Machine → Changed → Result Machine ProgramRefusal → Type 0
-ShowsFront machine (Ok changed) made =
-    (front : Front)
-    × StandsBefore machine.memory machine.focal.position changed.0 front
+abbrev pub ShowsFront : Machine → ℕ → Changed → Result Machine ProgramRefusal → Type 0
+ShowsFront machine at (Ok changed) made =
+    (front : InFront)
+    × StandsBefore machine.memory at changed.0 front
     × (made ≡ Ok (shown_in_front machine changed.0 front))
-ShowsFront machine (Err refusal) made = made ≡ Err refusal
+ShowsFront machine at (Err refusal) made = made ≡ Err refusal
 
-abbrev pub DeletesShown : Machine → Result Machine ProgramRefusal → Type 0
-DeletesShown machine made =
+abbrev pub DeletesAt : Machine → Position → Result Machine ProgramRefusal → Type 0
+DeletesAt machine (Memory at) made =
     (changed : Changed)
-    × EditGives machine.memory without_deleted machine.focal.position changed
-    × ShowsFront machine changed made
+    × EditGives machine.memory without_deleted at changed
+    × ShowsFront machine at changed made
 
 -- BACK: the shown line goes; line 00 and .END. stay, whatever else stands in memory
-abbrev pub DeletesLine : Machine → Result ListedLine ProgramRefusal → Result Machine ProgramRefusal
+abbrev pub DeletesLine : Machine → Result PlacedLine ProgramRefusal → Result Machine ProgramRefusal
     → Type 0
 DeletesLine machine (Ok first) made =
-    MatchBool (is_final_end first.line) (made ≡ Ok machine) (DeletesShown machine made)
+    MatchBool (is_final_end first.line) (made ≡ Ok machine)
+    (DeletesAt machine machine.focal.position made)
 DeletesLine machine (Err refusal) made = made ≡ Err BrokenProgram
 
 abbrev pub Deletes : Machine → Result Machine ProgramRefusal → Type 0
 Deletes machine made =
     MatchBool machine.focal.at_line_00 (made ≡ Ok machine)
-    ((first : Result ListedLine ProgramRefusal)
-    × AnswersFirst machine.memory machine.focal.position first
+    ((first : Result PlacedLine ProgramRefusal)
+    × LineAt machine.memory machine.focal.position first
     × DeletesLine machine first made)

@@ -1,13 +1,12 @@
 -- Laws of program mode, whatever the code does: what a position shows, what a key does, and the
 -- text of the display are determined.
-use Rattle.std.specs.Prelude.{◌≡◌, ℕ, List, Option, Result}
+use Rattle.std.specs.Prelude.{◌≡◌, ℕ, List, Result}
 use Rattle.h41_codes.specs.declared.line.Line.{Line}
 use Rattle.h41_editor.specs.NumberedLines.{HasNumbered}
 use Rattle.h41_editor.specs.ProgramText.{ShowsProgram}
-use Rattle.h41_editor.specs.declared.numbered.NumberedLine.{NumberedLine}
 use Rattle.h41_focal.specs.LineStep.{Machine}
+use Rattle.h41_program.specs.PositionLaws.{HasOneAnswer}
 use Rattle.h41_program.specs.declared.refusal.ProgramRefusal.{ProgramRefusal}
-use Rattle.h41_ram.specs.RegisterMap.{RegisterMap}
 
 -- what a key does has one outcome: what it leaves, or its refusal
 abbrev pub MoveIsDetermined : (Machine → Result Machine ProgramRefusal → Type 0) → Type 0
@@ -21,9 +20,7 @@ ChangeIsDetermined Makes = (line : Line) → MoveIsDetermined (Makes line)
 
 -- a position stands for one line with one number, or for none
 abbrev pub NumberedIsDetermined : Type 0
-NumberedIsDetermined =
-    (memory : RegisterMap) (at : ℕ) (numbered other : Option NumberedLine)
-    → HasNumbered memory at numbered → HasNumbered memory at other → numbered ≡ other
+NumberedIsDetermined = HasOneAnswer HasNumbered
 
 -- the display shows one text
 abbrev pub TextIsDetermined : Type 0

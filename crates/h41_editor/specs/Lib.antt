@@ -3,3 +3,4 @@ pub mod EditorLaws
 pub mod Moves
 pub mod NumberedLines
 pub mod ProgramText
+pub mod private

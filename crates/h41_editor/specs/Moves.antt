@@ -9,11 +9,13 @@ use Rattle.h41_focal.specs.LineStep.{Machine, at_line_00, placed}
 use Rattle.h41_program.specs.Edits.{before_end, close_behind}
 use Rattle.h41_program.specs.LastProgram.{open_in}
 use Rattle.h41_program.specs.Lines.{is_end, is_final_end}
-use Rattle.h41_program.specs.Numbering.{before_in}
 use Rattle.h41_program.specs.ProgramBytes.{final_position}
-use Rattle.h41_program.specs.ProgramLines.{AnswersFirst, AnswersNext, AnswersOf, LinesFrom}
-use Rattle.h41_program.specs.Searches.{AnswersProgram, end_in, start_in}
+use Rattle.h41_program.specs.Positions.{EndOf, LineAt, LineBefore, NextAt, StartOf}
+use Rattle.h41_program.specs.ProgramLines.{LinesFrom}
 use Rattle.h41_program.specs.declared.listed_line.ListedLine.{ListedLine}
+use Rattle.h41_program.specs.declared.position.PlacedLine.{PlacedLine}
+use Rattle.h41_program.specs.declared.position.Position.{Position}
+use Rattle.h41_program.specs.declared.position.Position.TheVariants.{Memory}
 use Rattle.h41_program.specs.declared.refusal.ProgramRefusal.{ProgramRefusal}
 use Rattle.h41_program.specs.declared.refusal.ProgramRefusal.TheVariants.{BrokenProgram}
 use Rattle.h41_ram.specs.RegisterMap.{RegisterMap}
@@ -26,59 +28,59 @@ made_as machine (Err refusal) = Err refusal
 -- to line 00 of the program of the position
 abbrev pub ShowsStart : Machine → Result Machine ProgramRefusal → Type 0
 ShowsStart machine moved =
-    (start : ℕ)
-    × AnswersOf (start_in machine.focal.position) machine.memory 0 start
+    (start : Position)
+    × StartOf machine.memory machine.focal.position start
     × (moved ≡ Ok (record machine { focal = at_line_00 start machine.focal }))
 
 -- whether a line is the last of its program
-abbrev pub is_last : ListedLine → Bool
-is_last listed = is_end listed.line || is_final_end listed.line
+abbrev pub is_last : PlacedLine → Bool
+is_last placed = is_end placed.line || is_final_end placed.line
 
 -- SST: from line 00 to the line that the position stands for; from the last line of a program to
 -- its line 00 (this project's choice), from others to the next line, or to the byte behind where no
 -- line follows; 14 where the shown line cannot be read
-abbrev pub ShowsBehind : Machine → Result ListedLine ProgramRefusal → Result Machine ProgramRefusal
+abbrev pub ShowsBehind : Machine → Result PlacedLine ProgramRefusal → Result Machine ProgramRefusal
     → Type 0
 ShowsBehind machine (Ok first) moved =
     MatchBool (is_last first) (ShowsStart machine moved)
-    ((next : ℕ)
-    × AnswersNext machine.memory machine.focal.position (Ok next)
+    ((next : Position)
+    × NextAt machine.memory machine.focal.position (Ok next)
     × (moved ≡ Ok (placed next machine)))
 ShowsBehind machine (Err refusal) moved = moved ≡ Err BrokenProgram
 
 abbrev pub ShowsNext : Machine → Result Machine ProgramRefusal → Type 0
 ShowsNext machine moved =
     MatchBool machine.focal.at_line_00 (moved ≡ Ok (placed machine.focal.position machine))
-    ((first : Result ListedLine ProgramRefusal)
-    × AnswersFirst machine.memory machine.focal.position first
+    ((first : Result PlacedLine ProgramRefusal)
+    × LineAt machine.memory machine.focal.position first
     × ShowsBehind machine first moved)
 
 -- BST: from line 00 to the program's END or .END., from line 1 to line 00, from others to the line
 -- before; 14 where the position's program has no line there, and from line 00 where it has no end
-abbrev pub shown_end : Machine → Option ℕ → Result Machine ProgramRefusal
+abbrev pub shown_end : Machine → Option Position → Result Machine ProgramRefusal
 shown_end machine (Some position) = Ok (placed position machine)
 shown_end machine None = Err BrokenProgram
 
-abbrev pub ShowsEnd : Machine → ListedLine → Result Machine ProgramRefusal → Type 0
+abbrev pub ShowsEnd : Machine → PlacedLine → Result Machine ProgramRefusal → Type 0
 ShowsEnd machine first moved =
-    (end : Option ℕ)
-    × AnswersProgram end_in machine.memory first.position end
+    (end : Option Position)
+    × EndOf machine.memory first.position end
     × (moved ≡ shown_end machine end)
 
-abbrev pub ShowsAt : Machine → Option ℕ → Result Machine ProgramRefusal → Type 0
+abbrev pub ShowsAt : Machine → Option Position → Result Machine ProgramRefusal → Type 0
 ShowsAt machine (Some position) moved = moved ≡ Ok (placed position machine)
 ShowsAt machine None moved = ShowsStart machine moved
 
-abbrev pub ShowsInFront : Machine → ListedLine → Result Machine ProgramRefusal → Type 0
+abbrev pub ShowsInFront : Machine → PlacedLine → Result Machine ProgramRefusal → Type 0
 ShowsInFront machine first moved =
-    (before : Option ℕ)
-    × AnswersProgram (before_in first.position) machine.memory first.position before
+    (before : Option Position)
+    × LineBefore machine.memory first.position before
     × ShowsAt machine before moved
 
 abbrev pub ShowsBeforeLine : Machine → Option NumberedLine → Result Machine ProgramRefusal → Type 0
 ShowsBeforeLine machine (Some numbered) moved =
-    MatchBool machine.focal.at_line_00 (ShowsEnd machine numbered.listed moved)
-    (ShowsInFront machine numbered.listed moved)
+    MatchBool machine.focal.at_line_00 (ShowsEnd machine numbered.placed moved)
+    (ShowsInFront machine numbered.placed moved)
 ShowsBeforeLine machine None moved = moved ≡ Err BrokenProgram
 
 abbrev pub ShowsBefore : Machine → Result Machine ProgramRefusal → Type 0
@@ -97,7 +99,7 @@ returns_kept other returns = returns
 abbrev pub EndsBy : Machine → List ListedLine → Result (RegisterMap × Unit {0}) ProgramRefusal
     → Result Machine ProgramRefusal → Type 0
 EndsBy machine lines (Ok closed) moved =
-    (start : ℕ) × AnswersOf (start_in (final_position closed.0)) closed.0 0 start
+    (start : Position) × StartOf closed.0 (Memory (final_position closed.0)) start
     × (moved ≡ Ok (record {
       memory = closed.0;
       focal = record (at_line_00 start machine.focal) {

@@ -2,27 +2,26 @@
 use Rattle.std.specs.Prelude.{◌≡◌, ℕ, Option, None, Result, Ok, Err}
 use Rattle.std.specs.Option.{option_map}
 use Rattle.h41_editor.specs.declared.numbered.NumberedLine.{NumberedLine}
-use Rattle.h41_program.specs.Numbering.{number_in}
-use Rattle.h41_program.specs.Searches.{AnswersProgram}
-use Rattle.h41_program.specs.ProgramLines.{AnswersFirst}
-use Rattle.h41_program.specs.declared.listed_line.ListedLine.{ListedLine}
+use Rattle.h41_program.specs.Positions.{LineAt, NumberAt}
+use Rattle.h41_program.specs.declared.position.PlacedLine.{PlacedLine}
+use Rattle.h41_program.specs.declared.position.Position.{Position}
 use Rattle.h41_program.specs.declared.refusal.ProgramRefusal.{ProgramRefusal}
 use Rattle.h41_ram.specs.RegisterMap.{RegisterMap}
 
 -- a line with a number
-abbrev pub with_number : ListedLine → ℕ → NumberedLine
-with_number listed number = record { listed = listed; number = number }
+abbrev pub with_number : PlacedLine → ℕ → NumberedLine
+with_number placed number = record { placed = placed; number = number }
 
 -- the first line from a position on is numbered in its program; none where no line can be read
 -- there, or its program has none there
-abbrev pub Numbers : RegisterMap → Result ListedLine ProgramRefusal → Option NumberedLine → Type 0
+abbrev pub Numbers : RegisterMap → Result PlacedLine ProgramRefusal → Option NumberedLine → Type 0
 Numbers memory (Ok first) numbered =
-    (number : Option ℕ) × AnswersProgram (number_in first.position) memory first.position number
+    (number : Option ℕ) × NumberAt memory first.position number
     × (numbered ≡ option_map (with_number first) number)
 Numbers memory (Err refusal) numbered = numbered ≡ None
 
-abbrev pub HasNumbered : RegisterMap → ℕ → Option NumberedLine → Type 0
+abbrev pub HasNumbered : RegisterMap → Position → Option NumberedLine → Type 0
 HasNumbered memory at numbered =
-    (first : Result ListedLine ProgramRefusal)
-    × AnswersFirst memory at first
+    (first : Result PlacedLine ProgramRefusal)
+    × LineAt memory at first
     × Numbers memory first numbered

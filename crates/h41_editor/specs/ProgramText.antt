@@ -15,7 +15,7 @@ number_text number = (if nat_lt number 10 then codes "0" else []) ++ decimal num
 
 -- a line: its number and its text
 abbrev pub numbered_text : NumberedLine → List ℕ
-numbered_text numbered = number_text numbered.number ++ codes " " ++ line_text numbered.listed.line
+numbered_text numbered = number_text numbered.number ++ codes " " ++ line_text numbered.placed.line
 
 -- what stands for a line that its program does not have, or that cannot be read
 abbrev pub unknown_text : List ℕ

@@ -1,9 +1,10 @@
 //! Lines inserted, replaced and deleted by keys.
-ghost use Rattle.std.specs.Prelude.{◌≡◌, IfOk, IsTrue, OnErr};
+ghost use Rattle.std.specs.Prelude.{◌≡◌, IfErr, IfOk, IsTrue, OnErr};
 ghost use Rattle.h41_editor.specs.Changes.{Deletes, Inserts, InsertsAt, Replaces, with_line_shown};
 ghost use Rattle.h41_editor.specs.Moves.{made_as};
+ghost use Rattle.h41_editor.specs.private.Placing.{HasNoNext};
 ghost use Rattle.h41_program.specs.Lines.{is_inner};
-ghost use Rattle.h41_program.specs.ProgramLines.{HasNoLine};
+ghost use Rattle.h41_program.specs.declared.position.Position.TheVariants.{Memory};
 ghost use Rattle.h41_ram.specs.RegisterMap.{is_sound};
 
 use crate::moves::is_last;
@@ -11,8 +12,8 @@ use crate::numbered::numbered_line;
 use h41_codes::Line;
 use h41_focal::{Focal, Machine};
 use h41_program::{
-    Front, ListedLine, ProgramRefusal, delete, insert, is_final_end, line_at, next, replace,
-    start_of,
+    InFront, PlacedLine, Position, ProgramRefusal, delete, insert, is_final_end, line_at, next,
+    replace, start_of,
 };
 
 /// A line, neither a null nor `.END.`, is inserted behind the shown one, in front of it where that is an END or `.END.`, and at line
@@ -29,22 +30,26 @@ pub fn insert_line<const REGS: usize>(
     ensures sound { IsTrue (is_sound machine.new.memory) }
 {
     let before = match numbered_line(machine) {
-        Some(shown) => place_for_line(machine, &shown.listed)?,
+        Some(shown) => place_for_line(machine, &shown.placed)?,
         None => return Err(ProgramRefusal::BrokenProgram),
     };
-    let position = insert(&mut machine.ram, before, line)?;
-    show_line(&mut machine.focal, position);
-    Ok(())
+    match before {
+        Position::Memory(before) => {
+            let byte = insert(&mut machine.ram, before, line)?;
+            show_line(&mut machine.focal, byte);
+            Ok(())
+        }
+    }
 }
 
 /// Where a line is inserted.
 fn place_for_line<const REGS: usize>(
     machine: &Machine<REGS>,
-    shown: &ListedLine,
-) -> Result<u16, ProgramRefusal>
+    shown: &PlacedLine,
+) -> Result<Position, ProgramRefusal>
     requires { IsTrue (is_sound machine.now.memory) }
     ensures place { IfOk result (InsertsAt machine.now shown.now) }
-    ensures none { OnErr result (HasNoLine machine.now.memory machine.now.focal.position) }
+    ensures none { IfErr result (HasNoNext machine.now) }
 {
     if machine.focal.is_at_line_00 {
         Ok(start_of(&machine.ram, machine.focal.position))
@@ -67,9 +72,13 @@ pub fn replace_line<const REGS: usize>(
     ensures unchanged { OnErr result (machine.new ≡ machine.old) }
     ensures sound { IsTrue (is_sound machine.new.memory) }
 {
-    let position = replace(&mut machine.ram, machine.focal.position, line)?;
-    show_line(&mut machine.focal, position);
-    Ok(())
+    match machine.focal.position {
+        Position::Memory(at) => {
+            let byte = replace(&mut machine.ram, at, line)?;
+            show_line(&mut machine.focal, byte);
+            Ok(())
+        }
+    }
 }
 
 /// The shown line goes, and the one before it is shown, or line 00 where it was its program's first; nothing is left to return to.
@@ -85,17 +94,21 @@ pub fn delete_line<const REGS: usize>(machine: &mut Machine<REGS>) -> Result<(),
     if machine.focal.is_at_line_00 || is_final_end(line_at(&machine.ram, position)?.line) {
         return Ok(());
     }
-    match delete(&mut machine.ram, position)? {
-        Front::Line(position) => show_line(&mut machine.focal, position),
-        Front::Start(start) => machine.focal.halt_at(start),
+    match position {
+        Position::Memory(at) => {
+            match delete(&mut machine.ram, at)? {
+                InFront::Line(byte) => show_line(&mut machine.focal, byte),
+                InFront::Start(start) => machine.focal.halt_at(Position::Memory(start)),
+            }
+            Ok(())
+        }
     }
-    Ok(())
 }
 
-/// A line is shown, and nothing is left to return to.
-fn show_line(focal: &mut Focal, position: u16)
-    ensures { focal.new ≡ with_line_shown position focal.old }
+/// A line in memory is shown, and nothing is left to return to.
+fn show_line(focal: &mut Focal, byte: u16)
+    ensures { focal.new ≡ with_line_shown (Memory byte) focal.old }
 {
-    focal.go_to(position);
+    focal.go_to(Position::Memory(byte));
     focal.returns.clear();
 }

@@ -5,13 +5,13 @@ ghost use Rattle.h41_editor.specs.EditorLaws.{ChangeIsDetermined, MoveIsDetermin
 ghost use Rattle.h41_editor.specs.EditorLaws.{NumberedIsDetermined, TextIsDetermined};
 ghost use Rattle.h41_editor.specs.Moves.{GoesToEnd, ShowsBefore, ShowsNext};
 
-use h41_program::laws::{edits_are_determined, lists_are_determined, searches_are_determined};
+use h41_program::laws::{edits_are_determined, lists_are_determined, positions_are_read};
 
 /// A position stands for one line with one number, or for none.
 pub fn numbered_is_determined()
     ensures { NumberedIsDetermined }
 {
-    searches_are_determined();
+    positions_are_read();
 }
 
 /// SST, BST and `GTO . .` have one outcome each.
@@ -21,7 +21,7 @@ pub fn moves_are_determined()
     ensures end { MoveIsDetermined GoesToEnd }
 {
     lists_are_determined();
-    searches_are_determined();
+    positions_are_read();
 }
 
 /// A line that is inserted, one that comes in the place of another and BACK have one outcome each.
@@ -30,7 +30,7 @@ pub fn changes_are_determined()
     ensures replacement { ChangeIsDetermined Replaces }
     ensures deletion { MoveIsDetermined Deletes }
 {
-    searches_are_determined();
+    positions_are_read();
     edits_are_determined();
 }
 
@@ -38,5 +38,5 @@ pub fn changes_are_determined()
 pub fn text_is_determined()
     ensures { TextIsDetermined }
 {
-    searches_are_determined();
+    positions_are_read();
 }

@@ -9,8 +9,8 @@ use crate::numbered::numbered_line;
 use h41_focal::Machine;
 use h41_program::laws::lists_are_determined;
 use h41_program::{
-    ListedLine, ProgramRefusal, close_last, end_of, final_position, is_end, is_final_end,
-    is_last_open, line_at, line_before, next, start_of,
+    PlacedLine, Position, ProgramRefusal, close_last, end_of, final_position, is_end,
+    is_final_end, is_last_open, line_at, line_before, next, start_of,
 };
 
 /// `SST` in program mode shows the next line: from line 00 the line that the position stands for, from the last of a program its
@@ -42,7 +42,7 @@ pub fn show_before<const REGS: usize>(machine: &mut Machine<REGS>) -> Result<(),
     ensures unchanged { OnErr result (machine.new ≡ machine.old) }
 {
     let shown = match numbered_line(machine) {
-        Some(shown) => shown.listed,
+        Some(shown) => shown.placed,
         None => return Err(ProgramRefusal::BrokenProgram),
     };
     if machine.focal.is_at_line_00 {
@@ -66,7 +66,8 @@ pub fn go_to_end<const REGS: usize>(machine: &mut Machine<REGS>) -> Result<(), P
     lists_are_determined();
     let open = is_last_open(&machine.ram)?;
     close_last(&mut machine.ram)?;
-    let start = start_of(&machine.ram, final_position(&machine.ram));
+    let end = Position::Memory(final_position(&machine.ram));
+    let start = start_of(&machine.ram, end);
     if open {
         machine.focal.halt_at(start);
     } else {
@@ -76,10 +77,10 @@ pub fn go_to_end<const REGS: usize>(machine: &mut Machine<REGS>) -> Result<(), P
 }
 
 /// Whether a line is the last of its program.
-pub fn is_last(listed: &ListedLine) -> bool
-    ensures { result ≡ spec.is_last listed.now }
+pub fn is_last(placed: &PlacedLine) -> bool
+    ensures { result ≡ spec.is_last placed.now }
 {
-    is_end(&listed.line) || is_final_end(listed.line)
+    is_end(&placed.line) || is_final_end(placed.line)
 }
 
 /// Line 00 of the position's program is shown.
@@ -94,7 +95,7 @@ fn show_start<const REGS: usize>(machine: &mut Machine<REGS>)
 /// The end of the program is shown that a line is of.
 fn show_end<const REGS: usize>(
     machine: &mut Machine<REGS>,
-    shown: &ListedLine,
+    shown: &PlacedLine,
 ) -> Result<(), ProgramRefusal>
     requires { IsTrue (is_sound machine.old.memory) }
     ensures line { ShowsEnd machine.old shown.now (made_as machine.new result) }

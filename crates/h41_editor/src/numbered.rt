@@ -4,13 +4,13 @@ ghost use Rattle.h41_editor.specs.NumberedLines.{HasNumbered};
 ghost use Rattle.h41_ram.specs.RegisterMap.{is_sound};
 
 use h41_focal::Machine;
-use h41_program::{ListedLine, line_at, line_number};
+use h41_program::{PlacedLine, line_at, line_number};
 
 /// A line of a program with its number there.
 #[derive(Clone, Copy, Debug, PartialEq, Eq)]
 pub struct NumberedLine {
     /// The line, where it stands.
-    pub listed: ListedLine,
+    pub placed: PlacedLine,
     /// Its number in its program, where the first has number 1.
     pub number: u16,
 }
@@ -22,9 +22,9 @@ pub fn numbered_line<const REGS: usize>(machine: &Machine<REGS>) -> Option<Numbe
     ensures { HasNumbered machine.now.memory machine.now.focal.position result }
 {
     match line_at(&machine.ram, machine.focal.position) {
-        Ok(listed) => {
-            let number = line_number(&machine.ram, listed.position)?;
-            Some(NumberedLine { listed, number })
+        Ok(placed) => {
+            let number = line_number(&machine.ram, placed.position)?;
+            Some(NumberedLine { placed, number })
         }
         Err(_) => None,
     }

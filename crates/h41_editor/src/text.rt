@@ -65,6 +65,6 @@ fn numbered_text(numbered: &NumberedLine) -> ArrayString<PROGRAM_TEXT_CAPACITY>
     }
     text.push_str(Buffer::new().format(numbered.number));
     text.push_str(" ");
-    text.push_str(write_line(numbered.listed.line).as_str());
+    text.push_str(write_line(numbered.placed.line).as_str());
     text
 }

@@ -3,8 +3,9 @@ use Rattle.std.proofs.Common.{◌≡◌, ℕ, Bool, true, false, List, Ok, Err, 
 use Rattle.std.specs.Prelude.{MatchBool, if◌then◌else◌}
 use Rattle.h41_codes.specs.declared.line.Line.{Line}
 use Rattle.h41_codes.specs.declared.line.Line.TheVariants as lines
-use Rattle.h41_focal.specs.Courses.{Arrives, Course, Halts, HasNoLabel, HasNoLine, How, Runs, Seeks, Stays, Stepped, Tells, Typed}
-use Rattle.h41_focal.specs.Carrying.{TakesAs, how_of}
+use Rattle.h41_focal.specs.Destinations.{Arrives, Destination, Halts, HasNoLabel, HasNoLine, Manner, Runs, Seeks, Stays, Stepped, Tells}
+use Rattle.h41_focal.specs.Destinations.{Typed}
+use Rattle.h41_focal.specs.private.Carrying.{TakesAs, manner_of}
 use Rattle.h41_focal.specs.MachineCalls.{KeepsElsewhere}
 use Rattle.h41_focal.specs.LineStep.{AppliesTo, AppliesWith, CarriesOut, Ends, Fails, FailsIn, Left, Machine, TakesLine, answered, caught}
 use Rattle.h41_focal.specs.LineStep.{done, failed, named_by, placed}
@@ -13,7 +14,8 @@ use Rattle.h41_focal.specs.declared.origin.Origin.{Origin}
 use Rattle.h41_focal.specs.declared.outcome.LineOutcome.{LineOutcome}
 use Rattle.h41_focal.specs.declared.refusal.FocalRefusal.{FocalRefusal}
 use Rattle.h41_focal.specs.declared.refusal.FocalRefusal.TheVariants.{NotInProfile}
-use Rattle.h41_program.specs.ProgramLines.{AnswersNext}
+use Rattle.h41_program.specs.Positions.{NextAt}
+use Rattle.h41_program.specs.declared.position.Position.{Position}
 use Rattle.h41_ram.specs.RegisterMap.{RegisterMap, flag_of}
 use Rattle.h41_rows.specs.LineRows.{row_of}
 use Rattle.h41_rows.specs.Operands.{Meant, meant_of}
@@ -43,7 +45,7 @@ never left answer old is own elsewhere = absurd (true≢false (sym elsewhere ∙
 -- a line that fails
 stepped_fails : (flag : Bool) (machine : Machine) (fault : LineFault) (left : Left)
     → MatchBool flag
-    ((next : ℕ) × AnswersNext machine.memory machine.focal.position (Ok next) × (left ≡ done (placed next (caught machine))))
+    ((next : Position) × NextAt machine.memory machine.focal.position (Ok next) × (left ≡ done (placed next (caught machine))))
     (left ≡ failed (placed machine.focal.position machine) fault)
     → is_elsewhere left.answer ≡ false
 stepped_fails true machine fault left (next, answers, is) = ap (λ (of : Left). is_elsewhere of.answer) is
@@ -54,21 +56,22 @@ typed_fails : (flag : Bool) (machine : Machine) (fault : LineFault) (left : Left
 typed_fails true machine fault left is = ap (λ (of : Left). is_elsewhere of.answer) is
 typed_fails false machine fault left is = ap (λ (of : Left). is_elsewhere of.answer) is
 
-fails : (how : How) (machine : Machine) (fault : LineFault) (left : Left) → Fails how machine fault left → is_elsewhere left.answer ≡ false
+fails : (how : Manner) (machine : Machine) (fault : LineFault) (left : Left) → Fails how machine fault left
+    → is_elsewhere left.answer ≡ false
 fails Stepped machine fault left failing = stepped_fails (flag_of machine.memory 25) machine fault left failing
 fails Typed machine fault left failing = typed_fails (flag_of machine.memory 25) machine fault left failing
 
 same_left : (left other : Left) → ◌≡◌ {A = Result Left FocalRefusal} (Ok left) (Ok other) → left ≡ other
 same_left left other is = cc
 
-fails_in : (how : How) (machine old : Machine) (fault : LineFault) (left : Left) → FailsIn how machine fault (Ok left)
+fails_in : (how : Manner) (machine old : Machine) (fault : LineFault) (left : Left) → FailsIn how machine fault (Ok left)
     → is_elsewhere left.answer ≡ true → left.machine ≡ old
 fails_in how machine old fault left (own, failing, is) elsewhere =
     never left own.answer old (ap (λ (of : Left). of.answer) (same_left left own is)) (fails how machine fault own failing) elsewhere
 
 -- a row
-ends_keeps : (how : How) (old new : Machine) (answer : Answer) (course : Course) (left : Left) → is_elsewhere answer ≡ false
-    → Ends how old new answer course (Ok left) → is_elsewhere left.answer ≡ true → left.machine ≡ old
+ends_keeps : (how : Manner) (old new : Machine) (answer : Answer) (to : Destination) (left : Left) → is_elsewhere answer ≡ false
+    → Ends how old new answer to (Ok left) → is_elsewhere left.answer ≡ true → left.machine ≡ old
 ends_keeps how old new answer (Arrives position returns) left own is elsewhere =
     never left answer old (ap (λ (of : Left). of.answer) (same_left left _ is)) own elsewhere
 ends_keeps Stepped old new answer (Halts start) left own is elsewhere =
@@ -85,20 +88,20 @@ ends_keeps how old new answer (Seeks name) left own is elsewhere = ap (λ (of : 
 ends_keeps how old new answer HasNoLabel left own failing elsewhere = fails_in how old old _ left failing elsewhere
 ends_keeps how old new answer HasNoLine left own is elsewhere = cc
 
-applies_with : (how : How) (row : rows.Row) (named : ℕ) (machine : Machine) (result : Result (List ℕ) LineFault) (left : Left)
+applies_with : (how : Manner) (row : rows.Row) (named : ℕ) (machine : Machine) (result : Result (List ℕ) LineFault) (left : Left)
     → AppliesWith how row named machine result (Ok left) → is_elsewhere left.answer ≡ true → left.machine ≡ machine
 applies_with how row named machine (Err fault) left failing elsewhere = fails_in how machine machine fault left failing elsewhere
-applies_with how row named machine (Ok result) left (course, goes, ends) elsewhere =
-    ends_keeps how machine _ _ course left (own_answer machine.memory named row.shows row.ends) ends elsewhere
+applies_with how row named machine (Ok result) left (to, goes, ends) elsewhere =
+    ends_keeps how machine _ _ to left (own_answer machine.memory named row.shows row.ends) ends elsewhere
 
-applies_to : (how : How) (line : Line) (machine : Machine) (meant : Result Meant LineFault) (left : Left)
+applies_to : (how : Manner) (line : Line) (machine : Machine) (meant : Result Meant LineFault) (left : Left)
     → AppliesTo how line machine meant (Ok left) → is_elsewhere left.answer ≡ true → left.machine ≡ machine
 applies_to how line machine (Err fault) left failing elsewhere = fails_in how machine machine fault left failing elsewhere
 applies_to how line machine (Ok meant) left (result, works, applies) elsewhere =
     applies_with how (row_of line meant) (named_by meant) machine result left applies elsewhere
 
 -- a line
-carries_out : (how : How) (line : Line) (machine : Machine) (left : Left) → CarriesOut how line machine (Ok left)
+carries_out : (how : Manner) (line : Line) (machine : Machine) (left : Left) → CarriesOut how line machine (Ok left)
     → is_elsewhere left.answer ≡ true → left.machine ≡ machine
 carries_out how (lines.Module number entry) machine left is elsewhere = ap (λ (of : Left). of.machine) (same_left left _ is)
 carries_out how lines.Null machine left is elsewhere =
@@ -130,13 +133,13 @@ carries_out how (lines.BranchTo a b c d) machine left is elsewhere =
 carries_out how (lines.Text a) machine left is elsewhere =
     applies_to how (lines.Text a) machine (meant_of machine.memory (lines.Text a)) left is elsewhere
 
-takes_by : (out : Bool) (how : How) (line : Line) (machine : Machine) (left : Left)
+takes_by : (out : Bool) (how : Manner) (line : Line) (machine : Machine) (left : Left)
     → MatchBool out (◌≡◌ {A = Result Left FocalRefusal} (Ok left) (Err NotInProfile)) (CarriesOut how line machine (Ok left))
     → is_elsewhere left.answer ≡ true → left.machine ≡ machine
 takes_by true how line machine left is elsewhere = cc
 takes_by false how line machine left carries elsewhere = carries_out how line machine left carries elsewhere
 
-elsewhere_keeps : (how : How) (line : Line) (machine : Machine) (left : Left) → TakesLine how line machine (Ok left)
+elsewhere_keeps : (how : Manner) (line : Line) (machine : Machine) (left : Left) → TakesLine how line machine (Ok left)
     → is_elsewhere left.answer ≡ true → left.machine ≡ machine
 elsewhere_keeps how line machine left takes elsewhere = takes_by (is_left_out line) how line machine left takes elsewhere
 
@@ -144,5 +147,5 @@ elsewhere_keeps how line machine left takes elsewhere = takes_by (is_left_out li
 pub kept_elsewhere : (origin : Origin) (line : Line) (old new : Machine) (result : Result LineOutcome FocalRefusal)
     → TakesAs origin line old new result → KeepsElsewhere old new result
 kept_elsewhere origin line old new (Ok outcome) takes =
-    λ elsewhere. elsewhere_keeps (how_of origin) line old _ takes elsewhere
+    λ elsewhere. elsewhere_keeps (manner_of origin) line old _ takes elsewhere
 kept_elsewhere origin line old new (Err refusal) takes = tt

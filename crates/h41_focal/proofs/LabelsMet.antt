@@ -2,89 +2,100 @@
 use Rattle.std.proofs.Common.{◌≡◌, ℕ, List, [], ◌∷◌, Some, None, Ok, refl, reverse}
 use Rattle.h41_codes.specs.declared.functions.Branch.{Branch}
 use Rattle.h41_codes.specs.declared.functions.Branch.TheVariants.{GoTo, Execute}
-use Rattle.h41_focal.specs.Arrivals.{GoesBackFrom, ReturnsFrom, answer_at, focal_at, from_of}
-use Rattle.h41_focal.specs.Carrying.{KnowsNext, Leaves, how_of}
+use Rattle.h41_focal.specs.private.Arrivals.{GoesBackFrom, ReturnsFrom, answer_at, focal_at, from_of}
+use Rattle.h41_focal.specs.private.Carrying.{KnowsNext, Leaves, manner_of}
 use Rattle.h41_focal.specs.MachineCalls.{left_of}
 use Rattle.h41_focal.specs.Outcomes.{answer_of}
-use Rattle.h41_focal.specs.Courses as courses
+use Rattle.h41_focal.specs.Destinations as destinations
 use Rattle.h41_rows.specs.LineRows as lines
 use Rattle.h41_focal.specs.LineStep.{Fails, Machine, halted}
-use Rattle.h41_focal.specs.Works.{row_of_work}
+use Rattle.h41_focal.specs.private.Works.{row_of_work}
 use Rattle.h41_rows.specs.declared.fault.LineFault.TheVariants.{Nonexistent}
 use Rattle.h41_focal.specs.declared.origin.Origin.{Origin}
 use Rattle.h41_focal.specs.declared.origin.Origin.TheVariants.{Program, Typed}
 use Rattle.h41_focal.specs.declared.outcome.LineOutcome.{LineOutcome}
 use Rattle.h41_focal.specs.declared.outcome.LineOutcome.TheVariants as outcomes
-use Rattle.h41_focal.specs.declared.works.Work.TheVariants as works
+use Rattle.h41_focal.specs.declared.works.FunctionWork.TheVariants as works
 use Rattle.h41_program.specs.ProgramLines.{AnswersOf}
-use Rattle.h41_program.specs.Searches.{AnswersLocal, named_in, position_of, start_in}
+use Rattle.h41_program.specs.Positions.{LocalFrom, StartOf}
+use Rattle.h41_program.specs.Searches.{named_in, position_of}
+use Rattle.h41_program.specs.declared.position.Position.{Position}
+use Rattle.h41_program.specs.declared.position.Position.TheVariants.{Memory}
 use Rattle.h41_ram.specs.RegisterMap.{zeros}
 
 -- at a label, by how the line came and whether it returns
-abbrev pub at_label : Origin → Branch → ℕ → Machine → Machine
+abbrev pub at_label : Origin → Branch → Position → Machine → Machine
 at_label origin branch position machine = record machine { focal = focal_at origin branch position machine.focal }
 
 -- the label stands there
 pub label_found :
-    (origin : Origin) (branch : Branch) (label named : ℕ) (machine : Machine) (position : ℕ) (outcome : LineOutcome)
+    (origin : Origin) (branch : Branch) (label named : ℕ) (machine : Machine) (position : Position) (outcome : LineOutcome)
     → KnowsNext origin machine
-    → AnswersLocal machine.memory (from_of origin machine.focal.position) label (Some position)
+    → LocalFrom label machine.memory (from_of origin machine.focal.position) (Some position)
     → answer_of outcome ≡ answer_at origin branch
     → Leaves origin (lines.to_label branch label) named machine (at_label origin branch position machine) outcome
 label_found (Program next) GoTo label named machine position outcome knows found answer =
-    (Ok zeros, refl, (courses.Arrives position machine.focal.returns, (next, knows, (Some position, found, refl)), rw answer refl))
+    (Ok zeros, refl, (destinations.Arrives position machine.focal.returns, (next, knows, (Some position, found, refl)), rw answer refl))
 label_found (Program next) Execute label named machine position outcome knows found answer = (
   Ok zeros,
   refl,
-  (courses.Arrives position (courses.pushed machine.focal.returns next), (next, knows, (Some position, found, refl)), rw answer refl),
+  (
+    destinations.Arrives position (destinations.pushed machine.focal.returns next),
+    (next, knows, (Some position, found, refl)),
+    rw answer refl,
+  ),
 )
 label_found Typed GoTo label named machine position outcome knows found answer =
-    (Ok zeros, refl, (courses.Arrives position machine.focal.returns, (Some position, found, refl), rw answer refl))
+    (Ok zeros, refl, (destinations.Arrives position machine.focal.returns, (Some position, found, refl), rw answer refl))
 label_found Typed Execute label named machine position outcome knows found answer =
-    (Ok zeros, refl, (courses.Runs position, (Some position, found, refl), rw answer refl))
+    (Ok zeros, refl, (destinations.Runs position, (Some position, found, refl), rw answer refl))
 
 -- it stands nowhere
 pub label_lost :
     (origin : Origin) (branch : Branch) (label named : ℕ) (old new : Machine) (outcome : LineOutcome)
     → KnowsNext origin old
-    → AnswersLocal old.memory (from_of origin old.focal.position) label None
-    → Fails (how_of origin) old Nonexistent (left_of new outcome)
+    → LocalFrom label old.memory (from_of origin old.focal.position) None
+    → Fails (manner_of origin) old Nonexistent (left_of new outcome)
     → Leaves origin (lines.to_label branch label) named old new outcome
 label_lost (Program next) branch label named old new outcome knows lost fails =
-    (Ok zeros, refl, (courses.HasNoLabel, (next, knows, (None, lost, refl)), (left_of new outcome, fails, refl)))
+    (Ok zeros, refl, (destinations.HasNoLabel, (next, knows, (None, lost, refl)), (left_of new outcome, fails, refl)))
 label_lost Typed branch label named old new outcome knows lost fails =
-    (Ok zeros, refl, (courses.HasNoLabel, (None, lost, refl), (left_of new outcome, fails, refl)))
+    (Ok zeros, refl, (destinations.HasNoLabel, (None, lost, refl), (left_of new outcome, fails, refl)))
 
 -- a name stands there
 pub name_found :
-    (origin : Origin) (branch : Branch) (name : List ℕ) (named : ℕ) (machine : Machine) (position : ℕ) (outcome : LineOutcome)
+    (origin : Origin) (branch : Branch) (name : List ℕ) (named : ℕ) (machine : Machine) (byte : ℕ) (outcome : LineOutcome)
     → KnowsNext origin machine
-    → AnswersOf (λ lines. position_of (named_in name lines)) machine.memory 0 (Some position)
+    → AnswersOf (λ lines. position_of (named_in name lines)) machine.memory 0 (Some byte)
     → answer_of outcome ≡ answer_at origin branch
-    → Leaves origin (lines.to_name branch name) named machine (at_label origin branch position machine) outcome
-name_found (Program next) GoTo name named machine position outcome knows found answer =
-    (Ok zeros, refl, (courses.Arrives position machine.focal.returns, (next, knows, (Some position, found, refl)), rw answer refl))
-name_found (Program next) Execute name named machine position outcome knows found answer = (
+    → Leaves origin (lines.to_name branch name) named machine (at_label origin branch (Memory byte) machine) outcome
+name_found (Program next) GoTo name named machine byte outcome knows found answer =
+    (Ok zeros, refl, (destinations.Arrives (Memory byte) machine.focal.returns, (next, knows, (Some byte, found, refl)), rw answer refl))
+name_found (Program next) Execute name named machine byte outcome knows found answer = (
   Ok zeros,
   refl,
-  (courses.Arrives position (courses.pushed machine.focal.returns next), (next, knows, (Some position, found, refl)), rw answer refl),
+  (
+    destinations.Arrives (Memory byte) (destinations.pushed machine.focal.returns next),
+    (next, knows, (Some byte, found, refl)),
+    rw answer refl,
+  ),
 )
-name_found Typed GoTo name named machine position outcome knows found answer =
-    (Ok zeros, refl, (courses.Arrives position machine.focal.returns, (Some position, found, refl), rw answer refl))
-name_found Typed Execute name named machine position outcome knows found answer =
-    (Ok zeros, refl, (courses.Runs position, (Some position, found, refl), rw answer refl))
+name_found Typed GoTo name named machine byte outcome knows found answer =
+    (Ok zeros, refl, (destinations.Arrives (Memory byte) machine.focal.returns, (Some byte, found, refl), rw answer refl))
+name_found Typed Execute name named machine byte outcome knows found answer =
+    (Ok zeros, refl, (destinations.Runs (Memory byte), (Some byte, found, refl), rw answer refl))
 
 -- it stands nowhere: GTO fails
 pub name_lost :
     (origin : Origin) (name : List ℕ) (named : ℕ) (old new : Machine) (outcome : LineOutcome)
     → KnowsNext origin old
     → AnswersOf (λ lines. position_of (named_in name lines)) old.memory 0 None
-    → Fails (how_of origin) old Nonexistent (left_of new outcome)
+    → Fails (manner_of origin) old Nonexistent (left_of new outcome)
     → Leaves origin (lines.to_name GoTo name) named old new outcome
 name_lost (Program next) name named old new outcome knows lost fails =
-    (Ok zeros, refl, (courses.HasNoLabel, (next, knows, (None, lost, refl)), (left_of new outcome, fails, refl)))
+    (Ok zeros, refl, (destinations.HasNoLabel, (next, knows, (None, lost, refl)), (left_of new outcome, fails, refl)))
 name_lost Typed name named old new outcome knows lost fails =
-    (Ok zeros, refl, (courses.HasNoLabel, (None, lost, refl), (left_of new outcome, fails, refl)))
+    (Ok zeros, refl, (destinations.HasNoLabel, (None, lost, refl), (left_of new outcome, fails, refl)))
 
 -- and XEQ leaves the search to the calculator
 pub name_sought :
@@ -93,27 +104,27 @@ pub name_sought :
     → AnswersOf (λ lines. position_of (named_in name lines)) machine.memory 0 None
     → Leaves origin (lines.to_name Execute name) named machine machine (outcomes.Seeks name)
 name_sought (Program next) name named machine knows lost =
-    (Ok zeros, refl, (courses.Seeks name, (next, knows, (None, lost, refl)), refl))
-name_sought Typed name named machine knows lost = (Ok zeros, refl, (courses.Seeks name, (None, lost, refl), refl))
+    (Ok zeros, refl, (destinations.Seeks name, (next, knows, (None, lost, refl)), refl))
+name_sought Typed name named machine knows lost = (Ok zeros, refl, (destinations.Seeks name, (None, lost, refl), refl))
 
 -- a line goes back
-course_back : (returns : List ℕ) (old new : Machine) (outcome : LineOutcome) (next named : ℕ)
+back_from : (returns : List Position) (old new : Machine) (outcome : LineOutcome) (next : Position) (named : ℕ)
     → KnowsNext (Program next) old
     → GoesBackFrom returns old new outcome
     → returns ≡ reverse old.focal.returns
     → Leaves (Program next) (row_of_work works.Return) named old new outcome
-course_back [] old new outcome next named knows (start, found, is, answer) none =
-    (Ok zeros, refl, (courses.Halts start, (next, knows, rw (← none) (start, found, refl)), rw (is, answer) refl))
-course_back (latest ∷ others) old new outcome next named knows (is, answer) some =
-    (Ok zeros, refl, (courses.Arrives latest (reverse others), (next, knows, rw (← some) refl), rw (is, answer) refl))
+back_from [] old new outcome next named knows (start, found, is, answer) none =
+    (Ok zeros, refl, (destinations.Halts start, (next, knows, rw (← none) (start, found, refl)), rw (is, answer) refl))
+back_from (latest ∷ others) old new outcome next named knows (is, answer) some =
+    (Ok zeros, refl, (destinations.Arrives latest (reverse others), (next, knows, rw (← some) refl), rw (is, answer) refl))
 
-pub goes_back : (old new : Machine) (outcome : LineOutcome) (next named : ℕ)
+pub goes_back : (old new : Machine) (outcome : LineOutcome) (next : Position) (named : ℕ)
     → KnowsNext (Program next) old
     → ReturnsFrom old new outcome
     → Leaves (Program next) (row_of_work works.Return) named old new outcome
-goes_back old new outcome next named knows back = course_back (reverse old.focal.returns) old new outcome next named knows back refl
+goes_back old new outcome next named knows back = back_from (reverse old.focal.returns) old new outcome next named knows back refl
 
-pub goes_to_line_00 : (machine : Machine) (start named : ℕ)
-    → AnswersOf (start_in machine.focal.position) machine.memory 0 start
+pub goes_to_line_00 : (machine : Machine) (start : Position) (named : ℕ)
+    → StartOf machine.memory machine.focal.position start
     → Leaves Typed (row_of_work works.Return) named machine (halted start machine) outcomes.Done
-goes_to_line_00 machine start named found = (Ok zeros, refl, (courses.Halts start, (start, found, refl), refl))
+goes_to_line_00 machine start named found = (Ok zeros, refl, (destinations.Halts start, (start, found, refl), refl))

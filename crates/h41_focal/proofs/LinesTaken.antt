@@ -6,11 +6,11 @@ use Rattle.h41_codes.specs.declared.functions.RegisterFunction.{RegisterFunction
 use Rattle.h41_codes.specs.declared.line.Line.{Line}
 use Rattle.h41_codes.specs.declared.line.Line.TheVariants as lines
 use Rattle.h41_codes.specs.declared.line.Operand.{Operand}
-use Rattle.h41_focal.specs.Carrying.{CarriesFound, CarriesRow, FailsAs, Stands, TakesAs, UsesDigits, UsesFlag, UsesAddress}
+use Rattle.h41_focal.specs.private.Carrying.{CarriesFound, CarriesRow, FailsAs, Stands, TakesAs, UsesDigits, UsesFlag, UsesAddress}
 use Rattle.h41_focal.specs.MachineCalls.{carried_as, left_of}
 use Rattle.h41_focal.specs.LineStep.{FailsLine, FailsWith, Left, Machine, PassesLine, PassesWith, StepsAs, StepsLine, lift_behind, line_as}
 use Rattle.h41_focal.specs.LineStep.{passed}
-use Rattle.h41_focal.specs.Works.{digits_use_row, flag_use_row, highest_of, register_use_row, row_of_work}
+use Rattle.h41_focal.specs.private.Works.{digits_use_row, flag_use_row, highest_of, register_use_row, row_of_work}
 use Rattle.h41_focal.specs.declared.origin.Origin.{Origin}
 use Rattle.h41_focal.specs.declared.origin.Origin.TheVariants.{Program}
 use Rattle.h41_focal.specs.declared.outcome.LineOutcome.{LineOutcome}
@@ -19,9 +19,10 @@ use Rattle.h41_focal.specs.declared.refusal.FocalRefusal.TheVariants.{BrokenProg
 use Rattle.h41_focal.specs.declared.uses.DigitsUse.{DigitsUse}
 use Rattle.h41_focal.specs.declared.uses.FlagUse.{FlagUse}
 use Rattle.h41_focal.specs.declared.uses.RegisterUse.{RegisterUse}
-use Rattle.h41_focal.specs.declared.works.Work.{Work}
-use Rattle.h41_program.specs.ProgramLines.{AnswersFirst}
-use Rattle.h41_program.specs.declared.listed_line.ListedLine.{ListedLine}
+use Rattle.h41_focal.specs.declared.works.FunctionWork.{FunctionWork}
+use Rattle.h41_program.specs.Positions.{LineAt}
+use Rattle.h41_program.specs.declared.position.PlacedLine.{PlacedLine}
+use Rattle.h41_program.specs.declared.position.Position.{Position}
 use Rattle.h41_program.specs.declared.refusal.ProgramRefusal as refusals
 use Rattle.h41_program.specs.declared.refusal.ProgramRefusal.TheVariants as program
 use Rattle.h41_ram.specs.RegisterMap.{is_sound}
@@ -34,7 +35,7 @@ use Rattle.h41_rows.specs.declared.fault.LineFault.{LineFault}
 
 -- a function, by its work
 pub plain_taken :
-    (origin : Origin) (function : Function) (work : Work) (old new : Machine) (result : Result LineOutcome FocalRefusal)
+    (origin : Origin) (function : Function) (work : FunctionWork) (old new : Machine) (result : Result LineOutcome FocalRefusal)
     → Some (row_of_work work) ≡ function_row function
     → CarriesRow origin (row_of_work work) 0 old new result
     → TakesAs origin (lines.Plain function) old new result
@@ -106,7 +107,7 @@ short_taken origin function register (Err fault) old new result found fails = rw
 
 -- the line at a position is stepped, or a function in its place
 pub step_taken :
-    (function : Option Function) (old new : Machine) (line : Line) (next : ℕ) (result : Result LineOutcome FocalRefusal)
+    (function : Option Function) (old new : Machine) (line : Line) (next : Position) (result : Result LineOutcome FocalRefusal)
     → Stands old (Ok (line, next))
     → TakesAs (Program next) (line_as function line) old new result
     → StepsLine function old (carried_as new result)
@@ -116,10 +117,10 @@ step_taken function old new line next result (sound, (first, answers, is), knows
 -- or refused
 refused_by : (sound : Bool) (function : Option Function) (machine : Machine) (refusal : FocalRefusal) (carried : Result Left FocalRefusal)
     → carried ≡ Err refusal
-    → MatchBool sound ((refusal ≡ BrokenProgram) × AnswersFirst machine.memory machine.focal.position (Err program.BrokenProgram))
+    → MatchBool sound ((refusal ≡ BrokenProgram) × LineAt machine.memory machine.focal.position (Err program.BrokenProgram))
     (refusal ≡ MemoryLost)
-    → MatchBool sound ((first : Result ListedLine refusals.ProgramRefusal)
-    × AnswersFirst machine.memory machine.focal.position first
+    → MatchBool sound ((first : Result PlacedLine refusals.ProgramRefusal)
+    × LineAt machine.memory machine.focal.position first
     × StepsAs function machine first carried)
     (carried ≡ Err MemoryLost)
 refused_by true function machine refusal carried refused (is, none) = (Err program.BrokenProgram, none, rw (refused, is) refl)
@@ -133,7 +134,7 @@ step_refused function machine refusal stands = refused_by (is_sound machine.memo
 
 -- or fails
 pub line_fails :
-    (fault : LineFault) (old new : Machine) (line : Line) (next : ℕ) (outcome : LineOutcome)
+    (fault : LineFault) (old new : Machine) (line : Line) (next : Position) (outcome : LineOutcome)
     → Stands old (Ok (line, next))
     → FailsAs (Program next) fault old new outcome
     → FailsLine fault old (carried_as new (Ok outcome))
@@ -142,10 +143,10 @@ line_fails fault old new line next outcome (sound, (first, answers, is), knows) 
 
 fail_refused_by : (sound : Bool) (fault : LineFault) (machine : Machine) (refusal : FocalRefusal) (carried : Result Left FocalRefusal)
     → carried ≡ Err refusal
-    → MatchBool sound ((refusal ≡ BrokenProgram) × AnswersFirst machine.memory machine.focal.position (Err program.BrokenProgram))
+    → MatchBool sound ((refusal ≡ BrokenProgram) × LineAt machine.memory machine.focal.position (Err program.BrokenProgram))
     (refusal ≡ MemoryLost)
-    → MatchBool sound ((first : Result ListedLine refusals.ProgramRefusal)
-    × AnswersFirst machine.memory machine.focal.position first
+    → MatchBool sound ((first : Result PlacedLine refusals.ProgramRefusal)
+    × LineAt machine.memory machine.focal.position first
     × FailsWith fault machine first carried)
     (carried ≡ Err MemoryLost)
 fail_refused_by true fault machine refusal carried refused (is, none) = (Err program.BrokenProgram, none, rw (refused, is) refl)
@@ -159,7 +160,7 @@ fail_refused fault machine refusal stands = fail_refused_by (is_sound machine.me
 
 -- or passed
 pub line_passed :
-    (old new : Machine) (line : Line) (next : ℕ)
+    (old new : Machine) (line : Line) (next : Position)
     → Stands old (Ok (line, next))
     → new ≡ passed line next old
     → PassesLine old (Ok new)
@@ -167,10 +168,10 @@ line_passed old new line next (sound, (first, answers, is), knows) goes =
     rw sound (Ok first, answers, (next, knows, rw (goes, is) refl))
 
 pass_refused_by : (sound : Bool) (machine : Machine) (refusal : FocalRefusal) (after : Result Machine FocalRefusal) → after ≡ Err refusal
-    → MatchBool sound ((refusal ≡ BrokenProgram) × AnswersFirst machine.memory machine.focal.position (Err program.BrokenProgram))
+    → MatchBool sound ((refusal ≡ BrokenProgram) × LineAt machine.memory machine.focal.position (Err program.BrokenProgram))
     (refusal ≡ MemoryLost)
-    → MatchBool sound ((first : Result ListedLine refusals.ProgramRefusal)
-    × AnswersFirst machine.memory machine.focal.position first
+    → MatchBool sound ((first : Result PlacedLine refusals.ProgramRefusal)
+    × LineAt machine.memory machine.focal.position first
     × PassesWith machine first after)
     (after ≡ Err MemoryLost)
 pass_refused_by true machine refusal after refused (is, none) = (Err program.BrokenProgram, none, rw (refused, is) refl)

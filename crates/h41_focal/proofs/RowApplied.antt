@@ -1,9 +1,9 @@
 -- A row whose line goes on to the next one is applied: by what it computes, what it makes of memory, and where the line then is.
 use Rattle.std.proofs.Common.{◌≡◌, ℕ, List, Ok, Err, Result, refl, subst}
-use Rattle.h41_focal.specs.Carrying.{KnowsNext, Leaves, advanced, how_of}
+use Rattle.h41_focal.specs.private.Carrying.{KnowsNext, Leaves, advanced, manner_of}
 use Rattle.h41_focal.specs.MachineCalls.{left_of}
 use Rattle.h41_focal.specs.Outcomes.{answer_of}
-use Rattle.h41_focal.specs.Courses as courses
+use Rattle.h41_focal.specs.Destinations as destinations
 use Rattle.h41_focal.specs.LineStep.{Applies, Fails, FocalState, Left, Machine, Works, answered, joined}
 use Rattle.h41_rows.specs.RowEffects.{memory_after}
 use Rattle.h41_rows.specs.Rows.{Row}
@@ -31,9 +31,9 @@ pub row_applied :
     → answer_of outcome ≡ answered machine.memory named row.shows row.ends
     → Leaves origin row named machine (applied_to origin row named register machine) outcome
 row_applied (Program next) row named machine register outcome knows goes works answers =
-    (Ok register, works, (courses.Arrives next machine.focal.returns, (next, knows, rw goes refl), rw answers refl))
+    (Ok register, works, (destinations.Arrives next machine.focal.returns, (next, knows, rw goes refl), rw answers refl))
 row_applied Typed row named machine register outcome knows goes works answers =
-    (Ok register, works, (courses.Stays, rw goes refl, rw answers refl))
+    (Ok register, works, (destinations.Stays, rw goes refl, rw answers refl))
 
 -- it is applied to a machine whose memory and what else lines work on are looked at apart
 pub opened_row :
@@ -41,10 +41,10 @@ pub opened_row :
     (carried : Result Left FocalRefusal)
     → joined memory focal ≡ machine
     → KnowsNext origin machine
-    → (KnowsNext origin (joined memory focal) → Applies (how_of origin) row named (joined memory focal) carried)
-    → Applies (how_of origin) row named machine carried
+    → (KnowsNext origin (joined memory focal) → Applies (manner_of origin) row named (joined memory focal) carried)
+    → Applies (manner_of origin) row named machine carried
 opened_row origin row named machine memory focal carried opened knows applies =
-    let P : Machine → Type 0 = λ old. KnowsNext origin old → Applies (how_of origin) row named old carried in
+    let P : Machine → Type 0 = λ old. KnowsNext origin old → Applies (manner_of origin) row named old carried in
     subst P opened applies knows
 
 -- it has a fault: by memory and what else lines work on
@@ -53,7 +53,7 @@ pub row_failed :
     (outcome : LineOutcome)
     → joined memory focal ≡ machine
     → Works memory named row (Err fault)
-    → Fails (how_of origin) machine fault (left_of new outcome)
+    → Fails (manner_of origin) machine fault (left_of new outcome)
     → Leaves origin row named machine new outcome
 row_failed origin row named machine new memory focal fault outcome opened works fails =
     let P : Machine → Type 0 = λ old. Works old.memory named row (Err fault) in

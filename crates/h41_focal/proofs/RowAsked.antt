@@ -3,13 +3,13 @@ use Rattle.std.proofs.Common.{◌≡◌, ℕ, Bool, true, false, ◌&&◌, is_so
 use Rattle.std.proofs.Common.{inr}
 use Rattle.h41_decimal.specs.Holding.{number_in}
 use Rattle.h41_focal.proofs.RowApplied.{applied_to}
-use Rattle.h41_focal.specs.Carrying.{CarriesRow, KnowsNext, Leads, how_of, told}
+use Rattle.h41_focal.specs.private.Carrying.{CarriesRow, KnowsNext, Leads, manner_of, told}
 use Rattle.h41_focal.specs.Outcomes.{answer_of}
 use Rattle.h41_rows.specs.Computing.{WorksOn}
 use Rattle.h41_rows.specs.Computing as computing
 use Rattle.h41_rows.specs.Counters.{Way}
-use Rattle.h41_focal.specs.Courses as courses
-use Rattle.h41_focal.specs.Courses.{Course, Arrives, Asks, HasNoLine, Stays, StepsFrom, Tells}
+use Rattle.h41_focal.specs.Destinations as destinations
+use Rattle.h41_focal.specs.Destinations.{Destination, Arrives, Asks, HasNoLine, Stays, StepsFrom, Tells}
 use Rattle.h41_rows.specs.LineRows.{loop}
 use Rattle.h41_focal.specs.LineStep.{Applies, Machine, Works}
 use Rattle.h41_focal.specs.Outcomes as answers
@@ -24,31 +24,32 @@ use Rattle.h41_focal.specs.declared.origin.Origin.{Origin}
 use Rattle.h41_focal.specs.declared.origin.Origin.TheVariants.{Program, Typed}
 use Rattle.h41_focal.specs.declared.outcome.LineOutcome.{LineOutcome}
 use Rattle.h41_focal.specs.declared.refusal.FocalRefusal.{FocalRefusal}
-use Rattle.h41_program.specs.ProgramLines.{AnswersNext}
+use Rattle.h41_program.specs.Positions.{NextAt}
+use Rattle.h41_program.specs.declared.position.Position.{Position}
 use Rattle.h41_program.specs.declared.refusal.ProgramRefusal.TheVariants as program
 use Rattle.h41_ram.specs.RegisterMap.{RegisterMap, zeros}
 
 -- the course of a line that asks
 arrives :
-    (holds : Bool) (memory : RegisterMap) (next position : ℕ) (returns : List ℕ)
-    → MatchBool holds (position ≡ next) (AnswersNext memory next (Ok position))
+    (holds : Bool) (memory : RegisterMap) (next position : Position) (returns : List Position)
+    → MatchBool holds (position ≡ next) (NextAt memory next (Ok position))
     → Asks holds memory next returns (Arrives position returns)
-arrives true memory next position returns same = ap (λ (p : ℕ). Arrives p returns) same
+arrives true memory next position returns same = ap (λ (p : Position). Arrives p returns) same
 arrives false memory next position returns behind = inl (position, behind, refl)
 
 has_no_line :
-    (holds : Bool) (memory : RegisterMap) (next : ℕ) (returns : List ℕ)
+    (holds : Bool) (memory : RegisterMap) (next : Position) (returns : List Position)
     → holds ≡ false
-    → AnswersNext memory next (Err program.BrokenProgram)
+    → NextAt memory next (Err program.BrokenProgram)
     → Asks holds memory next returns HasNoLine
 has_no_line holds memory next returns fails broken = rw fails (inr (broken, refl))
 
 -- the program goes on from a line that asks, where its row goes by a condition
-program_leads : (next : ℕ) (lead : Origin) (row : Row) (condition : Condition) (holds : Bool)
+program_leads : (next : Position) (lead : Origin) (row : Row) (condition : Condition) (holds : Bool)
     (named : ℕ) (machine : Machine) (register : List ℕ) (outcome : LineOutcome)
     → KnowsNext (Program next) machine
-    → ((course : Course) → Asks (holds_in machine.memory named condition) machine.memory next machine.focal.returns course
-    → StepsFrom row.goes machine.memory named machine.focal.position next machine.focal.returns course)
+    → ((to : Destination) → Asks (holds_in machine.memory named condition) machine.memory next machine.focal.returns to
+    → StepsFrom row.goes machine.memory named machine.focal.position next machine.focal.returns to)
     → row.shows ≡ rows.AsBefore → row.ends ≡ rows.GoesOn → Works machine.memory named row (Ok register)
     → holds ≡ holds_in machine.memory named condition → Leads (Program next) machine.memory holds (Ok lead)
     → answer_of outcome ≡ answers.Done
@@ -72,7 +73,7 @@ pub test_leads : (origin lead : Origin) (row : Row) (condition : Condition) (hol
     → CarriesRow origin row named machine (applied_to lead row named register machine) (Ok outcome)
 test_leads (Program next) lead row condition holds named machine register outcome knows goes shows ends works is leads answers =
     program_leads next lead row condition holds named machine register outcome
-    knows (λ course asks. rw goes asks) shows ends works is leads answers
+    knows (λ to asks. rw goes asks) shows ends works is leads answers
 test_leads Typed (Program position) row condition holds named machine register outcome knows goes shows ends works is leads answers =
     absurd (cc leads)
 test_leads Typed Typed row condition holds named machine register outcome knows goes shows ends works is leads answers =
@@ -87,20 +88,20 @@ pub loop_leads : (origin lead : Origin) (row : Row) (condition : Condition) (hol
     → CarriesRow origin row named machine (applied_to lead row named register machine) (Ok outcome)
 loop_leads (Program next) lead row condition holds named machine register outcome knows goes shows ends works is leads answers =
     program_leads next lead row condition holds named machine register outcome
-    knows (λ course asks. rw goes asks) shows ends works is leads answers
+    knows (λ to asks. rw goes asks) shows ends works is leads answers
 loop_leads Typed (Program position) row condition holds named machine register outcome knows goes shows ends works is leads answers =
     absurd (cc leads)
 loop_leads Typed Typed row condition holds named machine register outcome knows goes shows ends works is leads answers =
     (Ok register, works, (Stays, rw goes refl, rw (answers, shows, ends) refl))
 
 -- the line that would be passed over is none
-program_refused : (next : ℕ) (row : Row) (condition : Condition) (holds : Bool)
+program_refused : (next : Position) (row : Row) (condition : Condition) (holds : Bool)
     (named : ℕ) (old : Machine) (register : List ℕ) (refusal : FocalRefusal)
     → KnowsNext (Program next) old
-    → ((course : Course) → Asks (holds_in old.memory named condition) old.memory next old.focal.returns course
-    → StepsFrom row.goes old.memory named old.focal.position next old.focal.returns course)
+    → ((to : Destination) → Asks (holds_in old.memory named condition) old.memory next old.focal.returns to
+    → StepsFrom row.goes old.memory named old.focal.position next old.focal.returns to)
     → Works old.memory named row (Ok register) → holds ≡ holds_in old.memory named condition
-    → Leads (Program next) old.memory holds (Err refusal) → Applies courses.Stepped row named old (Err refusal)
+    → Leads (Program next) old.memory holds (Err refusal) → Applies destinations.Stepped row named old (Err refusal)
 program_refused next row condition holds named old register refusal knows goes works is leads =
     let asks = has_no_line (holds_in old.memory named condition) old.memory next old.focal.returns (sym is ∙ leads.1) leads.2 in
     (Ok register, works, (HasNoLine, (next, knows, goes _ asks), rw leads.0 refl))
@@ -110,9 +111,9 @@ pub test_refused : (origin : Origin) (row : Row) (condition : Condition) (holds 
     (named : ℕ) (old : Machine) (register : List ℕ) (refusal : FocalRefusal)
     → KnowsNext origin old → row.goes ≡ rows.Tests condition → Works old.memory named row (Ok register)
     → holds ≡ holds_in old.memory named condition → Leads origin old.memory holds (Err refusal)
-    → Applies (how_of origin) row named old (Err refusal)
+    → Applies (manner_of origin) row named old (Err refusal)
 test_refused (Program next) row condition holds named old register refusal knows goes works is leads =
-    program_refused next row condition holds named old register refusal knows (λ course asks. rw goes asks) works is leads
+    program_refused next row condition holds named old register refusal knows (λ to asks. rw goes asks) works is leads
 test_refused Typed row condition holds named old register refusal knows goes works is leads = absurd (cc leads)
 
 -- a loop is refused
@@ -120,9 +121,9 @@ pub loop_refused : (origin : Origin) (row : Row) (condition : Condition) (holds 
     (named : ℕ) (old : Machine) (register : List ℕ) (refusal : FocalRefusal)
     → KnowsNext origin old → row.goes ≡ rows.Counts condition → Works old.memory named row (Ok register)
     → holds ≡ holds_in old.memory named condition → Leads origin old.memory holds (Err refusal)
-    → Applies (how_of origin) row named old (Err refusal)
+    → Applies (manner_of origin) row named old (Err refusal)
 loop_refused (Program next) row condition holds named old register refusal knows goes works is leads =
-    program_refused next row condition holds named old register refusal knows (λ course asks. rw goes asks) works is leads
+    program_refused next row condition holds named old register refusal knows (λ to asks. rw goes asks) works is leads
 loop_refused Typed row condition holds named old register refusal knows goes works is leads = absurd (cc leads)
 
 -- a test computes nothing, and its condition is told where its places hold numbers

@@ -2,7 +2,7 @@
 use Rattle.std.proofs.Common.{arith, ◌≡◌, ◌≢◌, ℕ, ◌≤◌, false, nat_eq, List, [], ◌∷◌, length, drop, slice_index, Some, Result, Ok, refl}
 use Rattle.std.proofs.lemmas.Bool.Decides.{nat_tests}
 use Rattle.h41_focal.proofs.RowApplied.{opened_row, row_applied}
-use Rattle.h41_focal.specs.Carrying.{KnowsNext, Leaves, advanced}
+use Rattle.h41_focal.specs.private.Carrying.{KnowsNext, Leaves, advanced}
 use Rattle.h41_focal.specs.MachineCalls.{left_of}
 use Rattle.h41_focal.specs.Outcomes.{answer_of}
 use Rattle.h41_rows.specs.Computing.{WorksOn, value_of_two}
@@ -12,7 +12,7 @@ use Rattle.h41_rows.specs.Places.{Named, X}
 use Rattle.h41_rows.specs.RowEffects.{memory_after, with_alpha_change}
 use Rattle.h41_rows.specs.Rows.{Row, Appends, Becomes}
 use Rattle.h41_rows.specs.Rows as rows
-use Rattle.h41_focal.specs.Works.{register_use_row}
+use Rattle.h41_focal.specs.private.Works.{register_use_row}
 use Rattle.h41_rows.specs.declared.fault.LineFault.{LineFault}
 use Rattle.h41_focal.specs.declared.origin.Origin.{Origin}
 use Rattle.h41_focal.specs.declared.outcome.LineOutcome.{LineOutcome}

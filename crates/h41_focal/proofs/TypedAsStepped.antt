@@ -4,8 +4,8 @@ use Rattle.std.proofs.lemmas.List.Elements.{All-head, All-tail}
 use Rattle.std.specs.Prelude.{IfOk, MatchBool, if◌then◌else◌}
 use Rattle.h41_codes.specs.declared.line.Line.{Line}
 use Rattle.h41_codes.specs.declared.line.Line.TheVariants.{Module}
-use Rattle.h41_focal.proofs.OneOutcome.{IsReadOnce, typed_determined}
-use Rattle.h41_focal.specs.Courses.{Arrives, Course, Stays, StepsFrom, Stepped, Typed, TypedFrom}
+use Rattle.h41_focal.proofs.OneOutcome.{typed_determined}
+use Rattle.h41_focal.specs.Destinations.{Arrives, Destination, Stays, StepsFrom, Stepped, Typed, TypedFrom}
 use Rattle.h41_focal.specs.LineLaws.{AreAlike, GoesToNext, IsAt, NextIsHere, StepsInTurn, SteppedCanBeTyped, TypedAsStepped}
 use Rattle.h41_focal.specs.LineLaws.{TypedIsDetermined, TypesInTurn}
 use Rattle.h41_focal.specs.LineStep.{Applies, AppliesTo, AppliesWith, CarriesOut, Ends, FailsIn, FocalState, Left, Machine, StepsAs}
@@ -14,9 +14,11 @@ use Rattle.h41_focal.specs.LineStep.{shown_text, worked}
 use Rattle.h41_focal.specs.Outcomes.{is_elsewhere}
 use Rattle.h41_focal.specs.declared.refusal.FocalRefusal.{FocalRefusal}
 use Rattle.h41_focal.specs.declared.refusal.FocalRefusal.TheVariants.{MemoryLost, NotInProfile}
-use Rattle.h41_program.specs.ProgramLines.{AnswersFirst, AnswersNext}
-use Rattle.h41_program.specs.SearchLaws.{AnswersAreDetermined, LocalIsDetermined}
-use Rattle.h41_program.specs.declared.listed_line.ListedLine.{ListedLine}
+use Rattle.h41_program.specs.PositionLaws.{HasOneAnswer, HasOneAnswerEach, IsReadOnce}
+use Rattle.h41_program.specs.Positions.{LineAt, LocalFrom, NextAt, StartOf}
+use Rattle.h41_program.specs.SearchLaws.{AnswersAreDetermined}
+use Rattle.h41_program.specs.declared.position.PlacedLine.{PlacedLine}
+use Rattle.h41_program.specs.declared.position.Position.{Position}
 use Rattle.h41_program.specs.declared.refusal.ProgramRefusal as program
 use Rattle.h41_ram.specs.RegisterMap.{RegisterMap, flag_of, is_sound, register_at}
 use Rattle.h41_rows.specs.LineRows.{row_of}
@@ -78,7 +80,7 @@ typed_fault flag_25 machine fault = if flag_25 then done (caught machine) else f
 
 fails_alike : (flag_25 : Bool) (machine : Machine) (focal : FocalState) (fault : LineFault) (left : Left)
     → MatchBool flag_25
-    ((next : ℕ) × AnswersNext machine.memory machine.focal.position (Ok next) × (left ≡ done (placed next (caught machine))))
+    ((next : Position) × NextAt machine.memory machine.focal.position (Ok next) × (left ≡ done (placed next (caught machine))))
     (left ≡ failed (placed machine.focal.position machine) fault)
     → AreAlike left.machine (typed_fault flag_25 (beside machine focal) fault).machine × (is_elsewhere left.answer ≡ false)
 fails_alike true machine focal fault left (next, answers, is) =
@@ -99,14 +101,14 @@ with_alike : (row : rows.Row) (named : ℕ) (machine : Machine) (focal : FocalSt
     → row.goes ≡ rows.Next → AppliesWith Stepped row named machine result (Ok left)
     → LeavesLike (AppliesWith Typed row named (beside machine focal) result) left
 with_alike row named machine focal (Err fault) left goes_on applies = failure_alike machine focal fault left applies
-with_alike row named machine focal (Ok result) left goes_on (course, (next, answers, goes), ends) =
+with_alike row named machine focal (Ok result) left goes_on (to, (next, answers, goes), ends) =
     let new = worked row named result machine in
     let other = beside machine focal in
     let answer = answered machine.memory named row.shows row.ends in
-    let arrives : course ≡ Arrives next machine.focal.returns =
-    subst (λ (going : rows.Going). StepsFrom going machine.memory named machine.focal.position next machine.focal.returns course)
+    let arrives : to ≡ Arrives next machine.focal.returns =
+    subst (λ (going : rows.Going). StepsFrom going machine.memory named machine.focal.position next machine.focal.returns to)
     goes_on goes in
-    let is = subst (λ (course : Course). Ends Stepped machine new answer course (Ok left)) arrives ends in
+    let is = subst (λ (to : Destination). Ends Stepped machine new answer to (Ok left)) arrives ends in
     let stays =
     subst (λ (going : rows.Going). TypedFrom going other.memory named other.focal.position other.focal.returns Stays) (sym goes_on) refl in
     let typed : Left = record { machine = worked row named result other; answer = answer } in
@@ -150,15 +152,15 @@ taken_alike line machine focal left goes_on takes = profile_alike (is_left_out l
 -- the line at the position, where no bytes have two first lines
 module _ (once : IsReadOnce) where
   sound_alike : (sound : Bool) (line : Line) (machine : Machine) (focal : FocalState) (left : Left) → GoesToNext line → IsAt line machine
-      → MatchBool sound ((first : Result ListedLine program.ProgramRefusal)
-      × AnswersFirst machine.memory machine.focal.position first
+      → MatchBool sound ((first : Result PlacedLine program.ProgramRefusal)
+      × LineAt machine.memory machine.focal.position first
       × StepsAs None machine first (Ok left))
       (◌≡◌ {A = Result Left FocalRefusal} (Ok left) (Err MemoryLost))
       → LeavesLike (λ carried. MatchBool sound (TakesLine Typed line (beside machine focal) carried) (carried ≡ Err MemoryLost)) left
   sound_alike true line machine focal left goes_on (own, stands, is) (first, answers, steps) =
       let same = once.line machine.memory machine.focal.position first (Ok own) answers stands in
       let takes : TakesLine Stepped own.line machine (Ok left) =
-      subst (λ (first : Result ListedLine program.ProgramRefusal). StepsAs None machine first (Ok left)) same steps in
+      subst (λ (first : Result PlacedLine program.ProgramRefusal). StepsAs None machine first (Ok left)) same steps in
       taken_alike line machine focal left goes_on (subst (λ (line : Line). TakesLine Stepped line machine (Ok left)) is takes)
   sound_alike false line machine focal left goes_on stands is = absurd (no_refusal left MemoryLost is)
 
@@ -200,8 +202,8 @@ same_turn determined (line ∷ lines) machine left other p q =
 module _
     (same_value : ValuesAreDetermined)
     (once : IsReadOnce)
-    (same_start : AnswersAreDetermined ℕ)
-    (same_local : LocalIsDetermined)
+    (same_start : HasOneAnswer StartOf)
+    (same_local : HasOneAnswerEach LocalFrom)
     (same_global : AnswersAreDetermined (Option ℕ)) where
   pub typed_alike : TypedAsStepped
   typed_alike lines machine other left typed go_on alike steps types =

@@ -1,9 +1,6 @@
-pub mod Arrivals
-pub mod Carrying
-pub mod Courses
+pub mod Destinations
 pub mod LineLaws
 pub mod LineStep
 pub mod MachineCalls
 pub mod Outcomes
-pub mod StackMoves
-pub mod Works
+pub mod private

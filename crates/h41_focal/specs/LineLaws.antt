@@ -8,8 +8,8 @@ use Rattle.h41_focal.specs.LineStep.{FailsLine, FailsTyped, Left, Machine, Passe
 use Rattle.h41_focal.specs.LineStep.{TypesLine}
 use Rattle.h41_focal.specs.Outcomes.{is_elsewhere}
 use Rattle.h41_focal.specs.declared.refusal.FocalRefusal.{FocalRefusal}
-use Rattle.h41_program.specs.ProgramLines.{AnswersFirst}
-use Rattle.h41_program.specs.declared.listed_line.ListedLine.{ListedLine}
+use Rattle.h41_program.specs.Positions.{LineAt}
+use Rattle.h41_program.specs.declared.position.PlacedLine.{PlacedLine}
 use Rattle.h41_ram.specs.RegisterMap.{RegisterMap}
 use Rattle.h41_rows.specs.LineRows.{row_of}
 use Rattle.h41_rows.specs.Operands.{meant_of}
@@ -58,7 +58,7 @@ GoesToNext line =
 -- a line stands at the position
 abbrev pub IsAt : Line → Machine → Type 0
 IsAt line machine =
-    (first : ListedLine) × AnswersFirst machine.memory machine.focal.position (Ok first)
+    (first : PlacedLine) × LineAt machine.memory machine.focal.position (Ok first)
     × (first.line ≡ line)
 
 -- lines that stand at the position in turn are stepped, each in what the one before it left

@@ -6,8 +6,8 @@ use Rattle.std.specs.Prelude.{Some, None, Result, Ok, Err}
 use Rattle.h41_codes.specs.declared.functions.Function.{Function}
 use Rattle.h41_codes.specs.declared.line.Line.{Line}
 use Rattle.h41_codes.specs.declared.line.Line.TheVariants.{Module, Plain}
-use Rattle.h41_focal.specs.Courses.{Course, Arrives, Halts, Stays, Tells, Runs, Seeks, HasNoLabel}
-use Rattle.h41_focal.specs.Courses.{HasNoLine, Goes, How, Stepped, Typed}
+use Rattle.h41_focal.specs.Destinations.{Destination, Arrives, Halts, Stays, Tells, Runs, Seeks}
+use Rattle.h41_focal.specs.Destinations.{HasNoLabel, HasNoLine, Goes, Manner, Stepped, Typed}
 use Rattle.h41_rows.specs.LineRows.{row_of}
 use Rattle.h41_rows.specs.Operands.{Meant, Address, meant_of}
 use Rattle.h41_focal.specs.Outcomes.{Answer}
@@ -22,8 +22,10 @@ use Rattle.h41_rows.specs.declared.fault.LineFault.TheVariants.{AlphaData, Nonex
 use Rattle.h41_focal.specs.declared.refusal.FocalRefusal.{FocalRefusal}
 use Rattle.h41_focal.specs.declared.refusal.FocalRefusal.TheVariants.{MemoryLost, BrokenProgram}
 use Rattle.h41_focal.specs.declared.refusal.FocalRefusal.TheVariants.{NotInProfile}
-use Rattle.h41_program.specs.ProgramLines.{AnswersFirst, AnswersNext}
-use Rattle.h41_program.specs.declared.listed_line.ListedLine.{ListedLine}
+use Rattle.h41_program.specs.Positions.{LineAt, NextAt}
+use Rattle.h41_program.specs.declared.position.PlacedLine.{PlacedLine}
+use Rattle.h41_program.specs.declared.position.Position.{Position}
+use Rattle.h41_program.specs.declared.position.Position.TheVariants.{Memory}
 use Rattle.h41_program.specs.declared.refusal.ProgramRefusal as program
 use Rattle.h41_ram.specs.NamedFlags.{error_ignore}
 use Rattle.h41_ram.specs.RegisterMap.{RegisterMap, flag_of, is_sound, register_at, with_flag, zeros}
@@ -32,18 +34,18 @@ use Rattle.h41_show.specs.RegisterText.{alpha_text, register_text}
 
 -- what lines work on, beside memory
 pub record FocalState : Type 0 where
-  -- where the next line stands in program memory, and whether that is line 00, the place before its
-  -- program's first line
-  pub position : ℕ
+  -- where the next line stands, and whether that is line 00, the place before its program's first
+  -- line
+  pub position : Position
   pub at_line_00 : Bool
   -- the positions to return to, the latest last
-  pub returns : List ℕ
+  pub returns : List Position
   -- whether the stack is lifted when a number comes in
   pub lift : Bool
 
 -- the start: line 00 of the first program, nowhere to return to, lift on
 abbrev pub start : FocalState
-start = record { position = 0; at_line_00 = true; returns = []; lift = true }
+start = record { position = Memory 0; at_line_00 = true; returns = []; lift = true }
 
 -- with memory
 pub record Machine : Type 0 where
@@ -88,25 +90,25 @@ answered memory named rows.AlphaText ending = shown_text (alpha_text memory) end
 
 -- where lines go on: at a line, at line 00 of the program that begins at a position, and there with
 -- nowhere to return to
-abbrev pub at_position : ℕ → FocalState → FocalState
+abbrev pub at_position : Position → FocalState → FocalState
 at_position position focal = record focal { position = position; at_line_00 = false }
 
-abbrev pub at_line_00 : ℕ → FocalState → FocalState
+abbrev pub at_line_00 : Position → FocalState → FocalState
 at_line_00 start focal = record focal { position = start; at_line_00 = true }
 
-abbrev pub halted_at : ℕ → FocalState → FocalState
+abbrev pub halted_at : Position → FocalState → FocalState
 halted_at start focal = record (at_line_00 start focal) { returns = [] }
 
 -- a machine at a position that is not line 00
-abbrev pub placed : ℕ → Machine → Machine
+abbrev pub placed : Position → Machine → Machine
 placed position machine = record machine { focal = at_position position machine.focal }
 
 -- with positions to return to
-abbrev pub returning : List ℕ → Machine → Machine
+abbrev pub returning : List Position → Machine → Machine
 returning returns machine = record machine { focal = record machine.focal { returns = returns } }
 
 -- halted at line 00 of a program
-abbrev pub halted : ℕ → Machine → Machine
+abbrev pub halted : Position → Machine → Machine
 halted start machine = record machine { focal = halted_at start machine.focal }
 
 -- a fault is shown and the program stops there, at a line that is not line 00. With flag 25 that
@@ -124,11 +126,11 @@ failed machine fault = record { machine = machine; answer = answers.Failed fault
 abbrev pub done : Machine → Left
 done machine = record { machine = machine; answer = answers.Done }
 
-abbrev pub Fails : How → Machine → LineFault → Left → Type 0
+abbrev pub Fails : Manner → Machine → LineFault → Left → Type 0
 Fails Stepped machine fault left =
     MatchBool (flag_of machine.memory error_flag)
-    ((next : ℕ)
-    × AnswersNext machine.memory machine.focal.position (Ok next)
+    ((next : Position)
+    × NextAt machine.memory machine.focal.position (Ok next)
     × (left ≡ done (placed next (caught machine))))
     (left ≡ failed (placed machine.focal.position machine) fault)
 Fails Typed machine fault left =
@@ -136,12 +138,13 @@ Fails Typed machine fault left =
     ≡ (if flag_of machine.memory error_flag then done (caught machine) else failed machine fault)
 
 -- a line is carried out, or refused
-abbrev pub FailsIn : How → Machine → LineFault → Result Left FocalRefusal → Type 0
+abbrev pub FailsIn : Manner → Machine → LineFault → Result Left FocalRefusal → Type 0
 FailsIn how machine fault carried =
     (left : Left) × Fails how machine fault left × (carried ≡ Ok left)
 
 -- what is left of a machine with a row's changes, by where the line goes
-abbrev pub Ends : How → Machine → Machine → Answer → Course → Result Left FocalRefusal → Type 0
+abbrev pub Ends : Manner → Machine → Machine → Answer → Destination → Result Left FocalRefusal
+    → Type 0
 Ends how old new answer (Arrives position returns) carried =
     carried ≡ Ok (record { machine = placed position (returning returns new); answer = answer })
 Ends Stepped old new answer (Halts start) carried =
@@ -167,16 +170,16 @@ worked row named result machine = record {
 }
 
 -- a row is applied, where the register that its line names and what is computed are known
-abbrev pub AppliesWith : How → rows.Row → ℕ → Machine → Result (List ℕ) LineFault
+abbrev pub AppliesWith : Manner → rows.Row → ℕ → Machine → Result (List ℕ) LineFault
     → Result Left FocalRefusal → Type 0
 AppliesWith how row named machine (Err fault) carried = FailsIn how machine fault carried
 AppliesWith how row named machine (Ok result) carried =
-    (course : Course)
-    × Goes how row.goes machine.memory named machine.focal.position machine.focal.returns course
+    (to : Destination)
+    × Goes how row.goes machine.memory named machine.focal.position machine.focal.returns to
     × Ends how machine (worked row named result machine)
-    (answered machine.memory named row.shows row.ends) course carried
+    (answered machine.memory named row.shows row.ends) to carried
 
-abbrev pub Applies : How → rows.Row → ℕ → Machine → Result Left FocalRefusal → Type 0
+abbrev pub Applies : Manner → rows.Row → ℕ → Machine → Result Left FocalRefusal → Type 0
 Applies how row named machine carried =
     (result : Result (List ℕ) LineFault)
     × Works machine.memory named row result
@@ -188,7 +191,7 @@ named_by (Address address) = address
 named_by meant = 0
 
 -- a line whose operand means this
-abbrev pub AppliesTo : How → Line → Machine → Result Meant LineFault → Result Left FocalRefusal
+abbrev pub AppliesTo : Manner → Line → Machine → Result Meant LineFault → Result Left FocalRefusal
     → Type 0
 AppliesTo how line machine (Err fault) carried = FailsIn how machine fault carried
 AppliesTo how line machine (Ok meant) carried =
@@ -196,14 +199,14 @@ AppliesTo how line machine (Ok meant) carried =
 
 -- a line that this bench carries out; for a function of a module nothing is changed, since the
 -- calculator calls it
-abbrev pub CarriesOut : How → Line → Machine → Result Left FocalRefusal → Type 0
+abbrev pub CarriesOut : Manner → Line → Machine → Result Left FocalRefusal → Type 0
 CarriesOut how (Module number entry) machine carried =
     carried ≡ Ok (record { machine = machine; answer = answers.Calls number entry })
 CarriesOut how line machine carried =
     AppliesTo how line machine (meant_of machine.memory line) carried
 
 -- 13: a line that it does not carry out
-abbrev pub TakesLine : How → Line → Machine → Result Left FocalRefusal → Type 0
+abbrev pub TakesLine : Manner → Line → Machine → Result Left FocalRefusal → Type 0
 TakesLine how line machine carried =
     MatchBool (is_left_out line) (carried ≡ Err NotInProfile) (CarriesOut how line machine carried)
 
@@ -219,7 +222,7 @@ line_as None line = line
 line_as (Some function) line = Plain function
 
 -- a line stands at the position, or none: 14
-abbrev pub StepsAs : Option Function → Machine → Result ListedLine program.ProgramRefusal
+abbrev pub StepsAs : Option Function → Machine → Result PlacedLine program.ProgramRefusal
     → Result Left FocalRefusal → Type 0
 StepsAs function machine (Ok first) carried =
     TakesLine Stepped (line_as function first.line) machine carried
@@ -229,13 +232,13 @@ StepsAs function machine (Err refusal) carried = carried ≡ Err BrokenProgram
 abbrev pub StepsLine : Option Function → Machine → Result Left FocalRefusal → Type 0
 StepsLine function machine carried =
     MatchBool (is_sound machine.memory)
-    ((first : Result ListedLine program.ProgramRefusal)
-    × AnswersFirst machine.memory machine.focal.position first
+    ((first : Result PlacedLine program.ProgramRefusal)
+    × LineAt machine.memory machine.focal.position first
     × StepsAs function machine first carried)
     (carried ≡ Err MemoryLost)
 
 -- the line at the position fails, as where what it calls is nowhere: 15 and 14 as above
-abbrev pub FailsWith : LineFault → Machine → Result ListedLine program.ProgramRefusal
+abbrev pub FailsWith : LineFault → Machine → Result PlacedLine program.ProgramRefusal
     → Result Left FocalRefusal → Type 0
 FailsWith fault machine (Ok first) carried = FailsIn Stepped machine fault carried
 FailsWith fault machine (Err refusal) carried = carried ≡ Err BrokenProgram
@@ -243,8 +246,8 @@ FailsWith fault machine (Err refusal) carried = carried ≡ Err BrokenProgram
 abbrev pub FailsLine : LineFault → Machine → Result Left FocalRefusal → Type 0
 FailsLine fault machine carried =
     MatchBool (is_sound machine.memory)
-    ((first : Result ListedLine program.ProgramRefusal)
-    × AnswersFirst machine.memory machine.focal.position first
+    ((first : Result PlacedLine program.ProgramRefusal)
+    × LineAt machine.memory machine.focal.position first
     × FailsWith fault machine first carried)
     (carried ≡ Err MemoryLost)
 
@@ -261,23 +264,23 @@ abbrev pub lift_behind : Line → Bool → Bool
 lift_behind (Module number entry) lift = true
 lift_behind line lift = lift
 
-abbrev pub passed : Line → ℕ → Machine → Machine
+abbrev pub passed : Line → Position → Machine → Machine
 passed line next machine =
     placed next
     (record machine { focal = record machine.focal { lift = lift_behind line machine.focal.lift } })
 
-abbrev pub PassesWith : Machine → Result ListedLine program.ProgramRefusal
+abbrev pub PassesWith : Machine → Result PlacedLine program.ProgramRefusal
     → Result Machine FocalRefusal → Type 0
 PassesWith machine (Ok first) after =
-    (next : ℕ)
-    × AnswersNext machine.memory machine.focal.position (Ok next)
+    (next : Position)
+    × NextAt machine.memory machine.focal.position (Ok next)
     × (after ≡ Ok (passed first.line next machine))
 PassesWith machine (Err refusal) after = after ≡ Err BrokenProgram
 
 abbrev pub PassesLine : Machine → Result Machine FocalRefusal → Type 0
 PassesLine machine after =
     MatchBool (is_sound machine.memory)
-    ((first : Result ListedLine program.ProgramRefusal)
-    × AnswersFirst machine.memory machine.focal.position first
+    ((first : Result PlacedLine program.ProgramRefusal)
+    × LineAt machine.memory machine.focal.position first
     × PassesWith machine first after)
     (after ≡ Err MemoryLost)

@@ -2,9 +2,9 @@
 
 ghost use Rattle.std.specs.Prelude.{◌≡◌, ◌≤◌, ℕ, IfNone, IfSome, length};
 ghost use Rattle.h41_codes.specs.declared.line.Line.TheVariants as lines;
-ghost use Rattle.h41_focal.specs.Carrying.{DoesLine, DoesWork, IsBehind, IsWhole, IsReady};
-ghost use Rattle.h41_focal.specs.Carrying.{PutsText};
-ghost use Rattle.h41_focal.specs.declared.works.Work.TheVariants.{Alpha};
+ghost use Rattle.h41_focal.specs.private.Carrying.{DoesLine, DoesWork, IsBehind, IsWhole, IsReady};
+ghost use Rattle.h41_focal.specs.private.Carrying.{PutsText};
+ghost use Rattle.h41_focal.specs.declared.works.FunctionWork.TheVariants.{Alpha};
 
 use crate::course::go_on_lifting;
 use crate::machine::Machine;

@@ -1,9 +1,9 @@
 //! Functions that compute.
 
 ghost use Rattle.std.specs.Prelude.{ℕ};
-ghost use Rattle.h41_focal.specs.Carrying.{DoesWork, IsReady};
-ghost use Rattle.h41_focal.specs.declared.works.Work.TheVariants.{ChangeSign, OfX, OfYAndX};
-ghost use Rattle.h41_focal.specs.declared.works.Work.TheVariants.{Percent, Square};
+ghost use Rattle.h41_focal.specs.private.Carrying.{DoesWork, IsReady};
+ghost use Rattle.h41_focal.specs.declared.works.FunctionWork.TheVariants.{ChangeSign, OfX, OfYAndX};
+ghost use Rattle.h41_focal.specs.declared.works.FunctionWork.TheVariants.{Percent, Square};
 
 use crate::course::{fail, go_on_lifting};
 use crate::machine::Machine;

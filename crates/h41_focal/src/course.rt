@@ -1,7 +1,7 @@
 //! Where a line goes once its work is done, or where it cannot be done.
 
 ghost use Rattle.std.specs.Prelude.{◌≡◌};
-ghost use Rattle.h41_focal.specs.Carrying.{FailsAs, IsReady, advanced};
+ghost use Rattle.h41_focal.specs.private.Carrying.{FailsAs, IsReady, advanced};
 ghost use Rattle.h41_rows.specs.Rows.{AsItWas, Off, On};
 
 use crate::focal::Focal;

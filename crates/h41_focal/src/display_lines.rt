@@ -1,8 +1,8 @@
 //! Lines that work on the display, and those that stop the program.
 
 ghost use Rattle.std.specs.Prelude.{ℕ};
-ghost use Rattle.h41_focal.specs.Carrying.{DoesWork, IsReady};
-ghost use Rattle.h41_focal.specs.declared.works.Work.TheVariants.{Display};
+ghost use Rattle.h41_focal.specs.private.Carrying.{DoesWork, IsReady};
+ghost use Rattle.h41_focal.specs.declared.works.FunctionWork.TheVariants.{Display};
 
 use crate::course::{go_on, go_on_lifting};
 use crate::machine::Machine;

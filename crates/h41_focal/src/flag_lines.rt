@@ -1,7 +1,7 @@
 //! Lines of a flag: it is set or cleared, or asked.
 
 ghost use Rattle.std.specs.Prelude.{◌≡◌, ℕ, ◌<◌, OnErr};
-ghost use Rattle.h41_focal.specs.Carrying.{CarriesFlag, ClearsFlag, IsReady, LeavesFlag};
+ghost use Rattle.h41_focal.specs.private.Carrying.{CarriesFlag, ClearsFlag, IsReady, LeavesFlag};
 ghost use Rattle.h41_rows.specs.RowEffects.{agrees};
 ghost use Rattle.h41_focal.specs.declared.uses.FlagUse.TheVariants.{Ask, Change};
 ghost use Rattle.h41_ram.specs.RegisterMap.{flag_of};

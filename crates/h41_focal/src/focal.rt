@@ -3,6 +3,7 @@ ghost use Rattle.std.specs.Prelude.{◌≡◌};
 ghost use Rattle.h41_focal.specs.LineStep.{at_line_00, at_position, halted_at, start};
 
 use arrayvec::ArrayVec;
+use h41_program::Position;
 use std::marker::Model;
 
 /// How many positions can be returned to at most.
@@ -11,12 +12,12 @@ pub const RETURNS: usize = 6;
 /// What lines work on, beside memory.
 #[derive(Drop)]
 pub struct Focal {
-    /// Where the next line stands in program memory: bytes are counted from 0.
-    pub position: u16,
+    /// Where the next line stands.
+    pub position: Position,
     /// Whether that is line 00, the place before its program's first line.
     pub is_at_line_00: bool,
     /// The positions to return to, the latest last.
-    pub returns: ArrayVec<u16, RETURNS>,
+    pub returns: ArrayVec<Position, RETURNS>,
     /// Whether the stack is lifted when a number comes in.
     pub lift: bool,
 }
@@ -40,14 +41,14 @@ impl Focal {
         ensures { result ≡ start }
     {
         Focal {
-            position: 0,
+            position: Position::default(),
             is_at_line_00: true,
             returns: ArrayVec::new(),
             lift: true,
         }
     }
     /// On to the line at a position.
-    pub fn go_to(&mut self, position: u16)
+    pub fn go_to(&mut self, position: Position)
         ensures { self.new ≡ at_position position self.old }
     {
         self.position = position;
@@ -55,7 +56,7 @@ impl Focal {
     }
 
     /// To line 00 of the program that begins at a position.
-    pub fn go_to_line_00(&mut self, start: u16)
+    pub fn go_to_line_00(&mut self, start: Position)
         ensures { self.new ≡ at_line_00 start self.old }
     {
         self.position = start;
@@ -63,7 +64,7 @@ impl Focal {
     }
 
     /// To line 00 of the program that begins at a position, with nowhere to return to.
-    pub fn halt_at(&mut self, start: u16)
+    pub fn halt_at(&mut self, start: Position)
         ensures { self.new ≡ halted_at start self.old }
     {
         self.go_to_line_00(start);

@@ -1,7 +1,7 @@
 //! Functions without an operand.
 
 ghost use Rattle.std.specs.Prelude.{ℕ, ◌≡◌, OnErr};
-ghost use Rattle.h41_focal.specs.Carrying.{CarriesWork, IsReady, TakesAs};
+ghost use Rattle.h41_focal.specs.private.Carrying.{CarriesWork, IsReady, TakesAs};
 ghost use Rattle.h41_codes.specs.declared.line.Line.TheVariants.{Plain};
 
 use crate::alpha_lines::change_alpha;
@@ -15,7 +15,7 @@ use crate::outcome::LineOutcome;
 use crate::questions::ask;
 use crate::refusal::FocalRefusal;
 use crate::stack_lines::{clear_registers, do_nothing, move_stack};
-use crate::works::{Work, work_of};
+use crate::works::{FunctionWork, work_of};
 use h41_codes::Function;
 
 /// A function is carried out; 13 where it is left out.
@@ -38,25 +38,25 @@ pub fn plain<const REGS: usize>(
 fn perform<const REGS: usize>(
     machine: &mut Machine<REGS>,
     origin: Origin,
-    work: Work,
+    work: FunctionWork,
 ) -> Result<LineOutcome, FocalRefusal>
     requires { IsReady origin machine.old }
     ensures carried { CarriesWork origin work machine.old machine.new result }
     ensures unchanged { OnErr result (machine.new ≡ machine.old) }
 {
     match work {
-        Work::OfYAndX(value) => Ok(of_y_and_x(machine, origin, value)),
-        Work::OfX(value) => Ok(of_x(machine, origin, value)),
-        Work::Square => Ok(square(machine, origin)),
-        Work::Percent => Ok(percent(machine, origin)),
-        Work::ChangeSign => Ok(change_sign(machine, origin)),
-        Work::Ask(test) => ask(machine, origin, test),
-        Work::Move(movement) => Ok(move_stack(machine, origin, movement)),
-        Work::Alpha(work) => Ok(change_alpha(machine, origin, work)),
-        Work::Display(work) => Ok(show(machine, origin, work)),
-        Work::Angles(grads, radians) => Ok(set_angle_unit(machine, origin, grads, radians)),
-        Work::ClearRegisters => Ok(clear_registers(machine, origin)),
-        Work::Return => Ok(go_back(machine, origin)),
-        Work::Nothing => Ok(do_nothing(machine, origin)),
+        FunctionWork::OfYAndX(value) => Ok(of_y_and_x(machine, origin, value)),
+        FunctionWork::OfX(value) => Ok(of_x(machine, origin, value)),
+        FunctionWork::Square => Ok(square(machine, origin)),
+        FunctionWork::Percent => Ok(percent(machine, origin)),
+        FunctionWork::ChangeSign => Ok(change_sign(machine, origin)),
+        FunctionWork::Ask(test) => ask(machine, origin, test),
+        FunctionWork::Move(movement) => Ok(move_stack(machine, origin, movement)),
+        FunctionWork::Alpha(work) => Ok(change_alpha(machine, origin, work)),
+        FunctionWork::Display(work) => Ok(show(machine, origin, work)),
+        FunctionWork::Angles(grads, radians) => Ok(set_angle_unit(machine, origin, grads, radians)),
+        FunctionWork::ClearRegisters => Ok(clear_registers(machine, origin)),
+        FunctionWork::Return => Ok(go_back(machine, origin)),
+        FunctionWork::Nothing => Ok(do_nothing(machine, origin)),
     }
 }

@@ -1,11 +1,11 @@
 //! Labels, subroutines and returns.
 
 ghost use Rattle.std.specs.Prelude.{◌≡◌, ℕ, IsTrue};
-ghost use Rattle.h41_focal.specs.Arrivals.{ReturnsFrom, answer_at, focal_at, from_of};
-ghost use Rattle.h41_focal.specs.Carrying.{DoesWork, IsReady, GoesToLabel, GoesToName};
+ghost use Rattle.h41_focal.specs.private.Arrivals.{ReturnsFrom, answer_at, focal_at, from_of};
+ghost use Rattle.h41_focal.specs.private.Carrying.{DoesWork, IsReady, GoesToLabel, GoesToName};
 ghost use Rattle.h41_focal.specs.Outcomes.{answer_of};
-ghost use Rattle.h41_focal.specs.Courses.{pushed};
-ghost use Rattle.h41_focal.specs.declared.works.Work.TheVariants.{Return};
+ghost use Rattle.h41_focal.specs.Destinations.{pushed};
+ghost use Rattle.h41_focal.specs.declared.works.FunctionWork.TheVariants.{Return};
 ghost use Rattle.h41_ram.specs.RegisterMap.{is_sound};
 
 use crate::course::fail;
@@ -15,7 +15,7 @@ use crate::origin::Origin;
 use crate::outcome::LineOutcome;
 use arrayvec::ArrayVec;
 use h41_codes::{Branch, Parameter, Text};
-use h41_program::{global, local, start_of};
+use h41_program::{Position, global, local, start_of};
 use h41_rows::LineFault;
 
 /// A line goes to a local label; `NONEXISTENT` where it stands nowhere in the program.
@@ -35,7 +35,7 @@ pub fn to_label<const REGS: usize>(
 }
 
 /// Where the search for a local label begins: behind a line of the program, at the position for a typed one.
-fn searched_from(focal: &Focal, origin: Origin) -> u16
+fn searched_from(focal: &Focal, origin: Origin) -> Position
     ensures { result ≡ from_of origin focal.now.position }
 {
     match origin {
@@ -55,14 +55,17 @@ pub fn to_name<const REGS: usize>(
     ensures { GoesToName origin branch name machine.old machine.new result }
 {
     match (global(&machine.ram, name.characters()), branch) {
-        (Some(position), _) => arrive(&mut machine.focal, origin, branch, position),
+        (Some(byte), _) => {
+            let label = Position::Memory(byte);
+            arrive(&mut machine.focal, origin, branch, label)
+        }
         (None, Branch::GoTo) => fail(machine, origin, LineFault::Nonexistent),
         (None, Branch::Execute) => LineOutcome::Seeks(name),
     }
 }
 
 /// The label was found. XEQ returns to the next line; typed, it has the program run, with nowhere to return to.
-fn arrive(focal: &mut Focal, origin: Origin, branch: Branch, position: u16) -> LineOutcome
+fn arrive(focal: &mut Focal, origin: Origin, branch: Branch, position: Position) -> LineOutcome
     ensures focal { focal.new ≡ focal_at origin branch position focal.old }
     ensures answer { answer_of result ≡ answer_at origin branch }
 {
@@ -81,7 +84,7 @@ fn arrive(focal: &mut Focal, origin: Origin, branch: Branch, position: u16) -> L
 }
 
 /// A position to return to; a seventh loses the oldest.
-fn push_return(returns: &mut ArrayVec<u16, RETURNS>, position: u16)
+fn push_return(returns: &mut ArrayVec<Position, RETURNS>, position: Position)
     ensures { returns.new.items ≡ pushed returns.old.items position }
 {
     if returns.is_full() {

@@ -6,7 +6,7 @@ ghost use Rattle.h41_focal.specs.LineLaws.{StepIsDetermined, SteppedCanBeTyped, 
 ghost use Rattle.h41_focal.specs.LineLaws.{TypedFailureIsDetermined, TypedIsDetermined};
 
 use crate::focal::Focal;
-use h41_program::laws::searches_are_determined;
+use h41_program::laws::{positions_are_read, searches_are_determined};
 use h41_rows::laws::values_are_determined;
 
 /// How many positions there are to return to: six at most.
@@ -26,6 +26,7 @@ pub fn line_is_determined()
     ensures passing { PassingIsDetermined }
 {
     values_are_determined();
+    positions_are_read();
     searches_are_determined();
 }
 
@@ -37,5 +38,6 @@ pub fn typed_as_stepped()
     ensures here { NextIsHere }
 {
     values_are_determined();
+    positions_are_read();
     searches_are_determined();
 }

@@ -1,11 +1,9 @@
 //! A line is read where it stands, and carried out by what it is.
 
-ghost use Rattle.std.specs.Prelude.{◌≡◌, ℕ, IsTrue, OnErr};
-ghost use Rattle.h41_focal.specs.Carrying.{GoesToTarget, IsReady, Stands, StandsAt, TakesAs};
-ghost use Rattle.h41_focal.specs.Carrying.{TakesBranch, TakesNamed, TakesShort};
-ghost use Rattle.h41_program.specs.ProgramLines as program_lines;
-ghost use Rattle.h41_program.specs.ProgramLines.{PositionBehind};
-ghost use Rattle.h41_ram.specs.RegisterMap.{is_sound};
+ghost use Rattle.std.specs.Prelude.{◌≡◌, ℕ, OnErr};
+ghost use Rattle.h41_focal.specs.private.Carrying.{GoesToTarget, IsReady, Stands, StandsAt};
+ghost use Rattle.h41_focal.specs.private.Carrying.{TakesAs};
+ghost use Rattle.h41_focal.specs.private.Carrying.{TakesBranch, TakesNamed, TakesShort};
 
 use crate::alpha_lines::text_line;
 use crate::course::fail;
@@ -19,49 +17,34 @@ use crate::refusal::FocalRefusal;
 use crate::register_lines::{recall, store};
 use crate::stack_lines::{be_silent, do_nothing, number_line};
 use h41_codes::{Branch, Line, NameFunction, Parameter, RegisterFunction, ShortRegister, Text};
-use h41_program::{Found, ListedLine, first_from, is_final_end, place_from};
+use h41_program::{Position, line_and_next};
 use h41_ram::Ram;
 use h41_rows::{BranchTarget, branch_target, data_address};
 
 /// The line at the position, and the position of the next: 15 where memory is not sound, 14 where no line stands there.
 #[inline(always)]
-pub fn standing<const REGS: usize>(machine: &Machine<REGS>) -> Result<(Line, u16), FocalRefusal>
+pub fn standing<const REGS: usize>(
+    machine: &Machine<REGS>,
+) -> Result<(Line, Position), FocalRefusal>
     ensures { Stands machine.now result }
 {
     standing_at(&machine.ram, machine.focal.position)
 }
 
-/// The same at a position in memory.
+/// The same at a position.
 #[inline(always)]
-fn standing_at<const REGS: usize>(ram: &Ram<REGS>, at: u16) -> Result<(Line, u16), FocalRefusal>
+fn standing_at<const REGS: usize>(
+    ram: &Ram<REGS>,
+    at: Position,
+) -> Result<(Line, Position), FocalRefusal>
     ensures { StandsAt ram.now at result }
 {
     if !ram.is_sound() {
         return Err(FocalRefusal::MemoryLost);
     }
-    match first_from(ram, at) {
-        Some(found) => {
-            let Found { listed, behind } = found;
-            let line = listed.line;
-            Ok((line, position_behind(ram, listed, behind)))
-        }
-        None => Err(FocalRefusal::BrokenProgram),
-    }
-}
-
-/// The position of the line behind one, or the byte behind it where no line follows; of `.END.` its own.
-#[inline(always)]
-fn position_behind<const REGS: usize>(ram: &Ram<REGS>, listed: ListedLine, behind: u16) -> u16
-    requires sound { IsTrue (is_sound ram.now) }
-    requires behind { behind ≡ program_lines.behind listed }
-    ensures { PositionBehind ram.now listed result }
-{
-    if is_final_end(listed.line) {
-        return listed.position;
-    }
-    match place_from(ram, behind) {
-        Some(second) => second.position,
-        None => behind,
+    match line_and_next(ram, at) {
+        Ok(standing) => Ok(standing),
+        Err(_) => Err(FocalRefusal::BrokenProgram),
     }
 }
 

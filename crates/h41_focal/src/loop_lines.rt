@@ -1,7 +1,7 @@
 //! Lines that count by a register, and go on past the next line once the loop is over.
 
 ghost use Rattle.std.specs.Prelude.{IsTrue, ◌≡◌, OnErr};
-ghost use Rattle.h41_focal.specs.Carrying.{DoesUse, IsReady};
+ghost use Rattle.h41_focal.specs.private.Carrying.{DoesUse, IsReady};
 ghost use Rattle.h41_focal.specs.declared.uses.RegisterUse.TheVariants.{CountDown, CountUp};
 
 use crate::course::{fail, go_on_lifting};

@@ -1,8 +1,8 @@
 //! Lines that set the unit of angles and the display format.
 
 ghost use Rattle.std.specs.Prelude.{◌<◌, ℕ};
-ghost use Rattle.h41_focal.specs.Carrying.{DoesWork, IsReady, LeavesDigits};
-ghost use Rattle.h41_focal.specs.declared.works.Work.TheVariants.{Angles};
+ghost use Rattle.h41_focal.specs.private.Carrying.{DoesWork, IsReady, LeavesDigits};
+ghost use Rattle.h41_focal.specs.declared.works.FunctionWork.TheVariants.{Angles};
 
 use crate::course::go_on_lifting;
 use crate::machine::Machine;

@@ -1,7 +1,8 @@
 //! Functions with an operand.
 
 ghost use Rattle.std.specs.Prelude.{◌≡◌, false, OnErr};
-ghost use Rattle.h41_focal.specs.Carrying.{IsReady, TakenBy, UsesDigits, UsesFlag, UsesAddress};
+ghost use Rattle.h41_focal.specs.private.Carrying.{IsReady, TakenBy, UsesDigits, UsesFlag};
+ghost use Rattle.h41_focal.specs.private.Carrying.{UsesAddress};
 ghost use Rattle.h41_rows.specs.Profile.{is_operand_left_out, is_parameter_left_out};
 ghost use Rattle.h41_rows.specs.Profile.{is_use_left_out};
 
@@ -14,7 +15,7 @@ use crate::outcome::LineOutcome;
 use crate::refusal::FocalRefusal;
 use crate::register_uses::use_register;
 use crate::stack_lines::be_silent;
-use crate::uses::{DigitsUse, FlagUse, RegisterUse, Use, use_of};
+use crate::uses::{DigitsUse, FlagUse, RegisterUse, OperandUse, use_of};
 use h41_codes::{Operand, Parameter, ParameterFunction};
 use h41_rows::{digit_of, flag_of, register_of};
 
@@ -33,10 +34,10 @@ pub fn with_operand<const REGS: usize>(
         return Err(FocalRefusal::NotInProfile);
     }
     match use_of(function) {
-        Use::Register(taken) => with_register(machine, origin, taken, operand),
-        Use::Digits(taken) => with_digits(machine, origin, taken, operand),
-        Use::Flag(taken) => with_flag(machine, origin, taken, operand),
-        Use::Label => Ok(be_silent(machine, origin)),
+        OperandUse::Register(taken) => with_register(machine, origin, taken, operand),
+        OperandUse::Digits(taken) => with_digits(machine, origin, taken, operand),
+        OperandUse::Flag(taken) => with_flag(machine, origin, taken, operand),
+        OperandUse::Label => Ok(be_silent(machine, origin)),
     }
 }
 

@@ -1,10 +1,12 @@
 //! How a line comes to be carried out.
 
+use h41_program::Position;
+
 /// How a line comes to be carried out.
 #[derive(Clone, Copy, Debug, PartialEq, Eq)]
 pub enum Origin {
     /// From the program, at the position: the next line stands here.
-    Program(u16),
+    Program(Position),
     /// It was typed.
     Typed,
 }

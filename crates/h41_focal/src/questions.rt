@@ -1,9 +1,9 @@
 //! Lines that ask, and go on past the next line where the answer is no.
 
 ghost use Rattle.std.specs.Prelude.{◌≡◌, ℕ, IsTrue, OnErr};
-ghost use Rattle.h41_focal.specs.Carrying.{CarriesWork, IsReady, Leads, told};
+ghost use Rattle.h41_focal.specs.private.Carrying.{CarriesWork, IsReady, Leads, told};
 ghost use Rattle.h41_focal.specs.Outcomes.{answer_of};
-ghost use Rattle.h41_focal.specs.declared.works.Work.TheVariants.{Ask};
+ghost use Rattle.h41_focal.specs.declared.works.FunctionWork.TheVariants.{Ask};
 ghost use Rattle.h41_ram.specs.RegisterMap.{is_sound};
 
 use crate::course::{fail, go_on_lifting};

@@ -1,6 +1,6 @@
 //! Lines that work on a register.
 
-ghost use Rattle.h41_focal.specs.Carrying.{IsReady, UsesAt};
+ghost use Rattle.h41_focal.specs.private.Carrying.{IsReady, UsesAt};
 ghost use Rattle.h41_focal.specs.declared.uses.RegisterUse.TheVariants.{Combine, Exchange, Recall};
 ghost use Rattle.h41_focal.specs.declared.uses.RegisterUse.TheVariants.{RecallAlpha, Store};
 ghost use Rattle.h41_focal.specs.declared.uses.RegisterUse.TheVariants.{StoreAlpha, View};

@@ -1,7 +1,7 @@
 //! What is done with a register.
 
 ghost use Rattle.std.specs.Prelude.{IsTrue, ◌≡◌, OnErr};
-ghost use Rattle.h41_focal.specs.Carrying.{DoesUse, IsReady};
+ghost use Rattle.h41_focal.specs.private.Carrying.{DoesUse, IsReady};
 
 use crate::loop_lines::{count_down, count_up};
 use crate::machine::Machine;

@@ -2,11 +2,12 @@
 
 ghost use Rattle.std.specs.Prelude.{◌≡◌, ℕ};
 ghost use Rattle.h41_codes.specs.declared.line.Line.TheVariants as lines;
-ghost use Rattle.h41_focal.specs.Carrying.{DoesLine, DoesWork, IsReady, LeavesRow, advanced};
+ghost use Rattle.h41_focal.specs.private.Carrying.{DoesLine, DoesWork, IsReady, LeavesRow};
+ghost use Rattle.h41_focal.specs.private.Carrying.{advanced};
 ghost use Rattle.h41_rows.specs.Rows.{nothing, silent};
-ghost use Rattle.h41_focal.specs.StackMoves.{Moves};
-ghost use Rattle.h41_focal.specs.Works.{move_row};
-ghost use Rattle.h41_focal.specs.declared.works.Work.TheVariants.{ClearRegisters, Move};
+ghost use Rattle.h41_focal.specs.private.StackMoves.{Moves};
+ghost use Rattle.h41_focal.specs.private.Works.{move_row};
+ghost use Rattle.h41_focal.specs.declared.works.FunctionWork.TheVariants.{ClearRegisters, Move};
 
 use crate::course::{go_on, go_on_lifting, go_on_replacing};
 use crate::focal::Focal;

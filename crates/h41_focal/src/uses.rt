@@ -1,7 +1,7 @@
 //! What is done for the functions with an operand.
 
 ghost use Rattle.std.specs.Prelude.{◌≡◌, ◌≢◌};
-ghost use Rattle.h41_focal.specs.Works.{IsUse, highest_of};
+ghost use Rattle.h41_focal.specs.private.Works.{IsUse, highest_of};
 ghost use Rattle.h41_codes.specs.declared.functions.ParameterFunction.TheVariants as functions;
 
 use h41_codes::ParameterFunction;
@@ -65,7 +65,7 @@ impl FlagUse {
 
 /// What is done for a function with an operand.
 #[derive(Clone, Copy, Debug, PartialEq, Eq)]
-pub enum Use {
+pub enum OperandUse {
     /// With a register.
     Register(RegisterUse),
     /// With a number of digits.
@@ -77,34 +77,34 @@ pub enum Use {
 }
 
 /// What is done for a function with an operand that is carried out.
-pub fn use_of(function: ParameterFunction) -> Use
+pub fn use_of(function: ParameterFunction) -> OperandUse
     requires { function ≢ functions.StatisticsRegisters }
     ensures { IsUse function result }
 {
     match function {
-        ParameterFunction::Recall => Use::Register(RegisterUse::Recall),
-        ParameterFunction::Store => Use::Register(RegisterUse::Store),
-        ParameterFunction::StoreAdd => Use::Register(RegisterUse::Combine(OfTwo::Sum)),
-        ParameterFunction::StoreSubtract => Use::Register(RegisterUse::Combine(OfTwo::Difference)),
-        ParameterFunction::StoreMultiply => Use::Register(RegisterUse::Combine(OfTwo::Product)),
-        ParameterFunction::StoreDivide => Use::Register(RegisterUse::Combine(OfTwo::Quotient)),
-        ParameterFunction::IncrementSkip => Use::Register(RegisterUse::CountUp),
-        ParameterFunction::DecrementSkip => Use::Register(RegisterUse::CountDown),
-        ParameterFunction::View => Use::Register(RegisterUse::View),
+        ParameterFunction::Recall => OperandUse::Register(RegisterUse::Recall),
+        ParameterFunction::Store => OperandUse::Register(RegisterUse::Store),
+        ParameterFunction::StoreAdd => OperandUse::Register(RegisterUse::Combine(OfTwo::Sum)),
+        ParameterFunction::StoreSubtract => OperandUse::Register(RegisterUse::Combine(OfTwo::Difference)),
+        ParameterFunction::StoreMultiply => OperandUse::Register(RegisterUse::Combine(OfTwo::Product)),
+        ParameterFunction::StoreDivide => OperandUse::Register(RegisterUse::Combine(OfTwo::Quotient)),
+        ParameterFunction::IncrementSkip => OperandUse::Register(RegisterUse::CountUp),
+        ParameterFunction::DecrementSkip => OperandUse::Register(RegisterUse::CountDown),
+        ParameterFunction::View => OperandUse::Register(RegisterUse::View),
         ParameterFunction::StatisticsRegisters => unreachable!(),
-        ParameterFunction::StoreAlpha => Use::Register(RegisterUse::StoreAlpha),
-        ParameterFunction::RecallAlpha => Use::Register(RegisterUse::RecallAlpha),
-        ParameterFunction::Fixed => Use::Digits(DigitsUse::Format(true, false)),
-        ParameterFunction::Scientific => Use::Digits(DigitsUse::Format(false, false)),
-        ParameterFunction::Engineering => Use::Digits(DigitsUse::Format(false, true)),
-        ParameterFunction::Tone => Use::Digits(DigitsUse::Tone),
-        ParameterFunction::SetFlag => Use::Flag(FlagUse::Change(true)),
-        ParameterFunction::ClearFlag => Use::Flag(FlagUse::Change(false)),
-        ParameterFunction::TestSetAndClear => Use::Flag(FlagUse::AskAndClear(true)),
-        ParameterFunction::TestClearAndClear => Use::Flag(FlagUse::AskAndClear(false)),
-        ParameterFunction::TestSet => Use::Flag(FlagUse::Ask(true)),
-        ParameterFunction::TestClear => Use::Flag(FlagUse::Ask(false)),
-        ParameterFunction::Exchange => Use::Register(RegisterUse::Exchange),
-        ParameterFunction::Label => Use::Label,
+        ParameterFunction::StoreAlpha => OperandUse::Register(RegisterUse::StoreAlpha),
+        ParameterFunction::RecallAlpha => OperandUse::Register(RegisterUse::RecallAlpha),
+        ParameterFunction::Fixed => OperandUse::Digits(DigitsUse::Format(true, false)),
+        ParameterFunction::Scientific => OperandUse::Digits(DigitsUse::Format(false, false)),
+        ParameterFunction::Engineering => OperandUse::Digits(DigitsUse::Format(false, true)),
+        ParameterFunction::Tone => OperandUse::Digits(DigitsUse::Tone),
+        ParameterFunction::SetFlag => OperandUse::Flag(FlagUse::Change(true)),
+        ParameterFunction::ClearFlag => OperandUse::Flag(FlagUse::Change(false)),
+        ParameterFunction::TestSetAndClear => OperandUse::Flag(FlagUse::AskAndClear(true)),
+        ParameterFunction::TestClearAndClear => OperandUse::Flag(FlagUse::AskAndClear(false)),
+        ParameterFunction::TestSet => OperandUse::Flag(FlagUse::Ask(true)),
+        ParameterFunction::TestClear => OperandUse::Flag(FlagUse::Ask(false)),
+        ParameterFunction::Exchange => OperandUse::Register(RegisterUse::Exchange),
+        ParameterFunction::Label => OperandUse::Label,
     }
 }

@@ -3,7 +3,7 @@
 ghost use Rattle.std.specs.Prelude.{◌≡◌};
 ghost use Rattle.std.specs.Option.{option_map};
 ghost use Rattle.h41_rows.specs.FunctionRows.{function_row};
-ghost use Rattle.h41_focal.specs.Works.{row_of_work};
+ghost use Rattle.h41_focal.specs.private.Works.{row_of_work};
 
 use h41_codes::Function;
 use h41_rows::{OfOne, OfTwo, Test};
@@ -57,7 +57,7 @@ pub enum DisplayWork {
 
 /// What is done for a function without an operand.
 #[derive(Clone, Copy, Debug, PartialEq, Eq)]
-pub enum Work {
+pub enum FunctionWork {
     /// A value of Y and X; the stack drops.
     OfYAndX(OfTwo),
     /// A value of X.
@@ -87,58 +87,58 @@ pub enum Work {
 }
 
 /// What is done for a function; `None` where it is not carried out.
-pub fn work_of(function: Function) -> Option<Work>
+pub fn work_of(function: Function) -> Option<FunctionWork>
     ensures { option_map row_of_work result ≡ function_row function }
 {
     Some(match function {
-        Function::Add => Work::OfYAndX(OfTwo::Sum),
-        Function::Subtract => Work::OfYAndX(OfTwo::Difference),
-        Function::Multiply => Work::OfYAndX(OfTwo::Product),
-        Function::Divide => Work::OfYAndX(OfTwo::Quotient),
-        Function::Modulo => Work::OfYAndX(OfTwo::Remainder),
-        Function::Percent => Work::Percent,
-        Function::Square => Work::Square,
-        Function::SquareRoot => Work::OfX(OfOne::Root),
-        Function::ChangeSign => Work::ChangeSign,
-        Function::Reciprocal => Work::OfX(OfOne::Inverse),
-        Function::AbsoluteValue => Work::OfX(OfOne::AbsoluteValue),
-        Function::IntegerPart => Work::OfX(OfOne::IntegerPart),
-        Function::FractionPart => Work::OfX(OfOne::Fraction),
-        Function::Round => Work::OfX(OfOne::Displayed),
-        Function::Signum => Work::OfX(OfOne::Unit),
-        Function::TestXLessThanY => Work::Ask(Test::XLessThanY),
-        Function::TestXGreaterThanY => Work::Ask(Test::XGreaterThanY),
-        Function::TestXAtMostY => Work::Ask(Test::XAtMostY),
-        Function::TestXNotZero => Work::Ask(Test::XNotZero),
-        Function::TestXPositive => Work::Ask(Test::XPositive),
-        Function::TestXNegative => Work::Ask(Test::XNegative),
-        Function::TestXZero => Work::Ask(Test::XZero),
-        Function::TestXEqualsY => Work::Ask(Test::XEqualsY),
-        Function::TestXDiffersFromY => Work::Ask(Test::XDiffersFromY),
-        Function::TestXAtMostZero => Work::Ask(Test::XAtMostZero),
-        Function::ExchangeXY => Work::Move(Movement::Exchange),
-        Function::Pi => Work::Move(Movement::Pi),
-        Function::ClearStack => Work::Move(Movement::ClearStack),
-        Function::RollUp => Work::Move(Movement::RollUp),
-        Function::RollDown => Work::Move(Movement::RollDown),
-        Function::LastX => Work::Move(Movement::LastX),
-        Function::ClearX => Work::Move(Movement::ClearX),
-        Function::Enter => Work::Move(Movement::Enter),
-        Function::ViewAlpha => Work::Display(DisplayWork::ViewAlpha),
-        Function::ClearDisplay => Work::Display(DisplayWork::Clear),
-        Function::Prompt => Work::Display(DisplayWork::Prompt),
-        Function::Stop => Work::Display(DisplayWork::Stop),
-        Function::TurnOff => Work::Display(DisplayWork::TurnOff),
-        Function::Degrees => Work::Angles(false, false),
-        Function::Radians => Work::Angles(false, true),
-        Function::Grads => Work::Angles(true, false),
-        Function::Return => Work::Return,
-        Function::Beep | Function::Pause | Function::Advance => Work::Nothing,
-        Function::ClearAlpha => Work::Alpha(AlphaWork::Clear),
-        Function::ShiftAlpha => Work::Alpha(AlphaWork::Shift),
-        Function::AlphaOff => Work::Alpha(AlphaWork::Mode(false)),
-        Function::AlphaOn => Work::Alpha(AlphaWork::Mode(true)),
-        Function::ClearRegisters => Work::ClearRegisters,
+        Function::Add => FunctionWork::OfYAndX(OfTwo::Sum),
+        Function::Subtract => FunctionWork::OfYAndX(OfTwo::Difference),
+        Function::Multiply => FunctionWork::OfYAndX(OfTwo::Product),
+        Function::Divide => FunctionWork::OfYAndX(OfTwo::Quotient),
+        Function::Modulo => FunctionWork::OfYAndX(OfTwo::Remainder),
+        Function::Percent => FunctionWork::Percent,
+        Function::Square => FunctionWork::Square,
+        Function::SquareRoot => FunctionWork::OfX(OfOne::Root),
+        Function::ChangeSign => FunctionWork::ChangeSign,
+        Function::Reciprocal => FunctionWork::OfX(OfOne::Inverse),
+        Function::AbsoluteValue => FunctionWork::OfX(OfOne::AbsoluteValue),
+        Function::IntegerPart => FunctionWork::OfX(OfOne::IntegerPart),
+        Function::FractionPart => FunctionWork::OfX(OfOne::Fraction),
+        Function::Round => FunctionWork::OfX(OfOne::Displayed),
+        Function::Signum => FunctionWork::OfX(OfOne::Unit),
+        Function::TestXLessThanY => FunctionWork::Ask(Test::XLessThanY),
+        Function::TestXGreaterThanY => FunctionWork::Ask(Test::XGreaterThanY),
+        Function::TestXAtMostY => FunctionWork::Ask(Test::XAtMostY),
+        Function::TestXNotZero => FunctionWork::Ask(Test::XNotZero),
+        Function::TestXPositive => FunctionWork::Ask(Test::XPositive),
+        Function::TestXNegative => FunctionWork::Ask(Test::XNegative),
+        Function::TestXZero => FunctionWork::Ask(Test::XZero),
+        Function::TestXEqualsY => FunctionWork::Ask(Test::XEqualsY),
+        Function::TestXDiffersFromY => FunctionWork::Ask(Test::XDiffersFromY),
+        Function::TestXAtMostZero => FunctionWork::Ask(Test::XAtMostZero),
+        Function::ExchangeXY => FunctionWork::Move(Movement::Exchange),
+        Function::Pi => FunctionWork::Move(Movement::Pi),
+        Function::ClearStack => FunctionWork::Move(Movement::ClearStack),
+        Function::RollUp => FunctionWork::Move(Movement::RollUp),
+        Function::RollDown => FunctionWork::Move(Movement::RollDown),
+        Function::LastX => FunctionWork::Move(Movement::LastX),
+        Function::ClearX => FunctionWork::Move(Movement::ClearX),
+        Function::Enter => FunctionWork::Move(Movement::Enter),
+        Function::ViewAlpha => FunctionWork::Display(DisplayWork::ViewAlpha),
+        Function::ClearDisplay => FunctionWork::Display(DisplayWork::Clear),
+        Function::Prompt => FunctionWork::Display(DisplayWork::Prompt),
+        Function::Stop => FunctionWork::Display(DisplayWork::Stop),
+        Function::TurnOff => FunctionWork::Display(DisplayWork::TurnOff),
+        Function::Degrees => FunctionWork::Angles(false, false),
+        Function::Radians => FunctionWork::Angles(false, true),
+        Function::Grads => FunctionWork::Angles(true, false),
+        Function::Return => FunctionWork::Return,
+        Function::Beep | Function::Pause | Function::Advance => FunctionWork::Nothing,
+        Function::ClearAlpha => FunctionWork::Alpha(AlphaWork::Clear),
+        Function::ShiftAlpha => FunctionWork::Alpha(AlphaWork::Shift),
+        Function::AlphaOff => FunctionWork::Alpha(AlphaWork::Mode(false)),
+        Function::AlphaOn => FunctionWork::Alpha(AlphaWork::Mode(true)),
+        Function::ClearRegisters => FunctionWork::ClearRegisters,
         _ => return None,
     })
 }

@@ -11,7 +11,7 @@ use Rattle.h41_codes.specs.declared.line.Line.{Line}
 use Rattle.h41_codes.specs.declared.line.Line.TheVariants.{FinalEnd}
 use Rattle.h41_ram.specs.RegisterMap.{RegisterMap, is_sound}
 use Rattle.h41_program.specs.declared.editing.Change.TheVariants.{Put}
-use Rattle.h41_program.specs.declared.editing.Front.{Front}
+use Rattle.h41_program.specs.declared.editing.InFront.{InFront}
 use Rattle.h41_program.specs.declared.editing.Placement.{Placement}
 use Rattle.h41_program.specs.declared.editing.Placement.TheVariants.{Before, Instead}
 use Rattle.h41_program.specs.declared.listed_line.ListedLine.{ListedLine}
@@ -174,5 +174,5 @@ module _ (old new : RegisterMap) (at count : ℕ) (counts : Counts old at count)
   pub stands_new : (found : ListedLine) → Some found ≡ slice_get listed count → StandsNew old at new found.position
   stands_new found is = answers_changed position_behind (Some found.position) (ap position_of is)
 
-  pub stands_before : (result : Front) → result ≡ position_in_front count listed → StandsBefore old at new result
+  pub stands_before : (result : InFront) → result ≡ position_in_front count listed → StandsBefore old at new result
   stands_before result is = answers_changed position_in_front result is

@@ -5,7 +5,7 @@ use Rattle.std.specs.Prelude.{cond, nat_lt, slice_get}
 use Rattle.std.specs.Option.{option_map_or}
 use Rattle.std.proofs.lemmas.Bool.{cases_Bool, le-ltb, lt-ltb}
 use Rattle.std.proofs.lemmas.List.Sums.{sum_by-append, sum_by-cons, sum_by_push}
-use Rattle.h41_program.specs.declared.editing.Front.TheVariants.{Start}
+use Rattle.h41_program.specs.declared.editing.InFront.TheVariants.{Start}
 use Rattle.h41_program.specs.declared.listed_line.ListedLine.{ListedLine}
 use Rattle.h41_program.specs.Edits.{count_before, front_behind, position_in_front}
 use Rattle.h41_program.specs.Lines.{is_final_end}

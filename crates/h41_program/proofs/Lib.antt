@@ -22,6 +22,8 @@ pub mod NewLines
 pub mod Numbers
 pub mod Outcomes
 pub mod Packings
+pub mod PositionsFound
+pub mod PositionsRead
 pub mod Resized
 pub mod Rewritten
 pub mod Rooms

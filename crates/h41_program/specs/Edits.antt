@@ -8,8 +8,8 @@ use Rattle.std.specs.Option.{option_map, option_map_or}
 use Rattle.h41_codes.specs.declared.line.Line.{Line}
 use Rattle.h41_codes.specs.declared.line.Line.TheVariants.{End, FinalEnd}
 use Rattle.h41_ram.specs.RegisterMap.{RegisterMap}
-use Rattle.h41_program.specs.declared.editing.Front.{Front}
-use Rattle.h41_program.specs.declared.editing.Front.TheVariants.{Line as LineHere, Start}
+use Rattle.h41_program.specs.declared.editing.InFront.{InFront}
+use Rattle.h41_program.specs.declared.editing.InFront.TheVariants.{Line as LineHere, Start}
 use Rattle.h41_program.specs.declared.listed_line.ListedLine.{ListedLine}
 use Rattle.h41_program.specs.declared.refusal.ProgramRefusal.{ProgramRefusal}
 use Rattle.h41_program.specs.declared.refusal.ProgramRefusal.TheVariants.{BrokenProgram}
@@ -191,11 +191,11 @@ position_behind count listed = position_of (slice_get listed count)
 
 -- what is in front of the line behind this one: an END is of another program, and the next begins
 -- at the byte behind it
-abbrev pub front_behind : ListedLine → Front
+abbrev pub front_behind : ListedLine → InFront
 front_behind last = if is_end last.line then Start (behind last) else LineHere last.position
 
 -- what is in front of the line that has so many before it; the first program begins at 0
-abbrev pub position_in_front : ℕ → List ListedLine → Front
+abbrev pub position_in_front : ℕ → List ListedLine → InFront
 position_in_front zero listed = Start 0
 position_in_front (suc count) listed = option_map_or front_behind (slice_get listed count) (Start 0)
 
@@ -223,7 +223,7 @@ Stands memory line position =
 
 -- where the line stands that is then before a deleted one, or, of a first line, where its program
 -- then begins
-abbrev pub StandsBefore : RegisterMap → ℕ → RegisterMap → Front → Type 0
+abbrev pub StandsBefore : RegisterMap → ℕ → RegisterMap → InFront → Type 0
 StandsBefore memory at new front = AnswersChanged position_in_front memory at new front
 
 -- no change of the list has two answers, of whatever type

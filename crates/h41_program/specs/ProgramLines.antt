@@ -10,7 +10,7 @@ use Rattle.h41_codes.specs.declared.line.Line.TheVariants.{Null}
 use Rattle.h41_ram.specs.RegisterMap.{RegisterMap, is_sound}
 use Rattle.h41_program.specs.declared.listed_line.ListedLine.{ListedLine}
 use Rattle.h41_program.specs.declared.reading.Found.{Found}
-use Rattle.h41_program.specs.declared.reading.Place.{Place}
+use Rattle.h41_program.specs.declared.reading.LinePlace.{LinePlace}
 use Rattle.h41_program.specs.declared.refusal.ProgramRefusal.{ProgramRefusal}
 use Rattle.h41_program.specs.declared.refusal.ProgramRefusal.TheVariants.{BrokenProgram}
 use Rattle.h41_program.specs.Lines.{is_end, is_final_end}
@@ -56,7 +56,7 @@ HasFirst memory at found =
 
 -- memory has its first line from a position on here, with this byte behind it, and this is what it
 -- ends
-abbrev pub HasPlace : RegisterMap → ℕ → Place → Type 0
+abbrev pub HasPlace : RegisterMap → ℕ → LinePlace → Type 0
 HasPlace memory at place =
     (line : Line)
     × HasFirst memory at

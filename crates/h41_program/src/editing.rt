@@ -43,7 +43,7 @@ enum Placement {
 
 /// What stands in front of the place of a deleted line.
 #[derive(Clone, Copy, Debug, PartialEq, Eq)]
-pub enum Front {
+pub enum InFront {
     /// The line before it in its program stands here.
     Line(u16),
     /// It was the first of its program, and what is then its program begins at this byte.
@@ -72,7 +72,7 @@ pub fn insert<const REGS: usize>(
 /// Deletes the line that a position stands for; `.END.` stays. Answers where the line stands that is then before, or, where the
 /// deleted line was the first of its program, where that program then begins. 14 where the list has no such line or does not
 /// reach `.END.`, 16 where the program would pass below main memory.
-pub fn delete<const REGS: usize>(ram: &mut Ram<REGS>, at: u16) -> Result<Front, ProgramRefusal>
+pub fn delete<const REGS: usize>(ram: &mut Ram<REGS>, at: u16) -> Result<InFront, ProgramRefusal>
     requires { IsTrue (is_sound ram.old) }
     ensures lines { Edits ram.old ram.new without_deleted at (done result) }
     ensures sound { IsTrue (is_sound ram.new) }
@@ -187,29 +187,29 @@ fn line_behind<const REGS: usize>(ram: &Ram<REGS>, count: u16) -> Option<Found>
 }
 
 /// What stands in front of the line that has so many before it.
-fn in_front<const REGS: usize>(ram: &Ram<REGS>, count: u16) -> Front
+fn in_front<const REGS: usize>(ram: &Ram<REGS>, count: u16) -> InFront
     requires { IsTrue (is_sound ram.now) }
     ensures { AnswersFrom (position_in_front count) ram.now 0 result }
 {
     if count == 0 {
-        return Front::Start(0);
+        return InFront::Start(0);
     }
     match line_behind(ram, count - 1) {
         Some(found) => behind_line(&found),
-        None => Front::Start(0),
+        None => InFront::Start(0),
     }
 }
 
 /// What stands in front of the line behind another.
-fn behind_line(found: &Found) -> Front
+fn behind_line(found: &Found) -> InFront
     requires { found.now.behind ≡ behind found.now.listed }
     ensures { result ≡ front_behind found.now.listed }
 {
     let Found { listed, behind } = *found;
     if is_end(&listed.line) {
-        return Front::Start(behind);
+        return InFront::Start(behind);
     }
-    Front::Line(listed.position)
+    InFront::Line(listed.position)
 }
 
 /// The lines of memory before `.END.`, changed at the line at its own position.

@@ -8,58 +8,43 @@ ghost use Rattle.h41_program.specs.LastProgram.{CloseIsRead, ClosedIsNotOpen};
 ghost use Rattle.h41_program.specs.SearchLaws.{AnswersAreDetermined, LineIsDetermined};
 ghost use Rattle.h41_program.specs.SearchLaws.{LineIsOfList, LocalIsDetermined, NextIsDetermined};
 ghost use Rattle.h41_program.specs.SearchLaws.{NextIsOfList, ProgramIsDetermined};
+ghost use Rattle.h41_program.specs.PositionLaws.{EachIsRead, HasOneAnswer, HasOneAnswerEach};
+ghost use Rattle.h41_program.specs.PositionLaws.{IsReadOnce, LinesHaveNext};
+ghost use Rattle.h41_program.specs.Positions.{EndOf, LineBefore, LocalFrom, NumberAt, StartOf};
 ghost use Rattle.h41_program.specs.ProgramLaws.{EditsAreDetermined, FirstIsDetermined};
 ghost use Rattle.h41_program.specs.ProgramLaws.{GoesOnFromNext, ListsAreDetermined, LoadIsRead};
 ghost use Rattle.h41_program.specs.ProgramLaws.{LoadsAreDetermined, OneList, PackingFills};
 ghost use Rattle.h41_program.specs.ProgramLaws.{PackingHasFewNulls, PackingRoundTrip};
 ghost use Rattle.h41_program.specs.ProgramLaws.{ReadIsDetermined, SizeKeepsLines, StandsForItsLine};
 ghost use Rattle.h41_program.specs.ProgramLaws.{WrittenIsRead};
-ghost use Rattle.h41_program.specs.declared.editing.Front.{Front};
+ghost use Rattle.h41_program.specs.declared.editing.InFront.{InFront};
 ghost use Rattle.h41_program.specs.declared.refusal.ProgramRefusal.{ProgramRefusal};
 
 use h41_codes::laws::{byte_round_trip, line_or_none};
 
-/// The packing round trip: the bytes of packed lines, none of them a null or `.END.`, are read as these lines and `.END.`.
+/// The packing round trip: the bytes of packed lines, none of them a null or `.END.`, are read as these lines and `.END.`. They
+/// fill whole registers, with at most six nulls before `.END.`.
 pub fn packing_round_trip()
-    ensures { PackingRoundTrip }
-{
-    byte_round_trip();
-}
-
-/// A packing fills whole registers, with at most six nulls before `.END.`.
-pub fn packing_fills_registers()
+    ensures read { PackingRoundTrip }
     ensures registers { PackingFills }
     ensures nulls { PackingHasFewNulls }
-{}
-
-/// What is written is read again: the list from 0 over memory after its lines were written is these lines and `.END.`.
-pub fn written_is_read()
-    ensures { WrittenIsRead }
 {
     byte_round_trip();
 }
 
-/// After a load the list from 0 is memory's lines, closed, those of the bytes, and `.END.`; from the position that was answered
-/// on it is those of the bytes and `.END.`.
-pub fn load_is_read()
-    ensures { LoadIsRead }
-{
-    byte_round_trip();
-}
-
-/// After the last program was closed the list from 0 has before `.END.` the lines that it had, closed: with an END behind them
-/// where there are some and the last is none. Closed lines are not open.
-pub fn close_is_read()
-    ensures read { CloseIsRead }
+/// What changes write is read again. After lines were written the list from 0 is these lines and `.END.`; after a load it is
+/// memory's lines, closed, those of the bytes, and `.END.`, and from the position that was answered on those of the bytes and
+/// `.END.`; after the last program was closed it has before `.END.` the lines that it had, closed: with an END behind them where
+/// there are some and the last is none. Closed lines are not open. Another number of data registers leaves the same lists.
+pub fn changes_are_read()
+    ensures written { WrittenIsRead }
+    ensures loaded { LoadIsRead }
+    ensures closed { CloseIsRead }
     ensures shut { ClosedIsNotOpen }
+    ensures sized { SizeKeepsLines }
 {
     byte_round_trip();
 }
-
-/// With another number of data registers memory has the same lists of lines.
-pub fn size_keeps_lines()
-    ensures { SizeKeepsLines }
-{}
 
 /// Any memory has one list of lines from each position on, and no other.
 pub fn one_list()
@@ -93,10 +78,29 @@ pub fn searches_are_determined()
     byte_round_trip();
 }
 
-/// `line_at` answers the first of the list from the position on, `next` the position of the second.
+/// Each position is read, and what is found from it is determined, over any memory: its line and the next position, which there
+/// is for each line, where its program begins and ends, where labels and the line before stand, and its line's number.
+pub fn positions_are_read()
+    ensures each { EachIsRead }
+    ensures read { IsReadOnce }
+    ensures onward { LinesHaveNext }
+    ensures start { HasOneAnswer StartOf }
+    ensures local { HasOneAnswerEach LocalFrom }
+    ensures end { HasOneAnswer EndOf }
+    ensures before { HasOneAnswer LineBefore }
+    ensures number { HasOneAnswer NumberAt }
+{
+    byte_round_trip();
+    one_list();
+}
+
+/// The line at a position is the first of the list from there on, and the next position that of the second. The list from a
+/// line's own position on begins with that line, and from the next line's on it is the rest.
 pub fn lines_are_of_lists()
     ensures line { LineIsOfList }
     ensures next { NextIsOfList }
+    ensures own { StandsForItsLine }
+    ensures rest { GoesOnFromNext }
 {
     byte_round_trip();
 }
@@ -117,25 +121,13 @@ pub fn programs_depend_on_their_registers()
     ensures program { ProgramDepends (Option ℕ) }
 {}
 
-/// No bytes have two outcomes when they are loaded into a memory: the relation by which `load` promises leaves nothing open.
-pub fn loads_are_determined()
-    ensures { LoadsAreDetermined }
-{
-    byte_round_trip();
-}
-
-/// No change of the list has two outcomes, at whatever position, nor two answers: so it is with the relations by which `insert`,
-/// `replace` and `delete` promise.
+/// No bytes have two outcomes when they are loaded into a memory, and no change of the list has two, at whatever position, nor
+/// two answers: so it is with the relations by which `load`, `insert`, `replace` and `delete` promise.
 pub fn edits_are_determined()
+    ensures load { LoadsAreDetermined }
     ensures outcome { EditsAreDetermined }
     ensures answer { PlacesAreDetermined (Option ℕ) }
-    ensures front { PlacesAreDetermined Front }
+    ensures front { PlacesAreDetermined InFront }
 {
     byte_round_trip();
 }
-
-/// The list from a line's own position on begins with that line, and from the next line's position on it is the rest.
-pub fn list_of_each_line()
-    ensures own { StandsForItsLine }
-    ensures next { GoesOnFromNext }
-{}

@@ -10,6 +10,8 @@ mod listed_line;
 mod loading;
 mod numbering;
 mod packer;
+mod position;
+mod positions;
 mod ranges;
 mod reading;
 mod refusal;
@@ -18,12 +20,15 @@ mod rewriting;
 mod searches;
 mod size;
 
-pub use editing::{Front, delete, insert, replace};
+pub use editing::{InFront, delete, insert, replace};
 pub use kinds::{is_end, is_final_end, is_inner, is_label, is_named, is_number};
 pub use listed_line::ListedLine;
 pub use loading::{close_last, is_last_open, load};
-pub use numbering::{line_before, line_number, line_numbered};
-pub use reading::{Found, Place, final_position, first_from, line_at, next, place_from};
+pub use position::{PlacedLine, Position};
+pub use positions::{
+    end_of, line_and_next, line_at, line_before, line_number, local, next, start_of,
+};
+pub use reading::{Found, final_position, first_from};
 pub use refusal::ProgramRefusal;
-pub use searches::{end_of, global, local, start_of};
+pub use searches::global;
 pub use size::set_size;

@@ -12,7 +12,7 @@ ghost use Rattle.h41_program.specs.ProgramLines.{AnswersOf};
 
 use crate::given::{are_nulls, line_in};
 use crate::kinds::{is_end, is_final_end};
-use crate::laws::close_is_read;
+use crate::laws::changes_are_read;
 use crate::packer::Packer;
 use crate::reading::{Found, first_from};
 use crate::refusal::ProgramRefusal;
@@ -56,7 +56,7 @@ pub fn close_last<const REGS: usize>(ram: &mut Ram<REGS>) -> Result<(), ProgramR
     ensures sound { IsTrue (is_sound ram.new) }
     ensures read { OnOk result (LeavesClosed ram.old ram.new) }
 {
-    close_is_read();
+    changes_are_read();
     match packed_program(ram) {
         Ok(packer) => write_closed(packer, ram),
         Err(refusal) => Err(refusal),

@@ -12,30 +12,7 @@ use crate::searches::start_of;
 use h41_codes::laws::byte_round_trip;
 use h41_ram::Ram;
 
-/// The number of the line at its own position in its program, where the first has number 1. `None` where the list from the
-/// program's start to its END has no line at the position.
-pub fn line_number<const REGS: usize>(ram: &Ram<REGS>, position: u16) -> Option<u16>
-    requires { IsTrue (is_sound ram.now) }
-    ensures { AnswersProgram (number_in position) ram.now position result }
-{
-    byte_round_trip();
-    one_list();
-    number_from(ram, start_of(ram, position), position)
-}
-
-/// Where the line of a number stands in the program of a position, where the first has number 1. `None` where the program has
-/// not as many lines, and for number 0.
-pub fn line_numbered<const REGS: usize>(ram: &Ram<REGS>, at: u16, number: u16) -> Option<u16>
-    requires { IsTrue (is_sound ram.now) }
-    ensures { AnswersProgram (numbered_in number) ram.now at result }
-{
-    byte_round_trip();
-    one_list();
-    numbered_from(ram, start_of(ram, at), number)
-}
-
-/// Where the line before the one at a position stands in its program. `None` where the list has no line at the position, or it
-/// is the first.
+/// Where the line before one stands in memory, as `positions::line_before` answers it.
 pub fn line_before<const REGS: usize>(ram: &Ram<REGS>, position: u16) -> Option<u16>
     requires { IsTrue (is_sound ram.now) }
     ensures { AnswersProgram (before_in position) ram.now position result }
@@ -50,7 +27,7 @@ pub fn line_before<const REGS: usize>(ram: &Ram<REGS>, position: u16) -> Option<
 }
 
 /// The number of the line at a position, counted from another position to the END.
-fn number_from<const REGS: usize>(ram: &Ram<REGS>, from: u16, position: u16) -> Option<u16>
+pub fn number_from<const REGS: usize>(ram: &Ram<REGS>, from: u16, position: u16) -> Option<u16>
     requires { IsTrue (is_sound ram.now) }
     ensures is { AnswersFrom (λ lines. number_in position (up_to_end lines)) ram.now from result }
     ensures some { IfSome result (λ number. 1 ≤ number) }

@@ -8,7 +8,7 @@ ghost use Rattle.h41_program.specs.ProgramBytes as spec;
 ghost use Rattle.h41_program.specs.ProgramLines.{AnswersFirst, AnswersNext, HasFirst, HasNoLine};
 ghost use Rattle.h41_program.specs.ProgramLines.{HasPlace};
 ghost use Rattle.h41_program.specs.private.Reading.{bytes_seen, register_holding, BeginsNoNumber};
-ghost use Rattle.h41_program.specs.private.Reading.{EndsNothing, FoundBehind, HasThere, IsPlaceOf};
+ghost use Rattle.h41_program.specs.private.Reading.{EndsNothing, FoundBehind, HasThere};
 ghost use Rattle.h41_codes.specs.ByteGrammar.{AnswersLine};
 
 use crate::kinds::{is_end, is_final_end};
@@ -44,7 +44,7 @@ pub struct Found {
 
 /// Where a line stands, and what it ends: what a walk needs that looks at no line itself.
 #[derive(Clone, Copy, Debug, PartialEq, Eq)]
-pub struct Place {
+pub struct LinePlace {
     /// The line's own position.
     pub position: u16,
     /// The position of the byte behind the line's last.
@@ -283,7 +283,7 @@ fn first_decoded<const REGS: usize>(ram: &Ram<REGS>, at: u16, last: u16) -> Opti
 
 /// Where the first line from a position on stands and what it ends, as `first_from` finds it.
 #[inline(always)]
-pub fn place_from<const REGS: usize>(ram: &Ram<REGS>, at: u16) -> Option<Place>
+pub fn place_from<const REGS: usize>(ram: &Ram<REGS>, at: u16) -> Option<LinePlace>
     requires { IsTrue (is_sound ram.now) }
     ensures place { IfSome result (λ place. HasPlace ram.now at place) }
     ensures none { IfNone result (HasNoLine ram.now at) }
@@ -295,7 +295,7 @@ pub fn place_from<const REGS: usize>(ram: &Ram<REGS>, at: u16) -> Option<Place>
         let byte = byte_at(ram, at);
         if byte != 0 {
             if is_one_byte(byte) {
-                return Some(Place {
+                return Some(LinePlace {
                     position: at,
                     behind: at + 1,
                     ends_program: false,
@@ -303,7 +303,7 @@ pub fn place_from<const REGS: usize>(ram: &Ram<REGS>, at: u16) -> Option<Place>
                 });
             }
             if let Some(_line) = two_bytes_at(ram, at, byte, last) {
-                return Some(Place {
+                return Some(LinePlace {
                     position: at,
                     behind: at + 2,
                     ends_program: false,
@@ -313,24 +313,17 @@ pub fn place_from<const REGS: usize>(ram: &Ram<REGS>, at: u16) -> Option<Place>
         }
     }
     match first_decoded(ram, at, last) {
-        Some(found) => Some(place_of(&found)),
+        Some(found) => Some(LinePlace {
+            position: found.listed.position,
+            behind: found.behind,
+            ends_program: is_end(&found.listed.line),
+            ends_memory: is_final_end(found.listed.line),
+        }),
         None => None,
     }
 }
 
-/// The place of a line that was found.
-fn place_of(found: &Found) -> Place
-    ensures { IsPlaceOf found.now result }
-{
-    Place {
-        position: found.listed.position,
-        behind: found.behind,
-        ends_program: is_end(&found.listed.line),
-        ends_memory: is_final_end(found.listed.line),
-    }
-}
-
-/// The line that a position stands for: the first from there on, nulls passed over. 14 where there is none.
+/// The line at a byte of memory, as `positions::line_at` answers it.
 pub fn line_at<const REGS: usize>(ram: &Ram<REGS>, at: u16) -> Result<ListedLine, ProgramRefusal>
     requires { IsTrue (is_sound ram.now) }
     ensures { AnswersFirst ram.now at result }
@@ -341,8 +334,7 @@ pub fn line_at<const REGS: usize>(ram: &Ram<REGS>, at: u16) -> Result<ListedLine
     }
 }
 
-/// The position of the line behind the one that a position stands for, or the byte behind that one where no line follows;
-/// of `.END.` its own. 14 where there is no line.
+/// The byte of the next line, as `positions::next` answers it.
 pub fn next<const REGS: usize>(ram: &Ram<REGS>, at: u16) -> Result<u16, ProgramRefusal>
     requires { IsTrue (is_sound ram.now) }
     ensures { AnswersNext ram.now at result }
@@ -354,7 +346,7 @@ pub fn next<const REGS: usize>(ram: &Ram<REGS>, at: u16) -> Result<u16, ProgramR
 }
 
 /// The position of the line behind one, or the byte behind it where no line follows; of `.END.` its own.
-fn position_behind<const REGS: usize>(ram: &Ram<REGS>, first: Found) -> u16
+pub fn position_behind<const REGS: usize>(ram: &Ram<REGS>, first: Found) -> u16
     requires { IsTrue (is_sound ram.now) }
     ensures { FoundBehind ram.now first result }
 {

@@ -8,13 +8,12 @@ ghost use Rattle.h41_program.specs.Searches.{named_in, position_of, start_in, up
 
 use crate::kinds::{is_end, is_final_end, is_label, is_named};
 use crate::laws::one_list;
-use crate::reading::{Found, Place, first_from, place_from};
+use crate::reading::{Found, LinePlace, first_from, place_from};
 use h41_codes::Parameter;
 use h41_codes::laws::byte_round_trip;
 use h41_ram::Ram;
 
-/// Where the program of a position begins: behind the last END whose first byte is before the position, or at 0. `.END.` is
-/// no END here.
+/// Where the program of a byte of memory begins, as `positions::start_of` answers it.
 pub fn start_of<const REGS: usize>(ram: &Ram<REGS>, at: u16) -> u16
     requires { IsTrue (is_sound ram.now) }
     ensures { AnswersOf (start_in at) ram.now 0 result }
@@ -34,14 +33,13 @@ pub fn start_of<const REGS: usize>(ram: &Ram<REGS>, at: u16) -> u16
 }
 
 /// Whether a line is an END before a position.
-fn ends_before(place: &Place, at: u16) -> bool
+fn ends_before(place: &LinePlace, at: u16) -> bool
     ensures { result ≡ (place.now.ends_program && nat_lt place.now.position at) }
 {
     place.ends_program && place.position < at
 }
 
-/// Where the program of a position ends: where its END stands, or `.END.` where that comes first. `None` where its list has
-/// neither: bytes that are no line come first.
+/// Where the program of a byte of memory ends, as `positions::end_of` answers it.
 pub fn end_of<const REGS: usize>(ram: &Ram<REGS>, at: u16) -> Option<u16>
     requires { IsTrue (is_sound ram.now) }
     ensures { AnswersProgram end_in ram.now at result }
@@ -69,7 +67,7 @@ fn end_from<const REGS: usize>(ram: &Ram<REGS>, from: u16) -> Option<u16>
     None
 }
 
-/// Where the `LBL n` stands that a position finds: the first from there to the END, else the first of its program.
+/// Where the `LBL n` stands that a byte of memory finds, as `positions::local` answers it.
 pub fn local<const REGS: usize>(ram: &Ram<REGS>, at: u16, label: Parameter) -> Option<u16>
     requires { IsTrue (is_sound ram.now) }
     ensures { AnswersLocal ram.now at label result }

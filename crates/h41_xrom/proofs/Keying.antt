@@ -6,7 +6,7 @@ use Rattle.h41_keys.specs.declared.input.Input.{Input}
 use Rattle.h41_keys.specs.declared.key.Key.{Key}
 use Rattle.h41_xrom.specs.Calculator.{CalculatorState, machine_of, with_machine}
 use Rattle.h41_xrom.specs.KeyActions.{Acts, after_key, key_refusal, told}
-use Rattle.h41_xrom.specs.PrivateCalls.{Accepts, after_effect, effect_as, effect_with}
+use Rattle.h41_xrom.specs.private.PrivateCalls.{Accepts, after_effect, effect_as, effect_with}
 use Rattle.h41_xrom.specs.declared.acting.Effect.{Effect}
 use Rattle.h41_xrom.specs.declared.acting.Effect.TheVariants as effects
 use Rattle.h41_xrom.specs.declared.lines.LineEnd.TheVariants as ends

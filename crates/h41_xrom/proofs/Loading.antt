@@ -1,6 +1,7 @@
 -- What a load and a new size leave, by the answer of program memory.
 use Rattle.std.proofs.Common.{◌≡◌, ℕ, List, Some, None, Result, Ok, Err, refl, sym, ap, subst, ◌∙◌}
 use Rattle.h41_focal.specs.LineStep.{FocalState, halted_at}
+use Rattle.h41_program.specs.declared.position.Position.TheVariants.{Memory}
 use Rattle.h41_program.specs.declared.refusal.ProgramRefusal as program
 use Rattle.h41_program.specs.Edits as edits
 use Rattle.h41_program.specs.Edits.{LoadGives}
@@ -39,13 +40,13 @@ load_failed bytes from s memory why is accepted loads = failed_by bytes from s m
 -- and one that is done
 done_by : (bytes : List ℕ) (from s : CalculatorState) (memory : RegisterMap) (position : ℕ)
     (after : FocalState) (outcome : Result (RegisterMap × ℕ) program.ProgramRefusal)
-    → from ≡ s → after ≡ halted_at position from.focal → None ≡ change_refusal s → LoadGives from.nut.ram bytes outcome
+    → from ≡ s → after ≡ halted_at (Memory position) from.focal → None ≡ change_refusal s → LoadGives from.nut.ram bytes outcome
     → HasOutcome from.nut.ram memory (Ok position) outcome
     → Loads bytes s (not_typing (with_machine (record { memory = memory; focal = after }) from)) None
 done_by bytes from s memory position after (Ok made) is place accepted given gives =
     let done : Ok position ≡ Ok made.1 = gives.0 in
     let same : position ≡ made.1 = cc in
-    let there : after ≡ halted_at made.1 s.focal = place ∙ (λ i. halted_at (same i) (is i).focal) in (
+    let there : after ≡ halted_at (Memory made.1) s.focal = place ∙ (λ i. halted_at (Memory (same i)) (is i).focal) in (
       Ok (with_program made.0 made.1 (not_typing s)),
       rw (sym accepted) (Ok made, subst (λ (of : CalculatorState). LoadGives of.nut.ram bytes (Ok made)) is given, refl),
       (λ i. not_typing (with_machine (record { memory = gives.1 i; focal = there i }) (is i)), refl),
@@ -53,7 +54,7 @@ done_by bytes from s memory position after (Ok made) is place accepted given giv
 done_by bytes from s memory position after (Err other) is place accepted given gives = let never : Ok position ≡ Err other = gives.0 in cc
 
 pub load_done : (bytes : List ℕ) (from s : CalculatorState) (memory : RegisterMap) (position : ℕ) (after : FocalState) → from ≡ s
-    → after ≡ halted_at position from.focal → None ≡ change_refusal s → edits.Loads from.nut.ram memory bytes (Ok position)
+    → after ≡ halted_at (Memory position) from.focal → None ≡ change_refusal s → edits.Loads from.nut.ram memory bytes (Ok position)
     → Loads bytes s (not_typing (with_machine (record { memory = memory; focal = after }) from)) None
 load_done bytes from s memory position after is place accepted loads =
     done_by bytes from s memory position after loads.0 is place accepted loads.1 loads.2

@@ -7,7 +7,7 @@ use Rattle.h41_codes.specs.declared.line.Line.TheVariants.{Null, Plain}
 use Rattle.h41_text.specs.LineReading.{IsTextOf}
 use Rattle.h41_text.specs.Names.{function_name}
 use Rattle.h41_text.specs.declared.faults.BadText.{BadText}
-use Rattle.h41_xrom.specs.PrivateCalls.{IsFunction}
+use Rattle.h41_xrom.specs.private.PrivateCalls.{IsFunction}
 use Rattle.h41_xrom.specs.Lines.{IsNamed}
 
 not_null : (function : Function) → Plain function ≡ Null → ⊥

@@ -14,7 +14,7 @@ use Rattle.h41_keys.specs.declared.meaning.Meaning.{Meaning}
 use Rattle.h41_keys.specs.declared.meaning.Meaning.TheVariants as means
 use Rattle.h41_xrom.specs.Calculator.{CalculatorState}
 use Rattle.h41_xrom.specs.KeyActions.{Presses, flags_of, pressed, waiting}
-use Rattle.h41_xrom.specs.PrivateCalls.{Accepts, IsQuiet}
+use Rattle.h41_xrom.specs.private.PrivateCalls.{Accepts, IsQuiet}
 use Rattle.h41_xrom.specs.declared.calculator.Mode.{Mode}
 use Rattle.h41_xrom.specs.declared.calculator.Mode.TheVariants as modes
 use Rattle.h41_xrom.specs.declared.calculator.Caller.{Caller}

@@ -5,7 +5,7 @@ use Rattle.std.specs.Result.{result_err, result_unwrap_or}
 use Rattle.h41_codes.specs.declared.functions.Function.{Function}
 use Rattle.h41_codes.specs.declared.line.Line.TheVariants.{Plain}
 use Rattle.h41_focal.specs.LineLaws.{FailureIsDetermined, PassingIsDetermined, StepIsDetermined, TypedIsDetermined}
-use Rattle.h41_focal.specs.Courses.{Typed}
+use Rattle.h41_focal.specs.Destinations.{Typed}
 use Rattle.h41_focal.specs.LineStep.{FailsIn, Left, Machine, line_as}
 use Rattle.h41_focal.specs.Outcomes.{Answer}
 use Rattle.h41_focal.specs.Outcomes as answers

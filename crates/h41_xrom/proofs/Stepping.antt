@@ -4,7 +4,7 @@ use Rattle.h41_focal.specs.LineStep.{Machine}
 use Rattle.h41_focal.specs.declared.refusal.FocalRefusal.{FocalRefusal}
 use Rattle.h41_xrom.specs.Calculator.{CalculatorState, CarriesHere, RefusesLine, StepsByLine, after_line, not_typing, with_machine}
 use Rattle.h41_xrom.specs.Lines.{of_line}
-use Rattle.h41_xrom.specs.PrivateCalls.{after_end, ended_as, ended_with}
+use Rattle.h41_xrom.specs.private.PrivateCalls.{after_end, ended_as, ended_with}
 use Rattle.h41_xrom.specs.declared.lines.LineEnd.{LineEnd}
 use Rattle.h41_xrom.specs.declared.lines.LineEnd.TheVariants as ends
 use Rattle.h41_xrom.specs.declared.lines.Source.TheVariants.{Program}

@@ -4,5 +4,5 @@ pub mod Display
 pub mod KeyActions
 pub mod Lines
 pub mod Messages
-pub mod PrivateCalls
 pub mod Programs
+pub mod private

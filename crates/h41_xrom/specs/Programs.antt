@@ -5,6 +5,7 @@ use Rattle.std.specs.Bool.{then_some}
 use Rattle.std.specs.Option.{option_or}
 use Rattle.std.specs.Result.{result_err, result_unwrap_or}
 use Rattle.h41_focal.specs.LineStep.{halted_at}
+use Rattle.h41_program.specs.declared.position.Position.TheVariants.{Memory}
 use Rattle.h41_program.specs.declared.refusal.ProgramRefusal as program
 use Rattle.h41_program.specs.Edits.{LoadGives}
 use Rattle.h41_program.specs.Size.{size_outcome}
@@ -23,11 +24,11 @@ change_refusal s =
 abbrev pub with_memory : RegisterMap → CalculatorState → CalculatorState
 with_memory memory s = record s { nut = record s.nut { ram = memory } }
 
--- and at line 00 of the program that begins at a position, with nowhere to return to; lift and
--- message stay
+-- and at line 00 of the program that begins at a byte of memory, with nowhere to return to; lift
+-- and message stay
 abbrev pub with_program : RegisterMap → ℕ → CalculatorState → CalculatorState
-with_program memory position s =
-    record (with_memory memory s) { focal = halted_at position s.focal }
+with_program memory start s =
+    record (with_memory memory s) { focal = halted_at (Memory start) s.focal }
 
 -- what a change of program memory makes of the calculator, where no number and no text is being
 -- typed any more; or why it is refused

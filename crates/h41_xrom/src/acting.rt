@@ -2,7 +2,7 @@
 
 ghost use Rattle.std.specs.Prelude.{◌≡◌, OnErr};
 ghost use Rattle.h41_xrom.specs.KeyActions.{Acts, Carries};
-ghost use Rattle.h41_xrom.specs.PrivateCalls.{IsActed, edited_as, effect_as};
+ghost use Rattle.h41_xrom.specs.private.PrivateCalls.{IsActed, edited_as, effect_as};
 
 use crate::lines::{LineEnd, Source, carry_line};
 use crate::refusal::CalculatorRefusal;

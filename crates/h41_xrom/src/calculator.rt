@@ -9,7 +9,7 @@ ghost use Rattle.h41_xrom.specs.Calculator.{call_refusal, called, caller_in, ent
 ghost use Rattle.h41_xrom.specs.Calculator.{mode_after, mode_behind_word, mode_of, not_typing};
 ghost use Rattle.h41_xrom.specs.Calculator.{restarted, start, with_page, with_shown, without_page};
 ghost use Rattle.h41_xrom.specs.KeyActions as keys;
-ghost use Rattle.h41_xrom.specs.PrivateCalls.{Accepts, IsAccepted, after_effect, after_end};
+ghost use Rattle.h41_xrom.specs.private.PrivateCalls.{Accepts, IsAccepted, after_effect, after_end};
 ghost use Rattle.h41_keys.specs.declared.input.Entry.TheVariants as entries;
 ghost use Rattle.h41_focal.specs.Outcomes.{answer_of};
 ghost use Rattle.h41_xrom.specs.declared.calculator.Mode.TheVariants.{Micro};
@@ -23,7 +23,7 @@ use h41_focal::{DisplayText, Focal, LineOutcome, Machine};
 use h41_keys::{Action, Entry, Flags, Input, Key, press};
 use h41_nut::{Cpu, END_OF_FUNCTION, Keys, WordRefusal, step};
 use h41_pages::{FIRST_ADDRESS, Pages, PlugRefusal, UnplugRefusal};
-use h41_program::{load, set_size};
+use h41_program::{Position, load, set_size};
 use h41_ram::Ram;
 use std::alloc::{AllocError, Global};
 use std::marker::Model;
@@ -415,8 +415,8 @@ impl Calculator {
         ensures { Loads bytes.now self.old self.new (result_err result) }
     {
         self.check_change()?;
-        let position = load(&mut self.machine.ram, bytes)?;
-        self.machine.focal.halt_at(position);
+        let start = load(&mut self.machine.ram, bytes)?;
+        self.machine.focal.halt_at(Position::Memory(start));
         self.input.entry = Entry::Nothing;
         Ok(())
     }

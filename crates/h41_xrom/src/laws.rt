@@ -7,7 +7,7 @@ ghost use Rattle.h41_xrom.specs.CalculatorLaws.{StepRefusalIsDetermined, TypedAs
 use h41_editor::laws::{changes_are_determined, moves_are_determined, text_is_determined};
 use h41_focal::laws::{line_is_determined, typed_as_stepped as lines_typed_as_stepped};
 use h41_nut::laws::micro_is_determined;
-use h41_program::laws::{loads_are_determined, searches_are_determined};
+use h41_program::laws::{edits_are_determined, searches_are_determined};
 use h41_rows::laws::values_are_determined;
 use h41_text::laws::line_text_round_trip;
 
@@ -25,7 +25,7 @@ pub fn step_is_determined()
 pub fn load_is_determined()
     ensures { LoadIsDetermined }
 {
-    loads_are_determined();
+    edits_are_determined();
 }
 
 /// A key is determined: whether it is refused, its refusal, and the state that it leaves.
@@ -35,7 +35,7 @@ pub fn key_is_determined()
     line_is_determined();
     line_text_round_trip();
     moves_are_determined();
-    changes_are_determined();
+    edits_are_determined();
     searches_are_determined();
     values_are_determined();
 }

@@ -4,7 +4,7 @@ ghost use Rattle.std.specs.Prelude.{◌≡◌, None, Some, OnErr};
 ghost use Rattle.h41_focal.specs.MachineCalls.{KeepsElsewhere, carried_as, passed_as};
 ghost use Rattle.h41_xrom.specs.Lines.{BeginsEntry, CallsEntry, CarriesFrom, CarriesLine, Fails};
 ghost use Rattle.h41_xrom.specs.Lines.{FailsFrom, IsNamed, PassesFrom, Seeks};
-ghost use Rattle.h41_xrom.specs.PrivateCalls.{CarriesFunction, IsFunction, ended_as};
+ghost use Rattle.h41_xrom.specs.private.PrivateCalls.{CarriesFunction, IsFunction, ended_as};
 
 use h41_codes::{Function, Line};
 use h41_focal::{FocalRefusal, LineFault, LineOutcome, Machine};

@@ -4,7 +4,7 @@ ghost use Rattle.std.specs.Prelude.{IfSome, IsTrue};
 ghost use Rattle.h41_program.specs.Lines.{is_inner};
 ghost use Rattle.h41_ram.specs.RegisterMap.{is_sound};
 ghost use Rattle.h41_xrom.specs.KeyActions.{IsStoredAs};
-ghost use Rattle.h41_xrom.specs.PrivateCalls.{StoresFor};
+ghost use Rattle.h41_xrom.specs.private.PrivateCalls.{StoresFor};
 
 use crate::lines::function_named;
 use h41_codes::{EntryNumber, Line, ModuleNumber, NameFunction};

@@ -20,6 +20,7 @@ use crate::refusal::LineRefusal;
 use h41_breakpoints::Location;
 use h41_keys::Key;
 use h41_lines::words::LineWords;
+use h41_program::Position;
 
 /// The most single steps of one command.
 const MOST_STEPS: u32 = 9_999_999;
@@ -246,8 +247,8 @@ fn location_by(kind: &[u8], number: &[u8]) -> Result<Location, LineRefusal>
     match kind {
         b"w" => Ok(Location::Word(hexadecimal(4, 4, number)?)),
         b"l" => {
-            let position = number_up_to(MOST_POSITION, 10, number)? as u16;
-            Ok(Location::Line(position))
+            let byte = number_up_to(MOST_POSITION, 10, number)? as u16;
+            Ok(Location::Line(Position::Memory(byte)))
         }
         _ => Err(LineRefusal::BadCommand),
     }

@@ -5,7 +5,7 @@ ghost use Rattle.h41_ram.specs.RegisterMap.{is_sound};
 ghost use Rattle.h41_program.specs.Lines as lines;
 ghost use Rattle.h41_deck.specs.ProgramListing as spec;
 
-use h41_debug::position_digits;
+use h41_debug::byte_digits;
 use h41_program::{ListedLine, first_from, is_final_end};
 use h41_ram::Ram;
 use h41_text::write_line;
@@ -45,7 +45,7 @@ fn push_line(listing: &mut Vec<u8>, listed: &ListedLine) -> Result<(), AllocErro
     requires { listed.now.position < 10000 }
     ensures { OnOk result (listing.new.items ≡ listing.old.items ++ spec.listed_line listed.now) }
 {
-    listing.extend_from_slice(position_digits(listed.position).as_str().as_bytes())?;
+    listing.extend_from_slice(byte_digits(listed.position).as_str().as_bytes())?;
     listing.extend_from_slice(b" ")?;
     listing.extend_from_slice(write_line(listed.line).as_str().as_bytes())?;
     listing.extend_from_slice(b"\n")

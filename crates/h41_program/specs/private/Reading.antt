@@ -6,7 +6,6 @@ use Rattle.h41_codes.specs.declared.line.Line.{Line}
 use Rattle.h41_program.specs.declared.given.Taken.{Taken}
 use Rattle.h41_program.specs.declared.listed_line.ListedLine.{ListedLine}
 use Rattle.h41_program.specs.declared.reading.Found.{Found}
-use Rattle.h41_program.specs.declared.reading.Place.{Place}
 use Rattle.h41_program.specs.Lines.{is_end, is_final_end}
 use Rattle.h41_program.specs.ProgramBytes.{program_byte}
 use Rattle.h41_program.specs.ProgramLines.{HasFirst, NoneFrom, IsFirst, LinesFrom, PositionFrom}
@@ -27,14 +26,6 @@ abbrev pub FoundBehind : RegisterMap → Found → ℕ → Type 0
 FoundBehind memory first position =
     MatchBool (is_final_end first.listed.line) (position ≡ first.listed.position)
     (PositionFrom memory first.behind position)
-
--- the place of a line that was found
-abbrev pub IsPlaceOf : Found → Place → Type 0
-IsPlaceOf found place =
-    (place.position ≡ found.listed.position)
-    × (place.behind ≡ found.behind)
-    × (place.ends_program ≡ is_end found.listed.line)
-    × (place.ends_memory ≡ is_final_end found.listed.line)
 
 -- an answer is that of every list of lines from a position on
 abbrev pub AnswersFrom : {A : Type 0} → (List ListedLine → A) → RegisterMap → ℕ → A → Type 0

@@ -7,8 +7,8 @@ ghost use Rattle.h41_ram.specs.RegisterMap.{is_sound};
 use h41_codes::{Function, Line, RegisterFunction, ShortRegister, decode};
 use h41_digits::Reg;
 use h41_program::{
-    Front, ListedLine, ProgramRefusal, close_last, delete, end_of, final_position, first_from,
-    global, insert, is_last_open, line_at, line_before, line_number, line_numbered, load, next,
+    InFront, ListedLine, Position, ProgramRefusal, close_last, delete, end_of, final_position,
+    first_from, global, insert, is_last_open, line_at, line_before, line_number, load, next,
     replace, set_size, start_of,
 };
 use h41_ram::Ram;
@@ -18,16 +18,14 @@ enum Step {
     Load(&'static [u8], Result<u16, ProgramRefusal>),
     Insert(u16, &'static [u8], Result<u16, ProgramRefusal>),
     Replace(u16, &'static [u8], Result<u16, ProgramRefusal>),
-    Delete(u16, Result<Front, ProgramRefusal>),
+    Delete(u16, Result<InFront, ProgramRefusal>),
     SetSize(u16, Result<(), ProgramRefusal>),
     Next(u16, Result<u16, ProgramRefusal>),
     StartOf(u16, u16),
     Final(u16),
     Global(&'static [u8], Option<u16>),
-    /// The number of the line at a position, where the line of a number stands in a position's program, where that program ends,
-    /// and the line before one.
+    /// The number of the line at a position, where its program ends, and the line before it.
     Number(u16, Option<u16>),
-    Numbered(u16, u16, Option<u16>),
     EndOf(u16, Option<u16>),
     Before(u16, Option<u16>),
     /// Whether the last program is open, and it is closed.
@@ -72,13 +70,37 @@ fn is_recall(listed: ListedLine, position: u16) -> bool {
 fn finds_recall(ram: &Ram<320>, at: u16, position: u16, behind: u16) -> bool
     requires { IsTrue (is_sound ram.now) }
 {
-    match (line_at(ram, at), first_from(ram, at)) {
-        (Ok(listed), Some(found)) => {
-            is_recall(listed, position)
+    match (line_at(ram, Position::Memory(at)), first_from(ram, at)) {
+        (Ok(placed), Some(found)) => {
+            placed.position == Position::Memory(position)
+                && placed.line == found.listed.line
                 && is_recall(found.listed, position)
                 && found.behind == behind
         }
         _ => false,
+    }
+}
+
+/// The byte of a position.
+fn byte_of(position: Position) -> u16 {
+    match position {
+        Position::Memory(byte) => byte,
+    }
+}
+
+/// The byte of a position that was found.
+fn found_byte(found: Option<Position>) -> Option<u16> {
+    match found {
+        Some(position) => Some(byte_of(position)),
+        None => None,
+    }
+}
+
+/// The byte of a position, or its refusal.
+fn next_byte(next: Result<Position, ProgramRefusal>) -> Result<u16, ProgramRefusal> {
+    match next {
+        Ok(position) => Ok(byte_of(position)),
+        Err(refusal) => Err(refusal),
     }
 }
 
@@ -92,18 +114,21 @@ fn makes(ram: &mut Ram<320>, step: &Step) -> bool
         Step::Replace(at, bytes, answer) => replace(ram, *at, line(bytes)) == *answer,
         Step::Delete(at, answer) => delete(ram, *at) == *answer,
         Step::SetSize(size, answer) => set_size(ram, *size) == *answer,
-        Step::Next(at, answer) => next(ram, *at) == *answer,
-        Step::StartOf(at, answer) => start_of(ram, *at) == *answer,
+        Step::Next(at, answer) => next_byte(next(ram, Position::Memory(*at))) == *answer,
+        Step::StartOf(at, answer) => byte_of(start_of(ram, Position::Memory(*at))) == *answer,
         Step::Final(answer) => final_position(ram) == *answer,
         Step::Global(name, answer) => global(ram, name) == *answer,
-        Step::Number(position, answer) => line_number(ram, *position) == *answer,
-        Step::Numbered(at, number, answer) => line_numbered(ram, *at, *number) == *answer,
-        Step::EndOf(at, answer) => end_of(ram, *at) == *answer,
-        Step::Before(position, answer) => line_before(ram, *position) == *answer,
+        Step::Number(at, answer) => line_number(ram, Position::Memory(*at)) == *answer,
+        Step::EndOf(at, answer) => found_byte(end_of(ram, Position::Memory(*at))) == *answer,
+        Step::Before(at, answer) => {
+            found_byte(line_before(ram, Position::Memory(*at))) == *answer
+        }
         Step::Open(answer) => is_last_open(ram) == *answer,
         Step::Close(answer) => close_last(ram) == *answer,
         Step::Recall(at, position, behind) => finds_recall(ram, *at, *position, *behind),
-        Step::SameLine(at, other) => line_at(ram, *at) == line_at(ram, *other),
+        Step::SameLine(at, other) => {
+            line_at(ram, Position::Memory(*at)) == line_at(ram, Position::Memory(*other))
+        }
         Step::Write(address, digits) => match Reg::from_u64(*digits) {
             Some(register) => {
                 ram.write(*address, register);
@@ -156,7 +181,7 @@ static ROWS: [(&str, &[Step]); 12] = [
             Step::SameLine(1, 2),
             Step::Insert(1, &[0x83], Ok(1)),
             Step::Register(0x19B, 0x11_8312_25C0_0020),
-            Step::Delete(1, Ok(Front::Line(0))),
+            Step::Delete(1, Ok(InFront::Line(0))),
             Step::Register(0x19B, 0x11_0012_25C0_0020),
             Step::Insert(3, &[0x13], Ok(4)),
             Step::Register(0x19B, 0x11_0012_0013_2500),
@@ -181,10 +206,6 @@ static ROWS: [(&str, &[Step]); 12] = [
             Step::Number(2, None),
             Step::Number(4, Some(1)),
             Step::Number(11, Some(3)),
-            Step::Numbered(0, 2, Some(1)),
-            Step::Numbered(0, 3, None),
-            Step::Numbered(5, 0, None),
-            Step::Numbered(5, 3, Some(11)),
             Step::EndOf(1, Some(1)),
             Step::EndOf(2, Some(11)),
             Step::Final(11),
@@ -212,14 +233,14 @@ static ROWS: [(&str, &[Step]); 12] = [
         "packing moves lines, and a deleted line may be its program's first",
         &[
             Step::Load(&[0x25, 0xC0, 0x00, 0x00, 0x26, 0x27], Ok(0)),
-            Step::Delete(4, Ok(Front::Start(4))),
-            Step::Delete(1, Ok(Front::Line(0))),
-            Step::Delete(0, Ok(Front::Start(0))),
+            Step::Delete(4, Ok(InFront::Start(4))),
+            Step::Delete(1, Ok(InFront::Line(0))),
+            Step::Delete(0, Ok(InFront::Start(0))),
             Step::Write(0x19B, 0x00_2526_00C0_0020),
             Step::Insert(2, &[0x83], Ok(1)),
             Step::Replace(2, &[0x90, 0x11], Ok(2)),
             Step::Register(0x19B, 0x25_8390_11C0_0020),
-            Step::Delete(4, Ok(Front::Line(2))),
+            Step::Delete(4, Ok(InFront::Line(2))),
         ],
     ),
     (

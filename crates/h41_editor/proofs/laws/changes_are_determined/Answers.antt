@@ -1,13 +1,12 @@
-use Rattle.h41_editor.proofs.OneAnswer.{read_once}
 use Rattle.h41_editor.proofs.OneAnswer.{deletion_determined, insertion_determined, replacement_determined}
 use Rattle.h41_editor.proofs.laws.changes_are_determined.Goals as goal
 
 pub returns-clause-insertion : goal.returns-clause-insertion
 returns-clause-insertion c =
     insertion_determined c.edits_are_determined.ensures.outcome c.edits_are_determined.ensures.answer
-    (read_once c.searches_are_determined.ensures.line c.searches_are_determined.ensures.next)
-    c.searches_are_determined.ensures.start
-    c.searches_are_determined.ensures.program
+    c.positions_are_read.ensures.read
+    c.positions_are_read.ensures.start
+    c.positions_are_read.ensures.number
 
 pub returns-clause-replacement : goal.returns-clause-replacement
 returns-clause-replacement c = replacement_determined c.edits_are_determined.ensures.outcome c.edits_are_determined.ensures.answer
@@ -15,4 +14,4 @@ returns-clause-replacement c = replacement_determined c.edits_are_determined.ens
 pub returns-clause-deletion : goal.returns-clause-deletion
 returns-clause-deletion c =
     deletion_determined c.edits_are_determined.ensures.outcome c.edits_are_determined.ensures.front
-    (read_once c.searches_are_determined.ensures.line c.searches_are_determined.ensures.next)
+    c.positions_are_read.ensures.read

@@ -2,8 +2,8 @@ use Rattle.std.proofs.Common.{refl}
 use Rattle.h41_focal.proofs.RowApplied.{row_failed}
 use Rattle.h41_focal.proofs.RowDone.{row_done}
 use Rattle.h41_rows.specs.Places.{X}
-use Rattle.h41_focal.specs.Works.{row_of_work}
-use Rattle.h41_focal.specs.declared.works.Work.TheVariants as works
+use Rattle.h41_focal.specs.private.Works.{row_of_work}
+use Rattle.h41_focal.specs.declared.works.FunctionWork.TheVariants as works
 use Rattle.h41_focal.specs.declared.outcome.LineOutcome.TheVariants as outcomes
 use Rattle.h41_focal.proofs.arithmetic.square.Goals as goal
 

@@ -3,7 +3,7 @@ use Rattle.std.proofs.lemmas.Result.{err_from_is_err_and}
 use Rattle.h41_focal.proofs.RowApplied.{opened_row}
 use Rattle.h41_focal.proofs.RowAsked.{test_leads, test_refused}
 use Rattle.h41_rows.specs.Rows.{Flag}
-use Rattle.h41_focal.specs.Works.{flag_use_row}
+use Rattle.h41_focal.specs.private.Works.{flag_use_row}
 use Rattle.h41_focal.specs.declared.uses.FlagUse.TheVariants as flags
 use Rattle.h41_ram.specs.RegisterMap.{zeros}
 use Rattle.h41_focal.proofs.flag_lines.ask_and_clear_flag.Goals as goal

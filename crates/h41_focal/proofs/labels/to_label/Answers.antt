@@ -1,8 +1,8 @@
 use Rattle.std.proofs.Common.{None, subst}
 use Rattle.h41_focal.proofs.RowApplied.{opened_row}
-use Rattle.h41_focal.specs.Arrivals.{from_of}
+use Rattle.h41_focal.specs.private.Arrivals.{from_of}
 use Rattle.h41_focal.specs.LineStep.{Machine, joined}
-use Rattle.h41_program.specs.Searches.{AnswersLocal}
+use Rattle.h41_program.specs.Positions.{LocalFrom}
 use Rattle.h41_rows.specs.LineRows.{to_label}
 use Rattle.h41_focal.proofs.LabelsMet.{label_found, label_lost}
 use Rattle.h41_focal.proofs.labels.to_label.Goals as goal
@@ -20,6 +20,6 @@ returns-in-None g c = λ named.
     let found = c.local.ensures in
     let lost = rw (c.in-None.is, c.searched_from.ensures) at found in
     label_lost c.args.origin c.args.branch c.args.label named _ _ _ c.requires.next
-    (subst (λ (machine : Machine). AnswersLocal machine.memory (from_of c.args.origin machine.focal.position) c.args.label None)
+    (subst (λ (machine : Machine). LocalFrom c.args.label machine.memory (from_of c.args.origin machine.focal.position) None)
     c.machine.view_is lost)
     c.fail.ensures

@@ -1,5 +1,5 @@
 use Rattle.std.proofs.Common.{ap, subst, ◌∙◌}
-use Rattle.h41_focal.specs.Carrying.{Stands}
+use Rattle.h41_focal.specs.private.Carrying.{Stands}
 use Rattle.h41_focal.specs.LineStep.{Machine, joined}
 use Rattle.h41_focal.specs.declared.machine.Machine.TheInside.{Inside}
 use Rattle.h41_focal.proofs.lines.standing.Goals as goal

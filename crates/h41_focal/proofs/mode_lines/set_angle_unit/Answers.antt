@@ -1,7 +1,7 @@
 use Rattle.std.proofs.Common.{refl}
 use Rattle.h41_focal.proofs.RowDone.{row_done}
-use Rattle.h41_focal.specs.Works.{row_of_work}
-use Rattle.h41_focal.specs.declared.works.Work.TheVariants as works
+use Rattle.h41_focal.specs.private.Works.{row_of_work}
+use Rattle.h41_focal.specs.declared.works.FunctionWork.TheVariants as works
 use Rattle.h41_focal.specs.declared.outcome.LineOutcome.TheVariants as outcomes
 use Rattle.h41_ram.specs.RegisterMap.{zeros}
 use Rattle.h41_focal.proofs.mode_lines.set_angle_unit.Goals as goal

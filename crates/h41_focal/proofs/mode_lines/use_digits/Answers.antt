@@ -1,6 +1,6 @@
 use Rattle.std.proofs.Common.{refl}
 use Rattle.h41_focal.proofs.RowDone.{row_done}
-use Rattle.h41_focal.specs.Works.{digits_use_row}
+use Rattle.h41_focal.specs.private.Works.{digits_use_row}
 use Rattle.h41_focal.specs.declared.uses.DigitsUse.TheVariants as digits
 use Rattle.h41_focal.specs.declared.outcome.LineOutcome.TheVariants as outcomes
 use Rattle.h41_ram.specs.RegisterMap.{zeros}

@@ -2,7 +2,7 @@ use Rattle.std.proofs.Common.{refl}
 use Rattle.h41_focal.proofs.RowApplied.{row_failed}
 use Rattle.h41_focal.proofs.RowDone.{row_done, works_in_register}
 use Rattle.h41_rows.specs.Places.{Named, X}
-use Rattle.h41_focal.specs.Works.{register_use_row}
+use Rattle.h41_focal.specs.private.Works.{register_use_row}
 use Rattle.h41_focal.specs.declared.uses.RegisterUse.TheVariants as registers
 use Rattle.h41_focal.specs.declared.outcome.LineOutcome.TheVariants as outcomes
 use Rattle.h41_focal.proofs.register_lines.combine.Goals as goal

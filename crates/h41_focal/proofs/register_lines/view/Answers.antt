@@ -1,6 +1,6 @@
 use Rattle.std.proofs.Common.{refl}
 use Rattle.h41_focal.proofs.RowDone.{row_done}
-use Rattle.h41_focal.specs.Works.{register_use_row}
+use Rattle.h41_focal.specs.private.Works.{register_use_row}
 use Rattle.h41_focal.specs.declared.uses.RegisterUse.TheVariants as registers
 use Rattle.h41_focal.specs.declared.outcome.LineOutcome.TheVariants as outcomes
 use Rattle.h41_ram.specs.RegisterMap.{zeros}

@@ -5,7 +5,7 @@ use Rattle.h41_focal.proofs.stack_lines.move_stack.Goals as goal
 use Rattle.h41_focal.specs.LineStep.{answered, joined}
 use Rattle.h41_focal.specs.Outcomes as answers
 use Rattle.h41_rows.specs.Rows as rows
-use Rattle.h41_focal.specs.Works.{move_row}
+use Rattle.h41_focal.specs.private.Works.{move_row}
 use Rattle.h41_focal.specs.declared.outcome.LineOutcome.TheVariants as outcomes
 use Rattle.h41_focal.specs.declared.works.Movement.{Movement}
 use Rattle.h41_focal.specs.declared.works.Movement.TheVariants as moves

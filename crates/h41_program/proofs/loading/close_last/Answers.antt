@@ -23,4 +23,5 @@ returns-in-Ok-clause-sound g c =
 
 pub returns-in-Ok-clause-read : goal.returns-in-Ok-clause-read
 returns-in-Ok-clause-read g c =
-    close_leaves c.close_is_read.ensures.read c.args.ram.now c.write_closed.new.ram c.write_closed.result (returns-in-Ok-clause-lines g c)
+    close_leaves c.changes_are_read.ensures.closed c.args.ram.now c.write_closed.new.ram c.write_closed.result
+    (returns-in-Ok-clause-lines g c)

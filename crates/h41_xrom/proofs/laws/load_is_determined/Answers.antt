@@ -2,4 +2,4 @@ use Rattle.h41_xrom.proofs.StepLaws.{load_determined}
 use Rattle.h41_xrom.proofs.laws.load_is_determined.Goals as goal
 
 pub returns : goal.returns
-returns c = load_determined c.loads_are_determined.ensures
+returns c = load_determined c.edits_are_determined.ensures.load

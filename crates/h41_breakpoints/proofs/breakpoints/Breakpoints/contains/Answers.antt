@@ -1,7 +1,7 @@
 use Rattle.std.proofs.Common.{ap, ◌∙◌}
 use Rattle.std.specs.List.{list_any}
 use Rattle.h41_breakpoints.specs.Breakpoints.{BreakpointSet, is_set}
-use Rattle.h41_breakpoints.specs.Members.{is_same}
+use Rattle.h41_breakpoints.specs.private.Members.{is_same}
 use Rattle.h41_breakpoints.proofs.Members.{set_has}
 use Rattle.h41_breakpoints.proofs.breakpoints.Breakpoints.contains.Goals as goal
 

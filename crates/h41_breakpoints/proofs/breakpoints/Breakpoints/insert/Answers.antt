@@ -1,6 +1,6 @@
 use Rattle.std.proofs.Common.{◌≡◌, ◌<◌, ℕ, true, false, List, [], ◌∷◌, ◌++◌, length, set, sym, ap, subst, arith, ◌∙◌}
 use Rattle.h41_breakpoints.specs.Breakpoints.{BreakpointSet, is_set, with_breakpoint}
-use Rattle.h41_breakpoints.specs.Members.{AreMarked, IsEachOnce, low_byte, set_of}
+use Rattle.h41_breakpoints.specs.private.Members.{AreMarked, IsEachOnce, low_byte, set_of}
 use Rattle.h41_breakpoints.specs.declared.location.Location.{Location}
 use Rattle.h41_breakpoints.proofs.Members.{marked_pushed, once_pushed, set_again, set_pushed}
 use Rattle.h41_breakpoints.proofs.breakpoints.Breakpoints.insert.Goals as goal

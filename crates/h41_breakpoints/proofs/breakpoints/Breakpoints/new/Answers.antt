@@ -1,7 +1,7 @@
 use Rattle.std.proofs.Common.{ap, List, ◌∙◌}
 use Rattle.std.specs.FinSet.{len-empty}
 use Rattle.h41_breakpoints.specs.Breakpoints.{location_cmp, is_set}
-use Rattle.h41_breakpoints.specs.Members.{IsEachOnce, set_of}
+use Rattle.h41_breakpoints.specs.private.Members.{IsEachOnce, set_of}
 use Rattle.h41_breakpoints.specs.declared.location.Location.{Location}
 use Rattle.std.proofs.Common.{sym, subst}
 use Rattle.h41_breakpoints.proofs.Members.{none_in}

@@ -3,7 +3,7 @@ use Rattle.std.specs.Prelude.{not, position}
 use Rattle.std.proofs.lemmas.List.Folds.{list_any_at}
 use Rattle.std.proofs.lemmas.List.Quantifiers.{position-Some}
 use Rattle.h41_breakpoints.specs.Breakpoints.{BreakpointSet, is_set, without_breakpoint}
-use Rattle.h41_breakpoints.specs.Members.{is_same}
+use Rattle.h41_breakpoints.specs.private.Members.{is_same}
 use Rattle.h41_breakpoints.proofs.Members.{marked_left, none_found, set_has, taken}
 use Rattle.h41_breakpoints.proofs.breakpoints.Breakpoints.remove.Goals as goal
 

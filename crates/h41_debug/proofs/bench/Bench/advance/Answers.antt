@@ -1,7 +1,7 @@
 use Rattle.std.proofs.Common.{◌<◌, Option, subst}
 use Rattle.std.specs.Prelude.{MatchOption}
 use Rattle.h41_xrom.specs.declared.refusal.CalculatorRefusal.{CalculatorRefusal}
-use Rattle.h41_debug.specs.Advancing.{IsRefused}
+use Rattle.h41_debug.specs.private.Advancing.{IsRefused}
 use Rattle.h41_debug.proofs.Runs.{ends_at_refusal}
 use Rattle.h41_debug.proofs.bench.Bench.advance.Goals as goal
 

@@ -1,6 +1,6 @@
 use Rattle.std.proofs.Common.{◌≡◌, ◌≤◌, ◌-◌, false}
 use Rattle.std.specs.FinSet.{len}
-use Rattle.h41_debug.specs.Advancing.{MakesSteps}
+use Rattle.h41_debug.specs.private.Advancing.{MakesSteps}
 use Rattle.h41_debug.proofs.bench.Bench.advance.Given as goal
 
 -- so many steps were made, and where breakpoints are not asked for none is set

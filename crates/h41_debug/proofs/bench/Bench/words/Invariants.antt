@@ -1,8 +1,8 @@
 use Rattle.std.proofs.Common.{◌≡◌, None, nat_lt}
 use Rattle.h41_xrom.specs.declared.calculator.Mode.TheVariants.{Micro}
-use Rattle.h41_debug.specs.Advancing.{MakesSteps}
+use Rattle.h41_debug.specs.private.Advancing.{MakesSteps}
 use Rattle.h41_debug.specs.Bench.{BenchState}
-use Rattle.h41_debug.specs.Running.{stop_behind}
+use Rattle.h41_debug.specs.private.Running.{stop_behind}
 use Rattle.h41_debug.proofs.bench.Bench.words.Given as goal
 
 -- so many steps were made, the function runs, and there is no reason to stop

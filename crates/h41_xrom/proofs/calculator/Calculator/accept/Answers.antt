@@ -1,7 +1,7 @@
 use Rattle.std.proofs.Common.{ap, ◌∙◌}
 use Rattle.std.proofs.lemmas.Result.{err_from_is_err_and}
 use Rattle.h41_xrom.proofs.Keying.{key_done, key_failed, key_lost}
-use Rattle.h41_xrom.specs.PrivateCalls.{after_effect}
+use Rattle.h41_xrom.specs.private.PrivateCalls.{after_effect}
 use Rattle.h41_xrom.proofs.calculator.Calculator.accept.Goals as goal
 
 pub returns-in_err-check_memory : goal.returns-in_err-check_memory

@@ -1,6 +1,6 @@
 use Rattle.std.proofs.Common.{Some, ap, ◌∙◌}
 use Rattle.h41_xrom.proofs.Stepping.{line_accepted, line_left, line_refused}
-use Rattle.h41_xrom.specs.PrivateCalls.{after_end}
+use Rattle.h41_xrom.specs.private.PrivateCalls.{after_end}
 use Rattle.h41_xrom.proofs.calculator.Calculator.step_line.Goals as goal
 
 pub returns-in-Ok-clause-refusal : goal.returns-in-Ok-clause-refusal

@@ -1,25 +1,25 @@
 -- What private functions promise one another of labels and returns.
-use Rattle.std.specs.Prelude.{◌≡◌, ℕ, List, [], ◌∷◌, reverse}
+use Rattle.std.specs.Prelude.{◌≡◌, List, [], ◌∷◌, reverse}
 use Rattle.h41_codes.specs.declared.functions.Branch.{Branch}
 use Rattle.h41_codes.specs.declared.functions.Branch.TheVariants.{GoTo, Execute}
 use Rattle.h41_focal.specs.Outcomes.{answer_of}
-use Rattle.h41_focal.specs.Courses.{pushed}
+use Rattle.h41_focal.specs.Destinations.{pushed}
 use Rattle.h41_focal.specs.LineStep.{FocalState, Machine, at_position, halted, placed, returning}
 use Rattle.h41_focal.specs.Outcomes.{Answer}
 use Rattle.h41_focal.specs.Outcomes as answers
 use Rattle.h41_focal.specs.declared.origin.Origin.{Origin}
 use Rattle.h41_focal.specs.declared.origin.Origin.TheVariants.{Program, Typed}
 use Rattle.h41_focal.specs.declared.outcome.LineOutcome.{LineOutcome}
-use Rattle.h41_program.specs.ProgramLines.{AnswersOf}
-use Rattle.h41_program.specs.Searches.{start_in}
+use Rattle.h41_program.specs.Positions.{StartOf}
+use Rattle.h41_program.specs.declared.position.Position.{Position}
 
 -- where the search for a local label begins
-abbrev pub from_of : Origin → ℕ → ℕ
+abbrev pub from_of : Origin → Position → Position
 from_of (Program next) position = next
 from_of Typed position = position
 
 -- at a label, by how the line came and whether it returns
-abbrev pub focal_at : Origin → Branch → ℕ → FocalState → FocalState
+abbrev pub focal_at : Origin → Branch → Position → FocalState → FocalState
 focal_at origin GoTo position focal = at_position position focal
 focal_at (Program next) Execute position focal =
     record (at_position position focal) { returns = pushed focal.returns next }
@@ -31,9 +31,9 @@ answer_at (Program next) Execute = answers.Done
 answer_at Typed Execute = answers.Runs
 
 -- back to the latest position to return to, or to line 00
-abbrev pub GoesBackFrom : List ℕ → (old new : Machine) → LineOutcome → Type 0
+abbrev pub GoesBackFrom : List Position → (old new : Machine) → LineOutcome → Type 0
 GoesBackFrom [] old new outcome =
-    (start : ℕ) × AnswersOf (start_in old.focal.position) old.memory 0 start
+    (start : Position) × StartOf old.memory old.focal.position start
     × (new ≡ halted start old) × (answer_of outcome ≡ answers.Stopped)
 GoesBackFrom (latest ∷ others) old new outcome =
     (new ≡ placed latest (returning (reverse others) old)) × (answer_of outcome ≡ answers.Done)

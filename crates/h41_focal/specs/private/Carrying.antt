@@ -9,8 +9,8 @@ use Rattle.h41_codes.specs.declared.line.Line.{Line}
 use Rattle.h41_codes.specs.declared.line.Line.TheVariants as lines
 use Rattle.h41_codes.specs.declared.line.Operand.{Operand}
 use Rattle.h41_rows.specs.Results.{result_map}
-use Rattle.h41_focal.specs.Courses.{How}
-use Rattle.h41_focal.specs.Courses as courses
+use Rattle.h41_focal.specs.Destinations.{Manner}
+use Rattle.h41_focal.specs.Destinations as destinations
 use Rattle.h41_focal.specs.MachineCalls.{Call, carried_as, left_of}
 use Rattle.h41_focal.specs.LineStep.{Applies, Fails, FailsIn, FocalState, Machine, TakesLine}
 use Rattle.h41_focal.specs.LineStep.{at_position}
@@ -21,9 +21,10 @@ use Rattle.h41_focal.specs.Outcomes as answers
 use Rattle.h41_rows.specs.Computing.{meant_by}
 use Rattle.h41_rows.specs.RowEffects.{lift_after, with_alpha_change}
 use Rattle.h41_rows.specs.Rows.{Appends, Becomes, Lift, Row}
-use Rattle.h41_focal.specs.Works.{digits_use_row, flag_use_row, highest_of, register_use_row}
-use Rattle.h41_focal.specs.Works.{row_of_work}
-use Rattle.h41_focal.specs.declared.works.Work.{Work}
+use Rattle.h41_focal.specs.private.Works.{digits_use_row, flag_use_row, highest_of}
+use Rattle.h41_focal.specs.private.Works.{register_use_row}
+use Rattle.h41_focal.specs.private.Works.{row_of_work}
+use Rattle.h41_focal.specs.declared.works.FunctionWork.{FunctionWork}
 use Rattle.h41_rows.specs.LineRows.{row_of, text_row, to_label, to_meant, to_name}
 use Rattle.h41_rows.specs.declared.operands.BranchTarget.{BranchTarget}
 use Rattle.h41_rows.specs.declared.fault.LineFault.{LineFault}
@@ -36,18 +37,19 @@ use Rattle.h41_focal.specs.declared.uses.DigitsUse.{DigitsUse}
 use Rattle.h41_focal.specs.declared.uses.FlagUse.{FlagUse}
 use Rattle.h41_focal.specs.declared.uses.FlagUse.TheVariants.{AskAndClear}
 use Rattle.h41_focal.specs.declared.uses.RegisterUse.{RegisterUse}
-use Rattle.h41_program.specs.ProgramLines.{AnswersFirst, AnswersNext}
-use Rattle.h41_program.specs.declared.listed_line.ListedLine.{ListedLine}
+use Rattle.h41_program.specs.Positions.{LineAt, NextAt}
+use Rattle.h41_program.specs.declared.position.PlacedLine.{PlacedLine}
+use Rattle.h41_program.specs.declared.position.Position.{Position}
 use Rattle.h41_program.specs.declared.refusal.ProgramRefusal.TheVariants as program
 use Rattle.h41_ram.specs.RegisterMap.{RegisterMap, is_sound}
 
 -- how a line comes, and that it is known where the next one stands
-abbrev pub how_of : Origin → How
-how_of (Program next) = courses.Stepped
-how_of Typed = courses.Typed
+abbrev pub manner_of : Origin → Manner
+manner_of (Program next) = destinations.Stepped
+manner_of Typed = destinations.Typed
 
 abbrev pub KnowsNext : Origin → Machine → Type 0
-KnowsNext (Program next) machine = AnswersNext machine.memory machine.focal.position (Ok next)
+KnowsNext (Program next) machine = NextAt machine.memory machine.focal.position (Ok next)
 KnowsNext Typed machine = ⊤
 
 -- what each line needs of the machine: memory is sound, and it is known where the next line stands
@@ -64,25 +66,25 @@ advanced Typed lift focal = record focal { lift = lift_after lift focal.lift }
 -- a row was applied to a machine
 abbrev pub Leaves : Origin → Row → ℕ → (old new : Machine) → LineOutcome → Type 0
 Leaves origin row named old new outcome =
-    Applies (how_of origin) row named old (Ok (left_of new outcome))
+    Applies (manner_of origin) row named old (Ok (left_of new outcome))
 
 -- a row was applied to a machine, or the line refused
 abbrev pub CarriesRow : Origin → Row → ℕ → (old new : Machine) → Result LineOutcome FocalRefusal
     → Type 0
 CarriesRow origin row named old new result =
-    Applies (how_of origin) row named old (carried_as new result)
+    Applies (manner_of origin) row named old (carried_as new result)
 
 -- where a line that asks goes on: the next line where the answer is yes, else the one behind it; a
 -- typed line stays
 abbrev pub Leads : Origin → RegisterMap → Bool → Result Origin FocalRefusal → Type 0
 Leads (Program next) memory holds (Ok lead) =
-    (position : ℕ)
+    (position : Position)
     × (lead ≡ Program position)
-    × MatchBool holds (position ≡ next) (AnswersNext memory next (Ok position))
+    × MatchBool holds (position ≡ next) (NextAt memory next (Ok position))
 Leads (Program next) memory holds (Err refusal) =
     (refusal ≡ BrokenProgram)
     × (holds ≡ false)
-    × AnswersNext memory next (Err program.BrokenProgram)
+    × NextAt memory next (Err program.BrokenProgram)
 Leads Typed memory holds lead = lead ≡ Ok Typed
 
 -- what a test answers: where it was typed, whether it holds
@@ -93,7 +95,7 @@ told Typed holds = answers.Answered holds
 -- a line was taken, or refused
 abbrev pub TakesAs : Origin → Line → (old new : Machine) → Result LineOutcome FocalRefusal → Type 0
 TakesAs origin line old new result =
-    TakesLine (how_of origin) line old (carried_as new result)
+    TakesLine (manner_of origin) line old (carried_as new result)
 
 -- a row was applied to what an operand means, of which this was found, or its fault
 abbrev pub CarriesFound : {A : Type 0} → Origin → (A → Row) → (A → ℕ) → Result A LineFault
@@ -101,7 +103,7 @@ abbrev pub CarriesFound : {A : Type 0} → Origin → (A → Row) → (A → ℕ
 CarriesFound origin row named (Ok found) old new result =
     CarriesRow origin (row found) (named found) old new result
 CarriesFound origin row named (Err fault) old new result =
-    FailsIn (how_of origin) old fault (carried_as new result)
+    FailsIn (manner_of origin) old fault (carried_as new result)
 
 -- with a register, a number of digits, a flag
 abbrev pub UsesAddress : Origin → RegisterUse → Operand → (old new : Machine)
@@ -126,17 +128,17 @@ UsesFlag origin taken operand old new result =
     × CarriesFound origin (flag_use_row taken) (λ flag. 0) found old new result
 
 -- the line that stands at a position, and where the next one stands; or why there is none
-abbrev pub StandsAt : RegisterMap → ℕ → Result (Line × ℕ) FocalRefusal → Type 0
+abbrev pub StandsAt : RegisterMap → Position → Result (Line × Position) FocalRefusal → Type 0
 StandsAt memory at (Ok standing) =
     IsTrue (is_sound memory)
-    × ((first : ListedLine) × AnswersFirst memory at (Ok first) × (first.line ≡ standing.0))
-    × AnswersNext memory at (Ok standing.1)
+    × ((first : PlacedLine) × LineAt memory at (Ok first) × (first.line ≡ standing.0))
+    × NextAt memory at (Ok standing.1)
 StandsAt memory at (Err refusal) =
     MatchBool (is_sound memory)
-    ((refusal ≡ BrokenProgram) × AnswersFirst memory at (Err program.BrokenProgram))
+    ((refusal ≡ BrokenProgram) × LineAt memory at (Err program.BrokenProgram))
     (refusal ≡ MemoryLost)
 
-abbrev pub Stands : Machine → Result (Line × ℕ) FocalRefusal → Type 0
+abbrev pub Stands : Machine → Result (Line × Position) FocalRefusal → Type 0
 Stands machine result = StandsAt machine.memory machine.focal.position result
 
 -- the same of a row that names no register, of a line without an operand, of the work of a
@@ -147,11 +149,11 @@ LeavesRow origin row old new outcome = (named : ℕ) → Leaves origin row named
 abbrev pub DoesLine : Origin → Line → (old new : Machine) → LineOutcome → Type 0
 DoesLine origin line old new outcome = LeavesRow origin (row_of line NoOperand) old new outcome
 
-abbrev pub DoesWork : Origin → Work → (old new : Machine) → LineOutcome → Type 0
+abbrev pub DoesWork : Origin → FunctionWork → (old new : Machine) → LineOutcome → Type 0
 DoesWork origin work old new outcome = LeavesRow origin (row_of_work work) old new outcome
 
-abbrev pub CarriesWork : Origin → Work → (old new : Machine) → Result LineOutcome FocalRefusal
-    → Type 0
+abbrev pub CarriesWork : Origin → FunctionWork → (old new : Machine)
+    → Result LineOutcome FocalRefusal → Type 0
 CarriesWork origin work old new result =
     (named : ℕ) → CarriesRow origin (row_of_work work) named old new result
 
@@ -188,7 +190,7 @@ GoesToName origin branch name old new outcome =
 
 -- of a fault
 abbrev pub FailsAs : Origin → LineFault → (old new : Machine) → LineOutcome → Type 0
-FailsAs origin fault old new outcome = Fails (how_of origin) old fault (left_of new outcome)
+FailsAs origin fault old new outcome = Fails (manner_of origin) old fault (left_of new outcome)
 
 -- lines of each kind are taken
 abbrev pub TakesNamed : Origin → NameFunction → List ℕ → Call

@@ -20,16 +20,16 @@ use Rattle.h41_focal.specs.declared.works.AlphaWork.{AlphaWork}
 use Rattle.h41_focal.specs.declared.works.AlphaWork.TheVariants as alphas
 use Rattle.h41_focal.specs.declared.works.DisplayWork.{DisplayWork}
 use Rattle.h41_focal.specs.declared.works.DisplayWork.TheVariants as displays
-use Rattle.h41_focal.specs.declared.works.Work.{Work}
-use Rattle.h41_focal.specs.declared.works.Work.TheVariants as works
+use Rattle.h41_focal.specs.declared.works.FunctionWork.{FunctionWork}
+use Rattle.h41_focal.specs.declared.works.FunctionWork.TheVariants as works
 use Rattle.h41_focal.specs.declared.uses.DigitsUse.{DigitsUse}
 use Rattle.h41_focal.specs.declared.uses.DigitsUse.TheVariants as digits
 use Rattle.h41_focal.specs.declared.uses.FlagUse.{FlagUse}
 use Rattle.h41_focal.specs.declared.uses.FlagUse.TheVariants as flags
 use Rattle.h41_focal.specs.declared.uses.RegisterUse.{RegisterUse}
 use Rattle.h41_focal.specs.declared.uses.RegisterUse.TheVariants as registers
-use Rattle.h41_focal.specs.declared.uses.Use.{Use}
-use Rattle.h41_focal.specs.declared.uses.Use.TheVariants as uses
+use Rattle.h41_focal.specs.declared.uses.OperandUse.{OperandUse}
+use Rattle.h41_focal.specs.declared.uses.OperandUse.TheVariants as uses
 
 -- what moves in the stack
 abbrev pub move_row : Movement → Row
@@ -63,7 +63,7 @@ display_row displays.Stop = record silent { ends = Stops }
 display_row displays.TurnOff = record nothing { ends = TurnsOff }
 
 -- the row of each work
-abbrev pub row_of_work : Work → Row
+abbrev pub row_of_work : FunctionWork → Row
 row_of_work (works.OfYAndX value) = of_y_and_x (value_of_two value Y X)
 row_of_work (works.OfX value) = of_x (value_of_one value X)
 row_of_work works.Square = of_x (values.Product X X)
@@ -113,7 +113,7 @@ highest_of (flags.Ask on) = 55
 highest_of (flags.AskAndClear on) = 29
 
 -- what a function with an operand does
-abbrev pub IsUse : ParameterFunction → Use → Type 0
+abbrev pub IsUse : ParameterFunction → OperandUse → Type 0
 IsUse function (uses.Register taken) =
     (kind_of function ≡ RegisterKind) × (register_row function ≡ register_use_row taken)
 IsUse function (uses.Digits taken) =

@@ -2,7 +2,7 @@
 use Rattle.std.specs.Prelude.{◌≡◌, ℕ, Bool, List, Ok}
 use Rattle.h41_focal.specs.LineStep.{Works}
 use Rattle.h41_rows.specs.RowEffects.{memory_after}
-use Rattle.h41_focal.specs.Works.{move_row}
+use Rattle.h41_focal.specs.private.Works.{move_row}
 use Rattle.h41_focal.specs.declared.works.Movement.{Movement}
 use Rattle.h41_ram.specs.RegisterMap.{RegisterMap}
 

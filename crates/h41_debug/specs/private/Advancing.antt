@@ -5,7 +5,7 @@ use Rattle.h41_xrom.specs.declared.refusal.CalculatorRefusal.{CalculatorRefusal}
 use Rattle.h41_xrom.specs.Calculator.{RefusesStep, is_idle}
 use Rattle.h41_debug.specs.Bench.{BenchState, Steps}
 use Rattle.h41_debug.specs.Run.{StopsFor}
-use Rattle.h41_debug.specs.Running.{stop_behind}
+use Rattle.h41_debug.specs.private.Running.{stop_behind}
 use Rattle.h41_debug.specs.declared.run.Stop.{Stop}
 use Rattle.h41_debug.specs.declared.run.Stop.TheVariants.{Break, Idle, Limit, Refused}
 

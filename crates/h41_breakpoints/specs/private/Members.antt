@@ -5,18 +5,19 @@ use Rattle.std.specs.FinSet.{from_list, len}
 use Rattle.h41_breakpoints.specs.Breakpoints.{BreakpointSet, is_set}
 use Rattle.h41_breakpoints.specs.declared.location.Location.{Location}
 use Rattle.h41_breakpoints.specs.declared.location.Location.TheVariants.{Line, Word}
+use Rattle.h41_program.specs.declared.position.Position.TheVariants.{Memory}
 
 -- whether two locations are the same: of one kind, with one number
 abbrev pub is_same : Location → Location → Bool
 is_same (Word address) (Word other) = address == other
 is_same (Word address) (Line position) = false
 is_same (Line position) (Word address) = false
-is_same (Line position) (Line other) = position == other
+is_same (Line (Memory byte)) (Line (Memory other)) = byte == other
 
 -- the low byte of a location's number
 abbrev pub low_byte : Location → ℕ
 low_byte (Word address) = address % 256
-low_byte (Line position) = position % 256
+low_byte (Line (Memory byte)) = byte % 256
 
 -- a set by the list of its members, each once
 abbrev pub set_of : List Location → BreakpointSet

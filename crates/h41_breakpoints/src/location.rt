@@ -30,10 +30,8 @@ impl Location {
     {
         match (self, other) {
             (Location::Word(address), Location::Word(other)) => address == other,
-            (
-                Location::Line(Position::Memory(byte)),
-                Location::Line(Position::Memory(other)),
-            ) => byte == other,
+            (Location::Line(Position::Memory(byte)), Location::Line(Position::Memory(other))) =>
+                byte == other,
             _ => false,
         }
     }

@@ -2,7 +2,7 @@
 
 ghost use Rattle.std.specs.Prelude.{◌≡◌};
 
-use crate::commands::keys::Keys;
+use crate::commands::keys::PressedKeys;
 use h41_breakpoints::Location;
 
 pub mod keys;
@@ -177,7 +177,7 @@ pub enum Command {
     /// `show WHAT`: prints a view.
     Show(View),
     /// `key NAME ..`: presses keys in turn.
-    Key(Keys),
+    Key(PressedKeys),
 }
 
 impl Command {

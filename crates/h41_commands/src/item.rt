@@ -11,7 +11,7 @@ use crate::refusal::LineRefusal;
 
 /// A command and its block, as lines spell them.
 #[derive(Debug, Drop)]
-pub struct Entry {
+pub struct GivenCommand {
     pub command: Command,
     pub block: Block,
     ghost own: { block.kind ≡ kind_of command },
@@ -22,7 +22,7 @@ pub struct Entry {
 #[derive(Debug, Drop)]
 pub enum Item {
     /// A command and its block.
-    Given(Entry),
+    Given(GivenCommand),
     /// Lines that are no command.
     Refused(LineRefusal),
 }

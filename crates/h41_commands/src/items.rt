@@ -10,7 +10,7 @@ ghost use Rattle.h41_commands.specs.DeckLines.{is_end, longest_line};
 use crate::blocks::Block;
 use crate::commands::Command;
 use crate::commands::parse::{is_opening, parse};
-use crate::item::{Entry, Item};
+use crate::item::{GivenCommand, Item};
 use crate::line::{is_end, is_long, is_skipped};
 use crate::refusal::LineRefusal;
 use h41_lines::lines::Lines;
@@ -48,7 +48,7 @@ fn line_item(alloc: Global, line: &[u8]) -> Item
         Ok(command) => {
             let held = command;
             let block = Block::new(alloc, held);
-            Item::Given(Entry { command, block })
+            Item::Given(GivenCommand { command, block })
         }
         Err(refusal) => Item::Refused(refusal),
     }
@@ -66,7 +66,7 @@ fn block_item(alloc: Global, first: &[u8], rest: &mut Lines<'_>) -> Result<Item,
         return Ok(Item::Refused(LineRefusal::NoEnd));
     };
     Ok(match parsed {
-        Ok(command) => Item::Given(Entry { command, block }),
+        Ok(command) => Item::Given(GivenCommand { command, block }),
         Err(refusal) => Item::Refused(refusal),
     })
 }

@@ -11,9 +11,9 @@ mod refusal;
 
 pub use blocks::Block;
 pub use blocks::page_words::PAGE_WORDS;
-pub use commands::keys::Keys;
+pub use commands::keys::PressedKeys;
 pub use commands::parse::parse;
 pub use commands::{BlockKind, Command, PageKind, ProgramKind, View};
-pub use item::{Entry, Item};
+pub use item::{GivenCommand, Item};
 pub use items::next_item;
 pub use refusal::LineRefusal;

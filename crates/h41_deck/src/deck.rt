@@ -7,7 +7,7 @@ ghost use Rattle.h41_deck.specs.Deck.{EndsKnown, EndsUnread, LeavesDeck, WritesD
 use crate::fault::{CommandFault, Fault};
 use crate::refusal::Refusal;
 use crate::replies::{Outcome, apply, end};
-use h41_commands::{Entry, Item, next_item};
+use h41_commands::{GivenCommand, Item, next_item};
 use h41_debug::Bench;
 use h41_ends::{Sink, Source, flush, read_whole};
 use h41_lines::lines::{Lines, ended_lines};
@@ -95,7 +95,7 @@ fn answer<W: Sink>(
     ensures clear { result ≢ Err CommandFault.WriteFault → W.failed writer.new ≡ false }
 {
     match item {
-        Item::Given(Entry { command, block }) => apply(alloc, bench, command, block, writer),
+        Item::Given(GivenCommand { command, block }) => apply(alloc, bench, command, block, writer),
         Item::Refused(refusal) => Ok(end(Some(Refusal::from(refusal)), writer)?),
     }
 }

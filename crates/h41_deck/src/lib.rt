@@ -11,7 +11,7 @@ pub use deck::run_deck;
 pub use fault::{CommandFault, Fault};
 pub use h41_breakpoints::{BreakFull, Location, NoBreak};
 pub use h41_commands::{
-    Block, BlockKind, Command, Keys, LineRefusal, PageKind, ProgramKind, View, parse,
+    Block, BlockKind, Command, LineRefusal, PageKind, PressedKeys, ProgramKind, View, parse,
 };
 pub use h41_debug::{Bench, Stop};
 pub use h41_ends::{

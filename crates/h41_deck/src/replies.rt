@@ -19,7 +19,7 @@ use crate::refusal::Refusal;
 use crate::replies::listing::listed;
 use crate::replies::running::{run, set_break, trace, unbreak};
 use crate::replies::view::shown;
-use h41_commands::{Block, Command, Keys, PAGE_WORDS};
+use h41_commands::{Block, Command, PAGE_WORDS, PressedKeys};
 use h41_debug::Bench;
 use h41_ends::{Sink, WriteFault, write_whole};
 use h41_pages::PlugRefusal;
@@ -264,7 +264,7 @@ fn call(bench: &mut Bench, address: u16) -> Option<Refusal>
 }
 
 /// Keys in turn, up to the first that is refused, and why that is.
-fn press(bench: &mut Bench, keys: &Keys) -> Option<Refusal>
+fn press(bench: &mut Bench, keys: &PressedKeys) -> Option<Refusal>
     ensures { Reply (commands.Key keys.now) [] bench.old bench.new (ends_by result) }
 {
     match bench.press(keys.as_slice()) {

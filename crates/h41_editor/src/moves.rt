@@ -9,8 +9,8 @@ use crate::numbered::numbered_line;
 use h41_focal::Machine;
 use h41_program::laws::lists_are_determined;
 use h41_program::{
-    PlacedLine, Position, ProgramRefusal, close_last, end_of, final_position, is_end,
-    is_final_end, is_last_open, line_at, line_before, next, start_of,
+    PlacedLine, Position, ProgramRefusal, close_last, end_of, final_position, is_end, is_final_end,
+    is_last_open, line_at, line_before, next, start_of,
 };
 
 /// `SST` in program mode shows the next line: from line 00 the line that the position stands for, from the last of a program its

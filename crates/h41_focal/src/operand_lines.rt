@@ -15,7 +15,7 @@ use crate::outcome::LineOutcome;
 use crate::refusal::FocalRefusal;
 use crate::register_uses::use_register;
 use crate::stack_lines::be_silent;
-use crate::uses::{DigitsUse, FlagUse, RegisterUse, OperandUse, use_of};
+use crate::uses::{DigitsUse, FlagUse, OperandUse, RegisterUse, use_of};
 use h41_codes::{Operand, Parameter, ParameterFunction};
 use h41_rows::{digit_of, flag_of, register_of};
 

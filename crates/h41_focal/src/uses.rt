@@ -85,9 +85,15 @@ pub fn use_of(function: ParameterFunction) -> OperandUse
         ParameterFunction::Recall => OperandUse::Register(RegisterUse::Recall),
         ParameterFunction::Store => OperandUse::Register(RegisterUse::Store),
         ParameterFunction::StoreAdd => OperandUse::Register(RegisterUse::Combine(OfTwo::Sum)),
-        ParameterFunction::StoreSubtract => OperandUse::Register(RegisterUse::Combine(OfTwo::Difference)),
-        ParameterFunction::StoreMultiply => OperandUse::Register(RegisterUse::Combine(OfTwo::Product)),
-        ParameterFunction::StoreDivide => OperandUse::Register(RegisterUse::Combine(OfTwo::Quotient)),
+        ParameterFunction::StoreSubtract => OperandUse::Register(RegisterUse::Combine(
+            OfTwo::Difference,
+        )),
+        ParameterFunction::StoreMultiply => OperandUse::Register(RegisterUse::Combine(
+            OfTwo::Product,
+        )),
+        ParameterFunction::StoreDivide => OperandUse::Register(RegisterUse::Combine(
+            OfTwo::Quotient,
+        )),
         ParameterFunction::IncrementSkip => OperandUse::Register(RegisterUse::CountUp),
         ParameterFunction::DecrementSkip => OperandUse::Register(RegisterUse::CountDown),
         ParameterFunction::View => OperandUse::Register(RegisterUse::View),

@@ -28,7 +28,7 @@ pub both_found :
 both_found memory (Memory at) first next is follows =
     let onward =
     subst (λ (n : ℕ).
-        MatchBool (is_final_end first.listed.line) (next ≡ first.listed.position) (PositionFrom memory n next)) is.behind follows in (
+    MatchBool (is_final_end first.listed.line) (next ≡ first.listed.position) (PositionFrom memory n next)) is.behind follows in (
       (in_memory first.listed, (Ok first.listed, is.first, refl), refl),
       (Ok next, (first.listed, is.first, onward), refl),
     )

@@ -82,11 +82,7 @@ pub fn start_of<const REGS: usize>(ram: &Ram<REGS>, at: Position) -> Position
 }
 
 /// Where the `LBL n` stands that a position finds: the first from there to the END, else the first of its program.
-pub fn local<const REGS: usize>(
-    ram: &Ram<REGS>,
-    at: Position,
-    label: Parameter,
-) -> Option<Position>
+pub fn local<const REGS: usize>(ram: &Ram<REGS>, at: Position, label: Parameter) -> Option<Position>
     requires { IsTrue (is_sound ram.now) }
     ensures { LocalFrom label ram.now at result }
 {

@@ -32,16 +32,16 @@ use Rattle.h41_text.specs.TextLaws.{OneLineOfText}
 use Rattle.h41_xrom.proofs.StepLaws.{line_determined, same_function}
 use Rattle.h41_xrom.specs.Calculator.{CalculatorState, machine_of}
 use Rattle.h41_xrom.specs.CalculatorLaws.{KeyIsDetermined}
-use Rattle.h41_xrom.specs.KeyActions.{Acts, BeginsNumber, Carries, ChangesNumber, Edits, Effect, IsStoredAs, KeyMakes, Leaves}
+use Rattle.h41_xrom.specs.KeyActions.{Acts, BeginsNumber, Carries, ChangesNumber, Edits, KeyOutcome, IsStoredAs, KeyMakes, Leaves}
 use Rattle.h41_xrom.specs.KeyActions.{StoredElsewhere, StoredFunction, StoredName, StoresLine, begun, changed, edit_effect, finished}
 use Rattle.h41_xrom.specs.KeyActions.{key_refusal, line_effect, pressed, told}
-use Rattle.h41_xrom.specs.declared.lines.Source.{Source}
-use Rattle.h41_xrom.specs.declared.lines.Source.TheVariants as sources
+use Rattle.h41_xrom.specs.declared.lines.LineSource.{LineSource}
+use Rattle.h41_xrom.specs.declared.lines.LineSource.TheVariants as sources
 use Rattle.h41_xrom.specs.declared.refusal.CalculatorRefusal.{CalculatorRefusal}
 
 -- what an action makes
 abbrev Made : Type 0
-Made = Result Effect CalculatorRefusal
+Made = Result KeyOutcome CalculatorRefusal
 
 -- a change of the program, or a move
 same_edit : (Edit : Machine → Result Machine ProgramRefusal → Type 0) (same : MoveIsDetermined Edit) (machine : Machine) (a b : Made)
@@ -71,7 +71,7 @@ module _ (same_value : ValuesAreDetermined) where
 module _ (same_step : StepIsDetermined) (same_typing : TypedIsDetermined) (same_failure : FailureIsDetermined)
     (same_passing : PassingIsDetermined) (one_line : OneLineOfText) where
   -- a line that is carried out
-  same_carry : (source : Source) (pages : PageMap) (machine : Machine) (a b : Made) → Carries source pages machine a
+  same_carry : (source : LineSource) (pages : PageMap) (machine : Machine) (a b : Made) → Carries source pages machine a
       → Carries source pages machine b → a ≡ b
   same_carry source pages machine a b (p, p_carries, p_is) (q, q_carries, q_is) =
       p_is

@@ -7,8 +7,8 @@ use Rattle.h41_keys.specs.declared.key.Key.{Key}
 use Rattle.h41_xrom.specs.Calculator.{CalculatorState, machine_of, with_machine}
 use Rattle.h41_xrom.specs.KeyActions.{Acts, after_key, key_refusal, told}
 use Rattle.h41_xrom.specs.private.PrivateCalls.{Accepts, after_effect, effect_as, effect_with}
-use Rattle.h41_xrom.specs.declared.acting.Effect.{Effect}
-use Rattle.h41_xrom.specs.declared.acting.Effect.TheVariants as effects
+use Rattle.h41_xrom.specs.declared.acting.KeyEffect.{KeyEffect}
+use Rattle.h41_xrom.specs.declared.acting.KeyEffect.TheVariants as effects
 use Rattle.h41_xrom.specs.declared.lines.LineEnd.TheVariants as ends
 use Rattle.h41_xrom.specs.declared.refusal.CalculatorRefusal.{CalculatorRefusal}
 
@@ -18,7 +18,7 @@ pub key_lost : (key : Key) (input : Input) (action : Action) (s : CalculatorStat
 key_lost key input action s why e = (Err why, rw (sym e) refl, (refl, refl))
 
 -- its action, where that is what was there before
-abbrev pub ActsIn : Input → Action → CalculatorState → Machine → Result Effect CalculatorRefusal → Type 0
+abbrev pub ActsIn : Input → Action → CalculatorState → Machine → Result KeyEffect CalculatorRefusal → Type 0
 ActsIn input action s new result = Acts s.nut.pages input.program_mode action (machine_of s) (effect_as new result)
 
 -- the action is refused
@@ -32,7 +32,7 @@ key_failed key input action from s new why is accepted acts same = (
 )
 
 -- the action is done, and then what is left to do
-effect_same : (effect : Effect) (key : Key) (input : Input) (s : CalculatorState) (new : Machine)
+effect_same : (effect : KeyEffect) (key : Key) (input : Input) (s : CalculatorState) (new : Machine)
     → after_effect effect (told key input (with_machine new s)) ≡ after_key (told key input s) (effect_with new effect)
 effect_same effects.Nothing key input s new = refl
 effect_same (effects.Line (ends.Answers outcome)) key input s new = refl
@@ -40,7 +40,7 @@ effect_same (effects.Line (ends.Begins address)) key input s new = refl
 effect_same effects.Stops key input s new = refl
 effect_same effects.Starts key input s new = refl
 
-pub key_done : (key : Key) (input : Input) (action : Action) (from s t : CalculatorState) (new : Machine) (effect : Effect)
+pub key_done : (key : Key) (input : Input) (action : Action) (from s t : CalculatorState) (new : Machine) (effect : KeyEffect)
     → from ≡ s → None ≡ key_refusal s → ActsIn input action from new (Ok effect)
     → t ≡ after_effect effect (told key input (with_machine new from)) → Accepts key input action s t None
 key_done key input action from s t new effect is accepted acts left = (

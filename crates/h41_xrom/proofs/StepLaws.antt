@@ -31,12 +31,12 @@ use Rattle.h41_xrom.specs.CalculatorLaws as CalculatorLaws
 use Rattle.h41_xrom.specs.CalculatorLaws.{LoadIsDetermined, StepRefusalIsDetermined}
 use Rattle.h41_xrom.specs.Lines.{CallsEntry, CallsName, CarriesFrom, CarriesLine, CarriesNamed, Ended, Fails, FailsFrom, GoesOn, GoesOnFrom}
 use Rattle.h41_xrom.specs.Lines.{IsNamed, PassesFrom, answered, begun_at, of_line}
-use Rattle.h41_xrom.specs.declared.lines.Source.{Source}
-use Rattle.h41_xrom.specs.declared.lines.Source.TheVariants as sources
+use Rattle.h41_xrom.specs.declared.lines.LineSource.{LineSource}
+use Rattle.h41_xrom.specs.declared.lines.LineSource.TheVariants as sources
 use Rattle.h41_xrom.specs.Programs.{change_refusal, loaded}
 
 -- a function begins
-abbrev Begun : Source → ℕ → Machine → Result Ended FocalRefusal → Type 0
+abbrev Begun : LineSource → ℕ → Machine → Result Ended FocalRefusal → Type 0
 Begun source address machine ended =
     (after : Result Machine FocalRefusal) × PassesFrom source machine after × (ended ≡ begun_at address after)
 
@@ -57,34 +57,34 @@ same_typed_fault false machine a b p q = p ∙ sym q
 
 module _ (same_step : StepIsDetermined) (same_typing : TypedIsDetermined) (same_failure : FailureIsDetermined)
     (same_passing : PassingIsDetermined) (one_line : OneLineOfText) where
-  same_carried : (source : Source) (function : Option Function) (machine : Machine) (a b : Result Left FocalRefusal)
+  same_carried : (source : LineSource) (function : Option Function) (machine : Machine) (a b : Result Left FocalRefusal)
       → CarriesFrom source function machine a → CarriesFrom source function machine b → a ≡ b
   same_carried sources.Program function machine a b p q = same_step function machine a b p q
   same_carried (sources.Keys line) function machine a b p q = same_typing (line_as function line) machine a b p q
 
-  same_failing : (source : Source) (machine : Machine) (a b : Result Left FocalRefusal) → FailsFrom source machine a
+  same_failing : (source : LineSource) (machine : Machine) (a b : Result Left FocalRefusal) → FailsFrom source machine a
       → FailsFrom source machine b → a ≡ b
   same_failing sources.Program machine a b p q = same_failure Nonexistent machine a b p q
   same_failing (sources.Keys line) machine a b p q = same_typed_fault (is_sound machine.memory) machine a b p q
 
-  same_passed : (source : Source) (machine : Machine) (a b : Result Machine FocalRefusal) → PassesFrom source machine a
+  same_passed : (source : LineSource) (machine : Machine) (a b : Result Machine FocalRefusal) → PassesFrom source machine a
       → PassesFrom source machine b → a ≡ b
   same_passed sources.Program machine a b p q = same_passing machine a b p q
   same_passed (sources.Keys line) machine a b p q = p ∙ sym q
 
-  same_failed : (source : Source) (machine : Machine) (a b : Result Ended FocalRefusal) → Fails source machine a → Fails source machine b
-      → a ≡ b
+  same_failed : (source : LineSource) (machine : Machine) (a b : Result Ended FocalRefusal) → Fails source machine a
+      → Fails source machine b → a ≡ b
   same_failed source machine a b (p, p_fails, p_is) (q, q_fails, q_is) =
       p_is ∙ ap answered (same_failing source machine p q p_fails q_fails) ∙ sym q_is
 
-  same_begun : (keystroke : Bool) (source : Source) (address : ℕ) (machine : Machine) (a b : Result Ended FocalRefusal)
+  same_begun : (keystroke : Bool) (source : LineSource) (address : ℕ) (machine : Machine) (a b : Result Ended FocalRefusal)
       → MatchBool keystroke (a ≡ Err lines.NotInProfile) (Begun source address machine a)
       → MatchBool keystroke (b ≡ Err lines.NotInProfile) (Begun source address machine b) → a ≡ b
   same_begun true source address machine a b p q = p ∙ sym q
   same_begun false source address machine a b (p, p_passes, p_is) (q, q_passes, q_is) =
       p_is ∙ ap (begun_at address) (same_passed source machine p q p_passes q_passes) ∙ sym q_is
 
-  same_entry : (source : Source) (entry : Option Entry) (machine : Machine) (a b : Result Ended FocalRefusal)
+  same_entry : (source : LineSource) (entry : Option Entry) (machine : Machine) (a b : Result Ended FocalRefusal)
       → CallsEntry source entry machine a → CallsEntry source entry machine b → a ≡ b
   same_entry source (Some entry) machine a b p q = same_begun entry.keystroke source entry.address machine a b p q
   same_entry source None machine a b p q = same_failed source machine a b p q
@@ -96,13 +96,13 @@ module _ (same_step : StepIsDetermined) (same_typing : TypedIsDetermined) (same_
   same_function name None (Some b) p q = absurd (p b q)
   same_function name None None p q = refl
 
-  same_named : (source : Source) (function : Option Function) (machine : Machine) (a b : Result Ended FocalRefusal)
+  same_named : (source : LineSource) (function : Option Function) (machine : Machine) (a b : Result Ended FocalRefusal)
       → CarriesNamed source function machine a → CarriesNamed source function machine b → a ≡ b
   same_named source (Some function) machine a b (p, p_steps, p_is) (q, q_steps, q_is) =
       p_is ∙ ap answered (same_carried source (Some function) machine p q p_steps q_steps) ∙ sym q_is
   same_named source None machine a b p q = same_failed source machine a b p q
 
-  same_name : (source : Source) (numbers : Option (ℕ × ℕ)) (pages : PageMap)
+  same_name : (source : LineSource) (numbers : Option (ℕ × ℕ)) (pages : PageMap)
       (name : List ℕ) (machine : Machine) (a b : Result Ended FocalRefusal)
       → CallsName source numbers pages name machine a → CallsName source numbers pages name machine b → a ≡ b
   same_name source (Some numbers) pages name machine a b p q = same_entry source (entry_at pages numbers.0 numbers.1) machine a b p q
@@ -111,7 +111,7 @@ module _ (same_step : StepIsDetermined) (same_typing : TypedIsDetermined) (same_
       same_named source g machine a b
       (subst (λ (function : Option Function). CarriesNamed source function machine a) same f_carries) g_carries
 
-  same_going : (source : Source) (answer : Answer) (pages : PageMap) (machine : Machine) (left : Left) (a b : Result Ended FocalRefusal)
+  same_going : (source : LineSource) (answer : Answer) (pages : PageMap) (machine : Machine) (left : Left) (a b : Result Ended FocalRefusal)
       → GoesOn source pages machine left answer a → GoesOn source pages machine left answer b → a ≡ b
   same_going source (answers.Calls number entry) pages machine left a b p q =
       same_entry source (entry_at pages number entry) machine a b p q
@@ -126,12 +126,12 @@ module _ (same_step : StepIsDetermined) (same_typing : TypedIsDetermined) (same_
   same_going source answers.Runs pages machine left a b p q = p ∙ sym q
   same_going source (answers.Failed fault) pages machine left a b p q = p ∙ sym q
 
-  same_from : (source : Source) (own : Result Left FocalRefusal) (pages : PageMap) (machine : Machine) (a b : Result Ended FocalRefusal)
+  same_from : (source : LineSource) (own : Result Left FocalRefusal) (pages : PageMap) (machine : Machine) (a b : Result Ended FocalRefusal)
       → GoesOnFrom source pages machine own a → GoesOnFrom source pages machine own b → a ≡ b
   same_from source (Ok left) pages machine a b p q = same_going source left.answer pages machine left a b p q
   same_from source (Err refusal) pages machine a b p q = p ∙ sym q
 
-  pub line_determined : (source : Source) (pages : PageMap) (machine : Machine) (a b : Result Ended FocalRefusal)
+  pub line_determined : (source : LineSource) (pages : PageMap) (machine : Machine) (a b : Result Ended FocalRefusal)
       → CarriesLine source pages machine a → CarriesLine source pages machine b → a ≡ b
   line_determined source pages machine a b (own, own_steps, own_goes) (other, other_steps, other_goes) =
       let same : own ≡ other = same_carried source None machine own other own_steps other_steps in

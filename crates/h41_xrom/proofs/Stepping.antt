@@ -7,7 +7,7 @@ use Rattle.h41_xrom.specs.Lines.{of_line}
 use Rattle.h41_xrom.specs.private.PrivateCalls.{after_end, ended_as, ended_with}
 use Rattle.h41_xrom.specs.declared.lines.LineEnd.{LineEnd}
 use Rattle.h41_xrom.specs.declared.lines.LineEnd.TheVariants as ends
-use Rattle.h41_xrom.specs.declared.lines.Source.TheVariants.{Program}
+use Rattle.h41_xrom.specs.declared.lines.LineSource.TheVariants.{Program}
 use Rattle.h41_xrom.specs.declared.refusal.CalculatorRefusal.{CalculatorRefusal}
 
 -- the line at the position, by what it leaves

@@ -14,7 +14,7 @@ use Rattle.h41_xrom.specs.CalculatorLaws.{StepsLines, TypedAsStepped, takes_line
 use Rattle.h41_xrom.specs.Lines.{Answers, Ended, GoesOn, GoesOnFrom}
 use Rattle.h41_xrom.specs.declared.calculator.Mode.{Mode}
 use Rattle.h41_xrom.specs.declared.calculator.Mode.TheVariants as modes
-use Rattle.h41_xrom.specs.declared.lines.Source.TheVariants.{Program}
+use Rattle.h41_xrom.specs.declared.lines.LineSource.TheVariants.{Program}
 
 no_end : (ended : Ended) (refusal : FocalRefusal) → ◌≡◌ {A = Result Ended FocalRefusal} (Ok ended) (Err refusal) → ⊥
 no_end ended refusal is = cc

@@ -30,8 +30,8 @@ use Rattle.h41_xrom.specs.declared.refusal.CalculatorRefusal.{CalculatorRefusal}
 use Rattle.h41_xrom.specs.declared.refusal.CalculatorRefusal.TheVariants.{Word, Busy}
 use Rattle.h41_xrom.specs.Lines.{Answers, Begins, CarriesLine, Ended, of_line}
 use Rattle.h41_xrom.specs.Messages.{message_after, processor_after}
-use Rattle.h41_xrom.specs.declared.lines.Source.{Source}
-use Rattle.h41_xrom.specs.declared.lines.Source.TheVariants.{Program}
+use Rattle.h41_xrom.specs.declared.lines.LineSource.{LineSource}
+use Rattle.h41_xrom.specs.declared.lines.LineSource.TheVariants.{Program}
 
 -- The state of the calculator.
 pub record CalculatorState : Type 0 where
@@ -163,7 +163,7 @@ after_line s (Answers left) = after_answer left.answer (with_machine left.machin
 after_line s (Begins machine address) = entering address (with_machine machine s)
 
 -- one line, or why it is refused
-abbrev pub CarriesHere : Source → CalculatorState → Result Ended FocalRefusal → Type 0
+abbrev pub CarriesHere : LineSource → CalculatorState → Result Ended FocalRefusal → Type 0
 CarriesHere source s ended = CarriesLine source s.nut.pages (machine_of s) ended
 
 -- why a step is refused, or that it is not: a word's refusal while a function runs, else a line's

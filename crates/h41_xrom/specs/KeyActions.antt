@@ -44,21 +44,21 @@ use Rattle.h41_xrom.specs.Lines.{CarriesLine, Ended, IsNamed, of_line}
 use Rattle.h41_xrom.specs.Programs.{Becomes}
 use Rattle.h41_xrom.specs.declared.calculator.Mode.{Mode}
 use Rattle.h41_xrom.specs.declared.calculator.Mode.TheVariants as modes
-use Rattle.h41_xrom.specs.declared.lines.Source.{Source}
-use Rattle.h41_xrom.specs.declared.lines.Source.TheVariants as sources
+use Rattle.h41_xrom.specs.declared.lines.LineSource.{LineSource}
+use Rattle.h41_xrom.specs.declared.lines.LineSource.TheVariants as sources
 use Rattle.h41_xrom.specs.declared.refusal.CalculatorRefusal.{CalculatorRefusal}
 use Rattle.h41_xrom.specs.declared.refusal.CalculatorRefusal.TheVariants.{KeyNotHeld, MemoryLost}
 use Rattle.h41_xrom.specs.declared.refusal.CalculatorRefusal.TheVariants.{Program}
 
 -- WHAT A KEY'S ACTION MAKES of memory and of what lines work on
-pub data Effect : Type 0 where
+pub data KeyOutcome : Type 0 where
   -- no more than that
-  Leaves : Machine → Effect
+  Leaves : Machine → KeyOutcome
   -- a line ended so
-  LineEnds : Ended → Effect
+  LineEnds : Ended → KeyOutcome
   -- the program that runs stops, or one begins to run
-  Stops : Machine → Effect
-  Starts : Machine → Effect
+  Stops : Machine → KeyOutcome
+  Starts : Machine → KeyOutcome
 
 -- other memory, and other lift
 abbrev pub with_memory : RegisterMap → Machine → Machine
@@ -68,27 +68,27 @@ abbrev pub with_lift : Bool → Machine → Machine
 with_lift lift machine = record machine { focal = record machine.focal { lift = lift } }
 
 -- an effect of memory alone
-abbrev pub leaves_memory : RegisterMap → Machine → Result Effect CalculatorRefusal
+abbrev pub leaves_memory : RegisterMap → Machine → Result KeyOutcome CalculatorRefusal
 leaves_memory memory machine = Ok (Leaves (with_memory memory machine))
 
 -- A LINE is carried out: the one at the position by SST, or a typed one
-abbrev pub line_effect : Result Ended FocalRefusal → Result Effect CalculatorRefusal
+abbrev pub line_effect : Result Ended FocalRefusal → Result KeyOutcome CalculatorRefusal
 line_effect (Ok ended) = Ok (LineEnds ended)
 line_effect (Err refusal) = Err (of_line refusal)
 
-abbrev pub Carries : Source → PageMap → Machine → Result Effect CalculatorRefusal → Type 0
+abbrev pub Carries : LineSource → PageMap → Machine → Result KeyOutcome CalculatorRefusal → Type 0
 Carries source pages machine effect =
     (ended : Result Ended FocalRefusal)
     × CarriesLine source pages machine ended
     × (effect ≡ line_effect ended)
 
 -- PROGRAM MODE: a change of the program, or a move
-abbrev pub edit_effect : Result Machine ProgramRefusal → Result Effect CalculatorRefusal
+abbrev pub edit_effect : Result Machine ProgramRefusal → Result KeyOutcome CalculatorRefusal
 edit_effect (Ok machine) = Ok (Leaves machine)
 edit_effect (Err refusal) = Err (Program refusal)
 
 abbrev pub Edits : (Machine → Result Machine ProgramRefusal → Type 0) → Machine
-    → Result Effect CalculatorRefusal → Type 0
+    → Result KeyOutcome CalculatorRefusal → Type 0
 Edits edit machine effect =
     (edited : Result Machine ProgramRefusal) × edit machine edited × (effect ≡ edit_effect edited)
 
@@ -113,7 +113,7 @@ IsStoredAs pages memory (lines.Named ExecuteName name) stored =
     × StoredName pages (lines.Named ExecuteName name) name label stored
 IsStoredAs pages memory line stored = stored ≡ line
 
-abbrev pub StoresLine : PageMap → Line → Machine → Result Effect CalculatorRefusal → Type 0
+abbrev pub StoresLine : PageMap → Line → Machine → Result KeyOutcome CalculatorRefusal → Type 0
 StoresLine pages line machine effect =
     (stored : Line)
     × IsStoredAs pages machine.memory line stored
@@ -134,7 +134,7 @@ begun machine register =
     with_lift true (with_memory
     (with_flag (taken_in machine.memory machine.focal.lift register) number_flag true) machine)
 
-abbrev pub BeginsNumber : List Character → Machine → Result Effect CalculatorRefusal → Type 0
+abbrev pub BeginsNumber : List Character → Machine → Result KeyOutcome CalculatorRefusal → Type 0
 BeginsNumber text machine effect =
     (register : List ℕ)
     × Computes (Written text) machine.memory 0 (Ok register)
@@ -143,7 +143,7 @@ BeginsNumber text machine effect =
 abbrev pub changed : Machine → List ℕ → Machine
 changed machine register = with_memory (taken_in machine.memory false register) machine
 
-abbrev pub ChangesNumber : List Character → Machine → Result Effect CalculatorRefusal → Type 0
+abbrev pub ChangesNumber : List Character → Machine → Result KeyOutcome CalculatorRefusal → Type 0
 ChangesNumber text machine effect =
     (register : List ℕ)
     × Computes (Written text) machine.memory 0 (Ok register)
@@ -165,7 +165,7 @@ with_alpha_toggled memory = with_flag memory alpha_flag (not (flag_of memory alp
 
 -- EACH ACTION, where lines are stored in program mode
 abbrev pub Acts : PageMap → (program_mode : Bool) → Action → Machine
-    → Result Effect CalculatorRefusal → Type 0
+    → Result KeyOutcome CalculatorRefusal → Type 0
 Acts pages program_mode actions.Nothing machine effect = effect ≡ Ok (Leaves machine)
 Acts pages program_mode actions.Stop machine effect = effect ≡ Ok (Stops machine)
 Acts pages program_mode actions.Run machine effect = effect ≡ Ok (Starts machine)
@@ -225,13 +225,13 @@ told key input s = record s {
 }
 
 -- then comes its effect
-abbrev pub after_key : CalculatorState → Effect → CalculatorState
+abbrev pub after_key : CalculatorState → KeyOutcome → CalculatorState
 after_key s (Leaves machine) = with_machine machine s
 after_key s (LineEnds ended) = after_line s ended
 after_key s (Stops machine) = record (with_machine machine s) { mode = modes.Idle }
 after_key s (Starts machine) = record (with_machine machine s) { mode = modes.Run }
 
-abbrev pub finished : CalculatorState → Result Effect CalculatorRefusal
+abbrev pub finished : CalculatorState → Result KeyOutcome CalculatorRefusal
     → Result CalculatorState CalculatorRefusal
 finished s (Ok effect) = Ok (after_key s effect)
 finished s (Err refusal) = Err refusal
@@ -245,7 +245,7 @@ abbrev pub ActionMakes : CalculatorState → Key → Action → Input
     → Result CalculatorState CalculatorRefusal → Type 0
 ActionMakes s key action input made =
     MatchOption (key_refusal s)
-    ((effect : Result Effect CalculatorRefusal)
+    ((effect : Result KeyOutcome CalculatorRefusal)
     × Acts s.nut.pages input.program_mode action (machine_of s) effect
     × (made ≡ finished (told key input s) effect))
     (λ why. made ≡ Err why)

@@ -15,8 +15,8 @@ use Rattle.h41_pages.specs.declared.functions.Entry.{Entry}
 use Rattle.h41_program.specs.declared.refusal.ProgramRefusal.TheVariants as program
 use Rattle.h41_rows.specs.declared.fault.LineFault.TheVariants.{Nonexistent}
 use Rattle.h41_text.specs.Names.{function_name}
-use Rattle.h41_xrom.specs.declared.lines.Source.{Source}
-use Rattle.h41_xrom.specs.declared.lines.Source.TheVariants as sources
+use Rattle.h41_xrom.specs.declared.lines.LineSource.{LineSource}
+use Rattle.h41_xrom.specs.declared.lines.LineSource.TheVariants as sources
 use Rattle.h41_xrom.specs.declared.refusal.CalculatorRefusal.{CalculatorRefusal}
 use Rattle.h41_xrom.specs.declared.refusal.CalculatorRefusal.TheVariants.{MemoryLost, NotInProfile}
 use Rattle.h41_xrom.specs.declared.refusal.CalculatorRefusal.TheVariants.{Program}
@@ -43,29 +43,29 @@ begun_at address (Ok machine) = Ok (Begins machine address)
 begun_at address (Err refusal) = Err refusal
 
 -- a line that stands there or was typed is carried out, or a function in its place
-abbrev pub CarriesFrom : Source → Option Function → Machine → Result Left FocalRefusal → Type 0
+abbrev pub CarriesFrom : LineSource → Option Function → Machine → Result Left FocalRefusal → Type 0
 CarriesFrom sources.Program function machine left = StepsLine function machine left
 CarriesFrom (sources.Keys line) function machine left =
     TypesLine (line_as function line) machine left
 
 -- it fails: what it calls is nowhere
-abbrev pub FailsFrom : Source → Machine → Result Left FocalRefusal → Type 0
+abbrev pub FailsFrom : LineSource → Machine → Result Left FocalRefusal → Type 0
 FailsFrom sources.Program machine left = FailsLine Nonexistent machine left
 FailsFrom (sources.Keys line) machine left = FailsTyped Nonexistent machine left
 
 -- it is passed for a function of a module: the program will go on behind it; a typed line leaves
 -- the position and lift
-abbrev pub PassesFrom : Source → Machine → Result Machine FocalRefusal → Type 0
+abbrev pub PassesFrom : LineSource → Machine → Result Machine FocalRefusal → Type 0
 PassesFrom sources.Program machine after = PassesLine machine after
 PassesFrom (sources.Keys line) machine after = after ≡ Ok machine
 
-abbrev pub Fails : Source → Machine → Result Ended FocalRefusal → Type 0
+abbrev pub Fails : LineSource → Machine → Result Ended FocalRefusal → Type 0
 Fails source machine ended =
     (left : Result Left FocalRefusal) × FailsFrom source machine left × (ended ≡ answered left)
 
 -- a function in microcode begins where it stands; one in keystrokes is 13, until such programs are
 -- carried out
-abbrev pub BeginsEntry : Source → Entry → Machine → Result Ended FocalRefusal → Type 0
+abbrev pub BeginsEntry : LineSource → Entry → Machine → Result Ended FocalRefusal → Type 0
 BeginsEntry source entry machine ended =
     MatchBool entry.keystroke (ended ≡ Err lines.NotInProfile)
     ((after : Result Machine FocalRefusal)
@@ -73,7 +73,7 @@ BeginsEntry source entry machine ended =
     × (ended ≡ begun_at entry.address after))
 
 -- a module's function is called; where the lowest page of its number has no such entry, NONEXISTENT
-abbrev pub CallsEntry : Source → Option Entry → Machine → Result Ended FocalRefusal → Type 0
+abbrev pub CallsEntry : LineSource → Option Entry → Machine → Result Ended FocalRefusal → Type 0
 CallsEntry source (Some entry) machine ended = BeginsEntry source entry machine ended
 CallsEntry source None machine ended = Fails source machine ended
 
@@ -83,7 +83,8 @@ abbrev pub IsNamed : List ℕ → Option Function → Type 0
 IsNamed name (Some function) = function_name function ≡ name
 IsNamed name None = (function : Function) → function_name function ≡ name → ⊥
 
-abbrev pub CarriesNamed : Source → Option Function → Machine → Result Ended FocalRefusal → Type 0
+abbrev pub CarriesNamed : LineSource → Option Function → Machine → Result Ended FocalRefusal
+    → Type 0
 CarriesNamed source (Some function) machine ended =
     (left : Result Left FocalRefusal)
     × CarriesFrom source (Some function) machine left
@@ -92,7 +93,7 @@ CarriesNamed source None machine ended = Fails source machine ended
 
 -- what has a name: where a module has a function of it, the entry of that function's two numbers;
 -- else one of the calculator
-abbrev pub CallsName : Source → Option (ℕ × ℕ) → PageMap → List ℕ → Machine
+abbrev pub CallsName : LineSource → Option (ℕ × ℕ) → PageMap → List ℕ → Machine
     → Result Ended FocalRefusal → Type 0
 CallsName source (Some numbers) pages name machine ended =
     CallsEntry source (entry_at pages numbers.0 numbers.1) machine ended
@@ -102,23 +103,24 @@ CallsName source None pages name machine ended =
     × CarriesNamed source function machine ended
 
 -- a name is looked up so
-abbrev pub Seeks : Source → PageMap → List ℕ → Machine → Result Ended FocalRefusal → Type 0
+abbrev pub Seeks : LineSource → PageMap → List ℕ → Machine → Result Ended FocalRefusal → Type 0
 Seeks source pages name machine ended = CallsName source (found pages name) pages name machine ended
 
 -- by what the line answers
-abbrev pub GoesOn : Source → PageMap → Machine → Left → Answer → Result Ended FocalRefusal → Type 0
+abbrev pub GoesOn : LineSource → PageMap → Machine → Left → Answer → Result Ended FocalRefusal
+    → Type 0
 GoesOn source pages machine left (answers.Calls number entry) ended =
     CallsEntry source (entry_at pages number entry) machine ended
 GoesOn source pages machine left (answers.Seeks name) ended = Seeks source pages name machine ended
 GoesOn source pages machine left answer ended = ended ≡ Ok (Answers left)
 
-abbrev pub GoesOnFrom : Source → PageMap → Machine → Result Left FocalRefusal
+abbrev pub GoesOnFrom : LineSource → PageMap → Machine → Result Left FocalRefusal
     → Result Ended FocalRefusal → Type 0
 GoesOnFrom source pages machine (Ok left) ended = GoesOn source pages machine left left.answer ended
 GoesOnFrom source pages machine (Err refusal) ended = ended ≡ Err refusal
 
 -- the line at the position is carried out, or one that was typed
-abbrev pub CarriesLine : Source → PageMap → Machine → Result Ended FocalRefusal → Type 0
+abbrev pub CarriesLine : LineSource → PageMap → Machine → Result Ended FocalRefusal → Type 0
 CarriesLine source pages machine ended =
     (own : Result Left FocalRefusal)
     × CarriesFrom source None machine own

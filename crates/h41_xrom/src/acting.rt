@@ -4,7 +4,7 @@ ghost use Rattle.std.specs.Prelude.{◌≡◌, OnErr};
 ghost use Rattle.h41_xrom.specs.KeyActions.{Acts, Carries};
 ghost use Rattle.h41_xrom.specs.private.PrivateCalls.{IsActed, edited_as, effect_as};
 
-use crate::lines::{LineEnd, Source, carry_line};
+use crate::lines::{LineEnd, LineSource, carry_line};
 use crate::refusal::CalculatorRefusal;
 use crate::storing::stored_line;
 use crate::typing::{
@@ -22,7 +22,7 @@ const CLEAR_X: Line = Line::Plain(Function::ClearX);
 
 /// What the calculator has to do once memory, and what lines work on, have been changed.
 #[derive(Clone, Copy)]
-pub enum Effect {
+pub enum KeyEffect {
     /// Nothing more.
     Nothing,
     /// What a line that ended so leaves.
@@ -39,24 +39,24 @@ pub fn act<const REGS: usize>(
     pages: &Pages,
     program_mode: bool,
     action: Action,
-) -> Result<Effect, CalculatorRefusal>
+) -> Result<KeyEffect, CalculatorRefusal>
     requires { IsActed action machine.old.memory }
     ensures effect { Acts pages.now program_mode action machine.old (effect_as machine.new result) }
     ensures unchanged { OnErr result (machine.new ≡ machine.old) }
 {
     match action {
-        Action::Nothing => Ok(Effect::Nothing),
-        Action::Stop => Ok(Effect::Stops),
-        Action::Run => Ok(Effect::Starts),
+        Action::Nothing => Ok(KeyEffect::Nothing),
+        Action::Stop => Ok(KeyEffect::Stops),
+        Action::Run => Ok(KeyEffect::Starts),
         Action::Step if program_mode => edited(show_next(machine)),
-        Action::Step => carried(machine, pages, &Source::Program),
+        Action::Step => carried(machine, pages, &LineSource::Program),
         Action::StepBack => edited(show_before(machine)),
         Action::GoToEnd => edited(go_to_end(machine)),
-        Action::CarryOut(line) => carried(machine, pages, &Source::Keys(line)),
+        Action::CarryOut(line) => carried(machine, pages, &LineSource::Keys(line)),
         Action::Insert(line) => edited(insert_line(machine, stored_line(machine, pages, line))),
         Action::Replace(line) => edited(replace_line(machine, line)),
         Action::Delete => edited(delete_line(machine)),
-        Action::EndNumber => carried(machine, pages, &Source::Keys(CLEAR_X)),
+        Action::EndNumber => carried(machine, pages, &LineSource::Keys(CLEAR_X)),
         Action::BeginNumber(number) => Ok(begin_number(machine, &number)),
         Action::ChangeNumber(number) => Ok(change_number(machine, &number)),
         Action::ToggleAlpha => Ok(toggle_alpha(&mut machine.ram)),
@@ -68,11 +68,11 @@ pub fn act<const REGS: usize>(
 }
 
 /// A change of the program, or a move, as a key's action.
-fn edited(given: Result<(), ProgramRefusal>) -> Result<Effect, CalculatorRefusal>
+fn edited(given: Result<(), ProgramRefusal>) -> Result<KeyEffect, CalculatorRefusal>
     ensures { result ≡ edited_as given }
 {
     match given {
-        Ok(()) => Ok(Effect::Nothing),
+        Ok(()) => Ok(KeyEffect::Nothing),
         Err(refusal) => Err(refusal.into()),
     }
 }
@@ -81,10 +81,10 @@ fn edited(given: Result<(), ProgramRefusal>) -> Result<Effect, CalculatorRefusal
 fn carried<const REGS: usize>(
     machine: &mut Machine<REGS>,
     pages: &Pages,
-    source: &Source,
-) -> Result<Effect, CalculatorRefusal>
+    source: &LineSource,
+) -> Result<KeyEffect, CalculatorRefusal>
     ensures line { Carries source.now pages.now machine.old (effect_as machine.new result) }
     ensures unchanged { OnErr result (machine.new ≡ machine.old) }
 {
-    Ok(Effect::Line(carry_line(machine, pages, source)?))
+    Ok(KeyEffect::Line(carry_line(machine, pages, source)?))
 }

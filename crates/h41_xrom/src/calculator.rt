@@ -15,8 +15,8 @@ ghost use Rattle.h41_focal.specs.Outcomes.{answer_of};
 ghost use Rattle.h41_xrom.specs.declared.calculator.Mode.TheVariants.{Micro};
 ghost use Rattle.h41_xrom.specs.Programs.{Becomes, Loads, change_refusal, size_makes};
 
-use crate::acting::{Effect, act};
-use crate::lines::{LineEnd, Source, carry_line};
+use crate::acting::{KeyEffect, act};
+use crate::lines::{LineEnd, LineSource, carry_line};
 use crate::messages::{fault_text, test_text};
 use crate::refusal::CalculatorRefusal;
 use h41_focal::{DisplayText, Focal, LineOutcome, Machine};
@@ -246,7 +246,7 @@ impl Calculator {
         ensures change { OnOk result (StepsByLine self.old self.new) }
         ensures unchanged { OnErr result (self.new ≡ self.old) }
     {
-        match carry_line(&mut self.machine, &self.pages, &Source::Program) {
+        match carry_line(&mut self.machine, &self.pages, &LineSource::Program) {
             Ok(end) => {
                 self.end_entry();
                 self.end_line(end);
@@ -372,14 +372,14 @@ impl Calculator {
     }
 
     /// What is left to do of a key's action.
-    fn finish(&mut self, effect: Effect)
+    fn finish(&mut self, effect: KeyEffect)
         ensures { self.new ≡ after_effect effect self.old }
     {
         match effect {
-            Effect::Nothing => {}
-            Effect::Line(end) => self.end_line(end),
-            Effect::Stops => self.mode = Mode::Idle,
-            Effect::Starts => self.mode = Mode::Run,
+            KeyEffect::Nothing => {}
+            KeyEffect::Line(end) => self.end_line(end),
+            KeyEffect::Stops => self.mode = Mode::Idle,
+            KeyEffect::Starts => self.mode = Mode::Run,
         }
     }
 

@@ -13,7 +13,7 @@ use h41_text::read_line;
 
 /// Where a line comes from.
 #[derive(Clone, Copy)]
-pub enum Source {
+pub enum LineSource {
     /// From the program: it stands at the position.
     Program,
     /// From the keys: it was typed.
@@ -35,7 +35,7 @@ pub enum LineEnd {
 pub fn carry_line<const REGS: usize>(
     machine: &mut Machine<REGS>,
     pages: &Pages,
-    source: &Source,
+    source: &LineSource,
 ) -> Result<LineEnd, FocalRefusal>
     ensures line { CarriesLine source.now pages.now machine.old (ended_as machine.new result) }
     ensures unchanged { OnErr result (machine.new ≡ machine.old) }
@@ -57,30 +57,30 @@ pub fn carry_line<const REGS: usize>(
 #[inline(always)]
 fn carry<const REGS: usize>(
     machine: &mut Machine<REGS>,
-    source: &Source,
+    source: &LineSource,
 ) -> Result<LineOutcome, FocalRefusal>
     ensures line { CarriesFrom source.now None machine.old (carried_as machine.new result) }
     ensures unchanged { OnErr result (machine.new ≡ machine.old) }
     ensures elsewhere { KeepsElsewhere machine.old machine.new result }
 {
     match source {
-        Source::Program => machine.step(),
-        Source::Keys(line) => machine.key(line),
+        LineSource::Program => machine.step(),
+        LineSource::Keys(line) => machine.key(line),
     }
 }
 
 /// A function is carried out in place of the line.
 fn carry_function<const REGS: usize>(
     machine: &mut Machine<REGS>,
-    source: &Source,
+    source: &LineSource,
     function: Function,
 ) -> Result<LineOutcome, FocalRefusal>
     ensures line { CarriesFunction source.now function machine.old (carried_as machine.new result) }
     ensures unchanged { OnErr result (machine.new ≡ machine.old) }
 {
     match source {
-        Source::Program => machine.step_as(function),
-        Source::Keys(_) => machine.key(&Line::Plain(function)),
+        LineSource::Program => machine.step_as(function),
+        LineSource::Keys(_) => machine.key(&Line::Plain(function)),
     }
 }
 
@@ -88,7 +88,7 @@ fn carry_function<const REGS: usize>(
 /// NONEXISTENT where there is none.
 fn call_entry<const REGS: usize>(
     machine: &mut Machine<REGS>,
-    source: &Source,
+    source: &LineSource,
     entry: Option<Entry>,
 ) -> Result<LineEnd, FocalRefusal>
     ensures line { CallsEntry source.now entry machine.old (ended_as machine.new result) }
@@ -103,7 +103,7 @@ fn call_entry<const REGS: usize>(
 /// The function of an entry begins, and the line is passed; 13 for one in keystrokes.
 fn begin_entry<const REGS: usize>(
     machine: &mut Machine<REGS>,
-    source: &Source,
+    source: &LineSource,
     entry: Entry,
 ) -> Result<LineEnd, FocalRefusal>
     ensures line { BeginsEntry source.now entry machine.old (ended_as machine.new result) }
@@ -117,20 +117,23 @@ fn begin_entry<const REGS: usize>(
 }
 
 /// The line is passed: a program will go on behind it, and a typed line leaves all as it was.
-fn pass<const REGS: usize>(machine: &mut Machine<REGS>, source: &Source) -> Result<(), FocalRefusal>
+fn pass<const REGS: usize>(
+    machine: &mut Machine<REGS>,
+    source: &LineSource,
+) -> Result<(), FocalRefusal>
     ensures line { PassesFrom source.now machine.old (passed_as machine.new result) }
     ensures unchanged { OnErr result (machine.new ≡ machine.old) }
 {
     match source {
-        Source::Program => machine.pass(),
-        Source::Keys(_) => Ok(()),
+        LineSource::Program => machine.pass(),
+        LineSource::Keys(_) => Ok(()),
     }
 }
 
 /// The line fails: what it calls is nowhere.
 fn fail<const REGS: usize>(
     machine: &mut Machine<REGS>,
-    source: &Source,
+    source: &LineSource,
 ) -> Result<LineEnd, FocalRefusal>
     ensures line { Fails source.now machine.old (ended_as machine.new result) }
     ensures unchanged { OnErr result (machine.new ≡ machine.old) }
@@ -141,14 +144,14 @@ fn fail<const REGS: usize>(
 /// The answer of a line that fails.
 fn fault_of<const REGS: usize>(
     machine: &mut Machine<REGS>,
-    source: &Source,
+    source: &LineSource,
 ) -> Result<LineOutcome, FocalRefusal>
     ensures line { FailsFrom source.now machine.old (carried_as machine.new result) }
     ensures unchanged { OnErr result (machine.new ≡ machine.old) }
 {
     match source {
-        Source::Program => machine.fail(LineFault::Nonexistent),
-        Source::Keys(_) => machine.fail_typed(LineFault::Nonexistent),
+        LineSource::Program => machine.fail(LineFault::Nonexistent),
+        LineSource::Keys(_) => machine.fail_typed(LineFault::Nonexistent),
     }
 }
 
@@ -156,7 +159,7 @@ fn fault_of<const REGS: usize>(
 fn call_named<const REGS: usize>(
     machine: &mut Machine<REGS>,
     pages: &Pages,
-    source: &Source,
+    source: &LineSource,
     name: &[u8],
 ) -> Result<LineEnd, FocalRefusal>
     ensures line { Seeks source.now pages.now name.now machine.old (ended_as machine.new result) }

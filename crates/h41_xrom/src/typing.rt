@@ -4,9 +4,9 @@ ghost use Rattle.std.specs.Prelude.{◌≡◌, [], ◌∷◌, ◌++◌, take, Ok
 ghost use Rattle.h41_ram.specs.RegisterMap.{alpha_of};
 ghost use Rattle.h41_xrom.specs.KeyActions.{BeginsNumber, ChangesNumber, Leaves};
 ghost use Rattle.h41_xrom.specs.KeyActions.{with_alpha_toggled, with_letters, with_text};
-ghost use Rattle.h41_xrom.specs.declared.acting.Effect.TheVariants.{Nothing};
+ghost use Rattle.h41_xrom.specs.declared.acting.KeyEffect.TheVariants.{Nothing};
 
-use crate::acting::Effect;
+use crate::acting::KeyEffect;
 use h41_codes::Number;
 use h41_focal::Machine;
 use h41_ram::{ALPHA_LENGTH, Ram};
@@ -22,7 +22,7 @@ const TEXT_FLAG: usize = 23;
 const ALPHA_FLAG: usize = 48;
 
 /// A number comes into X as it begins; the stack is lifted first where lift is on, which it is then.
-pub fn begin_number<const REGS: usize>(machine: &mut Machine<REGS>, number: &Number) -> Effect
+pub fn begin_number<const REGS: usize>(machine: &mut Machine<REGS>, number: &Number) -> KeyEffect
     ensures number { BeginsNumber number.now machine.old (Ok (Leaves machine.new)) }
     ensures effect { result ≡ Nothing }
 {
@@ -30,63 +30,63 @@ pub fn begin_number<const REGS: usize>(machine: &mut Machine<REGS>, number: &Num
     bring_in(&mut machine.ram, written(number), focal.lift);
     machine.ram.set_flag(NUMBER_FLAG, true);
     focal.lift = true;
-    Effect::Nothing
+    KeyEffect::Nothing
 }
 
 /// The number in X changes.
-pub fn change_number<const REGS: usize>(machine: &mut Machine<REGS>, number: &Number) -> Effect
+pub fn change_number<const REGS: usize>(machine: &mut Machine<REGS>, number: &Number) -> KeyEffect
     ensures number { ChangesNumber number.now machine.old (Ok (Leaves machine.new)) }
     ensures effect { result ≡ Nothing }
 {
     bring_in(&mut machine.ram, written(number), false);
-    Effect::Nothing
+    KeyEffect::Nothing
 }
 
 /// ALPHA is shown and written, or no longer.
-pub fn toggle_alpha<const REGS: usize>(ram: &mut Ram<REGS>) -> Effect
+pub fn toggle_alpha<const REGS: usize>(ram: &mut Ram<REGS>) -> KeyEffect
     ensures memory { ram.new ≡ with_alpha_toggled ram.old }
     ensures effect { result ≡ Nothing }
 {
     let on = !ram.flag(ALPHA_FLAG);
     ram.set_flag(ALPHA_FLAG, on);
-    Effect::Nothing
+    KeyEffect::Nothing
 }
 
 /// A letter is the first of ALPHA.
-pub fn begin_text<const REGS: usize>(ram: &mut Ram<REGS>, letter: u8) -> Effect
+pub fn begin_text<const REGS: usize>(ram: &mut Ram<REGS>, letter: u8) -> KeyEffect
     ensures memory { ram.new ≡ with_letters ram.old (letter ∷ []) }
     ensures effect { result ≡ Nothing }
 {
     replace_text(ram, &[letter]);
     ram.set_flag(TEXT_FLAG, true);
-    Effect::Nothing
+    KeyEffect::Nothing
 }
 
 /// A letter comes behind what ALPHA holds.
-pub fn add_letter<const REGS: usize>(ram: &mut Ram<REGS>, letter: u8) -> Effect
+pub fn add_letter<const REGS: usize>(ram: &mut Ram<REGS>, letter: u8) -> KeyEffect
     ensures memory { ram.new ≡ with_letters ram.old (alpha_of ram.old ++ letter ∷ []) }
     ensures effect { result ≡ Nothing }
 {
     append_text(ram, &[letter]);
     ram.set_flag(TEXT_FLAG, true);
-    Effect::Nothing
+    KeyEffect::Nothing
 }
 
 /// ALPHA's last character goes.
-pub fn take_letter<const REGS: usize>(ram: &mut Ram<REGS>) -> Effect
+pub fn take_letter<const REGS: usize>(ram: &mut Ram<REGS>) -> KeyEffect
     ensures memory { ram.new ≡ with_text ram.old (take 23 (alpha_of ram.old)) }
     ensures effect { result ≡ Nothing }
 {
     let alpha = ram.alpha();
     replace_text(ram, &alpha[..ALPHA_LENGTH - 1]);
-    Effect::Nothing
+    KeyEffect::Nothing
 }
 
 /// ALPHA is cleared.
-pub fn clear_alpha<const REGS: usize>(ram: &mut Ram<REGS>) -> Effect
+pub fn clear_alpha<const REGS: usize>(ram: &mut Ram<REGS>) -> KeyEffect
     ensures memory { ram.new ≡ with_text ram.old [] }
     ensures effect { result ≡ Nothing }
 {
     replace_text(ram, &[]);
-    Effect::Nothing
+    KeyEffect::Nothing
 }

@@ -11,12 +11,12 @@ const MOST_KEYS: usize = 98;
 
 /// The keys that one command presses, in their order.
 #[derive(Clone, Copy, Debug, PartialEq, Eq)]
-pub struct Keys {
+pub struct PressedKeys {
     cells: [Key; MOST_KEYS],
     count: usize,
 }
 
-impl Model for Keys {
+impl Model for PressedKeys {
     ghost use Rattle.std.specs.Prelude.{List, length, take};
     ghost use Rattle.h41_codes.specs.Cells.{filled, Keeps, filled_again, count_again};
     ghost use Rattle.h41_commands.specs.DeckLines.{most_keys};
@@ -37,12 +37,12 @@ impl Model for Keys {
     } };
 }
 
-impl Keys {
+impl PressedKeys {
     /// No keys yet.
     pub(crate) fn new() -> Self
         ensures { result ≡ [] }
     {
-        Keys {
+        PressedKeys {
             cells: [Key::On; MOST_KEYS],
             count: 0,
         }

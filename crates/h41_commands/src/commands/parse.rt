@@ -13,7 +13,7 @@ ghost use Rattle.h41_commands.specs.DeckLines.{longest_line, most_keys};
 ghost use Rattle.h41_commands.specs.Numbers as spec;
 ghost use Rattle.h41_commands.specs.declared.commands.Command.TheVariants as commands;
 
-use crate::commands::keys::Keys;
+use crate::commands::keys::PressedKeys;
 use crate::commands::number::{count_up_to, hexadecimal, number_up_to};
 use crate::commands::{BlockKind, Command, PageKind, PlainKind, ProgramKind, View};
 use crate::refusal::LineRefusal;
@@ -280,7 +280,7 @@ fn key(operands: LineWords<'_>) -> Result<Command, LineRefusal>
     requires { length (words_of operands.rest.now) ≤ most_keys }
     ensures { result ≡ key_command (words_of operands.entry.rest.now) }
 {
-    let mut keys = Keys::new();
+    let mut keys = PressedKeys::new();
     for name in operands {
         match Key::named(name) {
             Some(key) => keys.push(key),

@@ -24,13 +24,13 @@ use Rattle.h41_xrom.specs.Calculator.{CalculatorState, after_answer, entering}
 use Rattle.h41_xrom.specs.KeyActions as spec
 use Rattle.h41_xrom.specs.Lines.{Answers, Begins, CarriesFrom, Ended}
 use Rattle.h41_xrom.specs.Programs.{Becomes}
-use Rattle.h41_xrom.specs.declared.acting.Effect.{Effect}
-use Rattle.h41_xrom.specs.declared.acting.Effect.TheVariants as effects
+use Rattle.h41_xrom.specs.declared.acting.KeyEffect.{KeyEffect}
+use Rattle.h41_xrom.specs.declared.acting.KeyEffect.TheVariants as effects
 use Rattle.h41_xrom.specs.declared.calculator.Mode.{Mode}
 use Rattle.h41_xrom.specs.declared.calculator.Mode.TheVariants as modes
 use Rattle.h41_xrom.specs.declared.lines.LineEnd.{LineEnd}
 use Rattle.h41_xrom.specs.declared.lines.LineEnd.TheVariants as ends
-use Rattle.h41_xrom.specs.declared.lines.Source.{Source}
+use Rattle.h41_xrom.specs.declared.lines.LineSource.{LineSource}
 use Rattle.h41_xrom.specs.declared.refusal.CalculatorRefusal.{CalculatorRefusal}
 use Rattle.h41_xrom.specs.declared.refusal.CalculatorRefusal.TheVariants.{Program}
 
@@ -44,7 +44,7 @@ ended_as new (Ok end) = Ok (ended_with new end)
 ended_as new (Err refusal) = Err refusal
 
 -- a function is carried out in place of a line
-abbrev pub CarriesFunction : Source → Function → Machine → Result Left FocalRefusal → Type 0
+abbrev pub CarriesFunction : LineSource → Function → Machine → Result Left FocalRefusal → Type 0
 CarriesFunction source function machine left = CarriesFrom source (Some function) machine left
 
 -- the function that a line is
@@ -53,19 +53,19 @@ IsFunction line (Some function) = line ≡ Plain function
 IsFunction line None = (function : Function) → line ≡ Plain function → ⊥
 
 -- an effect, with what it leaves
-abbrev pub effect_with : Machine → Effect → spec.Effect
+abbrev pub effect_with : Machine → KeyEffect → spec.KeyOutcome
 effect_with new effects.Nothing = spec.Leaves new
 effect_with new (effects.Line end) = spec.LineEnds (ended_with new end)
 effect_with new effects.Stops = spec.Stops new
 effect_with new effects.Starts = spec.Starts new
 
-abbrev pub effect_as : Machine → Result Effect CalculatorRefusal
-    → Result spec.Effect CalculatorRefusal
+abbrev pub effect_as : Machine → Result KeyEffect CalculatorRefusal
+    → Result spec.KeyOutcome CalculatorRefusal
 effect_as new (Ok effect) = Ok (effect_with new effect)
 effect_as new (Err refusal) = Err refusal
 
 -- a change of the program, or a move, as an action
-abbrev pub edited_as : Result (Unit {0}) ProgramRefusal → Result Effect CalculatorRefusal
+abbrev pub edited_as : Result (Unit {0}) ProgramRefusal → Result KeyEffect CalculatorRefusal
 edited_as (Ok done) = Ok effects.Nothing
 edited_as (Err refusal) = Err (Program refusal)
 
@@ -91,7 +91,7 @@ abbrev pub after_end : LineEnd → CalculatorState → CalculatorState
 after_end (ends.Answers outcome) s = after_answer (answer_of outcome) s
 after_end (ends.Begins address) s = entering address s
 
-abbrev pub after_effect : Effect → CalculatorState → CalculatorState
+abbrev pub after_effect : KeyEffect → CalculatorState → CalculatorState
 after_effect effects.Nothing s = s
 after_effect (effects.Line end) s = after_end end s
 after_effect effects.Stops s = record s { mode = modes.Idle }

@@ -3,7 +3,7 @@ use Rattle.h41_codes.specs.Cells.{count_again}
 use Rattle.h41_keys.specs.declared.key.Key.TheVariants.{On}
 use Rattle.h41_commands.specs.DeckLines.{most_keys}
 use Rattle.h41_commands.proofs.KeysInCells.{keeps-one_more}
-use Rattle.h41_commands.proofs.commands.keys.Keys.push.Goals as goal
+use Rattle.h41_commands.proofs.commands.keys.PressedKeys.push.Goals as goal
 
 pub invariant_of-self : goal.invariant_of-self
 invariant_of-self c =

@@ -1,4 +1,5 @@
 mod Edited
+mod MemoryBytes
 mod OneAnswer
 mod Opened
 mod Shown

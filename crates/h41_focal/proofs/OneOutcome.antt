@@ -25,6 +25,7 @@ use Rattle.h41_program.specs.declared.position.PlacedLine.{PlacedLine}
 use Rattle.h41_program.specs.declared.position.Position.{Position}
 use Rattle.h41_program.specs.declared.position.Position.TheVariants.{Memory}
 use Rattle.h41_program.specs.declared.refusal.ProgramRefusal as program
+use Rattle.h41_program.specs.declared.refusal.ProgramRefusal.TheVariants as refusals
 use Rattle.h41_ram.specs.RegisterMap.{RegisterMap, flag_of, is_sound}
 use Rattle.h41_rows.specs.LineRows.{row_of}
 use Rattle.h41_rows.specs.Operands.{Meant, meant_of}
@@ -50,6 +51,13 @@ ByFirst machine holds =
 same_next : (once : IsReadOnce) (memory : RegisterMap) (at a b : Position)
     → NextAt memory at (Ok a) → NextAt memory at (Ok b) → a ≡ b
 same_next once memory at a b p q = let same = once.next memory at (Ok a) (Ok b) p q in cc
+
+no_next : (once : IsReadOnce) (memory : RegisterMap) (at a : Position)
+    → NextAt memory at (Ok a) → NextAt memory at (Err refusals.BrokenProgram) → ⊥
+no_next once memory at a p q =
+    let never : ◌≡◌ {A = Result Position program.ProgramRefusal} (Ok a) (Err refusals.BrokenProgram) =
+    once.next memory at (Ok a) (Err refusals.BrokenProgram) p q in
+    cc
 
 -- what a fault leaves, where each position is read in one way
 module _ (once : IsReadOnce) where
@@ -149,10 +157,10 @@ module _
       | inl again ↦
           past.2 ∙ ap (λ (position : Position). Arrives position returns) (same_next once memory next past.0 again.0 past.1 again.1)
           ∙ sym again.2
-      | inr none ↦ absurd (none.0.1 past.1.0 past.1.1)
+      | inr none ↦ absurd (no_next once memory next past.0 past.1 none.0)
     ]
     | inr none ↦ elim q [
-      | inl past ↦ absurd (none.0.1 past.1.0 past.1.1)
+      | inl past ↦ absurd (no_next once memory next past.0 past.1 none.0)
       | inr again ↦ none.1 ∙ sym again.1
     ]
   ]
@@ -209,7 +217,7 @@ module _
       (subst (λ (next : Position). StepsFrom going memory named at next returns a) same p.2) q.2
   same_destination Typed going memory named at returns a b p q = same_from_here going memory named at returns a b p q
 
--- what a course leaves
+-- what a destination leaves
 same_end : IsReadOnce → (how : Manner) (old new : Machine) (answer : Answer) (to : Destination) (a b : Result Left FocalRefusal)
     → Ends how old new answer to a → Ends how old new answer to b → a ≡ b
 same_end once how old new answer (Arrives position returns) a b p q = p ∙ sym q

@@ -92,7 +92,7 @@ ShowsBefore machine moved =
 -- GTO . .: an END comes behind the last program where it has lines and none, and then nothing is
 -- left to return to; to line 00 of the last program. 14 where the list of lines does not reach
 -- .END., 16 where there is no room
-abbrev pub returns_kept : Result Bool ProgramRefusal → List ℕ → List ℕ
+abbrev pub returns_kept : Result Bool ProgramRefusal → List Position → List Position
 returns_kept (Ok true) returns = []
 returns_kept other returns = returns
 

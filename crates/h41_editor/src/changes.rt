@@ -11,6 +11,7 @@ use crate::moves::is_last;
 use crate::numbered::numbered_line;
 use h41_codes::Line;
 use h41_focal::{Focal, Machine};
+use h41_program::laws::positions_are_read;
 use h41_program::{
     InFront, PlacedLine, Position, ProgramRefusal, delete, insert, is_final_end, line_at, next,
     replace, start_of,
@@ -29,6 +30,7 @@ pub fn insert_line<const REGS: usize>(
     ensures unchanged { OnErr result (machine.new ≡ machine.old) }
     ensures sound { IsTrue (is_sound machine.new.memory) }
 {
+    positions_are_read();
     let before = match numbered_line(machine) {
         Some(shown) => place_for_line(machine, &shown.placed)?,
         None => return Err(ProgramRefusal::BrokenProgram),

@@ -1,18 +1,19 @@
 use Rattle.std.proofs.lemmas.Result.{err_from_is_err_and}
 use Rattle.h41_editor.proofs.Edited.{line_replaced, replace_refused}
+use Rattle.h41_editor.proofs.MemoryBytes.{byte_is, byte_of}
 use Rattle.h41_editor.proofs.Opened.{read_of}
 use Rattle.h41_editor.proofs.changes.replace_line.Goals as goal
 
-pub returns-in_err-position-clause-line : goal.returns-in_err-position-clause-line
-returns-in_err-position-clause-line g c =
+pub returns-in_err-byte-clause-line : goal.returns-in_err-byte-clause-line
+returns-in_err-byte-clause-line g c =
     let refused = err_from_is_err_and c.from_residual.result c.from_residual.ensures.1 in
     rw (refused.1, refused.2)
-    (replace_refused c.args.line _ c.args.machine.now c.replace.new.ram c.in_err-position.field-0.0
+    (replace_refused c.args.line _ c.args.machine.now c.replace.new.ram _ c.in_err-byte.field-0.0
     (read_of _ _ _ _ _ (λ i. (c.machine-inside.view_is i).ram) (λ i. (c.machine-inside.view_is i).focal) c.machine.view_is)
-    c.in_err-position.ensures.lines)
+    (byte_is _) c.in_err-byte.ensures.lines)
 
 pub returns-clause-line : goal.returns-clause-line
 returns-clause-line g c =
-    line_replaced c.args.line _ c.args.machine.now c.replace.new.ram c.show_line.new.focal c.in_ok-position.position
+    line_replaced c.args.line _ c.args.machine.now c.replace.new.ram c.show_line.new.focal _ c.in_ok-byte.byte
     (read_of _ _ _ _ _ (λ i. (c.machine-inside.view_is i).ram) (λ i. (c.machine-inside.view_is i).focal) c.machine.view_is)
-    c.in_ok-position.ensures.lines c.in_ok-position.ensures.answer c.show_line.ensures
+    (byte_is _) c.in_ok-byte.ensures.lines c.in_ok-byte.ensures.answer c.show_line.ensures

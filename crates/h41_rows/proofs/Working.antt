@@ -10,6 +10,7 @@ use Rattle.h41_decimal.specs.Signs.{sign_of}
 use Rattle.h41_decimal.specs.Units.{one, units}
 use Rattle.h41_decimal.specs.WholeParts.{IsFraction, IsIntegerPart}
 use Rattle.h41_decimal.specs.declared.ten.Ten.{Ten}
+use Rattle.h41_ram.specs.NamedFlags.{range_ignore}
 use Rattle.h41_ram.specs.RegisterMap.{RegisterMap, flag_of, register_at}
 use Rattle.h41_rows.specs.Answers.{KeptOne, KeptTwo, WithoutNumber, sign_of_two, worth_at}
 use Rattle.h41_rows.specs.Computing.{IsAlways, WorksOn, WorksOnOne, WorksOnTwo, value_of_one, value_of_two}
@@ -17,7 +18,7 @@ use Rattle.h41_rows.specs.Counters.{Up, Down, number_after}
 use Rattle.h41_rows.specs.Places.{Place, amount_in, are_numbers, place_address, register_in}
 use Rattle.h41_rows.specs.Rows.{places_in_value}
 use Rattle.h41_rows.specs.Values as values
-use Rattle.h41_rows.specs.Values.{Given, Computes, Kept, range_flag, unit_of}
+use Rattle.h41_rows.specs.Values.{Given, Computes, Kept, unit_of}
 use Rattle.h41_rows.specs.declared.fault.LineFault.{LineFault}
 use Rattle.h41_rows.specs.declared.fault.LineFault.TheVariants.{AlphaData}
 use Rattle.h41_rows.specs.declared.values.OfOne.{OfOne}
@@ -80,7 +81,7 @@ computes_one ones.Displayed memory named a number result e w k =
     record {
       answer = k.answer;
       nearest = (number, e, k.answers);
-      kept = subst (λ (t : ℤ). Kept (sign_of t) (flag_of memory range_flag) k.answer result) e k.kept;
+      kept = subst (λ (t : ℤ). Kept (sign_of t) (flag_of memory range_ignore) k.answer result) e k.kept;
     }
 computes_one ones.Unit memory named a number result e w k =
     record {
@@ -160,21 +161,21 @@ computes_two twos.Sum memory named a b x y result e f k =
     record {
       answer = k.answer;
       nearest = subst (λ (t : ℤ). Nearest t 1 k.answer) together k.answers;
-      kept = subst (λ (t : ℤ). Kept (sign_of t) (flag_of memory range_flag) k.answer result) together k.kept;
+      kept = subst (λ (t : ℤ). Kept (sign_of t) (flag_of memory range_ignore) k.answer result) together k.kept;
     }
 computes_two twos.Difference memory named a b x y result e f k =
     let together : units x -ℤ units y ≡ amount_in memory named a -ℤ amount_in memory named b = cc in
     record {
       answer = k.answer;
       nearest = subst (λ (t : ℤ). Nearest t 1 k.answer) together k.answers;
-      kept = subst (λ (t : ℤ). Kept (sign_of t) (flag_of memory range_flag) k.answer result) together k.kept;
+      kept = subst (λ (t : ℤ). Kept (sign_of t) (flag_of memory range_ignore) k.answer result) together k.kept;
     }
 computes_two twos.Product memory named a b x y result e f k =
     let together : units x *ℤ units y ≡ amount_in memory named a *ℤ amount_in memory named b = cc in
     record {
       answer = k.answer;
       nearest = subst (λ (t : ℤ). Nearest t one k.answer) together k.answers;
-      kept = subst (λ (t : ℤ). Kept (sign_of t) (flag_of memory range_flag) k.answer result) together k.kept;
+      kept = subst (λ (t : ℤ). Kept (sign_of t) (flag_of memory range_ignore) k.answer result) together k.kept;
     }
 computes_two twos.Quotient memory named a b x y result e f k =
     let together : units x *ℤ units y ≡ amount_in memory named a *ℤ amount_in memory named b = cc in
@@ -183,7 +184,7 @@ computes_two twos.Quotient memory named a b x y result e f k =
       nearest =
           subst (λ (t : ℤ). NearestQuotient t (amount_in memory named b) k.answer)
           e (subst (λ (t : ℤ). NearestQuotient (units x) t k.answer) f k.answers);
-      kept = subst (λ (t : ℤ). Kept (sign_of t) (flag_of memory range_flag) k.answer result) together k.kept;
+      kept = subst (λ (t : ℤ). Kept (sign_of t) (flag_of memory range_ignore) k.answer result) together k.kept;
     }
 computes_two twos.Remainder memory named a b x y result e f k =
     record { answer = k.answer; nearest = (x, y, e, f, k.answers); kept = k.kept }
@@ -192,7 +193,7 @@ computes_two twos.Percentage memory named a b x y result e f k =
     record {
       answer = k.answer;
       nearest = subst (λ (t : ℤ). Nearest t (100 * one) k.answer) together k.answers;
-      kept = subst (λ (t : ℤ). Kept (sign_of t) (flag_of memory range_flag) k.answer result) together k.kept;
+      kept = subst (λ (t : ℤ). Kept (sign_of t) (flag_of memory range_ignore) k.answer result) together k.kept;
     }
 
 -- where both hold numbers
@@ -236,7 +237,7 @@ number_elsewhere memory other named a address number e w =
 
 -- of memory flag 24 alone has a part in what is kept of an answer
 kept_elsewhere : (value : OfTwo) (memory other : RegisterMap) (x y : Ten) (result : Result (List ℕ) LineFault)
-    → flag_of other range_flag ≡ flag_of memory range_flag → KeptTwo value memory x y result → KeptTwo value other x y result
+    → flag_of other range_ignore ≡ flag_of memory range_ignore → KeptTwo value memory x y result → KeptTwo value other x y result
 kept_elsewhere value memory other x y result same k =
     record {
       answer = k.answer;

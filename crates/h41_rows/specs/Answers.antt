@@ -12,11 +12,12 @@ use Rattle.h41_decimal.specs.declared.fault.DecimalFault.{DecimalFault}
 use Rattle.h41_decimal.specs.declared.sign.Sign.{Sign}
 use Rattle.h41_decimal.specs.declared.sign.Sign.TheVariants.{Plus}
 use Rattle.h41_decimal.specs.declared.ten.Ten.{Ten}
+use Rattle.h41_ram.specs.NamedFlags.{range_ignore}
 use Rattle.h41_ram.specs.RegisterMap.{RegisterMap, flag_of, register_at}
 use Rattle.h41_show.specs.DisplayFormat.{format_of}
 use Rattle.h41_rows.specs.Computing.{IsAlways}
 use Rattle.h41_rows.specs.Counters.{Up, Down, number_after}
-use Rattle.h41_rows.specs.Values.{Given, IsRegisterOf, Kept, places_of, range_flag, unit_of}
+use Rattle.h41_rows.specs.Values.{Given, IsRegisterOf, Kept, places_of, unit_of}
 use Rattle.h41_rows.specs.declared.fault.LineFault.{LineFault}
 use Rattle.h41_rows.specs.declared.fault.LineFault.TheVariants.{AlphaData, OutOfRange}
 use Rattle.h41_rows.specs.declared.values.OfOne.{OfOne}
@@ -75,7 +76,7 @@ sign_of_two twos.Percentage x y = sign_of (x *ℤ y)
 -- what stands for a result out of range
 abbrev pub KeptRange : RegisterMap → Sign → Result (List ℕ) LineFault → Type 0
 KeptRange memory sign result =
-    MatchBool (flag_of memory range_flag)
+    MatchBool (flag_of memory range_ignore)
     (IsOkAnd result (IsRegisterOf (signed sign greatest))) (result ≡ Err OutOfRange)
 
 -- the register of an answer for one number, or for two
@@ -83,13 +84,14 @@ pub record KeptOne (value : OfOne) (memory : RegisterMap)
     (number : Ten) (result : Result (List ℕ) LineFault) : Type 0 where
   pub answer : Result Ten DecimalFault
   pub answers : AnswersOne value memory number answer
-  pub kept : Kept (sign_of_one value (units number)) (flag_of memory range_flag) answer result
+  pub kept : Kept (sign_of_one value (units number)) (flag_of memory range_ignore) answer result
 
 pub record KeptTwo (value : OfTwo) (memory : RegisterMap)
     (x y : Ten) (result : Result (List ℕ) LineFault) : Type 0 where
   pub answer : Result Ten DecimalFault
   pub answers : AnswersTwo value x y answer
-  pub kept : Kept (sign_of_two value (units x) (units y)) (flag_of memory range_flag) answer result
+  pub kept :
+      Kept (sign_of_two value (units x) (units y)) (flag_of memory range_ignore) answer result
 
 -- what is computed where no number is: the unit is zero
 abbrev pub WithoutNumber : OfOne → LineFault → Result (List ℕ) LineFault → Type 0

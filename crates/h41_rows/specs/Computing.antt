@@ -3,6 +3,7 @@
 use Rattle.std.specs.Prelude.{◌≡◌, ℕ, Bool, List, [], ◌∷◌, MatchBool, Some, Result, Ok, Err, ℤ, pos}
 use Rattle.std.specs.Option.{option_map_or}
 use Rattle.h41_decimal.specs.Holding.{holding_of, worth}
+use Rattle.h41_ram.specs.NamedFlags.{range_ignore}
 use Rattle.h41_ram.specs.RegisterMap.{RegisterMap, flag_of, register_at}
 use Rattle.h41_rows.specs.Counters.{Up, Down}
 use Rattle.h41_rows.specs.Operands.{Meant, Count, Name}
@@ -12,7 +13,7 @@ use Rattle.h41_rows.specs.Rows.{AlphaChange, Condition, Takes, coming_in, comput
 use Rattle.h41_rows.specs.Rows.{places_in_condition, places_in_value}
 use Rattle.h41_rows.specs.Rows as rows
 use Rattle.h41_rows.specs.Places as places
-use Rattle.h41_rows.specs.Values.{Value, Computes, range_flag}
+use Rattle.h41_rows.specs.Values.{Value, Computes}
 use Rattle.h41_rows.specs.Values as values
 use Rattle.h41_rows.specs.declared.conditions.Test.{Test}
 use Rattle.h41_rows.specs.declared.conditions.Test.TheVariants as tests
@@ -67,7 +68,7 @@ WorksOnTwo value memory first second result =
     (other : RegisterMap) (named : ℕ) (a b : Place)
     → register_in other named a ≡ register_at memory first
     → register_in other named b ≡ register_at memory second
-    → flag_of other range_flag ≡ flag_of memory range_flag
+    → flag_of other range_ignore ≡ flag_of memory range_ignore
     → WorksOn other named (value_of_two value a b) result
 
 -- a value that memory has no part in

@@ -19,6 +19,7 @@ use Rattle.h41_decimal.specs.declared.sign.Sign.{Sign}
 use Rattle.h41_decimal.specs.declared.sign.Sign.TheVariants.{Plus}
 use Rattle.h41_decimal.specs.declared.ten.Ten.{Ten}
 use Rattle.h41_digits.specs.Register.{IsRegister}
+use Rattle.h41_ram.specs.NamedFlags.{range_ignore}
 use Rattle.h41_ram.specs.RegisterMap.{RegisterMap, flag_of}
 use Rattle.h41_show.specs.DisplayFormat.{format_of}
 use Rattle.h41_show.specs.declared.format.Format.{Format}
@@ -131,10 +132,6 @@ sign_of_value (Percentage a b) memory named =
 sign_of_value (Displayed a) memory named = sign_of (amount_in memory named a)
 sign_of_value value memory named = Plus
 
--- the flag that has results out of range answered by the greatest number with their sign
-abbrev pub range_flag : ℕ
-range_flag = 24
-
 -- the register that holds a number
 pub record IsRegisterOf (number : ℤ) (register : List ℕ) : Type 0 where
   pub valid : IsRegister 14 register
@@ -153,4 +150,4 @@ pub record Computes (value : Value) (memory : RegisterMap)
     (named : ℕ) (result : Result (List ℕ) LineFault) : Type 0 where
   pub answer : Result Ten DecimalFault
   pub nearest : IsValue value memory named answer
-  pub kept : Kept (sign_of_value value memory named) (flag_of memory range_flag) answer result
+  pub kept : Kept (sign_of_value value memory named) (flag_of memory range_ignore) answer result

@@ -3,7 +3,7 @@
 use crate::judge::wants;
 use h41_decimal::Ten;
 use h41_digits::Reg;
-use h41_ram::Ram;
+use h41_ram::{Ram, flags};
 use h41_show::{Format, Notation, RadixMark, alpha_text, number_text, register_text};
 use std::process::Abort;
 use std::test::Fail;
@@ -155,11 +155,17 @@ fn alpha_and_formats_by_flags(rt: HostRuntime) {
     wants(&rt, "an empty ALPHA", alpha_text(&ram).as_str() == "");
     ram.set_alpha(*b"\0\0\0\0\0\0\0\0\0\0\0\0\0\0\0\0\0\0\0HELLO");
     wants(&rt, "HELLO", alpha_text(&ram).as_str() == "HELLO");
-    for flag in [36, 37, 38, 39, 41] {
+    for flag in [
+        flags::DIGITS_8,
+        flags::DIGITS_4,
+        flags::DIGITS_2,
+        flags::DIGITS_1,
+        flags::ENGINEERING,
+    ] {
         ram.set_flag(flag, true);
     }
-    ram.set_flag(28, false);
-    ram.set_flag(29, false);
+    ram.set_flag(flags::DECIMAL_POINT, false);
+    ram.set_flag(flags::DIGIT_GROUPING, false);
     let fixed = Format {
         notation: Notation::Fixed,
         digits: 9,
@@ -167,10 +173,10 @@ fn alpha_and_formats_by_flags(rt: HostRuntime) {
         grouping: false,
     };
     wants(&rt, "FIX by flags", Format::from_flags(&ram) == fixed);
-    ram.set_flag(40, false);
+    ram.set_flag(flags::FIXED, false);
     let notation = Format::from_flags(&ram).notation;
     wants(&rt, "ENG by flags", notation == Notation::Engineering);
-    ram.set_flag(41, false);
+    ram.set_flag(flags::ENGINEERING, false);
     let notation = Format::from_flags(&ram).notation;
     wants(&rt, "SCI by flags", notation == Notation::Scientific);
 }

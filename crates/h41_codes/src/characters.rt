@@ -3,12 +3,13 @@ ghost use Rattle.std.specs.Prelude.{◌≡◌, ◌≤◌, ◌↔◌, length, IsS
 ghost use Rattle.h41_codes.specs.Counts.{number_most};
 ghost use Rattle.h41_codes.specs.ByteGrammar.{IsBytes};
 ghost use Rattle.h41_codes.specs.Cells.{IsNumberOf};
+ghost use Rattle.h41_codes.specs.NumberCharacters.{exponent_place};
 ghost use Rattle.h41_codes.specs.declared.characters.Character.{Character as Sign};
 
 use std::marker::Model;
 
 /// The most characters of a number.
-const NUMBER_MOST: usize = 16;
+pub const NUMBER_MOST: usize = 16;
 
 /// A text of at most `MOST` characters, each a byte.
 #[derive(Clone, Copy, Debug, PartialEq, Eq)]
@@ -112,6 +113,44 @@ pub enum Character {
     Exponent,
     /// `-`, the sign of mantissa or exponent.
     Minus,
+}
+
+impl Character {
+    ghost use Rattle.h41_codes.specs.NumberCharacters as spec;
+
+    /// Whether it is the radix mark.
+    pub fn is_point(self) -> bool
+        ensures { result ≡ spec.is_point self }
+    {
+        matches!(self, Character::Point)
+    }
+
+    /// Whether it is the E in front of an exponent.
+    pub fn is_exponent(self) -> bool
+        ensures { result ≡ spec.is_exponent self }
+    {
+        matches!(self, Character::Exponent)
+    }
+
+    /// Whether it is a sign.
+    pub fn is_minus(self) -> bool
+        ensures { result ≡ spec.is_minus self }
+    {
+        matches!(self, Character::Minus)
+    }
+}
+
+/// Where the first E stands, or the length where there is none.
+pub fn exponent_place(text: &[Character]) -> usize
+    ensures place { result ≡ exponent_place text.now }
+    ensures bound { result ≤ length text.now }
+{
+    for (index, character) in text.iter().enumerate() {
+        if character.is_exponent() {
+            return index;
+        }
+    }
+    text.len()
 }
 
 /// A number as it is written: 1 to 16 characters, in any order.

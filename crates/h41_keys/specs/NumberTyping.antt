@@ -3,8 +3,9 @@
 -- stands in front of its part.
 use Rattle.std.specs.Prelude.{ℕ, ◌+◌, ◌-◌, nat_lt, nat_le, Bool, true, false, ◌||◌, List, [], ◌∷◌}
 use Rattle.std.specs.Prelude.{◌++◌, length, take, drop, filter, ◌==◌, if◌then◌else◌}
-use Rattle.std.specs.List.{list_any, position_or_len}
+use Rattle.std.specs.List.{list_any}
 use Rattle.h41_codes.specs.Counts.{number_most}
+use Rattle.h41_codes.specs.NumberCharacters.{exponent_place, is_minus, is_point}
 use Rattle.h41_codes.specs.declared.characters.Character.{Character}
 use Rattle.h41_codes.specs.declared.characters.Character.TheVariants as characters
 use Rattle.h41_keys.specs.declared.key.Digit.{Digit}
@@ -35,27 +36,11 @@ value_of digits.Seven = 7
 value_of digits.Eight = 8
 value_of digits.Nine = 9
 
-abbrev pub is_point : Character → Bool
-is_point characters.Point = true
-is_point other = false
-
-abbrev pub is_exponent : Character → Bool
-is_exponent characters.Exponent = true
-is_exponent other = false
-
-abbrev pub is_minus : Character → Bool
-is_minus characters.Minus = true
-is_minus other = false
-
 abbrev pub is_digit : Character → Bool
 is_digit characters.Point = false
 is_digit characters.Exponent = false
 is_digit characters.Minus = false
 is_digit other = true
-
--- where the first E stands; where there is none, the place behind the last character
-abbrev pub exponent_place : List Character → ℕ
-exponent_place text = position_or_len is_exponent text
 
 abbrev pub has_exponent : List Character → Bool
 has_exponent text = nat_lt (exponent_place text) (length text)

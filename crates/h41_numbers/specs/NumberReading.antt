@@ -3,7 +3,8 @@
 use Rattle.std.specs.Prelude.{◌≡◌, ℕ, ◌+◌, ◌-◌, List, ◌∷◌, length, take, if◌then◌else◌}
 use Rattle.std.specs.List.{list_any}
 use Rattle.h41_codes.specs.declared.characters.Character.{Character}
-use Rattle.h41_numbers.specs.NumberLines.{biased_by, digits_in, is_point, number_from, sign_in}
+use Rattle.h41_codes.specs.NumberCharacters.{is_point}
+use Rattle.h41_numbers.specs.NumberLines.{biased_by, digits_in, number_from, sign_in}
 use Rattle.h41_numbers.specs.NumberLines.{whole_digits}
 
 -- the number of the first digits, where so many are read already and the text goes on

@@ -3,10 +3,11 @@
 ghost use Rattle.std.specs.Prelude.{◌≡◌, ◌+◌, ◌-◌, ◌*◌, ◌^◌, ◌<◌, ◌≤◌, List, ◌∷◌, length, take};
 ghost use Rattle.std.specs.Prelude.{IfSome};
 ghost use Rattle.std.specs.List.{position_or_len};
+ghost use Rattle.h41_codes.specs.NumberCharacters.{is_exponent, is_point};
 ghost use Rattle.h41_numbers.specs.NumberLines as lines;
 ghost use Rattle.h41_numbers.specs.NumberReading.{ReadsCount, ReadsOn, biased_in, places_in};
 
-use h41_codes::Character;
+use h41_codes::{Character, exponent_place};
 use h41_decimal::{Exponent, Sign, Ten};
 
 /// How many digits of a mantissa count.
@@ -91,7 +92,7 @@ fn exponent_of(text: &[Character]) -> Exponent
 
 /// The characters behind the E, where its place is given.
 fn exponent_part(text: &[Character], end: usize) -> &[Character]
-    requires { end ≡ position_or_len lines.is_exponent text.now }
+    requires { end ≡ position_or_len is_exponent text.now }
     ensures { result.now ≡ lines.exponent_part text.now }
 {
     if end < text.len() {
@@ -103,7 +104,7 @@ fn exponent_part(text: &[Character], end: usize) -> &[Character]
 
 /// The digits of the mantissa that count, where the place of the E is given.
 fn mantissa_digits(text: &[Character], end: usize) -> Digits
-    requires { end ≡ position_or_len lines.is_exponent text.now }
+    requires { end ≡ position_or_len is_exponent text.now }
     ensures number { result.number ≡ lines.number_from 0 (lines.mantissa_digits text.now) }
     ensures count { result.count ≡ length (lines.mantissa_digits text.now) }
 {
@@ -155,7 +156,7 @@ fn sign_of(text: &[Character]) -> Sign
 {
     let mut signs: usize = 0;
     for character in text {
-        if is_minus(*character) {
+        if character.is_minus() {
             signs += 1;
         }
     }
@@ -166,26 +167,13 @@ fn sign_of(text: &[Character]) -> Sign
     }
 }
 
-/// Where the first E stands, or the length where there is none.
-fn exponent_place(text: &[Character]) -> usize
-    ensures place { result ≡ position_or_len lines.is_exponent text.now }
-    ensures bound { result ≤ length text.now }
-{
-    for (index, character) in text.iter().enumerate() {
-        if is_exponent(*character) {
-            return index;
-        }
-    }
-    text.len()
-}
-
 /// Where the first point stands, or the length where there is none.
 fn point_place(text: &[Character]) -> usize
-    ensures place { result ≡ position_or_len lines.is_point text.now }
+    ensures place { result ≡ position_or_len is_point text.now }
     ensures bound { result ≤ length text.now }
 {
     for (index, character) in text.iter().enumerate() {
-        if is_point(*character) {
+        if character.is_point() {
             return index;
         }
     }
@@ -210,25 +198,4 @@ fn digit_of(character: Character) -> Option<u8>
         Character::Nine => Some(9),
         Character::Point | Character::Exponent | Character::Minus => None,
     }
-}
-
-/// Whether a character is the radix mark.
-fn is_point(character: Character) -> bool
-    ensures { result ≡ lines.is_point character }
-{
-    matches!(character, Character::Point)
-}
-
-/// Whether a character is the E in front of an exponent.
-fn is_exponent(character: Character) -> bool
-    ensures { result ≡ lines.is_exponent character }
-{
-    matches!(character, Character::Exponent)
-}
-
-/// Whether a character is a minus sign.
-fn is_minus(character: Character) -> bool
-    ensures { result ≡ lines.is_minus character }
-{
-    matches!(character, Character::Minus)
 }

@@ -10,10 +10,10 @@ ghost use Rattle.h41_rows.specs.Readings.{LeadsTo};
 use crate::fault::LineFault;
 use crate::operands::BranchTarget;
 use crate::readings;
-use crate::texts::{ALPHA_DATA, KIND_PLACE, after_nulls, alpha_data};
 use h41_codes::{Parameter, Text};
 use h41_decimal::Ten;
 use h41_digits::Reg;
+use h41_show::characters::{ALPHA_DATA, KIND_PLACE, after_nulls, alpha_data};
 
 /// Where a branch goes by what a register holds.
 pub(crate) fn target_in(register: Reg) -> Result<BranchTarget, LineFault>

@@ -1,6 +1,6 @@
 use Rattle.std.proofs.Common.{◌≡◌, ◌≤◌, length}
 use Rattle.h41_decimal.specs.Holding.{after_nulls}
-use Rattle.h41_show.proofs.register.after_nulls.Given as goal
+use Rattle.h41_show.proofs.characters.after_nulls.Given as goal
 
 abbrev pub invariant-loop-shown : goal.invariant-loop-shown
 invariant-loop-shown l = record { same : after_nulls l.shown ≡ after_nulls l.bytes; most : length l.shown ≤ length l.bytes }

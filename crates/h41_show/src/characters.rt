@@ -7,16 +7,16 @@ ghost use Rattle.h41_digits.specs.Register.{byte_at};
 use h41_digits::Reg;
 
 /// The place of a register that tells ALPHA data from numbers.
-pub(crate) const KIND_PLACE: usize = 13;
+pub const KIND_PLACE: usize = 13;
 
 /// What stands there in ALPHA data.
-pub(crate) const ALPHA_DATA: u8 = 1;
+pub const ALPHA_DATA: u8 = 1;
 
 /// How many characters a register holds.
-pub(crate) const REGISTER_CHARACTERS: usize = 6;
+pub const REGISTER_CHARACTERS: usize = 6;
 
 /// The six bytes of ALPHA data in a register, the leftmost first.
-pub(crate) fn alpha_data(register: Reg) -> [u8; REGISTER_CHARACTERS]
+pub fn alpha_data(register: Reg) -> [u8; REGISTER_CHARACTERS]
     ensures { result ≡ map (byte_at register) (5 ∷ 4 ∷ 3 ∷ 2 ∷ 1 ∷ 0 ∷ []) }
 {
     [
@@ -30,7 +30,7 @@ pub(crate) fn alpha_data(register: Reg) -> [u8; REGISTER_CHARACTERS]
 }
 
 /// Bytes without the leading ones that are zero.
-pub(crate) fn after_nulls(bytes: &[u8]) -> &[u8]
+pub fn after_nulls(bytes: &[u8]) -> &[u8]
     ensures bytes { result.now ≡ holding.after_nulls bytes.now }
     ensures most { length result.now ≤ length bytes.now }
 {

@@ -8,7 +8,7 @@ use Rattle.h41_decimal.specs.Signs.{signed, opposite_of, product_of}
 use Rattle.h41_decimal.specs.Units.{size, units}
 use Rattle.h41_decimal.specs.NearestDecimal.{Fraction, Nearest}
 use Rattle.h41_decimal.specs.Operations.{IsFloor, RoundsRest, NearestModulo}
-use Rattle.h41_decimal.specs.Cut.{RoundsWhole}
+use Rattle.h41_decimal.specs.private.Cut.{RoundsWhole}
 use Rattle.h41_decimal.specs.declared.fault.DecimalFault.{DecimalFault}
 use Rattle.h41_decimal.specs.declared.parts.Size.{Size}
 use Rattle.h41_decimal.specs.declared.sign.Sign.{Sign}

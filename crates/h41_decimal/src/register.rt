@@ -2,8 +2,8 @@
 
 ghost use Rattle.std.specs.Prelude.{◌≡◌, ℕ, ◌+◌, ◌*◌, ◌^◌, ◌<◌, ◌≤◌, IfSome, Some, None};
 ghost use Rattle.std.specs.Prelude.{slice_index};
-ghost use Rattle.h41_decimal.specs.PackedDigits.{packed};
-ghost use Rattle.h41_decimal.specs.SameDigits.{SameDigitsBelow, SameDigitsFrom};
+ghost use Rattle.h41_decimal.specs.private.PackedDigits.{packed};
+ghost use Rattle.h41_decimal.specs.private.SameDigits.{SameDigitsBelow, SameDigitsFrom};
 ghost use Rattle.h41_decimal.specs.Signs.{signed};
 ghost use Rattle.std.specs.Option.{option_map};
 ghost use Rattle.h41_decimal.specs.Units.{size, units};

@@ -2,7 +2,7 @@
 
 ghost use Rattle.std.specs.Prelude.{◌≡◌, ℕ, ◌+◌, ◌-◌, ◌*◌, ◌^◌, ◌<◌, ◌≤◌, pos};
 ghost use Rattle.h41_decimal.specs.NearestDecimal.{IsBounded};
-ghost use Rattle.h41_decimal.specs.Cut.{RoundsElevenDigits, RoundsWhole};
+ghost use Rattle.h41_decimal.specs.private.Cut.{RoundsElevenDigits, RoundsWhole};
 
 use crate::fault::DecimalFault;
 use crate::parts::{Exponent, Mantissa, Size};

@@ -22,8 +22,8 @@ is_white_space byte = byte == 9 || (byte == 10 || (byte == 12 || (byte == 13 || 
 abbrev pub parts_of : List ℕ → List (List ℕ)
 parts_of text = filter (λ part. not (length part == 0)) (slice_split is_white_space text)
 
--- the word that a part of a text writes: a hexadecimal number up to 3FF, of either case and with any
--- count of leading zeros
+-- the word that a part of a text writes: a hexadecimal number up to 3FF, of either case and with
+-- any count of leading zeros
 abbrev pub word_value : List ℕ → Option ℕ
 word_value part = number_up_to 0x3FF 16 part
 

@@ -5,7 +5,8 @@ ghost use Rattle.std.specs.Prelude.{IfSome};
 ghost use Rattle.std.specs.List.{position_or_len};
 ghost use Rattle.h41_codes.specs.NumberCharacters.{is_exponent, is_point};
 ghost use Rattle.h41_numbers.specs.NumberLines as lines;
-ghost use Rattle.h41_numbers.specs.NumberReading.{ReadsCount, ReadsOn, biased_in, places_in};
+ghost use Rattle.h41_numbers.specs.private.NumberReading.{ReadsCount, ReadsOn, biased_in};
+ghost use Rattle.h41_numbers.specs.private.NumberReading.{places_in};
 
 use h41_codes::{Character, exponent_place};
 use h41_decimal::{Exponent, Sign, Ten};

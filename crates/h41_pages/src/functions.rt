@@ -4,7 +4,7 @@
 ghost use Rattle.std.specs.Prelude.{◌≡◌, ◌<◌, ◌≤◌, ◌+◌, ◌++◌, find, option_map, IfOk, IfSome, OnOk};
 ghost use Rattle.std.specs.Prelude.{Some, length, slice_index};
 ghost use Rattle.h41_words.specs.Counts.{word_count};
-ghost use Rattle.h41_pages.specs.AddedFunctions.{AddsAt, AddsOf};
+ghost use Rattle.h41_pages.specs.private.AddedFunctions.{AddsAt, AddsOf};
 ghost use Rattle.h41_pages.specs.Addresses.{page_size};
 ghost use Rattle.h41_pages.specs.FunctionTables as spec;
 

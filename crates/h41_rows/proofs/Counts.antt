@@ -18,7 +18,7 @@ use Rattle.h41_decimal.proofs.Signed.{signed-sub}
 use Rattle.h41_decimal.proofs.Tens.{size_pos, unsigned_abs-signed}
 use Rattle.h41_decimal.proofs.Wholes.{all_ones, ten_of_fewer, filled_worth}
 use Rattle.h41_rows.specs.Counters.{counter_of, fraction_of}
-use Rattle.h41_rows.specs.Counting.{count_in, number_along, with_ones}
+use Rattle.h41_rows.specs.private.Counting.{count_in, number_along, with_ones}
 
 -- a whole number of up to ten digits, filled with zeros
 pub log_few : (log n : ℕ) → 10 ^ log ≤ n → n < 10 ^ 10 → log ≤ 9

@@ -12,7 +12,7 @@ use Rattle.h41_decimal.specs.WholeParts.{IsFraction, IsIntegerPart}
 use Rattle.h41_decimal.specs.declared.ten.Ten.{Ten}
 use Rattle.h41_ram.specs.NamedFlags.{range_ignore}
 use Rattle.h41_ram.specs.RegisterMap.{RegisterMap, flag_of, register_at}
-use Rattle.h41_rows.specs.Answers.{KeptOne, KeptTwo, WithoutNumber, sign_of_two, worth_at}
+use Rattle.h41_rows.specs.private.Answers.{KeptOne, KeptTwo, WithoutNumber, sign_of_two, worth_at}
 use Rattle.h41_rows.specs.Computing.{IsAlways, WorksOn, WorksOnOne, WorksOnTwo, value_of_one, value_of_two}
 use Rattle.h41_rows.specs.Counters.{Up, Down, number_after}
 use Rattle.h41_rows.specs.Places.{Place, amount_in, are_numbers, place_address, register_in}

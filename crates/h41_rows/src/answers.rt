@@ -6,8 +6,8 @@ ghost use Rattle.h41_decimal.specs.Operations.{NearestQuotient};
 ghost use Rattle.h41_decimal.specs.Units.{one, units};
 ghost use Rattle.h41_decimal.specs.WholeParts.{IsFraction, IsIntegerPart};
 ghost use Rattle.h41_show.specs.DisplayFormat.{format_of};
-ghost use Rattle.h41_rows.specs.Answers.{AnswersOne, AnswersTwo, IsNumberAt, KeptRange};
-ghost use Rattle.h41_rows.specs.Answers.{sign_of_one, sign_of_two};
+ghost use Rattle.h41_rows.specs.private.Answers.{AnswersOne, AnswersTwo, IsNumberAt, KeptRange};
+ghost use Rattle.h41_rows.specs.private.Answers.{sign_of_one, sign_of_two};
 ghost use Rattle.h41_rows.specs.Values.{IsRegisterOf, places_of, unit_of};
 
 use crate::counters::{counted_down, counted_up};

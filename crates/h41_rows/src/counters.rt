@@ -7,9 +7,9 @@ ghost use Rattle.h41_decimal.specs.Signs.{signed};
 ghost use Rattle.h41_decimal.specs.Units.{one, size, units};
 ghost use Rattle.h41_rows.specs.Computing.{amount_at};
 ghost use Rattle.h41_rows.specs.Counters.{Down, Up, fraction_of, goes_on, number_after};
-ghost use Rattle.h41_rows.specs.Counting.{number_along, way_of};
-ghost use Rattle.h41_rows.specs.Readings.{IsCounted};
-ghost use Rattle.h41_rows.specs.Wholes.{told_ones};
+ghost use Rattle.h41_rows.specs.private.Counting.{number_along, way_of};
+ghost use Rattle.h41_rows.specs.private.Readings.{IsCounted};
+ghost use Rattle.h41_rows.specs.private.Wholes.{told_ones};
 
 use h41_decimal::{DecimalFault, Exponent, Mantissa, Sign, Size, Ten};
 use h41_ram::Ram;

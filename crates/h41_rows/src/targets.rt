@@ -5,7 +5,7 @@ ghost use Rattle.std.specs.Result.{result_map_both};
 ghost use Rattle.h41_decimal.specs.Holding.{holding_of, worth};
 ghost use Rattle.h41_rows.specs.Computing.{meant_by};
 ghost use Rattle.h41_rows.specs.Operands as spec;
-ghost use Rattle.h41_rows.specs.Readings.{LeadsTo};
+ghost use Rattle.h41_rows.specs.private.Readings.{LeadsTo};
 
 use crate::fault::LineFault;
 use crate::operands::BranchTarget;

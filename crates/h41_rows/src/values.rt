@@ -2,7 +2,7 @@
 
 ghost use Rattle.std.specs.Prelude.{pos};
 ghost use Rattle.h41_decimal.specs.Units.{units};
-ghost use Rattle.h41_rows.specs.Answers.{KeptOne, KeptTwo, WithoutNumber};
+ghost use Rattle.h41_rows.specs.private.Answers.{KeptOne, KeptTwo, WithoutNumber};
 ghost use Rattle.h41_rows.specs.Computing.{IsAlways, WorksOnOne, WorksOnTwo};
 ghost use Rattle.h41_rows.specs.FunctionRows as functions;
 ghost use Rattle.h41_rows.specs.Values.{Given, Written};

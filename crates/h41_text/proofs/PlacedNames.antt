@@ -17,8 +17,8 @@ use Rattle.h41_text.specs.declared.names.TheConstants.{FUNCTIONS}
 use Rattle.h41_text.specs.declared.places.TheConstants.{FUNCTION_PLACES, WORD_PLACES}
 use Rattle.h41_text.specs.declared.words.TheConstants.{WORDS}
 use Rattle.h41_text.specs.Names.{function_name, parameter_function_name}
-use Rattle.h41_text.specs.Places.{IsPlaced, at_place}
-use Rattle.h41_text.specs.TextParts.{with_text, word_text}
+use Rattle.h41_text.specs.private.Places.{IsPlaced, at_place}
+use Rattle.h41_text.specs.private.TextParts.{with_text, word_text}
 
 no_both : (test : Bool) → test ≡ true → test ≡ false → true ≡ false
 no_both test holds fails = sym holds ∙ fails

@@ -31,9 +31,10 @@ use Rattle.h41_text.specs.declared.words.Word.TheVariants as word
 use Rattle.h41_text.specs.Names.{function_name, parameter_function_name, character_byte}
 use Rattle.h41_text.specs.LineText.{line_text, parameter_text, operand_text, number_line, character_quoted, quoted, text_line, ◌&◌}
 use Rattle.h41_text.specs.LineReading.{HasText}
-use Rattle.h41_text.specs.TextParts.{word_text, word_line, operand_of, operand_from, behind_ind, two_digits_of, module_line}
-use Rattle.h41_text.specs.TextParts.{first_character, unquoted, at_most, begins_with, branch_line, character_of, characters_of, number_of}
-use Rattle.h41_text.specs.TextParts.{cut, cut_line, or_else, minus_line, unquoted_line, candidate_line}
+use Rattle.h41_text.specs.private.TextParts.{word_text, word_line, operand_of, operand_from, behind_ind, two_digits_of, module_line}
+use Rattle.h41_text.specs.private.TextParts.{first_character, unquoted, at_most, begins_with, branch_line, character_of, characters_of}
+use Rattle.h41_text.specs.private.TextParts.{number_of}
+use Rattle.h41_text.specs.private.TextParts.{cut, cut_line, or_else, minus_line, unquoted_line, candidate_line}
 use Rattle.h41_text.proofs.Canonical as canonical_text
 use Rattle.h41_text.proofs.Finding.{is_found, parameter_found, number_none}
 use Rattle.h41_text.proofs.Unquoting.{unquoted_more, unquoted_end}

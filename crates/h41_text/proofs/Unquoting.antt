@@ -1,6 +1,6 @@
 -- The characters within quotes, one after another.
 use Rattle.std.proofs.Common.{◌≡◌, ℕ, zero, suc, ◌+◌, List, [], ◌∷◌, Some, None, refl, ◌∙◌, ap, arith}
-use Rattle.h41_text.specs.TextParts.{first_character, unquoted}
+use Rattle.h41_text.specs.private.TextParts.{first_character, unquoted}
 
 -- one more character
 pub unquoted_more : (most fewer : ℕ) (text : List ℕ) (character : ℕ) (rest : List ℕ) → most ≡ fewer + 1

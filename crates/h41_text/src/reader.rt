@@ -7,7 +7,7 @@ ghost use Rattle.h41_codes.specs.declared.line.Operand.{Operand as AnyOperand};
 ghost use Rattle.h41_codes.specs.Counts.{parameter_count};
 ghost use Rattle.h41_text.specs.LineReading.{HasText, IsTextOf};
 ghost use Rattle.h41_text.specs.LineText.{line_text, parameter_text};
-ghost use Rattle.h41_text.specs.TextParts as part;
+ghost use Rattle.h41_text.specs.private.TextParts as part;
 
 use crate::faults::BadText;
 use crate::names::{character_of, function_named, high_parameter};

@@ -1,7 +1,7 @@
 //! The words in front of operands.
 ghost use Rattle.std.specs.Prelude.{◌≡◌, ◌≤◌, length};
-ghost use Rattle.h41_text.specs.Places.{IsPlaced};
-ghost use Rattle.h41_text.specs.TextParts.{word_of, word_text, with_text};
+ghost use Rattle.h41_text.specs.private.Places.{IsPlaced};
+ghost use Rattle.h41_text.specs.private.TextParts.{word_of, word_text, with_text};
 
 use crate::names::{branch_name, parameter_function_name, parameter_functions};
 use crate::places::{WORD_PLACES, name_hash};

@@ -1,7 +1,7 @@
 //! The table of the words: from a word to its row, and back.
 ghost use Rattle.std.specs.Prelude.{◌≡◌, ◌%◌, ◌/◌, ◌<◌, ◌⊎◌, IfSome, IfNone};
 ghost use Rattle.h41_words.specs.Counts.{word_count, place_count};
-ghost use Rattle.h41_words.specs.MappedColumns.{IsMappedColumn};
+ghost use Rattle.h41_words.specs.private.MappedColumns.{IsMappedColumn};
 ghost use Rattle.h41_words.specs.WordTable as spec;
 
 use crate::operands::{BlockRegister, Digit, Displacement, Place, ReadRegister, StatusBit};

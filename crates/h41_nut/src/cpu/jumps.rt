@@ -5,8 +5,8 @@ ghost use Rattle.std.specs.Result.{result_err};
 ghost use Rattle.h41_nut.specs.Addresses.{displaced};
 ghost use Rattle.h41_pages.specs.Addresses.{first_address};
 ghost use Rattle.h41_nut.specs.Arrivals as arrivals;
-ghost use Rattle.h41_nut.specs.ProcessorSteps.{GoesTo, GoesOn, GoesOnTelling, JumpsLong};
-ghost use Rattle.h41_nut.specs.ProcessorSteps.{JumpsShort, ReturnsIf};
+ghost use Rattle.h41_nut.specs.private.ProcessorSteps.{GoesTo, GoesOn, GoesOnTelling, JumpsLong};
+ghost use Rattle.h41_nut.specs.private.ProcessorSteps.{JumpsShort, ReturnsIf};
 ghost use Rattle.h41_nut.specs.Jumps as spec;
 ghost use Rattle.h41_nut.specs.RegisterWords.{with_address_pushed, with_address_popped};
 

@@ -4,7 +4,7 @@ ghost use Rattle.std.specs.Prelude.{◌≡◌, ◌<◌};
 ghost use Rattle.h41_words.specs.Counts.{word_count};
 ghost use Rattle.h41_nut.specs.Arrivals.{address_after_both};
 ghost use Rattle.h41_nut.specs.MemoryWords.{block_address, selecting};
-ghost use Rattle.h41_nut.specs.ProcessorSteps.{GoesOn, GoesTo, selecting_and_loading};
+ghost use Rattle.h41_nut.specs.private.ProcessorSteps.{GoesOn, GoesTo, selecting_and_loading};
 ghost use Rattle.h41_nut.specs.RegisterWords as spec;
 
 use crate::base::Base;

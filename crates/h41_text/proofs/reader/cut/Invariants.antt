@@ -1,6 +1,6 @@
 use Rattle.std.proofs.Common.{◌≡◌, ◌++◌, take, drop}
 use Rattle.std.specs.Option.{option_map}
-use Rattle.h41_text.specs.TextParts.{cut}
+use Rattle.h41_text.specs.private.TextParts.{cut}
 use Rattle.h41_text.proofs.reader.cut.Given as goal
 
 abbrev pub invariant-loop-index : goal.invariant-loop-index

@@ -1,5 +1,5 @@
 use Rattle.std.proofs.Common.{◌≡◌, ◌++◌, ◌-◌, length}
-use Rattle.h41_text.specs.TextParts.{unquoted}
+use Rattle.h41_text.specs.private.TextParts.{unquoted}
 use Rattle.h41_text.proofs.reader.push_unquoted.Given as goal
 
 abbrev pub invariant-loop : goal.invariant-loop

@@ -1,7 +1,7 @@
 -- The image that is looked at is one that is held, and the word is written in it and at its address.
 use Rattle.std.proofs.Common.{rules, ◌≡◌, true, None, length, arith, ap, subst, sym, ◌∙◌}
 use Rattle.std.proofs.lemmas.List.{get_or_default}
-use Rattle.h41_pages.specs.AddressSpace.{IsPages}
+use Rattle.h41_pages.specs.private.AddressSpace.{IsPages}
 use Rattle.h41_pages.specs.PageMap.{PageMap, rewritten}
 use Rattle.h41_pages.proofs.AddressSpaces.{pages_written}
 use Rattle.h41_pages.proofs.PageMaps.{row_is, chosen_as, written_as, accepted_as}

@@ -1,4 +1,4 @@
--- What stays of a register in which digits are written. No public contract needs this file.
+-- What stays of a register in which digits are written.
 use Rattle.std.specs.Prelude.{◌≡◌, ◌<◌, ◌≤◌, ℕ, List, slice_index}
 
 -- two registers have the same digits below a place

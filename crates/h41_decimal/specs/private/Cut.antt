@@ -1,5 +1,4 @@
--- A whole number to which an exact size was cut, before it is rounded. No public contract needs
--- this file.
+-- A whole number to which an exact size was cut, before it is rounded.
 use Rattle.std.specs.Prelude.{ℕ, ◌+◌, ◌*◌, ◌^◌, ◌<◌, ◌≤◌, Result}
 use Rattle.h41_decimal.specs.NearestDecimal.{Exact, Fraction, RootOf, IsBelow, IsAtLeast, IsRounded}
 use Rattle.h41_decimal.specs.declared.fault.DecimalFault.{DecimalFault}

@@ -1,5 +1,5 @@
 -- What the private functions of sums promise one another: the loop over the digits of a span, and
--- the carries of a sum of numbers. No public contract needs this file.
+-- the carries of a sum of numbers.
 use Rattle.std.specs.Prelude.{◌≡◌, ℕ, ◌+◌, ◌-◌, ◌*◌, ◌/◌, ◌%◌, ◌^◌, Bool, List, bit_and, bit_xor}
 use Rattle.h41_digits.specs.Register.{value_between}
 use Rattle.h41_arith.specs.DigitRule.{SumDigit, DifferenceDigit, HasCarries, HasResult, carry_digit}

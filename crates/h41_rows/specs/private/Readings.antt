@@ -8,9 +8,9 @@ use Rattle.h41_decimal.specs.declared.sign.Sign.{Sign}
 use Rattle.h41_decimal.specs.declared.ten.Ten.{Ten}
 use Rattle.h41_ram.specs.RegisterMap.{RegisterMap}
 use Rattle.h41_rows.specs.Computing.{meant_by}
-use Rattle.h41_rows.specs.Counting.{with_ones}
+use Rattle.h41_rows.specs.private.Counting.{with_ones}
 use Rattle.h41_rows.specs.Operands.{Meant, data_register, parameter_register, then_find, whole_at}
-use Rattle.h41_rows.specs.Wholes.{told_number}
+use Rattle.h41_rows.specs.private.Wholes.{told_number}
 use Rattle.h41_rows.specs.declared.fault.LineFault.{LineFault}
 use Rattle.h41_rows.specs.declared.operands.BranchTarget.{BranchTarget}
 

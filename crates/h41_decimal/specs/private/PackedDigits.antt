@@ -1,4 +1,4 @@
--- A number's decimal digits in four bits each. No public contract needs this file.
+-- A number's decimal digits in four bits each.
 use Rattle.std.specs.Prelude.{ℕ, zero, suc, ◌+◌, ◌*◌, ◌/◌, ◌%◌}
 
 -- so many of them, the lowest in the lowest bits

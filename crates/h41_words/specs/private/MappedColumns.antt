@@ -1,4 +1,4 @@
--- What the code asks of a word before it looks its line up. No public contract needs this file.
+-- What the code asks of a word before it looks its line up.
 use Rattle.std.specs.Prelude.{◌≡◌, ◌⊎◌, ℕ}
 
 -- which columns are mapped

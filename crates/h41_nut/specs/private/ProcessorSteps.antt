@@ -1,5 +1,5 @@
 -- What the methods of the processor promise the functions that call them: that it goes to an
--- address with a change, or is refused. No public contract needs this file.
+-- address with a change, or is refused.
 use Rattle.std.specs.Prelude.{◌≡◌, ℕ, ℤ, Bool, false, List, Option, None, Result, OnOk, OnErr}
 use Rattle.std.specs.Option.{option_or}
 use Rattle.std.specs.Result.{result_err}

@@ -3,7 +3,7 @@ use Rattle.std.specs.Prelude.{◌≡◌, ℕ, ◌<◌, false, length, slice_inde
 use Rattle.std.specs.Prelude.{Some, None}
 use Rattle.std.specs.Str.{bytes_eq}
 use Rattle.h41_lines.specs.Hashes.{word_hash}
-use Rattle.h41_text.specs.TextParts.{with_text}
+use Rattle.h41_text.specs.private.TextParts.{with_text}
 
 abbrev pub name_hash : List ℕ → ℕ
 name_hash name = word_hash 18352 6855 name

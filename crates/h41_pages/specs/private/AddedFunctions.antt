@@ -1,5 +1,4 @@
--- What the functions that collect a list of functions promise one another. No public contract needs
--- this file.
+-- What the functions that collect a list of functions promise one another.
 use Rattle.std.specs.Prelude.{◌≡◌, ◌++◌, ℕ, List}
 use Rattle.h41_pages.specs.FunctionTables.{functions_of, functions_at}
 use Rattle.h41_pages.specs.PageMap.{PageMap}

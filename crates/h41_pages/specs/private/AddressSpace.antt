@@ -1,5 +1,5 @@
 -- The address space as one list, with what is fetched at each address, which pages keep beside
--- their images. No public contract needs this file.
+-- their images.
 use Rattle.std.specs.Prelude.{◌≡◌, ℕ, ◌+◌, ◌*◌, ◌<◌, List, ◌++◌, length, take, drop, replicate}
 use Rattle.std.specs.Prelude.{slice_index, Result, Ok, Err}
 use Rattle.h41_words.specs.Counts.{word_count}

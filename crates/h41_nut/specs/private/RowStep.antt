@@ -1,4 +1,4 @@
--- What carrying out a row promises a step. No public contract needs this file.
+-- What carrying out a row promises a step.
 use Rattle.std.specs.Prelude.{Result}
 use Rattle.h41_words.specs.declared.rows.Row.{Row}
 use Rattle.h41_pages.specs.PageMap.{PageMap}

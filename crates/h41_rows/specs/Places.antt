@@ -3,8 +3,7 @@ use Rattle.std.specs.Prelude.{ℕ, Bool, List, is_some, ℤ, pos}
 use Rattle.std.specs.List.{list_all}
 use Rattle.std.specs.Option.{option_map_or}
 use Rattle.h41_decimal.specs.Holding.{holding_of, number_in, worth}
-use Rattle.h41_ram.specs.NamedRegisters.{address_of}
-use Rattle.h41_ram.specs.RegisterMap.{RegisterMap, register_at}
+use Rattle.h41_ram.specs.RegisterMap.{RegisterMap, address_of, register_at}
 use Rattle.h41_ram.specs.declared.status.StatusRegister.TheVariants as names
 
 pub data Place : Type 0 where

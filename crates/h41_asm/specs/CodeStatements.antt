@@ -7,7 +7,7 @@ use Rattle.h41_asm.specs.declared.fault.SourceFault.{SourceFault}
 use Rattle.h41_asm.specs.declared.source.SourceLine as lines
 use Rattle.h41_asm.specs.declared.statement.Statement as code
 use Rattle.h41_asm.specs.declared.statement.Statement.TheVariants as codes_of
-use Rattle.h41_asm.specs.declared.words.LineWords as rests
+use Rattle.h41_asm.specs.declared.words.SourceWords as rests
 use Rattle.h41_asm.specs.declared.table.EntryKind as entry
 use Rattle.h41_asm.specs.declared.table.EntryKind.TheVariants as kinds
 use Rattle.h41_asm.specs.declared.table.Numbered as numbered
@@ -74,7 +74,7 @@ takes_in_code (takings.Entry kind) = takes_entry (entry_bits kind)
 abbrev pub in_label : Option (Bor (List ℕ)) → Option (List ℕ)
 in_label label = option_map (λ name. name.now) label
 
-abbrev pub in_words : Option (Bor (List ℕ)) → rests.LineWords → List (List ℕ)
+abbrev pub in_words : Option (Bor (List ℕ)) → rests.SourceWords → List (List ℕ)
 in_words None others = []
 in_words (Some first) others = first.now ∷ words_of others.rest.now
 

@@ -16,7 +16,7 @@ use Rattle.h41_asm.specs.declared.fault.SourceFault.TheVariants.{BadLine, BadOpe
 use Rattle.h41_asm.specs.declared.table.Opening as table
 use Rattle.h41_asm.specs.declared.table.Opening.TheVariants as openings
 use Rattle.h41_asm.specs.declared.statement.Statement as code
-use Rattle.h41_asm.specs.declared.words.LineWords as rests
+use Rattle.h41_asm.specs.declared.words.SourceWords as rests
 use Rattle.h41_asm.specs.CodeStatements.{read_in_code, takes_in_code, takes_numbered}
 use Rattle.h41_asm.specs.SourceLines.{words_of}
 use Rattle.h41_asm.specs.Statements.{Statement, Words, Taking, is_whole, reading, taken}
@@ -40,11 +40,11 @@ by_second says (second ∷ others) = says second others
 
 -- what the code read of the words behind an opening, by a rule for them, or by one for the second
 -- word and those behind it
-abbrev pub Reads : (List (List ℕ) → Result Statement SourceFault) → rests.LineWords
+abbrev pub Reads : (List (List ℕ) → Result Statement SourceFault) → rests.SourceWords
     → Result code.Statement SourceFault → Type 0
 Reads says others read = read_in_code read ≡ says (words_of others.rest.now)
 
-abbrev pub ReadsSecond : (List ℕ → List (List ℕ) → Result Statement SourceFault) → rests.LineWords
+abbrev pub ReadsSecond : (List ℕ → List (List ℕ) → Result Statement SourceFault) → rests.SourceWords
     → Result code.Statement SourceFault → Type 0
 ReadsSecond says others read = Reads (by_second says) others read
 
@@ -115,18 +115,18 @@ abbrev pub hash_of : List ℕ → ℕ
 hash_of word = word_hash 27371 15327 word
 
 -- the entries of the code's table
-abbrev pub Entry : Type 0
-Entry = List ℕ × table.Opening
+abbrev pub TableEntry : Type 0
+TableEntry = List ℕ × table.Opening
 
-abbrev pub entries_in : List (Bor (List ℕ) × table.Opening) → List Entry
+abbrev pub entries_in : List (Bor (List ℕ) × table.Opening) → List TableEntry
 entries_in openings = map (λ opening. (opening.0.now, opening.1)) openings
 
 -- each entry is right, and a word that is not the entry of its own hash begins nothing
-pub record IsTable (entries : List Entry) (places : List ℕ) : Type 0 where
+pub record IsTable (entries : List TableEntry) (places : List ℕ) : Type 0 where
   pub count : length places ≡ place_count
   pub within : (k : ℕ) → k < length places → slice_index places k < length entries
   pub sound : All (λ entry. OpensAs entry.0 (Some entry.1)) entries
   pub words : All (λ entry. TellsWords entry.1) entries
-  pub complete : (word : List ℕ) (other : Entry)
+  pub complete : (word : List ℕ) (other : TableEntry)
       → bytes_eq word (slice_index_or entries (slice_index places (hash_of word)) other).0 ≡ false
       → OpensAs word None

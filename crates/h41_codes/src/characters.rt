@@ -2,7 +2,7 @@
 ghost use Rattle.std.specs.Prelude.{◌≡◌, ◌≤◌, ◌↔◌, length, IsSome, IfSome};
 ghost use Rattle.h41_codes.specs.Counts.{number_most};
 ghost use Rattle.h41_codes.specs.ByteGrammar.{IsBytes};
-ghost use Rattle.h41_codes.specs.Cells.{IsNumberOf};
+ghost use Rattle.h41_codes.specs.Cells.{FitsNumber};
 ghost use Rattle.h41_codes.specs.NumberCharacters.{exponent_place};
 ghost use Rattle.h41_codes.specs.declared.characters.Character.{Character as Sign};
 
@@ -186,7 +186,7 @@ impl Model for Number {
 impl Number {
     /// The number of these characters, or nothing where there is none or more than 16.
     pub fn new(characters: &[Character]) -> Option<Self>
-        ensures fits { IsSome result ↔ IsNumberOf characters.now }
+        ensures fits { IsSome result ↔ FitsNumber characters.now }
         ensures value { IfSome result (λ number. number ≡ characters.now) }
     {
         if !characters.is_empty() && characters.len() <= NUMBER_MOST {

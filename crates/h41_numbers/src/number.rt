@@ -22,14 +22,14 @@ const EXPONENT_BIAS: u8 = 99;
 
 /// Digits as one whole number, and how many they are.
 #[derive(Clone, Copy)]
-struct Digits {
+struct ReadDigits {
     number: u64,
     count: u8,
     ghost below: { number < 10 ^ count },
     ghost few: { count ≤ 10 },
 }
 
-impl Digits {
+impl ReadDigits {
     /// With one more digit.
     fn push(self, digit: u8) -> Self
         requires room { self.count < 10 }
@@ -37,7 +37,7 @@ impl Digits {
         ensures number { result.number ≡ 10 * self.number + digit }
         ensures count { result.count ≡ self.count + 1 }
     {
-        Digits {
+        ReadDigits {
             number: 10 * self.number + u64::from(digit),
             count: self.count + 1,
         }
@@ -104,14 +104,14 @@ fn exponent_part(text: &[Character], end: usize) -> &[Character]
 }
 
 /// The digits of the mantissa that count, where the place of the E is given.
-fn mantissa_digits(text: &[Character], end: usize) -> Digits
+fn mantissa_digits(text: &[Character], end: usize) -> ReadDigits
     requires { end ≡ position_or_len is_exponent text.now }
     ensures number { result.number ≡ lines.number_from 0 (lines.mantissa_digits text.now) }
     ensures count { result.count ≡ length (lines.mantissa_digits text.now) }
 {
     let digits = first_digits(&text[..end], MANTISSA_DIGITS);
     if digits.count == 0 && end < text.len() {
-        Digits {
+        ReadDigits {
             number: 1,
             count: 1,
         }
@@ -135,13 +135,13 @@ fn decimal_places(mantissa: &[Character], count: u8) -> u8
 }
 
 /// The first digits of a text, as many as count.
-fn first_digits(text: &[Character], most: u8) -> Digits
+fn first_digits(text: &[Character], most: u8) -> ReadDigits
     requires { most ≤ 10 }
     ensures number { result.number ≡ lines.number_from 0 (take most (lines.digits_in text.now)) }
     ensures count { result.count ≡ length (take most (lines.digits_in text.now)) }
     ensures bound { result.number < 10 ^ most }
 {
-    let mut digits = Digits {
+    let mut digits = ReadDigits {
         number: 0,
         count: 0,
     };

@@ -153,11 +153,11 @@ after row s = record {
 
 -- what a row does: arithmetic by the digit rule, which a relation states; all else is a function of
 -- the state
-abbrev pub Effect : Row → Nut → Nut → Type 0
-Effect (rows.Arithmetic operation field) s t =
+abbrev pub WordEffect : Row → Nut → Nut → Type 0
+WordEffect (rows.Arithmetic operation field) s t =
     OperatesOn operation field (gone_on s.processor) t.processor
     × (t ≡ record s { processor = t.processor })
-Effect row s t = t ≡ after row s
+WordEffect row s t = t ≡ after row s
 
 -- why a word itself is refused, with its address: no instruction; a bank (7); a peripheral that is
 -- selected (10); the processor goes to sleep (11)
@@ -197,7 +197,7 @@ refused s =
 -- the change that a step makes, which is there only where it is not refused
 pub record Micro (s t : Nut) : Type 0 where
   pub accepted : refused s ≡ None
-  pub effect : Effect (row_of (word_of s)) s t
+  pub effect : WordEffect (row_of (word_of s)) s t
 
 -- from s to t with an answer: refused for this reason and then not changed, or with this change
 pub record RefusesOr {T : Type 0} (reason : Option WordRefusal) (Change : Nut → Nut → Type 0)

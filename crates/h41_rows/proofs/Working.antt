@@ -15,7 +15,7 @@ use Rattle.h41_ram.specs.RegisterMap.{RegisterMap, flag_of, register_at}
 use Rattle.h41_rows.specs.private.Answers.{KeptOne, KeptTwo, WithoutNumber, sign_of_two, worth_at}
 use Rattle.h41_rows.specs.Computing.{IsAlways, WorksOn, WorksOnOne, WorksOnTwo, value_of_one, value_of_two}
 use Rattle.h41_rows.specs.Counters.{Up, Down, number_after}
-use Rattle.h41_rows.specs.Places.{Place, amount_in, are_numbers, place_address, register_in}
+use Rattle.h41_rows.specs.Places.{RowPlace, amount_in, are_numbers, place_address, register_in}
 use Rattle.h41_rows.specs.Rows.{places_in_value}
 use Rattle.h41_rows.specs.Values as values
 use Rattle.h41_rows.specs.Values.{Given, Computes, Kept, unit_of}
@@ -43,18 +43,18 @@ worth_is_number (Some number) register = refl
 worth_is_number None register = no_worth (slice_index register 13 == 1) (Text (text_in register)) refl
 
 -- the number in a place
-pub amount_of : (memory : RegisterMap) (named : ℕ) (a : Place) (address : ℕ) (number : ℤ) → place_address named a ≡ address
+pub amount_of : (memory : RegisterMap) (named : ℕ) (a : RowPlace) (address : ℕ) (number : ℤ) → place_address named a ≡ address
     → worth_at memory address ≡ Some number → number ≡ amount_in memory named a
 amount_of memory named a address number e w =
     sym (ap (λ k. option_map_or (λ (n : ℤ). n) (worth_at memory k) (pos 0)) e ∙ ap (λ o. option_map_or (λ (n : ℤ). n) o (pos 0)) w)
 
-pub number_of : (memory : RegisterMap) (named : ℕ) (a : Place) (address : ℕ) (number : Option ℤ) → place_address named a ≡ address
+pub number_of : (memory : RegisterMap) (named : ℕ) (a : RowPlace) (address : ℕ) (number : Option ℤ) → place_address named a ≡ address
     → worth_at memory address ≡ number → number_in (register_in memory named a) ≡ number
 number_of memory named a address number e w =
     sym (worth_is_number (number_in (register_in memory named a)) (register_in memory named a)) ∙ (ap (λ k. worth_at memory k) e ∙ w)
 
 -- one place
-pub computes_one : (value : OfOne) (memory : RegisterMap) (named : ℕ) (a : Place) (number : Ten) (result : Result (List ℕ) LineFault)
+pub computes_one : (value : OfOne) (memory : RegisterMap) (named : ℕ) (a : RowPlace) (number : Ten) (result : Result (List ℕ) LineFault)
     → units number ≡ amount_in memory named a → worth (holding_of (register_in memory named a)) ≡ Some (units number)
     → KeptOne value memory number result → Computes (value_of_one value a) memory named result
 computes_one ones.Root memory named a number result e w k =
@@ -117,7 +117,7 @@ works_one value memory address number result w k named a e =
     worked ones.CountedDown t computes = where_true _ _ _ t computes
 
 -- the unit of no number
-unit_of_none : (memory : RegisterMap) (named : ℕ) (a : Place) (result : Result (List ℕ) LineFault)
+unit_of_none : (memory : RegisterMap) (named : ℕ) (a : RowPlace) (result : Result (List ℕ) LineFault)
     → worth (holding_of (register_in memory named a)) ≡ None → IsOkAnd result (λ register. IsAlways (Given (pos 0)) register)
     → Computes (values.Unit a) memory named result
 unit_of_none memory named a (Ok register) none always =
@@ -153,7 +153,7 @@ works_without value memory address fault result w f without named a e =
     refused ones.CountedDown t none said without = where_false _ _ _ t (without ∙ said)
 
 -- two places
-pub computes_two : (value : OfTwo) (memory : RegisterMap) (named : ℕ) (a b : Place) (x y : Ten) (result : Result (List ℕ) LineFault)
+pub computes_two : (value : OfTwo) (memory : RegisterMap) (named : ℕ) (a b : RowPlace) (x y : Ten) (result : Result (List ℕ) LineFault)
     → units x ≡ amount_in memory named a → units y ≡ amount_in memory named b
     → KeptTwo value memory x y result → Computes (value_of_two value a b) memory named result
 computes_two twos.Sum memory named a b x y result e f k =
@@ -209,7 +209,7 @@ second_without None p e = refl
 second_without (Some x) p e = ap (λ (t : Option ℤ). is_some t && true) e
 
 -- two places are asked for by each value of two numbers
-two_asked : (value : OfTwo) (memory : RegisterMap) (named : ℕ) (a b : Place)
+two_asked : (value : OfTwo) (memory : RegisterMap) (named : ℕ) (a b : RowPlace)
     → are_numbers memory named (places_in_value (value_of_two value a b)) ≡ are_numbers memory named (a ∷ b ∷ [])
 two_asked twos.Sum memory named a b = refl
 two_asked twos.Difference memory named a b = refl
@@ -219,17 +219,17 @@ two_asked twos.Remainder memory named a b = refl
 two_asked twos.Percentage memory named a b = refl
 
 -- a register that stands elsewhere holds the number that it holds here
-held_elsewhere : (memory other : RegisterMap) (named : ℕ) (a : Place) (address : ℕ) (number : Option ℤ)
+held_elsewhere : (memory other : RegisterMap) (named : ℕ) (a : RowPlace) (address : ℕ) (number : Option ℤ)
     → register_in other named a ≡ register_at memory address → worth_at memory address ≡ number
     → worth (holding_of (register_in other named a)) ≡ number
 held_elsewhere memory other named a address number e w = ap (λ (r : List ℕ). worth (holding_of r)) e ∙ w
 
-amount_elsewhere : (memory other : RegisterMap) (named : ℕ) (a : Place) (address : ℕ) (number : ℤ)
+amount_elsewhere : (memory other : RegisterMap) (named : ℕ) (a : RowPlace) (address : ℕ) (number : ℤ)
     → register_in other named a ≡ register_at memory address → worth_at memory address ≡ Some number → number ≡ amount_in other named a
 amount_elsewhere memory other named a address number e w =
     amount_of other named a (place_address named a) number refl (held_elsewhere memory other named a address (Some number) e w)
 
-number_elsewhere : (memory other : RegisterMap) (named : ℕ) (a : Place) (address : ℕ) (number : Option ℤ)
+number_elsewhere : (memory other : RegisterMap) (named : ℕ) (a : RowPlace) (address : ℕ) (number : Option ℤ)
     → register_in other named a ≡ register_at memory address → worth_at memory address ≡ number
     → number_in (register_in other named a) ≡ number
 number_elsewhere memory other named a address number e w =

@@ -27,7 +27,7 @@ use Rattle.h41_show.specs.declared.format.Notation.{Notation}
 use Rattle.h41_show.specs.declared.format.Notation.TheVariants.{Fixed, Scientific, Engineering}
 use Rattle.h41_numbers.specs.NumberLines.{IsNumberOf}
 use Rattle.h41_rows.specs.Counters.{Way, number_after}
-use Rattle.h41_rows.specs.Places.{Place, amount_in, register_in}
+use Rattle.h41_rows.specs.Places.{RowPlace, amount_in, register_in}
 use Rattle.h41_rows.specs.declared.fault.LineFault.{LineFault}
 use Rattle.h41_rows.specs.declared.fault.LineFault.TheVariants.{DataError, OutOfRange}
 
@@ -37,29 +37,29 @@ pub data Value : Type 0 where
   -- that of a number line
   Written : List Character → Value
   -- the sum
-  Sum : Place → Place → Value
+  Sum : RowPlace → RowPlace → Value
   -- the first without the second
-  Difference : Place → Place → Value
-  Product : Place → Place → Value
+  Difference : RowPlace → RowPlace → Value
+  Product : RowPlace → RowPlace → Value
   -- the first over the second
-  Quotient : Place → Place → Value
+  Quotient : RowPlace → RowPlace → Value
   -- the first modulo the second
-  Remainder : Place → Place → Value
+  Remainder : RowPlace → RowPlace → Value
   -- a hundredth of the product
-  Percentage : Place → Place → Value
-  Root : Place → Value
-  Inverse : Place → Value
-  Negative : Place → Value
-  AbsoluteValue : Place → Value
-  IntegerPart : Place → Value
-  Fraction : Place → Value
+  Percentage : RowPlace → RowPlace → Value
+  Root : RowPlace → Value
+  Inverse : RowPlace → Value
+  Negative : RowPlace → Value
+  AbsoluteValue : RowPlace → Value
+  IntegerPart : RowPlace → Value
+  Fraction : RowPlace → Value
   -- the number rounded as the display format says
-  Displayed : Place → Value
+  Displayed : RowPlace → Value
   -- 1 with the number's sign, and 0 where there is no number (this project's choice where there is
   -- no ALPHA data either)
-  Unit : Place → Value
+  Unit : RowPlace → Value
   -- a loop's counter, counted
-  Counted : Way → Place → Value
+  Counted : Way → RowPlace → Value
 
 -- to how many decimals or digits the display format rounds: SCI and ENG have one digit in front of
 -- the mark

@@ -6,7 +6,7 @@ ghost use Rattle.h41_digits.specs.Register as digits;
 ghost use Rattle.h41_show.specs.RegisterText as spec;
 
 use crate::characters::{ALPHA_DATA, KIND_PLACE, after_nulls, alpha_data};
-use crate::digits::{TEXT_CAPACITY, Text, push_byte};
+use crate::digits::{DisplayText, TEXT_CAPACITY, push_byte};
 use crate::format::Format;
 use crate::number::number_text;
 use arrayvec::ArrayString;
@@ -24,7 +24,7 @@ pub fn register_text(register: Reg, format: Format) -> ArrayString<TEXT_CAPACITY
     if let Some(number) = Ten::from_reg(register) {
         return number_text(number, format);
     }
-    let mut text = Text::new();
+    let mut text = DisplayText::new();
     if register.get(KIND_PLACE) == ALPHA_DATA {
         push_characters(&mut text, after_nulls(&alpha_data(register)));
     } else {
@@ -37,13 +37,13 @@ pub fn register_text(register: Reg, format: Format) -> ArrayString<TEXT_CAPACITY
 pub fn alpha_text<const REGS: usize>(ram: &Ram<REGS>) -> ArrayString<TEXT_CAPACITY>
     ensures { result.bytes ≡ spec.alpha_text ram.now }
 {
-    let mut text = Text::new();
+    let mut text = DisplayText::new();
     push_characters(&mut text, after_nulls(&ram.alpha()));
     text
 }
 
 /// Appends the digits of a register in hexadecimal, place 13 first.
-fn push_register(text: &mut Text, register: Reg)
+fn push_register(text: &mut DisplayText, register: Reg)
     requires { array_string_len text.old ≡ 0 }
     ensures { text.new.bytes ≡ text.old.bytes ++ digits.text register }
 {

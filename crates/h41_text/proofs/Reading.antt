@@ -26,8 +26,8 @@ use Rattle.h41_codes.specs.ByteGrammar.{IsBytes, IsLine, IsOperand}
 use Rattle.h41_codes.specs.Canon.{canonical}
 use Rattle.h41_lines.specs.Characters.{two_digits, is_plain, escaped, character_text}
 use Rattle.h41_lines.proofs.HexadecimalDigits.{read_hexadecimal}
-use Rattle.h41_text.specs.declared.words.Word.{Word}
-use Rattle.h41_text.specs.declared.words.Word.TheVariants as word
+use Rattle.h41_text.specs.declared.words.LeadingWord.{LeadingWord}
+use Rattle.h41_text.specs.declared.words.LeadingWord.TheVariants as word
 use Rattle.h41_text.specs.Names.{function_name, parameter_function_name, character_byte}
 use Rattle.h41_text.specs.LineText.{line_text, parameter_text, operand_text, number_line, character_quoted, quoted, text_line, ◌&◌}
 use Rattle.h41_text.specs.LineReading.{HasText}
@@ -103,7 +103,7 @@ cut_again text minus none =
     ∙ ap (λ line. or_else line (cut_line text (cut text))) (number_none text none)
 
 -- a word and its operand
-worded_again : (word : Word) (operand : List ℕ) → candidate_line (word_text word & operand) ≡ word_line word operand
+worded_again : (word : LeadingWord) (operand : List ℕ) → candidate_line (word_text word & operand) ≡ word_line word operand
 worded_again (word.Function Recall) operand = cut_again (codes "RCL" & operand) refl refl
 worded_again (word.Function function) operand = cut_again (parameter_function_name function & operand) refl refl
 worded_again (word.Branch GoTo) operand = cut_again (codes "GTO" & operand) refl refl
@@ -216,7 +216,7 @@ plain_line_again Add = refl
 plain_line_again function = refl
 
 -- a name in quotes
-name_again : (word : Word) (function : List ℕ → Line) (most : ℕ) (name : List ℕ) → most ≤ 15 → length name ≤ most → IsBytes name
+name_again : (word : LeadingWord) (function : List ℕ → Line) (most : ℕ) (name : List ℕ) → most ≤ 15 → length name ≤ most → IsBytes name
     → ((text : List ℕ) → word_line word (0x22 ∷ text) ≡ option_map function (at_most most (unquoted 15 text)))
     → candidate_line (word_text word & quoted name) ≡ Some (function name)
 name_again word function most name few room bytes reads =

@@ -11,7 +11,7 @@ ghost use Rattle.h41_text.specs.private.TextParts as part;
 
 use crate::faults::BadText;
 use crate::names::{character_of, function_named, high_parameter};
-use crate::words::Word;
+use crate::words::LeadingWord;
 use crate::writer::write_line;
 use arrayvec::ArrayVec;
 use h41_codes::{
@@ -151,7 +151,7 @@ fn named_line(text: &[u8]) -> Option<Line>
     ensures text { IfSome result HasText }
 {
     match cut(text) {
-        Some((name, behind)) => worded(Word::named(name)?, behind),
+        Some((name, behind)) => worded(LeadingWord::named(name)?, behind),
         None => lone(text),
     }
 }
@@ -208,7 +208,7 @@ fn end(name: &[u8]) -> Option<Line>
 }
 
 /// The line of a word and what stands behind its blank.
-fn worded(word: Word, behind: &[u8]) -> Option<Line>
+fn worded(word: LeadingWord, behind: &[u8]) -> Option<Line>
     ensures line { result ≡ part.word_line word behind.now }
     ensures text { IfSome result HasText }
 {
@@ -219,7 +219,7 @@ fn worded(word: Word, behind: &[u8]) -> Option<Line>
 }
 
 /// The line of a word and a name in quotes.
-fn named(word: Word, quoted: &[u8]) -> Option<Line>
+fn named(word: LeadingWord, quoted: &[u8]) -> Option<Line>
     ensures line { result ≡ part.named_line word (part.unquoted 15 quoted.now) }
     ensures text { IfSome result HasText }
 {
@@ -227,28 +227,31 @@ fn named(word: Word, quoted: &[u8]) -> Option<Line>
     push_unquoted(&mut name, quoted);
     let name = name.as_slice();
     Some(match word {
-        Word::Function(ParameterFunction::Label) => Line::GlobalLabel(
+        LeadingWord::Function(ParameterFunction::Label) => Line::GlobalLabel(
             Link::new(0),
             0,
             Text::new(name)?,
         ),
-        Word::Branch(Branch::GoTo) => Line::Named(NameFunction::GoToName, Text::new(name)?),
-        Word::Branch(Branch::Execute) => Line::Named(NameFunction::ExecuteName, Text::new(name)?),
-        Word::Wordless => Line::Named(NameFunction::Wordless, Text::new(name)?),
+        LeadingWord::Branch(Branch::GoTo) => Line::Named(NameFunction::GoToName, Text::new(name)?),
+        LeadingWord::Branch(Branch::Execute) => Line::Named(
+            NameFunction::ExecuteName,
+            Text::new(name)?,
+        ),
+        LeadingWord::Wordless => Line::Named(NameFunction::Wordless, Text::new(name)?),
         _ => return None,
     })
 }
 
 /// The line of a word and an operand.
-fn with_operand(word: Word, text: &[u8]) -> Option<Line>
+fn with_operand(word: LeadingWord, text: &[u8]) -> Option<Line>
     ensures line { result ≡ part.operand_line word text.now }
     ensures text { IfSome result HasText }
 {
     match word {
-        Word::Function(function) => Some(Line::WithOperand(function, operand(text)?)),
-        Word::Branch(branch) => Some(branch_line(branch, operand(text)?)),
-        Word::Module => module(text),
-        Word::Wordless => None,
+        LeadingWord::Function(function) => Some(Line::WithOperand(function, operand(text)?)),
+        LeadingWord::Branch(branch) => Some(branch_line(branch, operand(text)?)),
+        LeadingWord::Module => module(text),
+        LeadingWord::Wordless => None,
     }
 }
 

@@ -6,12 +6,12 @@ use Rattle.h41_ram.specs.RegisterMap.{RegisterMap}
 use Rattle.h41_nut.specs.declared.keys.Keys.{Keys}
 use Rattle.h41_nut.specs.declared.refusal.WordRefusal.{WordRefusal}
 use Rattle.h41_nut.specs.Processor.{Processor}
-use Rattle.h41_nut.specs.WordStep.{Effect, RefusesOr, nut_of, row_refusal}
+use Rattle.h41_nut.specs.WordStep.{WordEffect, RefusesOr, nut_of, row_refusal}
 
 -- a row was carried out: refused as `row_refusal` says and then without a change, or with its
--- `Effect`
+-- `WordEffect`
 abbrev pub Ran : {T : Type 0} → Row → Result T WordRefusal → Processor → RegisterMap → PageMap
     → Keys → Processor → RegisterMap → PageMap → Keys → Type 0
 Ran row result cpu ram pages keys cpu' ram' pages' keys' =
-    RefusesOr (row_refusal row (nut_of cpu ram pages keys)) (Effect row)
+    RefusesOr (row_refusal row (nut_of cpu ram pages keys)) (WordEffect row)
     result (nut_of cpu ram pages keys) (nut_of cpu' ram' pages' keys')

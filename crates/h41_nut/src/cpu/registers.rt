@@ -13,7 +13,7 @@ use crate::cpu::jumps::arrival;
 use crate::cpu::pointers::{place_above, place_below};
 use crate::refusal::WordRefusal;
 use h41_digits::{PLACES, Reg};
-use h41_words::{Digit, Place, RegisterTransfer, Word};
+use h41_words::{DigitPlace, LoadedDigit, RegisterTransfer, Word};
 
 impl Cpu {
     /// The address in C's digits 6 to 3.
@@ -59,7 +59,7 @@ impl Cpu {
     }
 
     /// `LD@R n`: a digit goes to C at the active pointer, which goes down.
-    pub(crate) fn load_digit(&mut self, digit: Digit) -> Result<(), WordRefusal>
+    pub(crate) fn load_digit(&mut self, digit: LoadedDigit) -> Result<(), WordRefusal>
         ensures { GoesOn (spec.with_digit_loaded digit) self.old self.new result }
     {
         let next = arrival(self.next_address())?;
@@ -91,7 +91,7 @@ impl Cpu {
     }
 
     /// `RCR n`: rotates C right by so many digits.
-    pub(crate) fn rotate_right(&mut self, digits: Place) -> Result<(), WordRefusal>
+    pub(crate) fn rotate_right(&mut self, digits: DigitPlace) -> Result<(), WordRefusal>
         ensures { GoesOn (spec.with_c_rotated digits) self.old self.new result }
     {
         let next = arrival(self.next_address())?;

@@ -27,8 +27,8 @@ use Rattle.h41_codes.specs.Functions.{functions, parameter_functions}
 use Rattle.h41_codes.specs.Counts.{parameter_count, module_count, entry_count, text_most, name_most}
 use Rattle.h41_codes.specs.Counts.{number_most}
 use Rattle.h41_lines.specs.Numbers.{hexadecimal}
-use Rattle.h41_text.specs.declared.words.Word.{Word}
-use Rattle.h41_text.specs.declared.words.Word.TheVariants as word
+use Rattle.h41_text.specs.declared.words.LeadingWord.{LeadingWord}
+use Rattle.h41_text.specs.declared.words.LeadingWord.TheVariants as word
 use Rattle.h41_text.specs.Names.{function_name, parameter_function_name, branch_name}
 use Rattle.h41_text.specs.Names.{character_byte}
 use Rattle.h41_text.specs.LineText.{parameter_text}
@@ -44,19 +44,19 @@ abbrev pub function_of : List ℕ → Option Function
 function_of name = with_text function_name functions name
 
 -- the word in front of an operand
-abbrev pub word_text : Word → List ℕ
+abbrev pub word_text : LeadingWord → List ℕ
 word_text (word.Function function) = parameter_function_name function
 word_text (word.Branch branch) = branch_name branch
 word_text word.Wordless = codes "W"
 word_text word.Module = codes "XROM"
 
 -- all words, and the one of a name
-abbrev pub words : List Word
+abbrev pub words : List LeadingWord
 words =
     word.Branch GoTo ∷ word.Branch Execute ∷ word.Wordless ∷ word.Module
     ∷ map word.Function parameter_functions
 
-abbrev pub word_of : List ℕ → Option Word
+abbrev pub word_of : List ℕ → Option LeadingWord
 word_of name = with_text word_text words name
 
 -- the parameter of a text
@@ -127,7 +127,7 @@ abbrev pub at_most : ℕ → List ℕ → Option (List ℕ)
 at_most most characters = if nat_le (length characters) most then Some characters else None
 
 -- the line of a word and a text behind its first quote
-abbrev pub named_line : Word → List ℕ → Option Line
+abbrev pub named_line : LeadingWord → List ℕ → Option Line
 named_line (word.Function Label) text = option_map (GlobalLabel 0 0) (at_most name_most text)
 named_line (word.Branch GoTo) text = option_map (Named GoToName) (at_most text_most text)
 named_line (word.Branch Execute) text = option_map (Named ExecuteName) (at_most text_most text)
@@ -139,7 +139,7 @@ abbrev pub branch_line : Branch → Operand → Line
 branch_line branch (Direct label) = BranchTo branch 0 false label
 branch_line branch (Indirect register) = BranchIndirect branch register
 
-abbrev pub operand_line : Word → List ℕ → Option Line
+abbrev pub operand_line : LeadingWord → List ℕ → Option Line
 operand_line (word.Function function) operand =
     option_map (WithOperand function) (operand_of operand)
 operand_line (word.Branch branch) operand = option_map (branch_line branch) (operand_of operand)
@@ -151,7 +151,7 @@ abbrev pub begins_with : ℕ → List ℕ → Bool
 begins_with byte [] = false
 begins_with byte (first ∷ rest) = first == byte
 
-abbrev pub word_line : Word → List ℕ → Option Line
+abbrev pub word_line : LeadingWord → List ℕ → Option Line
 word_line word behind =
     if begins_with 0x22 behind then named_line word (unquoted text_most (drop 1 behind))
     else operand_line word behind

@@ -3,7 +3,7 @@ use Rattle.std.proofs.lemmas.List.{take_rest}
 use Rattle.std.proofs.lemmas.Bool.{eqb-true, eqb-false}
 use Rattle.h41_asm.specs.SourceLines.{part_length}
 use Rattle.h41_asm.proofs.FirstWord.{words_of-none, words_of-first, words_of-comment_alone}
-use Rattle.h41_asm.proofs.words.LineWordsIterator.next.Goals as goal
+use Rattle.h41_asm.proofs.words.SourceWordsIterator.next.Goals as goal
 
 pub returns-in_err-start-clause-steps : goal.returns-in_err-start-clause-steps
 returns-in_err-start-clause-steps c =

@@ -1,5 +1,5 @@
 use Rattle.h41_numbers.proofs.NumberReading.{number_more, count_more, number_full, count_full, number_none, count_none}
-use Rattle.h41_numbers.proofs.number.Digits.read.Goals as goal
+use Rattle.h41_numbers.proofs.number.ReadDigits.read.Goals as goal
 
 pub returns-then-self-most-clause-number : goal.returns-then-self-most-clause-number
 returns-then-self-most-clause-number c = λ rest.

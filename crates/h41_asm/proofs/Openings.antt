@@ -74,9 +74,9 @@ module _ (entries : List TableEntry) (places : List ℕ) (other : TableEntry) (w
   pub begins_nothing : homes singles ≡ true → homes takers ≡ true → OpensAs word None
   begins_nothing at_singles at_takers others =
       let whole = none_whole singles others at_singles in
-      let taken = none_found takers others at_takers in
+      let statement_by = none_found takers others at_takers in
       let begun = none_begun singles others at_singles in
-      rw (whole, taken, begun) refl
+      rw (whole, statement_by, begun) refl
 
 -- the entry to which a word's hash leads in the code's table
 module _ (openings : List (Bor (List ℕ) × Opening)) (places word : List ℕ) (place : ℕ)

@@ -18,7 +18,7 @@ use Rattle.h41_asm.specs.SourceLines.{SourceLine, words_of}
 use Rattle.h41_asm.specs.Statements.{Statement, Words, OutOfReach, LongJumpTo, ShortJumpTo, EntryAt}
 use Rattle.h41_asm.specs.Statements.{Taking, name_words, takes_field, takes_number, takes_immediate}
 use Rattle.h41_asm.specs.Statements.{takes_constant, takes_address, takes_displacement, takes_name}
-use Rattle.h41_asm.specs.Statements.{takes_entry, taken}
+use Rattle.h41_asm.specs.Statements.{takes_entry, statement_by}
 use Rattle.h41_words.specs.Counts.{status_bit_count, place_count, digit_count, block_register_count}
 use Rattle.h41_words.specs.declared.rows.Row.TheVariants.{ClearStatus, SetStatus, TestStatus}
 use Rattle.h41_words.specs.declared.rows.Row.TheVariants.{TestPointer, SetPointer, RotateRight}
@@ -87,4 +87,4 @@ backward_words text = reverse (map (λ byte. byte % 64) text)
 
 -- what words say as the operand of a mnemonic of the code
 abbrev pub taken_operand : table.Taking → Bor (List ℕ) → Result Statement SourceFault
-taken_operand takes rest = taken (takes_in_code takes) (words_of rest.now)
+taken_operand takes rest = statement_by (takes_in_code takes) (words_of rest.now)

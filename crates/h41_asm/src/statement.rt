@@ -84,7 +84,7 @@ fn read_from<'a>(first: &[u8], others: SourceWords<'a>) -> Result<Statement<'a>,
 #[inline(always)]
 fn opened(opening: Opening, others: SourceWords<'_>) -> Result<Statement<'_>, SourceFault>
     requires { openings.TellsWords opening }
-    ensures { Reads (openings.opened opening) others.entry result }
+    ensures { Reads (openings.statement_of opening) others.entry result }
 {
     match opening {
         Opening::Single(number) => alone(rom_word(number), others),

@@ -83,14 +83,14 @@ begins_with_minus (first ∷ rest) = is_minus first
 
 -- CHS puts the sign in front of a part, or takes it away: of the exponent where there is an E, else
 -- of the mantissa
-abbrev pub turned : List Character → List Character
-turned part = if begins_with_minus part then drop 1 part else characters.Minus ∷ part
+abbrev pub part_turned : List Character → List Character
+part_turned part = if begins_with_minus part then drop 1 part else characters.Minus ∷ part
 
 abbrev pub with_sign_turned : List Character → List Character
 with_sign_turned text =
     if has_exponent text
-    then mantissa_part text ++ characters.Exponent ∷ turned (exponent_part text)
-    else turned text
+    then mantissa_part text ++ characters.Exponent ∷ part_turned (exponent_part text)
+    else part_turned text
 
 -- BACK takes the last character
 abbrev pub without_last : {A : Type 0} → List A → List A

@@ -110,7 +110,7 @@ fn characters(entry: &Entry) -> &[Character]
 fn grown(input: Input, text: &[Character], more: &[Character]) -> Pressed
     requires text { length text.now ≤ number_most }
     requires more { length more.now ≤ number_most }
-    ensures { result ≡ press.retyped input text.now (text.now ++ more.now) }
+    ensures { result ≡ press.press_of_number input text.now (text.now ++ more.now) }
 {
     let count = text.len() + more.len();
     if count > NUMBER_MOST {
@@ -134,7 +134,7 @@ fn spliced(
     requires front { length front.now ≤ number_most }
     requires more { length more.now ≤ number_most }
     requires rest { length rest.now ≤ number_most }
-    ensures { result ≡ press.retyped input text.now (front.now ++ more.now ++ rest.now) }
+    ensures { result ≡ press.press_of_number input text.now (front.now ++ more.now ++ rest.now) }
 {
     let middle = front.len() + more.len();
     let count = middle + rest.len();

@@ -99,14 +99,14 @@ registers_after (rows.LoadDigit digit) s = registers.with_digit_loaded digit s.p
 registers_after rows.LoadImmediate s = registers.with_word_in_c (second_word s) s.processor
 registers_after rows.FetchWord s = memory.with_fetched_word s.pages s.processor
 -- G=C, C=M and the like
-registers_after (rows.Transfer transfer) s = registers.transferred transfer s.processor
+registers_after (rows.Transfer transfer) s = registers.after_transfer transfer s.processor
 -- CLRABC, C=C OR A and C=C AND A
 registers_after rows.ClearRegisters s = registers.with_abc_clear s.processor
 registers_after rows.Or s = registers.with_c_or_a s.processor
 registers_after rows.And s = registers.with_c_and_a s.processor
 -- XQ->GO, RTN, ?C RTN and ?NC RTN take the newest return address off
-registers_after rows.DropReturn s = jumps.popped s.processor
-registers_after rows.Return s = jumps.popped s.processor
+registers_after rows.DropReturn s = jumps.with_return_popped s.processor
+registers_after rows.Return s = jumps.with_return_popped s.processor
 registers_after (rows.ReturnIf condition) s = jumps.return_change condition s.processor
 -- PUSH ADR and POP ADR
 registers_after rows.PushAddress s = registers.with_address_pushed s.processor

@@ -3,7 +3,7 @@
 ghost use Rattle.std.specs.Prelude.{◌≡◌, ◌+◌, ◌*◌, ◌<◌, ◌≤◌, ◌++◌, [], ◌∷◌, length};
 ghost use Rattle.std.specs.Fmt.{decimal};
 ghost use Rattle.arrayvec.specs.ArrayString.{array_string_len};
-ghost use Rattle.h41_show.specs.Digits.{digits_text, grouped};
+ghost use Rattle.h41_show.specs.Digits.{digits_text, grouped_digits};
 
 use arrayvec::ArrayString;
 
@@ -49,7 +49,7 @@ pub(crate) fn push_decimal(text: &mut DisplayText, number: u64)
 pub(crate) fn push_grouped(text: &mut DisplayText, number: u64, mark: u8)
     requires room { array_string_len text.old + 2 * length (decimal number) ≤ 80 }
     requires mark { mark < 128 }
-    ensures bytes { text.new.bytes ≡ text.old.bytes ++ grouped mark (decimal number) }
+    ensures bytes { text.new.bytes ≡ text.old.bytes ++ grouped_digits mark (decimal number) }
     ensures most { length text.new.bytes ≤ length text.old.bytes + 2 * length (decimal number) }
 {
     if number >= 1000 {

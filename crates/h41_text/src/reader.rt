@@ -92,7 +92,7 @@ fn alpha(mut characters: Characters, quoted: &[u8]) -> Option<Line>
 /// Adds characters that stand within quotes, up to the closing quote or until there are 15.
 fn push_unquoted(characters: &mut Characters, quoted: &[u8])
     requires { array_vec_len characters.old ≤ 15 }
-    ensures { characters.new.items ≡ part.followed characters.old.items quoted.now }
+    ensures { characters.new.items ≡ part.text_behind characters.old.items quoted.now }
 {
     let mut rest = quoted;
     for _ in characters.len()..TEXT_MOST {
@@ -147,7 +147,7 @@ fn minus(text: &[u8]) -> Option<Line>
 
 /// The line of a text that begins with a name.
 fn named_line(text: &[u8]) -> Option<Line>
-    ensures line { result ≡ part.cut_line text.now (part.cut text.now) }
+    ensures line { result ≡ part.cut_line text.now (part.parts_at_blank text.now) }
     ensures text { IfSome result HasText }
 {
     match cut(text) {
@@ -173,8 +173,8 @@ fn number(text: &[u8]) -> Option<Line>
 
 /// A text before its first blank, and behind it; nothing where it has none.
 fn cut(text: &[u8]) -> Option<(&[u8], &[u8])>
-    ensures parts { IfSome result (λ p. part.cut text.now ≡ Some (p.0.now, p.1.now)) }
-    ensures none { IfNone result (part.cut text.now ≡ None) }
+    ensures parts { IfSome result (λ p. part.parts_at_blank text.now ≡ Some (p.0.now, p.1.now)) }
+    ensures none { IfNone result (part.parts_at_blank text.now ≡ None) }
 {
     for (index, byte) in text.iter().enumerate() {
         if *byte == b' ' {
@@ -220,7 +220,7 @@ fn worded(word: LeadingWord, behind: &[u8]) -> Option<Line>
 
 /// The line of a word and a name in quotes.
 fn named(word: LeadingWord, quoted: &[u8]) -> Option<Line>
-    ensures line { result ≡ part.named_line word (part.unquoted 15 quoted.now) }
+    ensures line { result ≡ part.named_line word (part.unquoted_text 15 quoted.now) }
     ensures text { IfSome result HasText }
 {
     let mut name = Characters::new();

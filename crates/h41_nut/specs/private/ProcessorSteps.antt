@@ -10,7 +10,7 @@ use Rattle.h41_nut.specs.Arrivals.{next_address, arrival_refusal, at_address}
 use Rattle.h41_nut.specs.declared.refusal.WordRefusal.{WordRefusal}
 use Rattle.h41_nut.specs.Jumps.{jump_target, jump_change, short_jump_target, return_target}
 use Rattle.h41_nut.specs.Jumps.{return_change}
-use Rattle.h41_nut.specs.MemoryWords.{selecting, refusal_to_fetch, refusal_to_write}
+use Rattle.h41_nut.specs.MemoryWords.{with_selected, refusal_to_fetch, refusal_to_write}
 use Rattle.h41_nut.specs.MemoryWords.{with_fetched_word}
 use Rattle.h41_nut.specs.Processor.{Processor}
 use Rattle.h41_nut.specs.RegisterWords.{with_c}
@@ -61,7 +61,7 @@ ReturnsIf condition s t result =
 
 -- an address is selected, and C becomes the register there
 abbrev pub selecting_and_loading : ℕ → List ℕ → Processor → Processor
-selecting_and_loading address register s = selecting address (with_c register s)
+selecting_and_loading address register s = with_selected address (with_c register s)
 
 -- how the processor goes on with FETCH S&X, and with WROM
 abbrev pub FetchesWord : {T : Type 0} → PageMap → Processor → Processor → Result T WordRefusal

@@ -117,10 +117,10 @@ first_character (byte ∷ rest) =
     if byte == 0x22 then None else if byte == 0x5C then behind_backslash rest else Some (byte, rest)
 
 -- the characters within quotes, at most so many
-abbrev pub unquoted : ℕ → List ℕ → List ℕ
-unquoted zero text = []
-unquoted (suc most) text =
-    elim (first_character text) [ None ↦ [] | Some parts ↦ parts.0 ∷ unquoted most parts.1 ]
+abbrev pub unquoted_text : ℕ → List ℕ → List ℕ
+unquoted_text zero text = []
+unquoted_text (suc most) text =
+    elim (first_character text) [ None ↦ [] | Some parts ↦ parts.0 ∷ unquoted_text most parts.1 ]
 
 -- characters, where there are at most so many
 abbrev pub at_most : ℕ → List ℕ → Option (List ℕ)
@@ -153,7 +153,7 @@ begins_with byte (first ∷ rest) = first == byte
 
 abbrev pub word_line : LeadingWord → List ℕ → Option Line
 word_line word behind =
-    if begins_with 0x22 behind then named_line word (unquoted text_most (drop 1 behind))
+    if begins_with 0x22 behind then named_line word (unquoted_text text_most (drop 1 behind))
     else operand_line word behind
 
 -- the characters of a number, and the one of a byte
@@ -193,11 +193,11 @@ abbrev pub lone_line : List ℕ → Option Line
 lone_line name = or_else (end_line name) (option_map Plain (function_of name))
 
 -- a text before its first blank, and behind it
-abbrev pub cut : List ℕ → Option (List ℕ × List ℕ)
-cut [] = None
-cut (byte ∷ text) =
+abbrev pub parts_at_blank : List ℕ → Option (List ℕ × List ℕ)
+parts_at_blank [] = None
+parts_at_blank (byte ∷ text) =
     if byte == 0x20 then Some ([], text)
-    else option_map (λ parts. (byte ∷ parts.0, parts.1)) (cut text)
+    else option_map (λ parts. (byte ∷ parts.0, parts.1)) (parts_at_blank text)
 
 -- the line of a text that begins with a word, or is a name
 abbrev pub cut_line : List ℕ → Option (List ℕ × List ℕ) → Option Line
@@ -205,12 +205,12 @@ cut_line text None = lone_line text
 cut_line text (Some parts) = option_and_then (λ word. word_line word parts.1) (word_of parts.0)
 
 -- characters, and behind them those within quotes, up to 15 together
-abbrev pub followed : List ℕ → List ℕ → List ℕ
-followed front text = front ++ unquoted (text_most - length front) text
+abbrev pub text_behind : List ℕ → List ℕ → List ℕ
+text_behind front text = front ++ unquoted_text (text_most - length front) text
 
 -- the text for ALPHA of characters and what stands within quotes
 abbrev pub alpha_line : List ℕ → List ℕ → Option Line
-alpha_line front text = option_map Text (at_most text_most (followed front text))
+alpha_line front text = option_map Text (at_most text_most (text_behind front text))
 
 -- the line of a text that begins with no quote; a lone minus is the function
 abbrev pub minus_line : List ℕ → Option Line
@@ -219,7 +219,8 @@ minus_line text =
     else if bytes_eq text (codes "NEG") then Some (Number (Minus ∷ [])) else None
 
 abbrev pub unquoted_line : List ℕ → Option Line
-unquoted_line text = or_else (minus_line text) (or_else (number_of text) (cut_line text (cut text)))
+unquoted_line text =
+    or_else (minus_line text) (or_else (number_of text) (cut_line text (parts_at_blank text)))
 
 -- the only line that can have a text
 abbrev pub candidate_line : List ℕ → Option Line

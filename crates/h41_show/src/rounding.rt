@@ -40,7 +40,8 @@ pub(crate) struct Rounded {
 /// A size, rounded to its first digit and so many behind it. Where that would give exponent 100, the others are cut off instead.
 pub(crate) fn round(x: Magnitude, decimals: u32) -> Rounded
     requires { decimals ≤ 7 }
-    ensures value { worth_at result.digits result.above_least decimals ≡ rounded_size decimals (size x) }
+    ensures value { worth_at result.digits result.above_least decimals
+        ≡ rounded_size decimals (size x) }
     ensures least { 10 ^ decimals ≤ result.digits }
     ensures most { result.digits < 10 ^ (decimals + 1) }
     ensures exponent { result.above_least ≤ 198 }

@@ -16,7 +16,7 @@ use Rattle.h41_keys.specs.Keyboard.{row_of, meaning_of}
 use Rattle.h41_keys.specs.KeyPress as press
 use Rattle.h41_keys.specs.NumberTyping.{with_digit, with_point, with_exponent, with_sign_turned, without_last, kept_within, value_of}
 use Rattle.h41_keys.specs.PromptKeys as keys
-use Rattle.h41_keys.specs.Prompts.{Lines, Parameter, Branching, prompt_row, digits_wanted, takes_stack, line_with, line_naming, name_line}
+use Rattle.h41_keys.specs.Prompts.{Lines, Parameter, Branching, prompt_row, wanted, takes_stack, line_with, line_naming, name_line}
 use Rattle.h41_keys.specs.Prompts.{is_local_letter, local_label, stack_register}
 use Rattle.h41_keys.specs.StoredLines.{is_storable, StoresLine}
 use Rattle.h41_keys.specs.declared.action.Action.{Action}
@@ -84,7 +84,7 @@ ends_with : (prompt : Prompt) (parameter : ℕ) → Types (keys.ends_with prompt
 ends_with prompt parameter = with_parameter (prompt_row prompt.function).lines prompt.indirect parameter
 
 first_digit : (prompt : Prompt) (digit : Digit) → Types (keys.first_digit prompt digit)
-first_digit prompt digit = chosen Types (digits_wanted prompt.function prompt.indirect == 1) _ _ (ends_with prompt (value_of digit)) tt
+first_digit prompt digit = chosen Types (wanted prompt.function prompt.indirect == 1) _ _ (ends_with prompt (value_of digit)) tt
 
 first_point : (prompt : Prompt) → Types (keys.first_point prompt)
 first_point prompt =

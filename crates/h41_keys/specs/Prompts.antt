@@ -73,8 +73,8 @@ format name function =
     }
 
 -- to labels
-abbrev pub branch_row : List ℕ → Branch → PromptRow
-branch_row name branch =
+abbrev pub branching : List ℕ → Branch → PromptRow
+branching name branch =
     record {
       name = name;
       lines = Branching branch;
@@ -86,8 +86,8 @@ branch_row name branch =
 
 -- the table
 abbrev pub prompt_row : PromptFunction → PromptRow
-prompt_row prompts.Execute = branch_row (codes "XEQ") branches.Execute
-prompt_row prompts.GoTo = branch_row (codes "GTO") branches.GoTo
+prompt_row prompts.Execute = branching (codes "XEQ") branches.Execute
+prompt_row prompts.GoTo = branching (codes "GTO") branches.GoTo
 prompt_row prompts.Label =
     record {
       name = codes "LBL";
@@ -115,9 +115,9 @@ prompt_row prompts.Scientific = format (codes "SCI") functions.Scientific
 prompt_row prompts.Engineering = format (codes "ENG") functions.Engineering
 
 -- how many digits the parameter has
-abbrev pub digits_wanted : PromptFunction → Bool → ℕ
-digits_wanted function true = 2
-digits_wanted function false = (prompt_row function).digits
+abbrev pub wanted : PromptFunction → Bool → ℕ
+wanted function true = 2
+wanted function false = (prompt_row function).digits
 
 -- whether the point names a register of the stack
 abbrev pub takes_stack : PromptFunction → Bool → Bool
@@ -170,7 +170,7 @@ stack_register letter =
 -- what is typed of the parameter, as the display shows it
 abbrev pub typed_text : PromptFunction → Bool → Typed → List ℕ
 typed_text function indirect typed.Nothing =
-    if digits_wanted function indirect == 1 then codes " _" else codes " __"
+    if wanted function indirect == 1 then codes " _" else codes " __"
 typed_text function indirect (typed.Digit digit) = 0x20 ∷ (0x30 + value_of digit) ∷ 0x5F ∷ []
 typed_text function indirect typed.Stack = codes " ST _"
 typed_text function indirect typed.Point = codes " ._"

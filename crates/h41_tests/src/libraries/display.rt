@@ -9,10 +9,10 @@ use std::process::Abort;
 use std::test::Fail;
 
 /// A register as a number, a display digit, and the text.
-type Row = (u64, u8, &'static str);
+type TextRow = (u64, u8, &'static str);
 
 /// FIX, with the point and with grouping.
-static FIXED: [Row; 28] = [
+static FIXED: [TextRow; 28] = [
     (0x00000000000000, 4, "0.0000"),
     (0x00000000000000, 0, "0."),
     (0x00000000000000, 9, "0.000000000"),
@@ -44,7 +44,7 @@ static FIXED: [Row; 28] = [
 ];
 
 /// SCI, with the point.
-static SCIENTIFIC: [Row; 12] = [
+static SCIENTIFIC: [TextRow; 12] = [
     (0x00000000000000, 4, "0.0000 00"),
     (0x00000000000000, 0, "0. 00"),
     (0x00000000000000, 9, "0.0000000 00"),
@@ -60,7 +60,7 @@ static SCIENTIFIC: [Row; 12] = [
 ];
 
 /// ENG, with the point.
-static ENGINEERING: [Row; 14] = [
+static ENGINEERING: [TextRow; 14] = [
     (0x00000000000000, 3, "0.000 00"),
     (0x01234560000004, 3, "12.35 03"),
     (0x01234560000004, 0, "10. 03"),
@@ -94,7 +94,7 @@ fn pointed(notation: Notation, digits: u8) -> Format {
 }
 
 /// Each row of a table has its text.
-fn texts(rt: &impl Abort, notation: Notation, rows: &[Row]) -> Result<(), Fail> {
+fn texts(rt: &impl Abort, notation: Notation, rows: &[TextRow]) -> Result<(), Fail> {
     for (register, digits, text) in rows {
         let shown = number_text(held(*register)?, pointed(notation, *digits));
         wants(rt, text, shown.as_str() == *text);

@@ -1,5 +1,6 @@
--- The characters of a number that are no digits: which they are, and where the first E stands.
-use Rattle.std.specs.Prelude.{ℕ, Bool, true, false, List}
+-- The characters of a number that are no digits, and its parts: in front of the first E stands the
+-- mantissa, behind it the exponent.
+use Rattle.std.specs.Prelude.{ℕ, ◌+◌, Bool, true, false, List, take, drop}
 use Rattle.std.specs.List.{position_or_len}
 use Rattle.h41_codes.specs.declared.characters.Character.{Character}
 use Rattle.h41_codes.specs.declared.characters.Character.TheVariants as characters
@@ -19,3 +20,9 @@ is_minus other = false
 -- where the first E stands; where there is none, the place behind the last character
 abbrev pub exponent_place : List Character → ℕ
 exponent_place text = position_or_len is_exponent text
+
+abbrev pub mantissa_part : List Character → List Character
+mantissa_part text = take (exponent_place text) text
+
+abbrev pub exponent_part : List Character → List Character
+exponent_part text = drop (exponent_place text + 1) text

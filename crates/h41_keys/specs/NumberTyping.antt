@@ -5,7 +5,8 @@ use Rattle.std.specs.Prelude.{ℕ, ◌+◌, ◌-◌, nat_lt, nat_le, Bool, true,
 use Rattle.std.specs.Prelude.{◌++◌, length, take, drop, filter, ◌==◌, if◌then◌else◌}
 use Rattle.std.specs.List.{list_any}
 use Rattle.h41_codes.specs.Counts.{number_most}
-use Rattle.h41_codes.specs.NumberCharacters.{exponent_place, is_minus, is_point}
+use Rattle.h41_codes.specs.NumberCharacters.{exponent_part, exponent_place, is_minus, is_point}
+use Rattle.h41_codes.specs.NumberCharacters.{mantissa_part}
 use Rattle.h41_codes.specs.declared.characters.Character.{Character}
 use Rattle.h41_codes.specs.declared.characters.Character.TheVariants as characters
 use Rattle.h41_keys.specs.declared.key.Digit.{Digit}
@@ -44,13 +45,6 @@ is_digit other = true
 
 abbrev pub has_exponent : List Character → Bool
 has_exponent text = nat_lt (exponent_place text) (length text)
-
--- the characters in front of the first E, and those behind it
-abbrev pub mantissa_part : List Character → List Character
-mantissa_part text = take (exponent_place text) text
-
-abbrev pub exponent_part : List Character → List Character
-exponent_part text = drop (exponent_place text + 1) text
 
 abbrev pub count_of_digits : List Character → ℕ
 count_of_digits text = length (filter is_digit text)

@@ -3,7 +3,7 @@
 ghost use Rattle.std.specs.Prelude.{◌≡◌, ◌+◌, ◌-◌, ◌*◌, ◌^◌, ◌<◌, ◌≤◌, List, ◌∷◌, length, take};
 ghost use Rattle.std.specs.Prelude.{IfSome};
 ghost use Rattle.std.specs.List.{position_or_len};
-ghost use Rattle.h41_codes.specs.NumberCharacters.{is_exponent, is_point};
+ghost use Rattle.h41_codes.specs.NumberCharacters.{exponent_part, is_exponent, is_point};
 ghost use Rattle.h41_numbers.specs.NumberLines as lines;
 ghost use Rattle.h41_numbers.specs.private.NumberReading.{ReadsCount, ReadsOn, biased_in};
 ghost use Rattle.h41_numbers.specs.private.NumberReading.{places_in};
@@ -94,7 +94,7 @@ fn exponent_of(text: &[Character]) -> Exponent
 /// The characters behind the E, where its place is given.
 fn exponent_part(text: &[Character], end: usize) -> &[Character]
     requires { end ≡ position_or_len is_exponent text.now }
-    ensures { result.now ≡ lines.exponent_part text.now }
+    ensures { result.now ≡ exponent_part text.now }
 {
     if end < text.len() {
         &text[end + 1..]

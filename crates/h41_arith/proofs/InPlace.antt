@@ -10,7 +10,7 @@ use Rattle.std.specs.Int.Bits.{xor_zero_r}
 use Rattle.std.specs.Int.RustNames.{bit_and, bit_xor}
 use Rattle.h41_digits.proofs.Packed.{bits_of_places, weight_positive}
 use Rattle.h41_arith.specs.DigitRule.{carry_digit}
-use Rattle.h41_arith.specs.DigitOperations.{all_ones, carried_of, decimal_total_of}
+use Rattle.h41_arith.specs.private.DigitOperations.{all_ones, carried_of, decimal_total_of}
 use Rattle.h41_arith.proofs.Decimal.{ones, ones_more, fifteen_ones, masked_more, even_with_carry, changed, tens, total_with_tens, no_carry}
 use Rattle.h41_arith.proofs.Decimal.{part_decimal, part_most}
 use Rattle.h41_arith.proofs.Parts.{part}

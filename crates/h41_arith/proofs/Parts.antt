@@ -13,7 +13,7 @@ use Rattle.h41_digits.specs.Register.{IsRegister, value}
 use Rattle.h41_digits.specs.Packed.{value-cons}
 use Rattle.h41_digits.proofs.Values.{same_register, value-below}
 use Rattle.h41_digits.proofs.Parts.{value-append}
-use Rattle.h41_arith.specs.DigitRule.{KeepsOutside, replaced}
+use Rattle.h41_arith.specs.DigitRule.{KeepsOutside, with_places}
 use Rattle.h41_arith.proofs.Places.{filled_all}
 
 -- the digits at the places from lo to hi
@@ -63,7 +63,7 @@ known_part z digits lo hi place register ordered inside are held from to =
 pub replaced_by : (into z digits : List ℕ) (lo hi : ℕ) (digit : ℕ → ℕ) → IsRegister 14 z → lo ≤ hi → hi < 14
     → IsRegister (hi + 1 - lo) digits → value (part z lo hi) ≡ value digits → take lo z ≡ take lo into
     → drop (hi + 1) z ≡ drop (hi + 1) into → ((place : ℕ) → lo ≤ place → place ≤ hi → slice_index digits (place - lo) ≡ digit place)
-    → z ≡ replaced into lo hi digit
+    → z ≡ with_places into lo hi digit
 replaced_by into z digits lo hi digit register ordered inside are held below above is =
     let outside = keeps_outside into z lo hi below above in
     filled_all into z lo hi digit register.size (record {

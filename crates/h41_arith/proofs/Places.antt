@@ -9,7 +9,7 @@ use Rattle.std.proofs.lemmas.List.FromFn.{get_or-map-range_with_len}
 use Rattle.std.proofs.lemmas.Bool.{cases_lt}
 use Rattle.std.proofs.lemmas.Bool.Decides.{nat_tests}
 use Rattle.h41_fields.specs.Field.{from_to}
-use Rattle.h41_arith.specs.DigitRule.{replaced, is_different}
+use Rattle.h41_arith.specs.DigitRule.{with_places, is_different}
 use Rattle.h41_arith.specs.DigitRuleLaws.{HasDigits, ReplacedIsDetermined, DifferentAtAPlace}
 
 -- Up to the place below next, z has these digits from lo on; elsewhere it is as `into`.
@@ -20,14 +20,15 @@ pub record FilledTo (into : List ℕ) (lo next : ℕ) (digit : ℕ → ℕ) (z :
 
 -- the digit of a replaced span at a place
 replaced_at : (into : List ℕ) (lo hi : ℕ) (digit : ℕ → ℕ) (place : ℕ) → place < 14
-    → slice_index (replaced into lo hi digit) place ≡ (if nat_le lo place && nat_le place hi then digit place else slice_index into place)
-unfolding replaced from_to
+    → slice_index (with_places into lo hi digit) place
+    ≡ (if nat_le lo place && nat_le place hi then digit place else slice_index into place)
+unfolding with_places from_to
 replaced_at into lo hi digit place within =
     get_or-map-range_with_len (λ place. if nat_le lo place && nat_le place hi then digit place else slice_index into place) 0
     14 place place 0 within (omega arith)
 
-length-replaced : (into : List ℕ) (lo hi : ℕ) (digit : ℕ → ℕ) → length (replaced into lo hi digit) ≡ 14
-unfolding replaced from_to
+length-replaced : (into : List ℕ) (lo hi : ℕ) (digit : ℕ → ℕ) → length (with_places into lo hi digit) ≡ 14
+unfolding with_places from_to
 length-replaced into lo hi digit =
     length-map-range_with_len (λ place. if nat_le lo place && nat_le place hi then digit place else slice_index into place) 0 14
 
@@ -42,9 +43,9 @@ above_span lo place hi high = grind (arith, nat_tests)
 
 -- a register with the digits of a replaced span is that one
 pub filled_all : (into z : List ℕ) (lo hi : ℕ) (digit : ℕ → ℕ) → length z ≡ 14 → FilledTo into lo (hi + 1) digit z
-    → z ≡ replaced into lo hi digit
+    → z ≡ with_places into lo hi digit
 filled_all into z lo hi digit size filled =
-    ext_get_or 0 z (replaced into lo hi digit) (size ∙ sym (length-replaced into lo hi digit)) (λ place within.
+    ext_get_or 0 z (with_places into lo hi digit) (size ∙ sym (length-replaced into lo hi digit)) (λ place within.
     let small : place < 14 = omega arith in
     let there = replaced_at into lo hi digit place small in
     elim (cases_lt place lo) [
@@ -57,7 +58,7 @@ filled_all into z lo hi digit size filled =
 
 -- a replaced span has its digits
 has_digits : (into : List ℕ) (lo hi : ℕ) (digit : ℕ → ℕ) → length into ≡ 14 → hi < 14
-    → HasDigits into lo hi digit (replaced into lo hi digit)
+    → HasDigits into lo hi digit (with_places into lo hi digit)
 has_digits into lo hi digit size inside = record {
   size = length-replaced into lo hi digit;
   inside = λ place from to. rw (within_span lo place hi from to) at (replaced_at into lo hi digit place (omega arith));
@@ -73,9 +74,9 @@ has_digits into lo hi digit size inside = record {
   };
 }
   where
-    past : (place : ℕ) → 14 ≤ place → slice_index (replaced into lo hi digit) place ≡ slice_index into place
+    past : (place : ℕ) → 14 ≤ place → slice_index (with_places into lo hi digit) place ≡ slice_index into place
     past place large =
-        get_or_past (replaced into lo hi digit) place 0 (omega (arith, length-replaced into lo hi digit))
+        get_or_past (with_places into lo hi digit) place 0 (omega (arith, length-replaced into lo hi digit))
         ∙ sym (get_or_past into place 0 (omega (arith, size)))
 
 pub replaced_determined : ReplacedIsDetermined

@@ -12,7 +12,8 @@ use Rattle.h41_digits.specs.Spans.{in_places}
 use Rattle.h41_digits.proofs.Packed.{weight_positive}
 use Rattle.h41_digits.proofs.Values.{same_register}
 use Rattle.h41_arith.specs.DigitRule.{DifferenceInto, HasCarries, HasResult, carry_digit, zeros}
-use Rattle.h41_arith.specs.DigitOperations.{IsInParts, IsRuleTotal, RuleInto, carried_of, decimal_total_of, decimal_remainder_of, rule_of}
+use Rattle.h41_arith.specs.private.DigitOperations.{IsInParts, IsRuleTotal, RuleInto, carried_of, decimal_total_of, decimal_remainder_of}
+use Rattle.h41_arith.specs.private.DigitOperations.{rule_of}
 use Rattle.h41_arith.specs.declared.sums.DigitOperation.{DigitOperation}
 use Rattle.h41_arith.specs.declared.sums.DigitOperation.TheVariants.{Add}
 use Rattle.h41_arith.proofs.Carries.{carry_le, same_carry_bit}

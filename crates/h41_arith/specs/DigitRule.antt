@@ -81,25 +81,25 @@ DifferenceInto base into x y borrow_in lo hi z borrow_out =
     HasResult (Difference base) into x y borrow_in lo hi z borrow_out
 
 -- the register with these digits at the places from lo to hi, and elsewhere with those of `into`
-unfoldable pub replaced : List ℕ → ℕ → ℕ → (ℕ → ℕ) → List ℕ
-replaced into lo hi digit =
+unfoldable pub with_places : List ℕ → ℕ → ℕ → (ℕ → ℕ) → List ℕ
+with_places into lo hi digit =
     map
     (λ place. if nat_le lo place && nat_le place hi then digit place else slice_index into place)
     (from_to 0 13)
 
 -- a copy: each place from lo to hi takes the digit of x
 abbrev pub copied : List ℕ → List ℕ → ℕ → ℕ → List ℕ
-copied into x lo hi = replaced into lo hi (λ place. slice_index x place)
+copied into x lo hi = with_places into lo hi (λ place. slice_index x place)
 
 -- a shift to the left: place lo becomes 0, each place above it takes the digit below its own
 abbrev pub shifted_left : List ℕ → List ℕ → ℕ → ℕ → List ℕ
 shifted_left into x lo hi =
-    replaced into lo hi (λ place. if place == lo then 0 else slice_index x (place - 1))
+    with_places into lo hi (λ place. if place == lo then 0 else slice_index x (place - 1))
 
 -- a shift to the right: place hi becomes 0, each place below it takes the digit above its own
 abbrev pub shifted_right : List ℕ → List ℕ → ℕ → ℕ → List ℕ
 shifted_right into x lo hi =
-    replaced into lo hi (λ place. if place == hi then 0 else slice_index x (place + 1))
+    with_places into lo hi (λ place. if place == hi then 0 else slice_index x (place + 1))
 
 -- the digits from lo to hi as a number, of which the digit at lo is the last: each digit times 16
 -- to the power of its place in the span, added up

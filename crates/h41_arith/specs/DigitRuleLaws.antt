@@ -4,7 +4,7 @@ use Rattle.std.specs.Prelude.{false, IsTrue, List, length, slice_index, sum_by}
 use Rattle.h41_digits.specs.Register.{IsRegister}
 use Rattle.h41_fields.specs.Field.{from_to}
 use Rattle.h41_arith.specs.DigitRule.{Sum, Difference, HasResult, SumInto, DifferenceInto}
-use Rattle.h41_arith.specs.DigitRule.{KeepsOutside, carry_digit, replaced, zeros, is_less}
+use Rattle.h41_arith.specs.DigitRule.{KeepsOutside, carry_digit, with_places, zeros, is_less}
 use Rattle.h41_arith.specs.DigitRule.{is_different}
 
 -- a rule gives one register and one carry
@@ -44,7 +44,7 @@ pub record HasDigits (into : List ℕ) (lo hi : ℕ) (digit : ℕ → ℕ) (z : 
 -- that is so of the register of a copy or a shift, and of no other
 abbrev pub ReplacedIsDetermined : Type 0
 ReplacedIsDetermined = (into z : List ℕ) (lo hi : ℕ) (digit : ℕ → ℕ) → length into ≡ 14 → hi < 14
-    → HasDigits into lo hi digit z ↔ (z ≡ replaced into lo hi digit)
+    → HasDigits into lo hi digit z ↔ (z ≡ with_places into lo hi digit)
 
 -- two registers are told to be different exactly where they are so at a place of the span
 abbrev pub DifferentAtAPlace : Type 0

@@ -1,3 +1,3 @@
 pub mod DigitRule
-pub mod DigitOperations
 pub mod DigitRuleLaws
+pub mod private

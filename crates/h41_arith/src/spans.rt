@@ -3,7 +3,7 @@
 ghost use Rattle.std.specs.Prelude.{◌≡◌, ◌<◌, ◌≤◌, ◌+◌, ◌-◌, ◌*◌, ◌/◌, ◌%◌, ◌^◌, take, drop};
 ghost use Rattle.h41_digits.specs.Register.{IsRegister};
 ghost use Rattle.h41_arith.specs.DigitRule.{carry_digit};
-ghost use Rattle.h41_arith.specs.DigitOperations.{IsInParts};
+ghost use Rattle.h41_arith.specs.private.DigitOperations.{IsInParts};
 
 use h41_digits::{Reg, Span};
 

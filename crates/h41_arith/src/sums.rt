@@ -5,9 +5,10 @@ ghost use Rattle.h41_digits.specs.Register.{IsRegister};
 ghost use Rattle.h41_digits.specs.Spans.{IsFilled};
 ghost use Rattle.h41_arith.specs.DigitRule.{SumDigit, DifferenceDigit, SumInto, DifferenceInto};
 ghost use Rattle.h41_arith.specs.DigitRule.{base_of, carry_digit, zeros};
-ghost use Rattle.h41_arith.specs.DigitOperations.{HasDigit, IsRuleTotal, RuleInto, all_ones};
-ghost use Rattle.h41_arith.specs.DigitOperations.{carried_of, decimal_remainder_of};
-ghost use Rattle.h41_arith.specs.DigitOperations.{decimal_total_of, rule_of};
+ghost use Rattle.h41_arith.specs.private.DigitOperations.{HasDigit, IsRuleTotal, RuleInto};
+ghost use Rattle.h41_arith.specs.private.DigitOperations.{all_ones};
+ghost use Rattle.h41_arith.specs.private.DigitOperations.{carried_of, decimal_remainder_of};
+ghost use Rattle.h41_arith.specs.private.DigitOperations.{decimal_total_of, rule_of};
 
 use crate::spans::{carry_in_span, put};
 use h41_digits::{Reg, Span};

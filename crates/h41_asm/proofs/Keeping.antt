@@ -12,7 +12,7 @@ use Rattle.h41_asm.specs.declared.statement.Statement as code
 use Rattle.h41_asm.specs.declared.statement.Statement.TheVariants as codes_of
 use Rattle.h41_asm.specs.Assembly.{address_count}
 use Rattle.h41_asm.specs.CodeStatements.{in_code}
-use Rattle.h41_asm.specs.Faults.{LineFault, at_line, read_fault, read_length, reference_fault}
+use Rattle.h41_asm.specs.Faults.{FaultOnLine, at_line, read_fault, read_length, reference_fault}
 use Rattle.h41_asm.specs.KeptLines.{Said, first_reading, kept_of, kept_reading, kept_said, kept_words, said_from, with_words}
 use Rattle.h41_asm.specs.LabelTable.{IsReady, SpellsNext}
 use Rattle.h41_asm.specs.Placing.{Labels, LinesSpell, SpellsRead}
@@ -23,7 +23,7 @@ use Rattle.h41_asm.proofs.Determined.{length-line}
 use Rattle.h41_asm.proofs.Walks.{reference_faults}
 
 -- the first fault of a reference in what lines say from an address on
-abbrev pub said_faults : Labels → ℕ → List Said → LineFault
+abbrev pub said_faults : Labels → ℕ → List Said → FaultOnLine
 said_faults labels address [] = None
 said_faults labels address (said ∷ rest) =
     option_or (at_line said.0 (read_fault labels address said.1)) (said_faults labels (address + read_length said.1) rest)
@@ -192,7 +192,7 @@ kept_next text number start statement line rest before after read left added =
     ∙ rw add-one refl
 
 -- a fault of the first line is the first of all
-pub refused_first : (found : Option SourceFault) (error : SpellError) (number : ℕ) (others : LineFault) → IsFault found error
+pub refused_first : (found : Option SourceFault) (error : SpellError) (number : ℕ) (others : FaultOnLine) → IsFault found error
     → IsRefusal (option_or (at_line number found) others) (refusal_of error number)
 refused_first found (spell_errors.Fault fault) number others is = rw is refl
 refused_first found spell_errors.OutOfMemory number others is = tt

@@ -28,7 +28,7 @@ use Rattle.h41_asm.specs.declared.table.Opening.TheVariants.{Data, Single, Taker
 use Rattle.h41_asm.specs.declared.table.Taking.TheVariants.{Field}
 use Rattle.h41_asm.specs.declared.table.TheConstants.{OPENINGS, PLACES}
 use Rattle.h41_asm.specs.Statements.{singles, takers}
-use Rattle.h41_asm.specs.Openings.{Entry, IsTable, OpensAs, TellsWords}
+use Rattle.h41_asm.specs.Openings.{TableEntry, IsTable, OpensAs, TellsWords}
 use Rattle.h41_asm.proofs.OpeningTable.{carry_sound, fetch_sound, goto_sound, logic_sound, no_carry_sound, peripheral_sound, pop_sound}
 use Rattle.h41_asm.proofs.OpeningTable.{push_sound, ram_sound, read_sound, select_sound, single, write_sound}
 use Rattle.h41_asm.proofs.Openings.{begins_nothing}
@@ -47,7 +47,7 @@ transfer_sound transfer =
     (λ others. refl) (λ others. refl) (λ others. refl) refl
 
 -- the code's tables
-abbrev pub entries : List Entry
+abbrev pub entries : List TableEntry
 entries = map (λ opening. (opening.0.now, opening.1)) OPENINGS
 
 -- what holds of a first one and of the others
@@ -166,7 +166,7 @@ told (Single number) low = ltb-true number word_count low
 told (Data number numbered) low = ltb-true number word_count low
 told opening low = tt
 
-all_told : (some : List Entry) → list_all (λ entry. tells entry.1) some ≡ true → AllByRecursion (λ entry. TellsWords entry.1) some
+all_told : (some : List TableEntry) → list_all (λ entry. tells entry.1) some ≡ true → AllByRecursion (λ entry. TellsWords entry.1) some
 all_told [] low = tt
 all_told (entry ∷ some) low =
     let both = and_parts (tells entry.1) (list_all (λ entry. tells entry.1) some) low in
@@ -185,7 +185,7 @@ is_table = record {
   count = refl;
   within =
       λ k inside. All-from_recursion (λ (place : ℕ). place < length entries) PLACES (all_below (length entries) PLACES refl) k 0 inside;
-  sound = All-from_recursion (λ (entry : Entry). OpensAs entry.0 (Some entry.1)) entries entries_sound;
-  words = All-from_recursion (λ (entry : Entry). TellsWords entry.1) entries (all_told entries refl);
+  sound = All-from_recursion (λ (entry : TableEntry). OpensAs entry.0 (Some entry.1)) entries entries_sound;
+  words = All-from_recursion (λ (entry : TableEntry). TellsWords entry.1) entries (all_told entries refl);
   complete = λ word other missed. begins_nothing entries PLACES other word missed refl refl;
 }

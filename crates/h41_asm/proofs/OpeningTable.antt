@@ -17,20 +17,21 @@ use Rattle.h41_asm.specs.declared.fault.SourceFault.TheVariants.{BadLine, BadOpe
 use Rattle.h41_asm.specs.declared.table.Opening.TheVariants.{Data, Fetch, GoTo, If, Logic, Peripheral, Pop, Push, Ram, Select, Single}
 use Rattle.h41_asm.specs.declared.table.Numbered.TheVariants as numbers
 use Rattle.h41_asm.specs.CodeStatements.{takes_numbered}
-use Rattle.h41_asm.specs.Statements.{Statement, Taking, Words, behind, is_begun, one_word, reading, single_among, singles, taken}
+use Rattle.h41_asm.specs.Statements.{Statement, Taking, Words, behind, is_begun, one_word, reading, single_among, singles, statement_by}
 use Rattle.h41_asm.specs.Statements.{taken_among, takers, takes_address}
 use Rattle.h41_asm.specs.Openings.{OpensAs, alone, at_carry, pair}
 
 -- what words say by the single mnemonic that they are, by the one that they begin with, and by whether they begin with a single
 abbrev answer : Option Row → Option (Result Statement SourceFault) → Bool → Result Statement SourceFault
-answer (Some row) taken begun = Ok (one_word row)
+answer (Some row) statement_by begun = Ok (one_word row)
 answer None (Some read) begun = read
 answer None None begun = Err (if begun then BadOperand else BadLine)
 
-answered : (first : List ℕ) (others : List (List ℕ)) (found : Option Row) (taken : Option (Result Statement SourceFault)) (begun : Bool)
-    → single_among singles (first ∷ others) ≡ found → taken_among takers (first ∷ others) ≡ taken
-    → is_begun singles (first ∷ others) ≡ begun → reading (first ∷ others) ≡ answer found taken begun
-answered first others (Some row) taken begun found_is taken_is begun_is = rw found_is refl
+answered : (first : List ℕ) (others : List (List ℕ)) (found : Option Row) (statement_by : Option (Result Statement SourceFault))
+    (begun : Bool)
+    → single_among singles (first ∷ others) ≡ found → taken_among takers (first ∷ others) ≡ statement_by
+    → is_begun singles (first ∷ others) ≡ begun → reading (first ∷ others) ≡ answer found statement_by begun
+answered first others (Some row) statement_by begun found_is taken_is begun_is = rw found_is refl
 answered first others None (Some read) begun found_is taken_is begun_is = rw (found_is, taken_is) refl
 answered first others None None begun found_is taken_is begun_is = rw (found_is, taken_is, begun_is) refl
 
@@ -59,8 +60,8 @@ pub single : (name : List ℕ) (row : Row) (number : ℕ)
     → ((others : List (List ℕ)) → single_among singles (name ∷ others) ≡ row_of (if_found (length others == 0) name row None))
     → ((others : List (List ℕ)) → taken_among takers (name ∷ others) ≡ None)
     → ((others : List (List ℕ)) → is_begun singles (name ∷ others) ≡ true) → number_of row ≡ number → OpensAs name (Some (Single number))
-single name row number found taken begun numbered others =
-    answered name others _ _ _ (found others) (taken others) (begun others) ∙ single_answer (length others == 0) name row
+single name row number found statement_by begun numbered others =
+    answered name others _ _ _ (found others) (statement_by others) (begun others) ∙ single_answer (length others == 0) name row
     ∙ ap (λ (n : ℕ). alone_if n (length others == 0)) numbered ∙ alone_is number others
 
 -- an instruction of two words
@@ -236,8 +237,8 @@ read_sound [] = refl
 read_sound (second ∷ others) =
     let whole : Bool = (bytes_eq second (codes "DATA") && true) && (length others == 0) in
     answered (codes "READ") (second ∷ others) (row_of (if_found whole (codes "READ DATA") ReadData None))
-    (Some (taken (takes_numbered numbers.Read) (second ∷ others))) _ refl refl refl
-    ∙ data_answer whole (codes "READ DATA") ReadData (taken (takes_numbered numbers.Read) (second ∷ others))
+    (Some (statement_by (takes_numbered numbers.Read) (second ∷ others))) _ refl refl refl
+    ∙ data_answer whole (codes "READ DATA") ReadData (statement_by (takes_numbered numbers.Read) (second ∷ others))
     (is_begun singles (codes "READ" ∷ second ∷ others))
 
 pub write_sound : OpensAs (codes "WRIT") (Some (Data 0x2F0 numbers.Write))
@@ -246,8 +247,8 @@ write_sound [] = refl
 write_sound (second ∷ others) =
     let whole : Bool = (bytes_eq second (codes "DATA") && true) && (length others == 0) in
     answered (codes "WRIT") (second ∷ others) (row_of (if_found whole (codes "WRIT DATA") WriteData None))
-    (Some (taken (takes_numbered numbers.Write) (second ∷ others))) _ refl refl refl
-    ∙ data_answer whole (codes "WRIT DATA") WriteData (taken (takes_numbered numbers.Write) (second ∷ others))
+    (Some (statement_by (takes_numbered numbers.Write) (second ∷ others))) _ refl refl refl
+    ∙ data_answer whole (codes "WRIT DATA") WriteData (statement_by (takes_numbered numbers.Write) (second ∷ others))
     (is_begun singles (codes "WRIT" ∷ second ∷ others))
 
 -- returns and jumps by address
@@ -271,7 +272,8 @@ unfolding singles takers
 carry_jumps second others other =
     let x : Bool = bytes_eq second (codes "XQ") in
     let g : Bool = bytes_eq second (codes "GO") in
-    let says : List ℕ × Taking → Result Statement SourceFault = λ taker. taken taker.1 (behind taker.0 (codes "?C" ∷ second ∷ others)) in
+    let says : List ℕ × Taking → Result Statement SourceFault =
+    λ taker. statement_by taker.1 (behind taker.0 (codes "?C" ∷ second ∷ others)) in
     answered (codes "?C") (second ∷ others) None (option_map says (if_found (x && true) (codes "?C XQ")
     (takes_address Carry Execute) (if_found (g && true) (codes "?C GO") (takes_address Carry Go) None)))
     false
@@ -279,7 +281,7 @@ carry_jumps second others other =
     (ap (λ (b : Bool). (b && true) || false) other)
     ∙ jump_answer x g says (codes "?C XQ") (codes "?C GO") (takes_address Carry Execute) (takes_address Carry Go)
     ∙ ap (λ (b : Bool). if b then alone (number_of (ReturnIf Carry)) others
-    else both_alone x g (taken (takes_address Carry Execute) others) (taken (takes_address Carry Go) others))
+    else both_alone x g (statement_by (takes_address Carry Execute) others) (statement_by (takes_address Carry Go) others))
     (sym other)
 
 pub carry_sound : OpensAs (codes "?C") (Some (If Carry))
@@ -305,7 +307,8 @@ unfolding singles takers
 no_carry_jumps second others other =
     let x : Bool = bytes_eq second (codes "XQ") in
     let g : Bool = bytes_eq second (codes "GO") in
-    let says : List ℕ × Taking → Result Statement SourceFault = λ taker. taken taker.1 (behind taker.0 (codes "?NC" ∷ second ∷ others)) in
+    let says : List ℕ × Taking → Result Statement SourceFault =
+    λ taker. statement_by taker.1 (behind taker.0 (codes "?NC" ∷ second ∷ others)) in
     answered (codes "?NC") (second ∷ others) None (option_map says (if_found (x && true) (codes "?NC XQ")
     (takes_address NoCarry Execute) (if_found (g && true) (codes "?NC GO") (takes_address NoCarry Go) None)))
     false
@@ -313,7 +316,7 @@ no_carry_jumps second others other =
     (ap (λ (b : Bool). (b && true) || false) other)
     ∙ jump_answer x g says (codes "?NC XQ") (codes "?NC GO") (takes_address NoCarry Execute) (takes_address NoCarry Go)
     ∙ ap (λ (b : Bool). if b then alone (number_of (ReturnIf NoCarry)) others
-    else both_alone x g (taken (takes_address NoCarry Execute) others) (taken (takes_address NoCarry Go) others))
+    else both_alone x g (statement_by (takes_address NoCarry Execute) others) (statement_by (takes_address NoCarry Go) others))
     (sym other)
 
 pub no_carry_sound : OpensAs (codes "?NC") (Some (If NoCarry))

@@ -10,18 +10,18 @@ use Rattle.std.proofs.lemmas.Slice.Eq.{bytes_eq-Decides}
 use Rattle.h41_asm.specs.declared.table.Opening.{Opening}
 use Rattle.h41_asm.specs.SourceLines.{words_of}
 use Rattle.h41_asm.specs.Statements.{begins, is_whole, singles, takers}
-use Rattle.h41_asm.specs.Openings.{Entry, IsTable, OpensAs, TellsWords, entries_in, hash_of, place_count}
+use Rattle.h41_asm.specs.Openings.{TableEntry, IsTable, OpensAs, TellsWords, entries_in, hash_of, place_count}
 
 -- the word of the entry to which a word's hash leads
-abbrev pub slot : List Entry → List ℕ → Entry → List ℕ → List ℕ
+abbrev pub slot : List TableEntry → List ℕ → TableEntry → List ℕ → List ℕ
 slot entries places other word = (slice_index_or entries (slice_index places (hash_of word)) other).0
 
 -- whether the hash of a mnemonic's first word leads to it
-abbrev pub leads_home : List Entry → List ℕ → Entry → List (List ℕ) → Bool
+abbrev pub leads_home : List TableEntry → List ℕ → TableEntry → List (List ℕ) → Bool
 leads_home entries places other [] = false
 leads_home entries places other (part ∷ parts) = bytes_eq part (slot entries places other part)
 
-abbrev pub is_placed : List Entry → List ℕ → Entry → List ℕ → Bool
+abbrev pub is_placed : List TableEntry → List ℕ → TableEntry → List ℕ → Bool
 is_placed entries places other name = leads_home entries places other (words_of name)
 
 same_bytes : (a b : List ℕ) → bytes_eq a b ≡ true → a ≡ b
@@ -30,7 +30,7 @@ same_bytes a b e = (bytes_eq-Decides a b).0 e
 no_both : (test : Bool) → test ≡ true → test ≡ false → true ≡ false
 no_both test holds fails = sym holds ∙ fails
 
-module _ (entries : List Entry) (places : List ℕ) (other : Entry) (word : List ℕ)
+module _ (entries : List TableEntry) (places : List ℕ) (other : TableEntry) (word : List ℕ)
     (missed : bytes_eq word (slot entries places other word) ≡ false) where
   unlike : (part : List ℕ) → bytes_eq part (slot entries places other part) ≡ true → bytes_eq word part ≡ false
   unlike part home = elim (cases_Bool (bytes_eq word part)) [
@@ -74,9 +74,9 @@ module _ (entries : List Entry) (places : List ℕ) (other : Entry) (word : List
   pub begins_nothing : homes singles ≡ true → homes takers ≡ true → OpensAs word None
   begins_nothing at_singles at_takers others =
       let whole = none_whole singles others at_singles in
-      let taken = none_found takers others at_takers in
+      let statement_by = none_found takers others at_takers in
       let begun = none_begun singles others at_singles in
-      rw (whole, taken, begun) refl
+      rw (whole, statement_by, begun) refl
 
 -- the entry to which a word's hash leads in the code's table
 module _ (openings : List (Bor (List ℕ) × Opening)) (places word : List ℕ) (place : ℕ)

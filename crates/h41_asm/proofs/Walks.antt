@@ -8,21 +8,22 @@ use Rattle.std.proofs.Math.Seq.{take-append_seam}
 use Rattle.std.proofs.lemmas.Bool.{cases_Bool}
 use Rattle.std.proofs.lemmas.List.Sums.{sum_by_push}
 use Rattle.h41_asm.specs.declared.fault.SourceFault.{SourceFault}
-use Rattle.h41_asm.specs.Faults.{LineFault, NumberedLine, at_line, first_fault, has_label, is_labelled_twice, label_address, line_length}
+use Rattle.h41_asm.specs.Faults.{FaultOnLine, NumberedSourceLine, at_line, first_fault, has_label, is_labelled_twice, label_address}
+use Rattle.h41_asm.specs.Faults.{line_length}
 use Rattle.h41_asm.specs.Faults.{numbered, numbered_lines, own_fault, own_fault_at, read_fault, reference_fault_at}
 use Rattle.h41_asm.specs.Placing.{Labels}
 use Rattle.h41_asm.specs.SourceLines.{SourceLine}
 use Rattle.h41_asm.specs.Statements.{reading}
 
 -- the first fault that lines have whatever the labels are, where the first has this number and address and these are before it
-abbrev pub own_faults : ℕ → ℕ → List SourceLine → List SourceLine → LineFault
+abbrev pub own_faults : ℕ → ℕ → List SourceLine → List SourceLine → FaultOnLine
 own_faults number address earlier [] = None
 own_faults number address earlier (line ∷ rest) =
     option_or (at_line number (own_fault (is_labelled_twice earlier line.label) address line))
     (own_faults (suc number) (address + line_length line) (earlier ++ line ∷ []) rest)
 
 -- the first fault of their references
-abbrev pub reference_faults : Labels → ℕ → ℕ → List SourceLine → LineFault
+abbrev pub reference_faults : Labels → ℕ → ℕ → List SourceLine → FaultOnLine
 reference_faults labels number address [] = None
 reference_faults labels number address (line ∷ rest) =
     option_or (at_line number (read_fault labels address (reading line.code)))
@@ -35,11 +36,11 @@ address_from address (line ∷ rest) name =
     if has_label name line.label then Some address else address_from (address + line_length line) rest name
 
 -- the lines behind some, each with its number and address
-abbrev numbered_behind : ℕ → List SourceLine → List SourceLine → List NumberedLine
+abbrev numbered_behind : ℕ → List SourceLine → List SourceLine → List NumberedSourceLine
 numbered_behind origin earlier rest =
     map (λ entry. numbered origin (earlier ++ rest) entry.0 entry.1) (enumerate_from (length earlier) rest)
 
-abbrev next : ℕ → List SourceLine → SourceLine → NumberedLine
+abbrev next : ℕ → List SourceLine → SourceLine → NumberedSourceLine
 next origin earlier line =
     record { number = length earlier + 1; address = origin + sum_by line_length earlier; earlier = earlier; line = line }
 
@@ -63,7 +64,7 @@ stands_first : (origin : ℕ) → StandsAt origin [] 1 origin
 stands_first origin = (refl, omega arith)
 
 -- the faults of lines, and the first of them
-abbrev told : (NumberedLine → Option SourceFault) → List NumberedLine → List (SourceFault × ℕ)
+abbrev told : (NumberedSourceLine → Option SourceFault) → List NumberedSourceLine → List (SourceFault × ℕ)
 told fault all = filter_map (λ at. at_line at.number (fault at)) all
 
 first_or : {T : Type 0} (found : Option T) (others : List T) → slice_get (cons_option found others) 0 ≡ option_or found (slice_get others 0)

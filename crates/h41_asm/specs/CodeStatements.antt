@@ -7,7 +7,7 @@ use Rattle.h41_asm.specs.declared.fault.SourceFault.{SourceFault}
 use Rattle.h41_asm.specs.declared.source.SourceLine as lines
 use Rattle.h41_asm.specs.declared.statement.Statement as code
 use Rattle.h41_asm.specs.declared.statement.Statement.TheVariants as codes_of
-use Rattle.h41_asm.specs.declared.words.LineWords as rests
+use Rattle.h41_asm.specs.declared.words.SourceWords as rests
 use Rattle.h41_asm.specs.declared.table.EntryKind as entry
 use Rattle.h41_asm.specs.declared.table.EntryKind.TheVariants as kinds
 use Rattle.h41_asm.specs.declared.table.Numbered as numbered
@@ -18,7 +18,7 @@ use Rattle.h41_asm.specs.SourceLines.{SourceLine, words_of}
 use Rattle.h41_asm.specs.Statements.{Statement, Words, OutOfReach, LongJumpTo, ShortJumpTo, EntryAt}
 use Rattle.h41_asm.specs.Statements.{Taking, name_words, takes_field, takes_number, takes_immediate}
 use Rattle.h41_asm.specs.Statements.{takes_constant, takes_address, takes_displacement, takes_name}
-use Rattle.h41_asm.specs.Statements.{takes_entry, taken}
+use Rattle.h41_asm.specs.Statements.{takes_entry, statement_by}
 use Rattle.h41_words.specs.Counts.{status_bit_count, place_count, digit_count, block_register_count}
 use Rattle.h41_words.specs.declared.rows.Row.TheVariants.{ClearStatus, SetStatus, TestStatus}
 use Rattle.h41_words.specs.declared.rows.Row.TheVariants.{TestPointer, SetPointer, RotateRight}
@@ -74,7 +74,7 @@ takes_in_code (takings.Entry kind) = takes_entry (entry_bits kind)
 abbrev pub in_label : Option (Bor (List ℕ)) → Option (List ℕ)
 in_label label = option_map (λ name. name.now) label
 
-abbrev pub in_words : Option (Bor (List ℕ)) → rests.LineWords → List (List ℕ)
+abbrev pub in_words : Option (Bor (List ℕ)) → rests.SourceWords → List (List ℕ)
 in_words None others = []
 in_words (Some first) others = first.now ∷ words_of others.rest.now
 
@@ -87,4 +87,4 @@ backward_words text = reverse (map (λ byte. byte % 64) text)
 
 -- what words say as the operand of a mnemonic of the code
 abbrev pub taken_operand : table.Taking → Bor (List ℕ) → Result Statement SourceFault
-taken_operand takes rest = taken (takes_in_code takes) (words_of rest.now)
+taken_operand takes rest = statement_by (takes_in_code takes) (words_of rest.now)

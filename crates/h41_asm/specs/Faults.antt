@@ -26,7 +26,7 @@ abbrev pub line_length : SourceLine → ℕ
 line_length line = read_length (reading line.code)
 
 -- a line of a source, with its number, counted from 1, its address, and the lines before it
-pub record NumberedLine : Type 0 where
+pub record NumberedSourceLine : Type 0 where
   pub number : ℕ
   pub address : ℕ
   pub earlier : List SourceLine
@@ -34,7 +34,7 @@ pub record NumberedLine : Type 0 where
 
 -- the line at a place, counted from 0, among all: its address is the origin plus the lengths of the
 -- lines before it
-abbrev pub numbered : ℕ → List SourceLine → ℕ → SourceLine → NumberedLine
+abbrev pub numbered : ℕ → List SourceLine → ℕ → SourceLine → NumberedSourceLine
 numbered origin all place line =
     let earlier = take place all in
     record {
@@ -45,15 +45,15 @@ numbered origin all place line =
     }
 
 -- the lines of a source
-abbrev pub numbered_lines : ℕ → List SourceLine → List NumberedLine
+abbrev pub numbered_lines : ℕ → List SourceLine → List NumberedSourceLine
 numbered_lines origin all =
     map (λ entry. numbered origin all entry.0 entry.1) (enumerate_from 0 all)
 
 -- a fault of the line with this number
-abbrev pub LineFault : Type 0
-LineFault = Option (SourceFault × ℕ)
+abbrev pub FaultOnLine : Type 0
+FaultOnLine = Option (SourceFault × ℕ)
 
-abbrev pub at_line : ℕ → Option SourceFault → LineFault
+abbrev pub at_line : ℕ → Option SourceFault → FaultOnLine
 at_line number None = None
 at_line number (Some fault) = Some (fault, number)
 
@@ -81,11 +81,11 @@ own_fault twice address line =
     option_or (result_err (reading line.code)) (option_or (then_some twice LabelTwice)
     (then_some (is_past address line.label (line_length line)) TooLong))
 
-abbrev pub own_fault_at : NumberedLine → Option SourceFault
+abbrev pub own_fault_at : NumberedSourceLine → Option SourceFault
 own_fault_at at = own_fault (is_labelled_twice at.earlier at.line.label) at.address at.line
 
 -- the address of the first line with a label
-abbrev pub label_address : List NumberedLine → Labels
+abbrev pub label_address : List NumberedSourceLine → Labels
 label_address all name =
     option_map (λ at. at.address) (find (λ at. has_label name at.line.label) all)
 
@@ -109,15 +109,16 @@ abbrev pub read_fault : Labels → ℕ → Result Statement SourceFault → Opti
 read_fault labels address (Ok statement) = reference_fault labels address statement
 read_fault labels address (Err fault) = None
 
-abbrev pub reference_fault_at : Labels → NumberedLine → Option SourceFault
+abbrev pub reference_fault_at : Labels → NumberedSourceLine → Option SourceFault
 reference_fault_at labels at = read_fault labels at.address (reading at.line.code)
 
 -- the first fault that lines have, and its line's number
-abbrev pub first_fault : (NumberedLine → Option SourceFault) → List NumberedLine → LineFault
+abbrev pub first_fault : (NumberedSourceLine → Option SourceFault)
+    → List NumberedSourceLine → FaultOnLine
 first_fault fault all = slice_get (filter_map (λ at. at_line at.number (fault at)) all) 0
 
 -- the first fault of a source
-abbrev pub assembly_fault : List ℕ → ℕ → LineFault
+abbrev pub assembly_fault : List ℕ → ℕ → FaultOnLine
 assembly_fault source origin =
     let all = numbered_lines origin (source_lines source) in
     option_or (first_fault own_fault_at all)

@@ -15,7 +15,8 @@ use Rattle.h41_asm.specs.declared.source.SourceLine as code_lines
 use Rattle.h41_asm.specs.declared.statement.Statement as code
 use Rattle.h41_asm.specs.Assembly.{address_count}
 use Rattle.h41_asm.specs.CodeStatements.{in_code, in_label, in_line}
-use Rattle.h41_asm.specs.Faults.{LineFault, first_fault, label_address, line_length, numbered_lines}
+use Rattle.h41_asm.specs.Faults.{FaultOnLine, first_fault, label_address, line_length}
+use Rattle.h41_asm.specs.Faults.{numbered_lines}
 use Rattle.h41_asm.specs.Faults.{own_fault, own_fault_at, reference_fault, reference_fault_at}
 use Rattle.h41_asm.specs.Placing.{Labels, LinesSpell, StatementSpells}
 use Rattle.h41_asm.specs.SourceLines.{SourceLine, source_lines}
@@ -44,7 +45,7 @@ AddsOwn table address statement before after =
 abbrev pub fault_by : {S : Type 0} → Table S → ℕ → code.Statement → Option SourceFault
 fault_by table address statement = reference_fault (labels_in table) address (in_code statement)
 
-abbrev pub first_fault_by : {S : Type 0} → Table S → ℕ → List ℕ → LineFault
+abbrev pub first_fault_by : {S : Type 0} → Table S → ℕ → List ℕ → FaultOnLine
 first_fault_by table origin source =
     first_fault (reference_fault_at (labels_in table)) (numbered_lines origin (source_lines source))
 
@@ -71,7 +72,7 @@ abbrev pub IsReadyBy : {S : Type 0} → Table S → ℕ → List ℕ → Type 0
 IsReadyBy table origin source = IsReady (labels_in table) origin (source_lines source)
 
 -- the first fault of a source's own lines
-abbrev pub first_own_fault : ℕ → List ℕ → LineFault
+abbrev pub first_own_fault : ℕ → List ℕ → FaultOnLine
 first_own_fault origin source =
     first_fault own_fault_at (numbered_lines origin (source_lines source))
 

@@ -5,7 +5,7 @@ use Rattle.h41_asm.specs.declared.fault.AssembleError.TheVariants as refusals
 use Rattle.h41_asm.specs.declared.fault.SourceFault.{SourceFault}
 use Rattle.h41_asm.specs.declared.fault.SpellError as spell
 use Rattle.h41_asm.specs.declared.fault.SpellError.TheVariants as spell_errors
-use Rattle.h41_asm.specs.Faults.{LineFault}
+use Rattle.h41_asm.specs.Faults.{FaultOnLine}
 
 -- a fault of a statement as one of the line with this number
 abbrev pub refusal_of : spell.SpellError → ℕ → errors.AssembleError
@@ -18,6 +18,6 @@ IsFault found (spell_errors.Fault fault) = found ≡ Some fault
 IsFault found spell_errors.OutOfMemory = Unit {0}
 
 -- this fault and its line, or memory that was refused
-abbrev pub IsRefusal : LineFault → errors.AssembleError → Type 0
+abbrev pub IsRefusal : FaultOnLine → errors.AssembleError → Type 0
 IsRefusal found (refusals.Line fault line) = found ≡ Some (fault, line)
 IsRefusal found refusals.OutOfMemory = Unit {0}

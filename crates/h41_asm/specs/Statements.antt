@@ -166,10 +166,10 @@ abbrev pub is_whole : List (List ℕ) → List ℕ → Bool
 is_whole words name = begins words name && length (behind name words) == 0
 
 -- the words behind a mnemonic: its operand is one word, and nothing else stands there
-abbrev pub taken : Taking → List (List ℕ) → Result Statement SourceFault
-taken takes [] = Err BadOperand
-taken takes (word ∷ []) = ok_or (takes word) BadOperand
-taken takes (word ∷ other ∷ others) = Err BadOperand
+abbrev pub statement_by : Taking → List (List ℕ) → Result Statement SourceFault
+statement_by takes [] = Err BadOperand
+statement_by takes (word ∷ []) = ok_or (takes word) BadOperand
+statement_by takes (word ∷ other ∷ others) = Err BadOperand
 
 -- the row of the first single mnemonic that words are
 abbrev pub single_among : List (List ℕ × Row) → List (List ℕ) → Option Row
@@ -184,7 +184,7 @@ is_begun some words = list_any (λ single. begins words single.0) some
 abbrev pub taken_among : List (List ℕ × Taking) → List (List ℕ)
     → Option (Result Statement SourceFault)
 taken_among some words =
-    option_map (λ taker. taken taker.1 (behind taker.0 words))
+    option_map (λ taker. statement_by taker.1 (behind taker.0 words))
     (find (λ taker. begins words taker.0) some)
 
 -- the fault of words that begin with none of these: a single mnemonic with something behind it, or

@@ -5,7 +5,7 @@ ghost use Rattle.h41_asm.specs.CodeStatements.{in_line};
 ghost use Rattle.h41_asm.specs.SourceLines.{line_of, lines, words_of};
 
 use crate::names::label_in;
-use crate::words::LineWords;
+use crate::words::SourceWords;
 use h41_lines::lines::{line_end, without_return};
 
 /// A line of a source.
@@ -16,7 +16,7 @@ pub(crate) struct SourceLine<'a> {
     /// The first word behind the label.
     pub first: Option<&'a [u8]>,
     /// The words behind that.
-    pub others: LineWords<'a>,
+    pub others: SourceWords<'a>,
 }
 
 /// The line that some bytes are.
@@ -24,7 +24,7 @@ pub(crate) struct SourceLine<'a> {
 pub(crate) fn read_line(line: &[u8]) -> SourceLine<'_>
     ensures { in_line result ≡ line_of (words_of line.now) }
 {
-    let mut words = LineWords::new(line);
+    let mut words = SourceWords::new(line);
     match words.next() {
         Some(first) => match label_in(first) {
             Some(name) => SourceLine {

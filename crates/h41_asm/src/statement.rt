@@ -15,11 +15,11 @@ use crate::opening::opening_of;
 use crate::operands::{address_in, displacement_in, field_in, number_in, text_in, word_in};
 use crate::source::SourceLine;
 use crate::table::{EntryKind, Numbered, Opening, Taking};
-use crate::words::LineWords;
+use crate::words::SourceWords;
 use h41_fields::Pointer;
 use h41_words::{
-    BlockRegister, Condition, Digit, Displacement, LongJumpKind, Place, ReadRegister, Row,
-    SecondWord, StatusBit, Word, word,
+    BlockRegister, Condition, DigitPlace, Displacement, LoadedDigit, LongJumpKind, ReadRegister,
+    Row, SecondWord, StatusBit, Word, word,
 };
 
 /// What a line says: words, some by an address that a label stands for.
@@ -71,7 +71,7 @@ pub(crate) fn read(line: SourceLine<'_>) -> Result<Statement<'_>, SourceFault>
 
 /// What a first word says with those behind it.
 #[inline(always)]
-fn read_from<'a>(first: &[u8], others: LineWords<'a>) -> Result<Statement<'a>, SourceFault>
+fn read_from<'a>(first: &[u8], others: SourceWords<'a>) -> Result<Statement<'a>, SourceFault>
     ensures { read_in_code result ≡ spec.reading (first.now ∷ words_of others.entry.rest.now) }
 {
     match opening_of(first) {
@@ -82,9 +82,9 @@ fn read_from<'a>(first: &[u8], others: LineWords<'a>) -> Result<Statement<'a>, S
 
 /// What the words behind a known one say.
 #[inline(always)]
-fn opened(opening: Opening, others: LineWords<'_>) -> Result<Statement<'_>, SourceFault>
+fn opened(opening: Opening, others: SourceWords<'_>) -> Result<Statement<'_>, SourceFault>
     requires { openings.TellsWords opening }
-    ensures { Reads (openings.opened opening) others.entry result }
+    ensures { Reads (openings.statement_of opening) others.entry result }
 {
     match opening {
         Opening::Single(number) => alone(rom_word(number), others),
@@ -110,7 +110,7 @@ fn opened(opening: Opening, others: LineWords<'_>) -> Result<Statement<'_>, Sour
 
 /// An instruction behind which no word stands.
 #[inline(always)]
-fn alone(instruction: Word, others: LineWords<'_>) -> Result<Statement<'_>, SourceFault>
+fn alone(instruction: Word, others: SourceWords<'_>) -> Result<Statement<'_>, SourceFault>
     ensures { Reads (openings.alone instruction) others.entry result }
 {
     if is_nothing(others) {
@@ -124,7 +124,7 @@ fn alone(instruction: Word, others: LineWords<'_>) -> Result<Statement<'_>, Sour
 fn data_or(
     instruction: Word,
     numbered: Numbered,
-    others: LineWords<'_>,
+    others: SourceWords<'_>,
 ) -> Result<Statement<'_>, SourceFault>
     ensures { Reads (openings.data_or instruction (takes_numbered numbered)) others.entry result }
 {
@@ -136,7 +136,7 @@ fn data_or(
 }
 
 /// Whether words are `DATA` alone.
-fn is_data(words: LineWords<'_>) -> bool
+fn is_data(words: SourceWords<'_>) -> bool
     ensures { result ≡ spec.is_whole (words_of words.entry.rest.now) (codes "DATA") }
 {
     let mut words = words;
@@ -150,7 +150,7 @@ fn is_data(words: LineWords<'_>) -> bool
 fn pair<'a>(
     name: &str,
     instruction: Word,
-    others: LineWords<'a>,
+    others: SourceWords<'a>,
 ) -> Result<Statement<'a>, SourceFault>
     ensures { ReadsSecond (openings.pair name.now instruction) others.entry result }
 {
@@ -167,7 +167,7 @@ fn either<'a>(
     word: Word,
     other_name: &str,
     other: Word,
-    others: LineWords<'a>,
+    others: SourceWords<'a>,
 ) -> Result<Statement<'a>, SourceFault>
     ensures { ReadsSecond (openings.either name.now word other_name.now other) others.entry result }
 {
@@ -180,7 +180,7 @@ fn either<'a>(
 }
 
 /// `C=C OR A` or `C=C AND A`.
-fn logic(others: LineWords<'_>) -> Result<Statement<'_>, SourceFault>
+fn logic(others: SourceWords<'_>) -> Result<Statement<'_>, SourceFault>
     ensures { ReadsSecond openings.logic others.entry result }
 {
     let mut others = others;
@@ -192,7 +192,7 @@ fn logic(others: LineWords<'_>) -> Result<Statement<'_>, SourceFault>
 }
 
 /// A return where the carry is as the condition says, or a jump by address.
-fn at_carry(condition: Condition, others: LineWords<'_>) -> Result<Statement<'_>, SourceFault>
+fn at_carry(condition: Condition, others: SourceWords<'_>) -> Result<Statement<'_>, SourceFault>
     ensures { ReadsSecond (openings.at_carry condition) others.entry result }
 {
     let mut others = others;
@@ -210,7 +210,7 @@ fn at_carry(condition: Condition, others: LineWords<'_>) -> Result<Statement<'_>
 
 /// Whether no word is left.
 #[inline(always)]
-fn is_nothing(words: LineWords<'_>) -> bool
+fn is_nothing(words: SourceWords<'_>) -> bool
     ensures { result ≡ (length (words_of words.entry.rest.now) == 0) }
 {
     let mut words = words;
@@ -219,7 +219,7 @@ fn is_nothing(words: LineWords<'_>) -> bool
 
 /// The one operand behind a mnemonic.
 #[inline(always)]
-fn taken(taking: Taking, operands: LineWords<'_>) -> Result<Statement<'_>, SourceFault>
+fn taken(taking: Taking, operands: SourceWords<'_>) -> Result<Statement<'_>, SourceFault>
     ensures { read_in_code result ≡ taken_operand taking operands.entry.rest }
 {
     let mut operands = operands;
@@ -271,10 +271,10 @@ fn take_number(numbered: Numbered, operand: &[u8]) -> Option<Statement<'_>>
         Numbered::ClearStatus => Row::ClearStatus(StatusBit::new(number_in(0, 14, operand)?)),
         Numbered::SetStatus => Row::SetStatus(StatusBit::new(number_in(0, 14, operand)?)),
         Numbered::TestStatus => Row::TestStatus(StatusBit::new(number_in(0, 14, operand)?)),
-        Numbered::TestPointer => Row::TestPointer(Place::new(number_in(0, 14, operand)?)),
-        Numbered::SetPointer => Row::SetPointer(Place::new(number_in(0, 14, operand)?)),
-        Numbered::RotateRight => Row::RotateRight(Place::new(number_in(0, 14, operand)?)),
-        Numbered::LoadDigit => Row::LoadDigit(Digit::new(number_in(0, 16, operand)?)),
+        Numbered::TestPointer => Row::TestPointer(DigitPlace::new(number_in(0, 14, operand)?)),
+        Numbered::SetPointer => Row::SetPointer(DigitPlace::new(number_in(0, 14, operand)?)),
+        Numbered::RotateRight => Row::RotateRight(DigitPlace::new(number_in(0, 14, operand)?)),
+        Numbered::LoadDigit => Row::LoadDigit(LoadedDigit::new(number_in(0, 16, operand)?)),
         Numbered::Write => Row::Write(BlockRegister::new(number_in(0, 16, operand)?)),
         Numbered::Read => Row::Read(ReadRegister::new(number_in(1, 15, operand)?)),
     };

@@ -8,22 +8,22 @@ use h41_lines::words::{is_blank, word_start};
 
 /// The words that are left of a line. Blanks and tabs outside quotes part them, and a `;` outside quotes begins a comment.
 #[derive(Clone, Copy, Debug)]
-pub struct LineWords<'a> {
+pub struct SourceWords<'a> {
     /// The bytes that are left of the line, which begin outside quotes.
     pub rest: &'a [u8],
 }
 
-impl<'a> LineWords<'a> {
+impl<'a> SourceWords<'a> {
     /// All words of a line.
     #[inline(always)]
     pub fn new(line: &'a [u8]) -> Self
         ensures { result.rest.now ≡ line.now }
     {
-        LineWords { rest: line }
+        SourceWords { rest: line }
     }
 }
 
-impl<'a> Iterator for LineWords<'a> {
+impl<'a> Iterator for SourceWords<'a> {
     type Item = &'a [u8];
 
     ghost next_gives = { YieldsFirstRef (λ s. words_of s.rest.now) };

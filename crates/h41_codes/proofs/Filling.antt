@@ -3,7 +3,7 @@ use Rattle.std.proofs.Common.{◌≡◌, ℕ, suc, ◌+◌, ◌-◌, ◌<◌, �
 use Rattle.std.proofs.Common.{append_assoc, add-one, length-take-le, arith}
 use Rattle.std.proofs.Math.Seq.{take-suc, set-append_seam}
 use Rattle.std.proofs.lemmas.List.{take_at, take_all, length-append, length-replicate}
-use Rattle.h41_codes.specs.Cells.{IsFilled}
+use Rattle.h41_codes.specs.Cells.{IsPadded}
 
 -- cells of which the first n are those of a list
 abbrev pub filling : {A : Type 0} → A → ℕ → List A → ℕ → List A
@@ -27,7 +27,7 @@ fill_next {A} blank other most items n inside room =
 pub fill_all : {A : Type 0} (blank : A) (most : ℕ) (items : List A) → length items ≤ most
     → (take (length items) (filling blank most items (length items)) ≡ items)
     × (length (filling blank most items (length items)) ≡ most)
-    × IsFilled blank most (length items) (filling blank most items (length items))
+    × IsPadded blank most (length items) (filling blank most items (length items))
 fill_all blank most items room =
     let n = length items in
     let blanks = replicate (most - n) blank in

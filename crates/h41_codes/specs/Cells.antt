@@ -8,17 +8,17 @@ abbrev pub filled : {A : Type 0} → A → ℕ → List A → List A
 filled blank most items = items ++ replicate (most - length items) blank
 
 -- the cells behind the first ones are blank
-abbrev pub IsFilled : {A : Type 0} → A → ℕ → ℕ → List A → Type 0
-IsFilled blank most count cells = cells ≡ take count cells ++ replicate (most - count) blank
+abbrev pub IsPadded : {A : Type 0} → A → ℕ → ℕ → List A → Type 0
+IsPadded blank most count cells = cells ≡ take count cells ++ replicate (most - count) blank
 
 -- how many characters a number has: 1 to 16
-abbrev pub IsNumberOf : {A : Type 0} → List A → Type 0
-IsNumberOf characters = (1 ≤ length characters) × (length characters ≤ number_most)
+abbrev pub FitsNumber : {A : Type 0} → List A → Type 0
+FitsNumber characters = (1 ≤ length characters) × (length characters ≤ number_most)
 
 -- a list in so many cells: it is not longer, and the rest is blank
 abbrev pub Keeps : {A : Type 0} → A → ℕ → ℕ → List A → Type 0
 Keeps blank most count cells =
-    (count ≤ most) × (length cells ≡ most) × IsFilled blank most count cells
+    (count ≤ most) × (length cells ≡ most) × IsPadded blank most count cells
 
 -- there are as many first cells as are counted
 pub count_again : {A : Type 0} (most count : ℕ) (cells : List A) → count ≤ most
@@ -28,7 +28,7 @@ count_again most count cells inside size =
 
 -- cells whose first ones are a list are that list's cells
 pub filled_again : {A : Type 0} (blank : A) (most count : ℕ) (cells : List A) → count ≤ most
-    → length cells ≡ most → IsFilled blank most count cells
+    → length cells ≡ most → IsPadded blank most count cells
     → filled blank most (take count cells) ≡ cells
 filled_again blank most count cells inside size rest =
     ap (λ n. take count cells ++ replicate (most - n) blank)

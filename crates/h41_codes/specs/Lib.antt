@@ -6,3 +6,4 @@ pub mod Codes
 pub mod Counts
 pub mod Functions
 pub mod Heads
+pub mod NumberCharacters

@@ -2,13 +2,14 @@
 ghost use Rattle.std.specs.Prelude.{◌≡◌, ◌≤◌, ◌↔◌, length, IsSome, IfSome};
 ghost use Rattle.h41_codes.specs.Counts.{number_most};
 ghost use Rattle.h41_codes.specs.ByteGrammar.{IsBytes};
-ghost use Rattle.h41_codes.specs.Cells.{IsNumberOf};
+ghost use Rattle.h41_codes.specs.Cells.{FitsNumber};
+ghost use Rattle.h41_codes.specs.NumberCharacters.{exponent_place};
 ghost use Rattle.h41_codes.specs.declared.characters.Character.{Character as Sign};
 
 use std::marker::Model;
 
 /// The most characters of a number.
-const NUMBER_MOST: usize = 16;
+pub const NUMBER_MOST: usize = 16;
 
 /// A text of at most `MOST` characters, each a byte.
 #[derive(Clone, Copy, Debug, PartialEq, Eq)]
@@ -114,6 +115,44 @@ pub enum Character {
     Minus,
 }
 
+impl Character {
+    ghost use Rattle.h41_codes.specs.NumberCharacters as spec;
+
+    /// Whether it is the radix mark.
+    pub fn is_point(self) -> bool
+        ensures { result ≡ spec.is_point self }
+    {
+        matches!(self, Character::Point)
+    }
+
+    /// Whether it is the E in front of an exponent.
+    pub fn is_exponent(self) -> bool
+        ensures { result ≡ spec.is_exponent self }
+    {
+        matches!(self, Character::Exponent)
+    }
+
+    /// Whether it is a sign.
+    pub fn is_minus(self) -> bool
+        ensures { result ≡ spec.is_minus self }
+    {
+        matches!(self, Character::Minus)
+    }
+}
+
+/// Where the first E stands, or the length where there is none.
+pub fn exponent_place(text: &[Character]) -> usize
+    ensures place { result ≡ exponent_place text.now }
+    ensures bound { result ≤ length text.now }
+{
+    for (index, character) in text.iter().enumerate() {
+        if character.is_exponent() {
+            return index;
+        }
+    }
+    text.len()
+}
+
 /// A number as it is written: 1 to 16 characters, in any order.
 #[derive(Clone, Copy, Debug, PartialEq, Eq)]
 pub struct Number {
@@ -147,7 +186,7 @@ impl Model for Number {
 impl Number {
     /// The number of these characters, or nothing where there is none or more than 16.
     pub fn new(characters: &[Character]) -> Option<Self>
-        ensures fits { IsSome result ↔ IsNumberOf characters.now }
+        ensures fits { IsSome result ↔ FitsNumber characters.now }
         ensures value { IfSome result (λ number. number ≡ characters.now) }
     {
         if !characters.is_empty() && characters.len() <= NUMBER_MOST {

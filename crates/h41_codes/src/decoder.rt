@@ -10,7 +10,7 @@ ghost use Rattle.h41_codes.specs.Codes as code;
 ghost use Rattle.h41_codes.specs.Heads.{IsAlone, IsOneByte, IsTwoBytes, IsIn, LacksText};
 ghost use Rattle.h41_codes.specs.Heads.{IsWholeRun};
 
-use crate::characters::{Character, Number, Text};
+use crate::characters::{Character, NUMBER_MOST, Number, Text};
 use crate::faults::BrokenProgram;
 use crate::functions::{Branch, NameFunction, RegisterFunction};
 use crate::line::{Line, Operand};
@@ -19,9 +19,6 @@ use crate::numbers::{
     ShortRegister,
 };
 use crate::table::{character, function, parameter_function};
-
-/// The most characters of a number.
-const NUMBER_MOST: usize = 16;
 
 /// Reads the line that bytes begin with, and answers how many bytes it takes. Other bytes may follow. A number takes as
 /// many as it can, up to 16.

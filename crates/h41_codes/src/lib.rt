@@ -14,7 +14,7 @@ mod numbers;
 mod table;
 
 pub use canonical::canon;
-pub use characters::{Character, Number, Text};
+pub use characters::{Character, NUMBER_MOST, Number, Text, exponent_place};
 pub use decoder::{decode, is_one_byte, one_byte_line, two_byte_line};
 pub use encoder::{LINE_CAPACITY, encode};
 pub use faults::{BrokenProgram, BufferShort};

@@ -6,7 +6,7 @@ use Rattle.std.proofs.Math.Nat.{lt-div-mul-add}
 use Rattle.std.proofs.lemmas.Nat.{pow-add, le-div, div_below}
 use Rattle.std.proofs.lemmas.Bool.{cases_lt}
 use Rattle.h41_decimal.specs.NearestDecimal.{Exact, Fraction, RootOf, IsBelow, IsAtLeast, IsTenDigits, IsBounded, IsRounded}
-use Rattle.h41_decimal.specs.Cut.{IsAtMost, IsCut, IsCutFarEnough, origin}
+use Rattle.h41_decimal.specs.private.Cut.{IsAtMost, IsCut, IsCutFarEnough, origin}
 use Rattle.h41_decimal.specs.declared.fault.DecimalFault.{DecimalFault}
 use Rattle.h41_decimal.specs.declared.sign.Sign.{Sign}
 use Rattle.h41_decimal.specs.declared.ten.Ten.{Ten}

@@ -4,7 +4,7 @@ use Rattle.std.specs.Prelude.{◌-ℤ◌}
 use Rattle.std.proofs.Math.Nat.{mul-le-mul_right, mul-lt-mul_of_pos_right}
 use Rattle.h41_decimal.specs.Signs.{signed, opposite_of}
 use Rattle.h41_decimal.specs.NearestDecimal.{Fraction, Nearest}
-use Rattle.h41_decimal.specs.Cut.{RoundsWhole}
+use Rattle.h41_decimal.specs.private.Cut.{RoundsWhole}
 use Rattle.h41_decimal.specs.declared.fault.DecimalFault.{DecimalFault}
 use Rattle.h41_decimal.specs.declared.sign.Sign.{Sign}
 use Rattle.h41_decimal.specs.declared.ten.Ten.{Ten}

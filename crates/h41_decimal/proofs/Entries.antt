@@ -6,7 +6,7 @@ use Rattle.h41_decimal.specs.Signs.{signed}
 use Rattle.h41_decimal.specs.Units.{one}
 use Rattle.h41_decimal.specs.NearestDecimal.{Fraction, Nearest}
 use Rattle.h41_decimal.specs.NumberEntry.{IsTyped, within_bounds}
-use Rattle.h41_decimal.specs.Cut.{IsCutFarEnough, RoundsWhole}
+use Rattle.h41_decimal.specs.private.Cut.{IsCutFarEnough, RoundsWhole}
 use Rattle.h41_decimal.specs.Laws.{TypedIsDetermined}
 use Rattle.h41_decimal.specs.declared.fault.DecimalFault.{DecimalFault}
 use Rattle.h41_decimal.specs.declared.parts.Exponent.{Exponent}

@@ -5,7 +5,7 @@ use Rattle.std.proofs.Math.Nat.{lt-div-mul-add}
 use Rattle.std.proofs.lemmas.Nat.{pow-add, le-div}
 use Rattle.std.proofs.lemmas.Bool.{cases_lt}
 use Rattle.h41_decimal.specs.NearestDecimal.{Exact, Fraction, RootOf}
-use Rattle.h41_decimal.specs.Cut.{IsCutFarEnough}
+use Rattle.h41_decimal.specs.private.Cut.{IsCutFarEnough}
 use Rattle.h41_decimal.proofs.Nearest.{ten_pow_pos}
 use Rattle.h41_decimal.proofs.Cuts.{power_parts}
 

@@ -8,9 +8,9 @@ use Rattle.h41_decimal.specs.Signs.{signed, opposite_of, product_of}
 use Rattle.h41_decimal.specs.Units.{size, units}
 use Rattle.h41_decimal.specs.NearestDecimal.{Fraction, Nearest}
 use Rattle.h41_decimal.specs.Operations.{IsFloor, RoundsRest, NearestModulo}
-use Rattle.h41_decimal.specs.Cut.{RoundsWhole}
+use Rattle.h41_decimal.specs.private.Cut.{RoundsWhole}
 use Rattle.h41_decimal.specs.declared.fault.DecimalFault.{DecimalFault}
-use Rattle.h41_decimal.specs.declared.parts.Size.{Size}
+use Rattle.h41_decimal.specs.declared.parts.Magnitude.{Magnitude}
 use Rattle.h41_decimal.specs.declared.sign.Sign.{Sign}
 use Rattle.h41_decimal.specs.declared.sign.Sign.TheVariants.{Plus, Minus}
 use Rattle.h41_decimal.specs.declared.ten.Ten.{Ten}
@@ -151,7 +151,7 @@ pub rest_of_zero : (s : Sign) (X : ℕ) → 0 < X → RoundsRest (pos 0) (signed
 rest_of_zero Plus X some = rest_of_same Plus 0 X 0 0 (Ok Zero) (omega arith) some refl
 rest_of_zero Minus X some = rest_of_same Minus 0 X 0 0 (Ok Zero) (omega arith) some refl
 
-pub modulo_by : (y : Ten) (t : Sign) (x : Size) (z : ℤ) (answer : Result Ten DecimalFault) → units y ≡ z
+pub modulo_by : (y : Ten) (t : Sign) (x : Magnitude) (z : ℤ) (answer : Result Ten DecimalFault) → units y ≡ z
     → RoundsRest z (signed t (size x)) answer → NearestModulo y (Nonzero t x) answer
 modulo_by y t x z answer e rest =
     let a : unsigned_abs (signed t (size x)) ≡ size x = unsigned_abs-signed t (size x) in

@@ -11,8 +11,8 @@ use Rattle.h41_digits.specs.Register.{IsRegister, value}
 use Rattle.h41_digits.specs.Packed.{digits_of, pow-next}
 use Rattle.h41_digits.proofs.Packed.{bits_of_places, digits_of-value}
 use Rattle.h41_decimal.specs.Holding.{decimal_in}
-use Rattle.h41_decimal.specs.PackedDigits.{packed}
-use Rattle.h41_decimal.specs.SameDigits.{SameDigitsFrom}
+use Rattle.h41_decimal.specs.private.PackedDigits.{packed}
+use Rattle.h41_decimal.specs.private.SameDigits.{SameDigitsFrom}
 use Rattle.h41_decimal.proofs.Registers.{written_more}
 
 -- one digit more is packed

@@ -9,7 +9,7 @@ use Rattle.h41_decimal.specs.Signs.{signed, sign_of}
 use Rattle.h41_decimal.specs.Units.{size, units}
 use Rattle.h41_decimal.specs.declared.parts.Mantissa.{Mantissa}
 use Rattle.h41_decimal.specs.declared.parts.Exponent.{Exponent}
-use Rattle.h41_decimal.specs.declared.parts.Size.{Size}
+use Rattle.h41_decimal.specs.declared.parts.Magnitude.{Magnitude}
 use Rattle.h41_decimal.specs.declared.sign.Sign.{Sign}
 use Rattle.h41_decimal.specs.declared.ten.Ten.{Ten}
 use Rattle.h41_decimal.specs.declared.ten.Ten.TheVariants.{Zero, Nonzero}
@@ -37,10 +37,10 @@ same_exponent_of x y e =
     let P : ℕ → Type 0 = λ s. (h : s ≤ 198) → x ≡ exponent_at s h in
     subst P e (λ h. ap (λ t. exponent_at x.biased t) (le_prop x.in_range h)) y.in_range
 
-size_at : Mantissa → Exponent → Size
+size_at : Mantissa → Exponent → Magnitude
 size_at m k = record { mantissa = m; exponent = k }
 
-same_parts : (x y : Size) → x.mantissa ≡ y.mantissa → x.exponent ≡ y.exponent → x ≡ y
+same_parts : (x y : Magnitude) → x.mantissa ≡ y.mantissa → x.exponent ≡ y.exponent → x ≡ y
 unfolding size_at
 same_parts x y e f = ap (λ m. size_at m x.exponent) e ∙ ap (λ k. size_at y.mantissa k) f
 
@@ -56,7 +56,7 @@ one_exponent m n s t m_least m_below n_least n_below e =
     (cases_lt t s))
     (cases_lt s t)
 
-same_sizes : (x y : Size) → size x ≡ size y → x ≡ y
+same_sizes : (x y : Magnitude) → size x ≡ size y → x ≡ y
 same_sizes x y e =
     let s = x.exponent.biased in
     let t = y.exponent.biased in
@@ -67,7 +67,7 @@ same_sizes x y e =
     let mn : m ≡ n = eq_of_mul-eq-mul_right (10 ^ s) (ten_pow_pos s) m n f in
     same_parts x y (same_mantissa x.mantissa y.mantissa mn) (same_exponent_of x.exponent y.exponent st)
 
-no_zero : (s : Sign) (y : Size) → pos 0 ≡ signed s (size y) → ⊥
+no_zero : (s : Sign) (y : Magnitude) → pos 0 ≡ signed s (size y) → ⊥
 no_zero s y e =
     let a : 0 ≡ size y = ap unsigned_abs e ∙ unsigned_abs-signed s (size y) in
     let h = size_pos y in

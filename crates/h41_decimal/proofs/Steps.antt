@@ -8,9 +8,9 @@ use Rattle.h41_decimal.specs.Signs.{signed, sign_of}
 use Rattle.h41_decimal.specs.Units.{size}
 use Rattle.h41_decimal.specs.NearestDecimal.{Fraction, Nearest}
 use Rattle.h41_decimal.specs.Operations.{RoundsTo}
-use Rattle.h41_decimal.specs.Cut.{RoundsWhole}
+use Rattle.h41_decimal.specs.private.Cut.{RoundsWhole}
 use Rattle.h41_decimal.specs.declared.fault.DecimalFault.{DecimalFault}
-use Rattle.h41_decimal.specs.declared.parts.Size.{Size}
+use Rattle.h41_decimal.specs.declared.parts.Magnitude.{Magnitude}
 use Rattle.h41_decimal.specs.declared.sign.Sign.{Sign}
 use Rattle.h41_decimal.specs.declared.sign.Sign.TheVariants.{Plus, Minus}
 use Rattle.h41_decimal.specs.declared.ten.Ten.{Ten}
@@ -50,7 +50,7 @@ zero_rounds step step_pos = record {
 }
 
 -- a size with no place below the step stays as it is
-pub whole_rounds : (sign : Sign) (x : Size) (place : ℕ) → place ≤ x.exponent.biased
+pub whole_rounds : (sign : Sign) (x : Magnitude) (place : ℕ) → place ≤ x.exponent.biased
     → RoundsTo (10 ^ place) (signed sign (size x)) (Ok (Nonzero sign x))
 whole_rounds sign x place low =
     let m = x.mantissa.digits in
@@ -63,7 +63,7 @@ whole_rounds sign x place low =
     (subst P (sym e) (own_nearest (Nonzero sign x)))
 
 -- one far below half a step becomes zero
-pub tiny_rounds : (sign : Sign) (x : Size) (place : ℕ) → x.exponent.biased + 10 < place
+pub tiny_rounds : (sign : Sign) (x : Magnitude) (place : ℕ) → x.exponent.biased + 10 < place
     → RoundsTo (10 ^ place) (signed sign (size x)) (Ok Zero)
 tiny_rounds sign x place far =
     let m = x.mantissa.digits in
@@ -92,8 +92,9 @@ half_of_power : (p dropped : ℕ) → p ≡ 10 ^ dropped → 0 < dropped → 2 *
 half_of_power p zero e h = absurd (omega arith)
 half_of_power p (suc dropped) e h = let q : 10 ^ suc dropped ≡ 10 ^ dropped * 10 = pow-suc 10 dropped in omega arith
 
-quotient_rounds : (sign : Sign) (x : Size) (place dropped p k : ℕ) (answer : Result Ten DecimalFault) → dropped + x.exponent.biased ≡ place
-    → 0 < dropped → p ≡ 10 ^ dropped → k ≡ (x.mantissa.digits + p / 2) / p → Nearest (signed sign (k * 10 ^ place)) 1 answer
+quotient_rounds : (sign : Sign) (x : Magnitude) (place dropped p k : ℕ) (answer : Result Ten DecimalFault)
+    → dropped + x.exponent.biased ≡ place → 0 < dropped → p ≡ 10 ^ dropped
+    → k ≡ (x.mantissa.digits + p / 2) / p → Nearest (signed sign (k * 10 ^ place)) 1 answer
     → RoundsTo (10 ^ place) (signed sign (size x)) answer
 quotient_rounds sign x place dropped p k answer places some p_is k_is nearest =
     let m = x.mantissa.digits in
@@ -112,7 +113,7 @@ quotient_rounds sign x place dropped p k answer places some p_is k_is nearest =
     rounds_of sign (m * 10 ^ s) k (10 ^ place) answer (size_pos x) (subst L step l) (subst H step h) nearest
 
 -- a quotient of zero
-pub quotient_rounds_to_zero : (sign : Sign) (x : Size) (place dropped p k : ℕ) → dropped + x.exponent.biased ≡ place → 0 < dropped
+pub quotient_rounds_to_zero : (sign : Sign) (x : Magnitude) (place dropped p k : ℕ) → dropped + x.exponent.biased ≡ place → 0 < dropped
     → p ≡ 10 ^ dropped → k ≡ (x.mantissa.digits + p / 2) / p → k ≡ 0 → RoundsTo (10 ^ place) (signed sign (size x)) (Ok Zero)
 quotient_rounds_to_zero sign x place dropped p k places some p_is k_is none =
     let e : k * 10 ^ place ≡ 0 = ap (λ t. t * 10 ^ place) none ∙ omega arith in
@@ -123,7 +124,7 @@ pub at_unit_scale : (k place : ℕ) → (k * 10 ^ place) * 10 ^ 128 ≡ (k * 10 
 at_unit_scale k place = let p = ap (λ t. k * t) (pow-add 10 place 128) in omega (arith, p)
 
 -- and another, rounded to ten digits
-pub quotient_rounds_to_steps : (sign : Sign) (x : Size) (place dropped p k : ℕ) (answer : Result Ten DecimalFault)
+pub quotient_rounds_to_steps : (sign : Sign) (x : Magnitude) (place dropped p k : ℕ) (answer : Result Ten DecimalFault)
     → dropped + x.exponent.biased ≡ place → 0 < dropped → p ≡ 10 ^ dropped → k ≡ (x.mantissa.digits + p / 2) / p → 0 < k
     → RoundsWhole sign k (place + 128) answer → RoundsTo (10 ^ place) (signed sign (size x)) answer
 quotient_rounds_to_steps sign x place dropped p k answer places some p_is k_is k_pos rounds =

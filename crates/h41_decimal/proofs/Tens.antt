@@ -20,7 +20,7 @@ use Rattle.h41_decimal.specs.NearestDecimal.{Exact, Fraction, RootOf, IsBounded,
 use Rattle.h41_decimal.specs.Operations.{NearestQuotient}
 use Rattle.h41_decimal.specs.declared.fault.DecimalFault.{DecimalFault}
 use Rattle.h41_decimal.specs.declared.fault.DecimalFault.TheVariants.{Data, Range}
-use Rattle.h41_decimal.specs.declared.parts.Size.{Size}
+use Rattle.h41_decimal.specs.declared.parts.Magnitude.{Magnitude}
 use Rattle.h41_decimal.specs.declared.sign.Sign.{Sign}
 use Rattle.h41_decimal.specs.declared.sign.Sign.TheVariants.{Plus, Minus}
 use Rattle.h41_decimal.specs.declared.ten.Ten.{Ten}
@@ -31,7 +31,7 @@ use Rattle.h41_decimal.proofs.Exact.{exact_fraction}
 use Rattle.h41_decimal.proofs.Signed.{not_zero, nearest_of, nearest_of_zero, signed-mul}
 
 -- a size is above zero
-pub size_pos : (x : Size) → 0 < size x
+pub size_pos : (x : Magnitude) → 0 < size x
 size_pos x =
     let m : 10 ^ 9 ≤ x.mantissa.digits = x.mantissa.at_least in
     let d : 0 < x.mantissa.digits = omega arith in
@@ -43,7 +43,7 @@ unsigned_abs-signed Minus zero = refl
 unsigned_abs-signed Minus (suc n) = refl
 
 -- a decimal is the answer for its own value
-own_bounded : (sign : Sign) (x : Size) (steps : ℕ) → steps ≡ x.exponent.biased
+own_bounded : (sign : Sign) (x : Magnitude) (steps : ℕ) → steps ≡ x.exponent.biased
     → IsBounded sign x.mantissa.digits (pos steps) (Ok (Nonzero sign x))
 own_bounded sign x steps e =
     let low : x.exponent.biased ≤ 198 = x.exponent.in_range in
@@ -69,7 +69,7 @@ own_place m s =
     let p' : 10 ^ (s + 128) ≡ 10 ^ s * 10 ^ 128 = pow-add 10 s 128 in
     ap (λ t. m * t) (omega arith)
 
-pub own_rounded : (sign : Sign) (x : Size) → IsRounded sign (Fraction (size x) 1) (Ok (Nonzero sign x))
+pub own_rounded : (sign : Sign) (x : Magnitude) → IsRounded sign (Fraction (size x) 1) (Ok (Nonzero sign x))
 own_rounded sign x =
     let m = x.mantissa.digits in
     let s = x.exponent.biased in
@@ -86,13 +86,13 @@ own_nearest (Nonzero sign x) =
     nearest_of (units (Nonzero sign x)) 1 sign (size x) (Ok (Nonzero sign x)) refl (size_pos x) (own_rounded sign x)
 
 -- the product, and a hundredth of it
-pub product_nearest : (s t : Sign) (x y : Size) (d : ℕ) (answer : Result Ten DecimalFault)
+pub product_nearest : (s t : Sign) (x y : Magnitude) (d : ℕ) (answer : Result Ten DecimalFault)
     → IsRounded (product_of s t) (Fraction (size x * size y) d) answer → Nearest (signed s (size x) *ℤ signed t (size y)) d answer
 product_nearest s t x y d answer rounded =
     nearest_of _ d (product_of s t) (size x * size y) answer (signed-mul s t (size x) (size y)) (mul-pos (size_pos x) (size_pos y)) rounded
 
 -- the quotient by what is not zero
-pub quotient_by : (z : ℤ) (t : Sign) (y : Size) (answer : Result Ten DecimalFault)
+pub quotient_by : (z : ℤ) (t : Sign) (y : Magnitude) (answer : Result Ten DecimalFault)
     → Nearest (z *ℤ signed t (size y) *ℤ pos one) (size y * size y) answer → NearestQuotient z (signed t (size y)) answer
 quotient_by z t y answer nearest =
     let e : unsigned_abs (signed t (size y)) ≡ size y = unsigned_abs-signed t (size y) in
@@ -104,7 +104,7 @@ pub product_with_plus : (s : Sign) → product_of s Plus ≡ s
 product_with_plus Plus = refl
 product_with_plus Minus = refl
 
-pub quotient_nearest : (s t : Sign) (x y : Size) (answer : Result Ten DecimalFault)
+pub quotient_nearest : (s t : Sign) (x y : Magnitude) (answer : Result Ten DecimalFault)
     → IsRounded (product_of s t) (Fraction (size x * size y * one) (size y * size y)) answer
     → NearestQuotient (signed s (size x)) (signed t (size y)) answer
 quotient_nearest s t x y answer rounded =
@@ -116,17 +116,17 @@ quotient_nearest s t x y answer rounded =
     (nearest_of _ (size y * size y) (product_of s t) (size x * size y * one) answer
     e (mul-pos (mul-pos (size_pos x) (size_pos y)) (ten_pow_pos 108)) rounded)
 
-pub quotient_of_zero : (t : Sign) (y : Size) → NearestQuotient (pos 0) (signed t (size y)) (Ok Zero)
+pub quotient_of_zero : (t : Sign) (y : Magnitude) → NearestQuotient (pos 0) (signed t (size y)) (Ok Zero)
 quotient_of_zero t y =
     quotient_by (pos 0) t y (Ok Zero)
     (nearest_of_zero _ (size y * size y) (Ok Zero) (ap (λ z. z *ℤ pos one) (zero-*ℤ (signed t (size y))) ∙ zero-*ℤ (pos one)) refl)
 
 -- the square root of what is above zero, and of what is below
-pub root_nearest : (x : Size) (answer : Result Ten DecimalFault) → IsRounded Plus (RootOf (size x * one)) answer
+pub root_nearest : (x : Magnitude) (answer : Result Ten DecimalFault) → IsRounded Plus (RootOf (size x * one)) answer
     → NearestRoot (signed Plus (size x)) answer
 root_nearest x answer rounded = not_zero (answer ≡ Ok Zero) _ (size x) (size_pos x) rounded
 
-pub root_of_negative : (x : Size) → NearestRoot (signed Minus (size x)) (Err Data)
+pub root_of_negative : (x : Magnitude) → NearestRoot (signed Minus (size x)) (Err Data)
 root_of_negative x = go (size x) (size_pos x)
   where
     go : (n : ℕ) → 0 < n → NearestRoot (signed Minus n) (Err Data)

@@ -6,6 +6,4 @@ pub mod WholeParts
 pub mod NumberEntry
 pub mod Holding
 pub mod Laws
-pub mod Cut
-pub mod SameDigits
-pub mod PackedDigits
+pub mod private

@@ -3,7 +3,7 @@
 -- number of them.
 use Rattle.std.specs.Prelude.{ℕ, ◌*◌, ◌^◌, ℤ, pos}
 use Rattle.h41_decimal.specs.Signs.{signed}
-use Rattle.h41_decimal.specs.declared.parts.Size.{Size}
+use Rattle.h41_decimal.specs.declared.parts.Magnitude.{Magnitude}
 use Rattle.h41_decimal.specs.declared.ten.Ten.{Ten}
 use Rattle.h41_decimal.specs.declared.ten.Ten.TheVariants.{Zero, Nonzero}
 
@@ -15,7 +15,7 @@ one = 10 ^ 108
 abbrev pub size_of : ℕ → ℕ → ℕ
 size_of digits steps = digits * 10 ^ steps
 
-abbrev pub size : Size → ℕ
+abbrev pub size : Magnitude → ℕ
 size x = size_of x.mantissa.digits x.exponent.biased
 
 -- how many units a decimal is worth

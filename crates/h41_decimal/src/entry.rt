@@ -5,7 +5,7 @@ ghost use Rattle.h41_decimal.specs.Signs.{signed};
 ghost use Rattle.h41_decimal.specs.Units.{units};
 ghost use Rattle.h41_decimal.specs.NumberEntry.{IsTyped, greatest as greatest_size};
 
-use crate::parts::{Exponent, Mantissa, Size};
+use crate::parts::{Exponent, Magnitude, Mantissa};
 use crate::rounding::round_whole;
 use crate::sign::Sign;
 use crate::ten::Ten;
@@ -36,5 +36,5 @@ pub fn greatest(sign: Sign) -> Ten
         digits: 9_999_999_999,
     };
     let exponent = Exponent { biased: 198 };
-    Ten::Nonzero(sign, Size { mantissa, exponent })
+    Ten::Nonzero(sign, Magnitude { mantissa, exponent })
 }

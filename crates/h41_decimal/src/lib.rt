@@ -15,7 +15,7 @@ pub mod ten;
 mod whole;
 
 pub use fault::DecimalFault;
-pub use parts::{Exponent, Mantissa, Size};
+pub use parts::{Exponent, Magnitude, Mantissa};
 pub use places::Places;
 pub use sign::Sign;
 pub use ten::Ten;

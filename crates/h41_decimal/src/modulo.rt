@@ -6,7 +6,7 @@ ghost use Rattle.h41_decimal.specs.Units.{size};
 ghost use Rattle.h41_decimal.specs.Operations.{RoundsRest};
 
 use crate::fault::DecimalFault;
-use crate::parts::Size;
+use crate::parts::Magnitude;
 use crate::rounding::{UNIT_SCALE, power_of_ten, round_whole};
 use crate::sign::Sign;
 use crate::sizes;
@@ -16,7 +16,7 @@ use crate::ten::Ten;
 const AT_ONCE: u32 = 28;
 
 /// What is left of a size with a sign by another.
-pub fn modulo(y_sign: Sign, y: Size, x_sign: Sign, x: Size) -> Result<Ten, DecimalFault>
+pub fn modulo(y_sign: Sign, y: Magnitude, x_sign: Sign, x: Magnitude) -> Result<Ten, DecimalFault>
     ensures { RoundsRest (signed y_sign (size y)) (signed x_sign (size x)) result }
 {
     if x_sign == y_sign {
@@ -27,7 +27,7 @@ pub fn modulo(y_sign: Sign, y: Size, x_sign: Sign, x: Size) -> Result<Ten, Decim
 }
 
 /// What is left where both have one sign: the remainder of the sizes.
-fn rest_same(sign: Sign, y: Size, x: Size) -> Result<Ten, DecimalFault>
+fn rest_same(sign: Sign, y: Magnitude, x: Magnitude) -> Result<Ten, DecimalFault>
     ensures { RoundsRest (signed sign (size y)) (signed sign (size x)) result }
 {
     if y.exponent.biased < x.exponent.biased {
@@ -42,7 +42,7 @@ fn rest_same(sign: Sign, y: Size, x: Size) -> Result<Ten, DecimalFault>
 
 /// What is left where the divisor has this sign and the dividend the other: what the remainder of the sizes lacks of the
 /// divisor, or nothing.
-fn rest_apart(sign: Sign, y: Size, x: Size) -> Result<Ten, DecimalFault>
+fn rest_apart(sign: Sign, y: Magnitude, x: Magnitude) -> Result<Ten, DecimalFault>
     ensures { RoundsRest (signed (opposite_of sign) (size y)) (signed sign (size x)) result }
 {
     if y.exponent.biased < x.exponent.biased {

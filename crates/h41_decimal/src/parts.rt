@@ -31,14 +31,14 @@ impl Exponent {
 
 /// A size above zero: ten digits and an exponent.
 #[derive(Clone, Copy, Debug, PartialEq, Eq)]
-pub struct Size {
+pub struct Magnitude {
     /// The digits.
     pub mantissa: Mantissa,
     /// The exponent.
     pub exponent: Exponent,
 }
 
-impl Size {
+impl Magnitude {
     /// The digits, as a number from which others are computed.
     pub fn digits(self) -> u128
         ensures { result ≡ self.mantissa.digits }

@@ -2,15 +2,15 @@
 
 ghost use Rattle.std.specs.Prelude.{◌≡◌, ℕ, ◌+◌, ◌*◌, ◌^◌, ◌<◌, ◌≤◌, IfSome, Some, None};
 ghost use Rattle.std.specs.Prelude.{slice_index};
-ghost use Rattle.h41_decimal.specs.PackedDigits.{packed};
-ghost use Rattle.h41_decimal.specs.SameDigits.{SameDigitsBelow, SameDigitsFrom};
+ghost use Rattle.h41_decimal.specs.private.PackedDigits.{packed};
+ghost use Rattle.h41_decimal.specs.private.SameDigits.{SameDigitsBelow, SameDigitsFrom};
 ghost use Rattle.h41_decimal.specs.Signs.{signed};
 ghost use Rattle.std.specs.Option.{option_map};
 ghost use Rattle.h41_decimal.specs.Units.{size, units};
 ghost use Rattle.h41_decimal.specs.Holding.{decimal_in, sign_in, steps_in, parts_worth, holding_of};
 ghost use Rattle.h41_decimal.specs.Holding.{worth, Number};
 
-use crate::parts::{Exponent, Mantissa, Size};
+use crate::parts::{Exponent, Magnitude, Mantissa};
 use crate::sign::Sign;
 use crate::ten::Ten;
 use h41_digits::Reg;
@@ -62,7 +62,7 @@ fn number(mantissa: u64, exponent: u64, sign: u8) -> Option<Ten>
             }
             let mantissa = Mantissa { digits: mantissa };
             let exponent = Exponent { biased };
-            Some(Ten::Nonzero(sign, Size { mantissa, exponent }))
+            Some(Ten::Nonzero(sign, Magnitude { mantissa, exponent }))
         }
         _ => None,
     }
@@ -105,7 +105,7 @@ pub fn write(number: Ten) -> Reg
 }
 
 /// The register that holds a size with a sign.
-fn write_size(sign: Sign, x: Size) -> Reg
+fn write_size(sign: Sign, x: Magnitude) -> Reg
     ensures { holding_of result ≡ Number (signed sign (size x)) }
 {
     let signed = Reg::zero().with(13, sign_digit(sign));

@@ -2,10 +2,10 @@
 
 ghost use Rattle.std.specs.Prelude.{◌≡◌, ℕ, ◌+◌, ◌-◌, ◌*◌, ◌^◌, ◌<◌, ◌≤◌, pos};
 ghost use Rattle.h41_decimal.specs.NearestDecimal.{IsBounded};
-ghost use Rattle.h41_decimal.specs.Cut.{RoundsElevenDigits, RoundsWhole};
+ghost use Rattle.h41_decimal.specs.private.Cut.{RoundsElevenDigits, RoundsWhole};
 
 use crate::fault::DecimalFault;
-use crate::parts::{Exponent, Mantissa, Size};
+use crate::parts::{Exponent, Magnitude, Mantissa};
 use crate::sign::Sign;
 use crate::ten::Ten;
 
@@ -99,7 +99,7 @@ fn bounded(sign: Sign, mantissa: Mantissa, scale: u32) -> Result<Ten, DecimalFau
     let exponent = Exponent {
         biased: biased as u8,
     };
-    Ok(Ten::Nonzero(sign, Size { mantissa, exponent }))
+    Ok(Ten::Nonzero(sign, Magnitude { mantissa, exponent }))
 }
 
 /// The nearest decimal of a size that was cut to eleven digits, which stand at a scale.

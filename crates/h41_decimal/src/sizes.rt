@@ -8,7 +8,7 @@ ghost use Rattle.h41_decimal.specs.NearestDecimal.{IsRounded, Nearest, Fraction,
 ghost use Rattle.h41_decimal.specs.Operations.{RoundsTo};
 
 use crate::fault::DecimalFault;
-use crate::parts::Size;
+use crate::parts::Magnitude;
 use crate::rounding::{UNIT_SCALE, power_of_ten, round_whole};
 use crate::sign::Sign;
 use crate::ten::Ten;
@@ -19,21 +19,21 @@ use std::cmp::Ordering;
 const FAR_APART: u32 = 12;
 
 /// The product of two sizes.
-pub fn multiply(sign: Sign, x: Size, y: Size) -> Result<Ten, DecimalFault>
+pub fn multiply(sign: Sign, x: Magnitude, y: Magnitude) -> Result<Ten, DecimalFault>
     ensures { IsRounded sign (Fraction (size x * size y) one) result }
 {
     round_whole(sign, x.digits() * y.digits(), x.steps() + y.steps() + 20)
 }
 
 /// A hundredth of the product of two sizes.
-pub fn percent(sign: Sign, x: Size, y: Size) -> Result<Ten, DecimalFault>
+pub fn percent(sign: Sign, x: Magnitude, y: Magnitude) -> Result<Ten, DecimalFault>
     ensures { IsRounded sign (Fraction (size x * size y) (100 * one)) result }
 {
     round_whole(sign, x.digits() * y.digits(), x.steps() + y.steps() + 18)
 }
 
 /// The quotient of two sizes.
-pub fn divide(sign: Sign, x: Size, y: Size) -> Result<Ten, DecimalFault>
+pub fn divide(sign: Sign, x: Magnitude, y: Magnitude) -> Result<Ten, DecimalFault>
     ensures { IsRounded sign (Fraction (size x * size y * one) (size y * size y)) result }
 {
     let quotient = x.digits() * 100_000_000_000 / y.digits();
@@ -41,7 +41,7 @@ pub fn divide(sign: Sign, x: Size, y: Size) -> Result<Ten, DecimalFault>
 }
 
 /// The square root of a size. It is taken of a whole number of 21 or 22 digits, at an even power of ten.
-pub fn root(x: Size) -> Result<Ten, DecimalFault>
+pub fn root(x: Magnitude) -> Result<Ten, DecimalFault>
     ensures { IsRounded Sign.Plus (RootOf (size x * one)) result }
 {
     let steps = x.steps();
@@ -51,7 +51,7 @@ pub fn root(x: Size) -> Result<Ten, DecimalFault>
 }
 
 /// The sum of two sizes, the first of which has no lower exponent than the second.
-pub fn add(sign: Sign, x: Size, y: Size) -> Result<Ten, DecimalFault>
+pub fn add(sign: Sign, x: Magnitude, y: Magnitude) -> Result<Ten, DecimalFault>
     requires { y.exponent.biased ≤ x.exponent.biased }
     ensures { IsRounded sign (Fraction (size x + size y) 1) result }
 {
@@ -65,7 +65,7 @@ pub fn add(sign: Sign, x: Size, y: Size) -> Result<Ten, DecimalFault>
 }
 
 /// The difference of two sizes that have this sign, the first of which has no lower exponent than the second.
-pub fn subtract(sign: Sign, x: Size, y: Size) -> Result<Ten, DecimalFault>
+pub fn subtract(sign: Sign, x: Magnitude, y: Magnitude) -> Result<Ten, DecimalFault>
     requires { y.exponent.biased ≤ x.exponent.biased }
     ensures { Nearest (signed sign (size x) -ℤ signed sign (size y)) 1 result }
 {
@@ -88,7 +88,7 @@ pub fn subtract(sign: Sign, x: Size, y: Size) -> Result<Ten, DecimalFault>
 }
 
 /// Which of two sizes is greater: the one with the higher exponent, else the one with the higher digits.
-pub fn compare(x: Size, y: Size) -> Ordering
+pub fn compare(x: Magnitude, y: Magnitude) -> Ordering
     ensures { result ≡ int_cmp (pos (size x)) (pos (size y)) }
 {
     if x.exponent.biased < y.exponent.biased {
@@ -105,7 +105,7 @@ pub fn compare(x: Size, y: Size) -> Ordering
 }
 
 /// A size rounded to a whole count of steps of a place, which is ten to a power of units.
-pub fn round_at(sign: Sign, x: Size, place: u32) -> Result<Ten, DecimalFault>
+pub fn round_at(sign: Sign, x: Magnitude, place: u32) -> Result<Ten, DecimalFault>
     requires { place < 300 }
     ensures { RoundsTo (10 ^ place) (signed sign (size x)) result }
 {

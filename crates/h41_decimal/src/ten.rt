@@ -13,7 +13,7 @@ ghost use Rattle.h41_decimal.specs.WholeParts.{HasOnes, IsIntegerPart, IsFractio
 ghost use Rattle.h41_decimal.specs.Operations.{NearestQuotient, NearestModulo, RoundsTo, step_of};
 
 use crate::fault::DecimalFault;
-use crate::parts::{Exponent, Mantissa, Size};
+use crate::parts::{Exponent, Magnitude, Mantissa};
 use crate::places::Places;
 use crate::sign::Sign;
 use crate::{entry, modulo, register, sizes, whole};
@@ -26,7 +26,7 @@ pub enum Ten {
     /// Zero, which has no sign.
     Zero,
     /// Another number.
-    Nonzero(Sign, Size),
+    Nonzero(Sign, Magnitude),
 }
 
 impl Ten {
@@ -68,7 +68,7 @@ impl Ten {
             digits: 1_000_000_000,
         };
         let exponent = Exponent { biased: 99 };
-        Ten::Nonzero(self.sign(), Size { mantissa, exponent })
+        Ten::Nonzero(self.sign(), Magnitude { mantissa, exponent })
     }
 
     /// The greatest number with a sign, 9.999999999E99.
@@ -260,7 +260,7 @@ impl Ten {
 }
 
 /// Which of zero and a size with a sign is greater.
-fn zero_against(sign: Sign, x: Size) -> Ordering
+fn zero_against(sign: Sign, x: Magnitude) -> Ordering
     ensures { result ≡ int_cmp (pos 0) (signed sign (size x)) }
 {
     match sign {
@@ -270,7 +270,7 @@ fn zero_against(sign: Sign, x: Size) -> Ordering
 }
 
 /// Which of a size with a sign and zero is greater.
-fn against_zero(sign: Sign, x: Size) -> Ordering
+fn against_zero(sign: Sign, x: Magnitude) -> Ordering
     ensures { result ≡ int_cmp (signed sign (size x)) (pos 0) }
 {
     match sign {
@@ -280,7 +280,7 @@ fn against_zero(sign: Sign, x: Size) -> Ordering
 }
 
 /// Which of two sizes with signs is greater.
-fn compare_signed(x_sign: Sign, x: Size, y_sign: Sign, y: Size) -> Ordering
+fn compare_signed(x_sign: Sign, x: Magnitude, y_sign: Sign, y: Magnitude) -> Ordering
     ensures { result ≡ int_cmp (signed x_sign (size x)) (signed y_sign (size y)) }
 {
     match (x_sign, y_sign) {
@@ -292,7 +292,7 @@ fn compare_signed(x_sign: Sign, x: Size, y_sign: Sign, y: Size) -> Ordering
 }
 
 /// The sum of two sizes with signs.
-fn add_signed(x_sign: Sign, x: Size, y_sign: Sign, y: Size) -> Result<Ten, DecimalFault>
+fn add_signed(x_sign: Sign, x: Magnitude, y_sign: Sign, y: Magnitude) -> Result<Ten, DecimalFault>
     ensures { Nearest (signed x_sign (size x) +ℤ signed y_sign (size y)) 1 result }
 {
     if x.exponent.biased < y.exponent.biased {
@@ -303,7 +303,7 @@ fn add_signed(x_sign: Sign, x: Size, y_sign: Sign, y: Size) -> Result<Ten, Decim
 }
 
 /// The sum of two sizes with signs, the first of which has no lower exponent than the second.
-fn add_smaller(x_sign: Sign, x: Size, y_sign: Sign, y: Size) -> Result<Ten, DecimalFault>
+fn add_smaller(x_sign: Sign, x: Magnitude, y_sign: Sign, y: Magnitude) -> Result<Ten, DecimalFault>
     requires { y.exponent.biased ≤ x.exponent.biased }
     ensures { Nearest (signed x_sign (size x) +ℤ signed y_sign (size y)) 1 result }
 {

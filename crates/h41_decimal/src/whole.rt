@@ -5,7 +5,7 @@ ghost use Rattle.h41_decimal.specs.Signs.{signed};
 ghost use Rattle.h41_decimal.specs.Units.{size, units};
 ghost use Rattle.h41_decimal.specs.WholeParts.{HasOnes, IsIntegerPart, IsFraction};
 
-use crate::parts::{Exponent, Mantissa, Size};
+use crate::parts::{Exponent, Magnitude, Mantissa};
 use crate::rounding::{digit_count, power_of_ten};
 use crate::sign::Sign;
 use crate::ten::Ten;
@@ -17,7 +17,7 @@ const ONES: u32 = 108;
 const LEAST: u32 = 99;
 
 /// The whole ones of a size, or nothing where they are 10^10 or more.
-pub fn ones(x: Size) -> Option<u64>
+pub fn ones(x: Magnitude) -> Option<u64>
     ensures ones { IfSome result (HasOnes (size x)) }
     ensures few { IfSome result (λ ones. ones < 10 ^ 10) }
     ensures many { IfNone result (109 ≤ x.exponent.biased) }
@@ -33,7 +33,7 @@ pub fn ones(x: Size) -> Option<u64>
 }
 
 /// The integer part of a size with a sign.
-pub fn integer_part(sign: Sign, x: Size) -> Ten
+pub fn integer_part(sign: Sign, x: Magnitude) -> Ten
     ensures { IsIntegerPart (signed sign (size x)) (units result) }
 {
     match ones(x) {
@@ -44,7 +44,7 @@ pub fn integer_part(sign: Sign, x: Size) -> Ten
 }
 
 /// The fraction of a size with a sign.
-pub fn fraction(sign: Sign, x: Size) -> Ten
+pub fn fraction(sign: Sign, x: Magnitude) -> Ten
     ensures { IsFraction (signed sign (size x)) (units result) }
 {
     let steps = x.steps();
@@ -76,5 +76,5 @@ fn decimal(sign: Sign, number: u64, steps: u32) -> Ten
     let exponent = Exponent {
         biased: (steps - missing) as u8,
     };
-    Ten::Nonzero(sign, Size { mantissa, exponent })
+    Ten::Nonzero(sign, Magnitude { mantissa, exponent })
 }

@@ -5,7 +5,7 @@ use Rattle.std.specs.Option.{option_map_or}
 use Rattle.h41_digits.specs.Register.{hexadecimal_text}
 use Rattle.h41_pages.specs.Images.{image_bytes}
 use Rattle.h41_pages.specs.PageMap.{PageMap, bank_numbered, image_at}
-use Rattle.h41_pages.specs.declared.functions.Function.{Function}
+use Rattle.h41_pages.specs.declared.functions.ModuleFunction.{ModuleFunction}
 use Rattle.h41_lines.specs.Characters.{characters_text, two_digits}
 use Rattle.h41_deck.specs.Pages.{block_bank}
 
@@ -15,12 +15,12 @@ name_text None = codes "-"
 name_text (Some name) = characters_text name
 
 -- a function by its two numbers and its name
-unfoldable pub function_line : Function → List ℕ
+unfoldable pub function_line : ModuleFunction → List ℕ
 function_line function =
     codes "XROM " ++ two_digits function.number ++ codes "," ++ two_digits function.entry
     ++ codes " " ++ name_text function.name ++ codes "\n"
 
-abbrev pub functions_text : List Function → List ℕ
+abbrev pub functions_text : List ModuleFunction → List ℕ
 functions_text functions = flat_map function_line functions
 
 -- bytes as two hexadecimal digits each, with the line's end

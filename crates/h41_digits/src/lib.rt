@@ -218,11 +218,12 @@ impl<const N: usize> Digits<N> {
     }
 }
 
-/// A digit, 0 to 15, as a character.
+/// A hexadecimal digit, 0 to 15, in upper case.
 #[inline(always)]
-fn glyph(digit: u8) -> u8
+pub fn glyph(digit: u8) -> u8
     requires { digit < 16 }
-    ensures { result ≡ digit_glyph true digit }
+    ensures value { result ≡ digit_glyph true digit }
+    ensures ascii { result < 128 }
 {
     if digit < 10 {
         b'0' + digit

@@ -6,8 +6,9 @@ ghost use Rattle.arrayvec.specs.ArrayString.{array_string_len};
 ghost use Rattle.h41_dis.specs.Spelling.{columns_text, GainsLine, listing_text, piece_line, spell};
 
 use crate::cut::{Piece, Pieces};
-use crate::text::{push_byte, push_instruction, push_word};
+use crate::text::{push_instruction, push_word};
 use arrayvec::ArrayString;
+use h41_lines::characters::push_byte_digits;
 use h41_words::Word;
 use std::alloc::{AllocError, Global};
 
@@ -71,8 +72,8 @@ fn push_columns(columns: &mut ArrayString<LINE>, address: u16, piece: Piece)
     ensures text { columns.new.bytes ≡ columns.old.bytes ++ columns_text address piece }
     ensures length { array_string_len columns.new ≡ 15 }
 {
-    push_byte(columns, (address / 256) as u8);
-    push_byte(columns, (address % 256) as u8);
+    push_byte_digits(columns, (address / 256) as u8);
+    push_byte_digits(columns, (address % 256) as u8);
     columns.push_str("  ");
     push_word(columns, piece.first);
     match piece.second {

@@ -1,7 +1,7 @@
 //! The text of one instruction.
 
-ghost use Rattle.std.specs.Prelude.{◌≡◌, ◌+◌, ◌*◌, ◌≤◌, ◌<◌, [], ◌∷◌, ◌++◌, ℕ, ℤ, true, length};
-ghost use Rattle.std.specs.Fmt.{decimal, digit_glyph};
+ghost use Rattle.std.specs.Prelude.{◌≡◌, ◌+◌, ◌*◌, ◌≤◌, ◌<◌, ◌++◌, ℕ, ℤ, length};
+ghost use Rattle.std.specs.Fmt.{decimal};
 ghost use Rattle.arrayvec.specs.ArrayString.{array_string_len};
 ghost use Rattle.h41_digits.specs.Register.{hexadecimal_text};
 ghost use Rattle.h41_words.specs.Mnemonics.{address_text, behind, displacement_text, mnemonic};
@@ -10,6 +10,7 @@ ghost use Rattle.h41_dis.specs.Spelling.{piece_text};
 
 use crate::text::names::{field_name, long_jump_name, mnemonic};
 use arrayvec::ArrayString;
+use h41_lines::characters::{glyph_text, push_byte_digits};
 use h41_words::{Displacement, Row, SecondWord, Word, row, word};
 
 mod names;
@@ -59,8 +60,8 @@ fn push_long_jump<const N: usize>(text: &mut ArrayString<N>, low_byte: u8, secon
 {
     text.push_str(long_jump_name(second.condition, second.kind));
     text.push_str(" ");
-    push_byte(text, second.high_byte);
-    push_byte(text, low_byte);
+    push_byte_digits(text, second.high_byte);
+    push_byte_digits(text, low_byte);
 }
 
 /// Appends a row of one word.
@@ -117,7 +118,7 @@ fn push_decimal<const N: usize>(text: &mut ArrayString<N>, number: u8)
     if number >= 10 {
         text.push_str("1");
     }
-    text.push_str(glyph(u16::from(number % 10)));
+    text.push_str(glyph_text(number % 10));
 }
 
 /// Appends a blank and a displacement: its sign and two hexadecimal digits.
@@ -130,7 +131,7 @@ fn push_displacement<const N: usize>(text: &mut ArrayString<N>, displacement: Di
 {
     let words = displacement.words();
     text.push_str(if words < 0 { " -" } else { " +" });
-    push_byte(text, words.unsigned_abs());
+    push_byte_digits(text, words.unsigned_abs());
 }
 
 /// Appends the three digits of a word.
@@ -140,43 +141,7 @@ pub(crate) fn push_word<const N: usize>(text: &mut ArrayString<N>, word: Word)
     ensures { text.new.bytes ≡ text.old.bytes ++ hexadecimal_text 3 word }
 {
     let number = word.number();
-    text.push_str(glyph(number / 256));
-    text.push_str(glyph(number / 16 % 16));
-    text.push_str(glyph(number % 16));
-}
-
-/// Appends the two digits of a byte.
-#[inline]
-pub(crate) fn push_byte<const N: usize>(text: &mut ArrayString<N>, byte: u8)
-    requires { array_string_len text.old + 2 ≤ N }
-    ensures { text.new.bytes ≡ text.old.bytes ++ hexadecimal_text 2 byte }
-{
-    text.push_str(glyph(u16::from(byte / 16)));
-    text.push_str(glyph(u16::from(byte % 16)));
-}
-
-/// A hexadecimal digit, in upper case.
-#[inline(always)]
-fn glyph(digit: u16) -> &'static str
-    requires { digit < 16 }
-    ensures { result.now ≡ digit_glyph true digit ∷ [] }
-{
-    match digit {
-        0 => "0",
-        1 => "1",
-        2 => "2",
-        3 => "3",
-        4 => "4",
-        5 => "5",
-        6 => "6",
-        7 => "7",
-        8 => "8",
-        9 => "9",
-        10 => "A",
-        11 => "B",
-        12 => "C",
-        13 => "D",
-        14 => "E",
-        _ => "F",
-    }
+    text.push_str(glyph_text((number / 256) as u8));
+    text.push_str(glyph_text((number / 16 % 16) as u8));
+    text.push_str(glyph_text((number % 16) as u8));
 }

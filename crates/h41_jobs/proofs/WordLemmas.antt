@@ -1,13 +1,9 @@
 -- Numbers as their digits come, and words of a text as its parts come.
-use Rattle.std.proofs.Common.{◌≡◌, ℕ, ◌+◌, ◌<◌, ◌≤◌, ◌&&◌, true, false, Bool, List, [], ◌∷◌, map, length, take, get_or, nat_le, Option}
-use Rattle.std.proofs.Common.{Some, None, is_none, if◌then◌else◌, arith, sym, refl, ap, ◌∙◌, add-zero, drop}
+use Rattle.std.proofs.Common.{◌≡◌, ℕ, ◌+◌, ◌<◌, true, false, Bool, List, [], ◌∷◌, map, length, take, get_or, Option}
+use Rattle.std.proofs.Common.{Some, None, is_none, arith, sym, refl, ap, ◌∙◌, add-zero, drop}
 use Rattle.std.specs.Borrow.{Bor}
 use Rattle.std.specs.List.{position_from}
-use Rattle.std.specs.Str.Parse.{digits_value}
-use Rattle.std.proofs.lemmas.Bool.{and_right, cond-false, lt-leb}
-use Rattle.std.proofs.lemmas.Str.Parse.{digits_value-take-le}
 use Rattle.std.proofs.lemmas.List.{length-map}
-use Rattle.h41_lines.specs.Numbers.{is_numeral}
 use Rattle.h41_jobs.specs.WordTexts.{word_value}
 
 abbrev pub is_wrong : List ℕ → Bool
@@ -50,9 +46,3 @@ first_wrong_at front words parts part same so_far within at wrong =
     let before : map word_value (take (length words) parts) ≡ map (λ word. Some word) words =
     ap (λ (n : ℕ). map word_value (take n parts)) (sym count) ∙ ap (map word_value) (sym so_far) ∙ map_now front ∙ same in
     first_wrong 1 words parts part before (omega arith) (at ∙ ap (λ (n : ℕ). get_or parts n part) count) wrong
-
--- the first digits alone are above the greatest value
-pub number_too_large : {A : Type 0} (radix most n : ℕ) (word : List ℕ) (good bad : A) → 1 ≤ radix → most < digits_value radix (take n word)
-    → bad ≡ (if is_numeral radix word && nat_le (digits_value radix word) most then good else bad)
-number_too_large radix most n word good bad low over =
-    sym (cond-false _ good bad (and_right (is_numeral radix word) _ (lt-leb _ most (omega (arith, digits_value-take-le radix word n low)))))

@@ -1,12 +1,10 @@
 -- Words of the HP-41 as text: a line for each, and the words that a text writes. Both forms are
 -- this project's own.
-use Rattle.std.specs.Prelude.{◌≡◌, ℕ, Bool, ◌==◌, ◌&&◌, ◌||◌, List, ◌++◌, length, map, filter}
-use Rattle.std.specs.Prelude.{flat_map, codes, not, nat_le, if◌then◌else◌, Option, Some, None}
-use Rattle.std.specs.Prelude.{is_none}
+use Rattle.std.specs.Prelude.{◌≡◌, ℕ, Bool, ◌==◌, ◌||◌, List, ◌++◌, length, map, filter, flat_map}
+use Rattle.std.specs.Prelude.{codes, not, Option, Some, is_none}
 use Rattle.std.specs.List.{position_from, slice_split}
-use Rattle.std.specs.Str.Parse.{digits_value}
 use Rattle.h41_digits.specs.Register.{hexadecimal_text}
-use Rattle.h41_lines.specs.Numbers.{is_numeral}
+use Rattle.h41_lines.specs.Numbers.{hexadecimal, number_up_to}
 
 -- a word's line: three hexadecimal digits, in upper case
 abbrev pub word_line : ℕ → List ℕ
@@ -24,17 +22,10 @@ is_white_space byte = byte == 9 || (byte == 10 || (byte == 12 || (byte == 13 || 
 abbrev pub parts_of : List ℕ → List (List ℕ)
 parts_of text = filter (λ part. not (length part == 0)) (slice_split is_white_space text)
 
--- the number that hexadecimal digits write, of either case and with any count of leading zeros, up
--- to a greatest one
-abbrev pub hexadecimal_up_to : ℕ → List ℕ → Option ℕ
-hexadecimal_up_to most digits =
-    if is_numeral 16 digits && nat_le (digits_value 16 digits) most
-    then Some (digits_value 16 digits)
-    else None
-
--- the word that a part of a text writes: a number up to 3FF
+-- the word that a part of a text writes: a hexadecimal number up to 3FF, of either case and with
+-- any count of leading zeros
 abbrev pub word_value : List ℕ → Option ℕ
-word_value part = hexadecimal_up_to 0x3FF part
+word_value part = number_up_to 0x3FF 16 part
 
 -- the text writes these words: each of its parts is one
 abbrev pub WritesWords : List ℕ → List ℕ → Type 0
@@ -46,4 +37,4 @@ wrong_word text = position_from (λ part. is_none (word_value part)) 1 (parts_of
 
 -- the address that an origin's digits write: there are four of them
 abbrev pub origin_value : List ℕ → Option ℕ
-origin_value digits = if length digits == 4 then hexadecimal_up_to 0xFFFF digits else None
+origin_value digits = hexadecimal 4 4 digits

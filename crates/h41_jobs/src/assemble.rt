@@ -1,7 +1,6 @@
 //! What is printed of a source.
 
-ghost use Rattle.std.specs.Prelude.{◌≡◌, ◌<◌, ◌≤◌, true, IfOk, length};
-ghost use Rattle.std.specs.Fmt.{digit_glyph};
+ghost use Rattle.std.specs.Prelude.{◌≡◌, ◌≤◌, IfOk, length};
 ghost use Rattle.h41_ends.specs.Ends.{most_bytes};
 ghost use Rattle.h41_jobs.specs.declared.arguments.Task.TheVariants as tasks;
 ghost use Rattle.h41_jobs.specs.Tasks.{HasAnswer};
@@ -11,6 +10,7 @@ use crate::ended::{Answer, Ended};
 use h41_asm::{AssembleError, assemble};
 use h41_commands::LineRefusal;
 use h41_deck::Refusal;
+use h41_digits::glyph;
 use h41_words::Word;
 use std::alloc::{AllocError, Global};
 
@@ -53,17 +53,9 @@ fn word_line(word: Word) -> [u8; 4]
 {
     let number = word.number();
     [
-        glyph(number / 256),
-        glyph(number / 16 % 16),
-        glyph(number % 16),
+        glyph((number / 256) as u8),
+        glyph((number / 16 % 16) as u8),
+        glyph((number % 16) as u8),
         b'\n',
     ]
-}
-
-/// A hexadecimal digit, in upper case.
-fn glyph(digit: u16) -> u8
-    requires { digit < 16 }
-    ensures { result ≡ digit_glyph true digit }
-{
-    b"0123456789ABCDEF"[usize::from(digit)]
 }

@@ -90,14 +90,14 @@ first_point : (prompt : Prompt) → Types (keys.first_point prompt)
 first_point prompt =
     chosen Types (takes_stack prompt.function prompt.indirect) _ _ tt (chosen Types (keys.is_go_to prompt.function) _ _ tt tt)
 
-combined : (prompt : Prompt) (sign : Option PromptFunction) → Types (keys.combined prompt sign)
-combined prompt (Some function) = chosen Types (keys.is_bare_store prompt.function prompt.indirect) _ _ tt tt
-combined prompt None = tt
+step_combined : (prompt : Prompt) (sign : Option PromptFunction) → Types (keys.step_combined prompt sign)
+step_combined prompt (Some function) = chosen Types (keys.is_bare_store prompt.function prompt.indirect) _ _ tt tt
+step_combined prompt None = tt
 
 with_nothing : (prompt : Prompt) (meaning : Meaning) → Types (keys.with_nothing prompt meaning)
 with_nothing prompt (meanings.Digit digit) = first_digit prompt digit
 with_nothing prompt meanings.Point = first_point prompt
-with_nothing prompt (meanings.Function function) = combined prompt (keys.combining function)
+with_nothing prompt (meanings.Function function) = step_combined prompt (keys.combined_function function)
 with_nothing prompt meanings.Shift = chosen Types (prompt_row prompt.function).indirect _ _ tt tt
 with_nothing prompt meanings.Alpha = chosen Types ((prompt_row prompt.function).named && not prompt.indirect) _ _ tt tt
 with_nothing prompt other = tt
@@ -112,14 +112,14 @@ ends_at : (prompt : Prompt) (register : Option ℕ) → Types (keys.ends_at prom
 ends_at prompt (Some register) = ends_with prompt register
 ends_at prompt None = tt
 
-lettered : (prompt : Prompt) (meaning : Meaning) → Types (keys.lettered prompt meaning)
-lettered prompt (meanings.Letter letter) = ends_at prompt (stack_register letter)
-lettered prompt other = tt
+step_by_letter : (prompt : Prompt) (meaning : Meaning) → Types (keys.step_by_letter prompt meaning)
+step_by_letter prompt (meanings.Letter letter) = ends_at prompt (stack_register letter)
+step_by_letter prompt other = tt
 
 with_stack_typed : (prompt : Prompt) (plain letter : Meaning) → Types (keys.with_stack_typed prompt plain letter)
 with_stack_typed prompt meanings.Shift letter = chosen Types (prompt_row prompt.function).registers _ _ tt tt
 with_stack_typed prompt meanings.Back letter = tt
-with_stack_typed prompt other letter = lettered prompt letter
+with_stack_typed prompt other letter = step_by_letter prompt letter
 
 with_point_typed : (prompt : Prompt) (meaning : Meaning) → Types (keys.with_point_typed prompt meaning)
 with_point_typed prompt meanings.Point = tt
@@ -191,13 +191,13 @@ sign_pressed : (input : Input) (entry : Entry) → Stores (press.sign_pressed in
 sign_pressed input (entries.Number text) = number_typed input with_sign_turned
 sign_pressed input other = function_typed input _
 
-clearing : (input : Input) (program_mode : Bool) → Stores (press.clearing input program_mode)
-clearing input true = tt
-clearing input false = function_typed input _
+press_of_clear : (input : Input) (program_mode : Bool) → Stores (press.press_of_clear input program_mode)
+press_of_clear input true = tt
+press_of_clear input false = function_typed input _
 
 back_pressed : (input : Input) (entry : Entry) → Stores (press.back_pressed input entry)
 back_pressed input (entries.Number text) = number_becomes input text (without_last text)
-back_pressed input other = clearing input input.program_mode
+back_pressed input other = press_of_clear input input.program_mode
 
 -- texts
 letter_typed : (input : Input) (program_mode : Bool) (entry : Entry) (letter : ℕ)

@@ -63,8 +63,8 @@ abbrev pub function_typed : Input → Function → Pressed
 function_typed input function = line_typed input (lines.Plain function)
 
 -- a prompt as it opens
-abbrev pub opened : PromptFunction → Prompt
-opened function = record { function = function; indirect = false; typed = typed.Nothing }
+abbrev pub opened_prompt : PromptFunction → Prompt
+opened_prompt function = record { function = function; indirect = false; typed = typed.Nothing }
 
 -- A NUMBER. What was typed of one; where none is being typed that is nothing
 abbrev pub number_in : Entry → List Character
@@ -98,12 +98,13 @@ number_becomes input before after =
     else if length after == length before then does actions.Nothing (typing input input.entry)
     else number_changed input input.program_mode after
 
-abbrev pub retyped : Input → (before after : List Character) → Pressed
-retyped input before after = number_becomes input before (kept_within before after)
+abbrev pub press_of_number : Input → (before after : List Character) → Pressed
+press_of_number input before after = number_becomes input before (kept_within before after)
 
 -- a key of numbers, by what it makes of the text
 abbrev pub number_typed : Input → (List Character → List Character) → Pressed
-number_typed input change = retyped input (number_in input.entry) (change (number_in input.entry))
+number_typed input change =
+    press_of_number input (number_in input.entry) (change (number_in input.entry))
 
 -- CHS and BACK are functions where no number is being typed; in program mode BACK takes the shown
 -- line away
@@ -111,13 +112,13 @@ abbrev pub sign_pressed : Input → Entry → Pressed
 sign_pressed input (entries.Number text) = number_typed input with_sign_turned
 sign_pressed input other = function_typed input functions.ChangeSign
 
-abbrev pub clearing : Input → (program_mode : Bool) → Pressed
-clearing input true = does actions.Delete (ended input)
-clearing input false = function_typed input functions.ClearX
+abbrev pub press_of_clear : Input → (program_mode : Bool) → Pressed
+press_of_clear input true = does actions.Delete (ended input)
+press_of_clear input false = function_typed input functions.ClearX
 
 abbrev pub back_pressed : Input → Entry → Pressed
 back_pressed input (entries.Number text) = number_becomes input text (without_last text)
-back_pressed input other = clearing input input.program_mode
+back_pressed input other = press_of_clear input input.program_mode
 
 -- A TEXT FOR ALPHA. In program mode it is a line, which is replaced letter by letter up to 15 bytes
 abbrev pub text_line : Input → (List ℕ → Action) → List ℕ → Pressed
@@ -179,20 +180,20 @@ run_pressed input true = function_typed input functions.Stop
 run_pressed input false = does actions.Run (ended input)
 
 -- SHIFT holds for the next key; a second takes it back
-abbrev pub shifted : Input → Input
-shifted input = record input { shift = not input.shift }
+abbrev pub with_shift_turned : Input → Input
+with_shift_turned input = record input { shift = not input.shift }
 
 abbrev pub program_mode_turned : Input → Input
 program_mode_turned input = record (ended input) { program_mode = not input.program_mode }
 
 -- a prompt opens, and ends a number
-abbrev pub asking : Input → PromptFunction → Input
-asking input function =
-    record (typing input (without_number input.entry)) { prompt = Some (opened function) }
+abbrev pub with_prompt : Input → PromptFunction → Input
+with_prompt input function =
+    record (typing input (without_number input.entry)) { prompt = Some (opened_prompt function) }
 
 abbrev pub acts : Input → Meaning → Option Pressed
 acts input meanings.Nothing = None
-acts input meanings.Shift = Some (does actions.Nothing (shifted input))
+acts input meanings.Shift = Some (does actions.Nothing (with_shift_turned input))
 acts input meanings.Alpha = Some (does actions.ToggleAlpha (ended input))
 acts input meanings.Program = Some (does actions.Nothing (program_mode_turned input))
 acts input meanings.Step = Some (does actions.Step (ended input))
@@ -205,7 +206,7 @@ acts input meanings.Point = Some (number_typed input with_point)
 acts input meanings.Exponent = Some (number_typed input with_exponent)
 acts input meanings.Sign = Some (sign_pressed input input.entry)
 acts input (meanings.Function function) = Some (function_typed input function)
-acts input (meanings.Ask function) = Some (does actions.Nothing (asking input function))
+acts input (meanings.Ask function) = Some (does actions.Nothing (with_prompt input function))
 acts input (meanings.Letter letter) =
     Some (letter_typed input input.program_mode input.entry letter)
 acts input meanings.Append = Some (append_pressed input input.program_mode input.entry)

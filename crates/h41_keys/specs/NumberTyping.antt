@@ -3,8 +3,10 @@
 -- stands in front of its part.
 use Rattle.std.specs.Prelude.{ℕ, ◌+◌, ◌-◌, nat_lt, nat_le, Bool, true, false, ◌||◌, List, [], ◌∷◌}
 use Rattle.std.specs.Prelude.{◌++◌, length, take, drop, filter, ◌==◌, if◌then◌else◌}
-use Rattle.std.specs.List.{list_any, position_or_len}
+use Rattle.std.specs.List.{list_any}
 use Rattle.h41_codes.specs.Counts.{number_most}
+use Rattle.h41_codes.specs.NumberCharacters.{exponent_part, exponent_place, is_minus, is_point}
+use Rattle.h41_codes.specs.NumberCharacters.{mantissa_part}
 use Rattle.h41_codes.specs.declared.characters.Character.{Character}
 use Rattle.h41_codes.specs.declared.characters.Character.TheVariants as characters
 use Rattle.h41_keys.specs.declared.key.Digit.{Digit}
@@ -35,37 +37,14 @@ value_of digits.Seven = 7
 value_of digits.Eight = 8
 value_of digits.Nine = 9
 
-abbrev pub is_point : Character → Bool
-is_point characters.Point = true
-is_point other = false
-
-abbrev pub is_exponent : Character → Bool
-is_exponent characters.Exponent = true
-is_exponent other = false
-
-abbrev pub is_minus : Character → Bool
-is_minus characters.Minus = true
-is_minus other = false
-
 abbrev pub is_digit : Character → Bool
 is_digit characters.Point = false
 is_digit characters.Exponent = false
 is_digit characters.Minus = false
 is_digit other = true
 
--- where the first E stands; where there is none, the place behind the last character
-abbrev pub exponent_place : List Character → ℕ
-exponent_place text = position_or_len is_exponent text
-
 abbrev pub has_exponent : List Character → Bool
 has_exponent text = nat_lt (exponent_place text) (length text)
-
--- the characters in front of the first E, and those behind it
-abbrev pub mantissa_part : List Character → List Character
-mantissa_part text = take (exponent_place text) text
-
-abbrev pub exponent_part : List Character → List Character
-exponent_part text = drop (exponent_place text + 1) text
 
 abbrev pub count_of_digits : List Character → ℕ
 count_of_digits text = length (filter is_digit text)
@@ -98,14 +77,14 @@ begins_with_minus (first ∷ rest) = is_minus first
 
 -- CHS puts the sign in front of a part, or takes it away: of the exponent where there is an E, else
 -- of the mantissa
-abbrev pub turned : List Character → List Character
-turned part = if begins_with_minus part then drop 1 part else characters.Minus ∷ part
+abbrev pub part_turned : List Character → List Character
+part_turned part = if begins_with_minus part then drop 1 part else characters.Minus ∷ part
 
 abbrev pub with_sign_turned : List Character → List Character
 with_sign_turned text =
     if has_exponent text
-    then mantissa_part text ++ characters.Exponent ∷ turned (exponent_part text)
-    else turned text
+    then mantissa_part text ++ characters.Exponent ∷ part_turned (exponent_part text)
+    else part_turned text
 
 -- BACK takes the last character
 abbrev pub without_last : {A : Type 0} → List A → List A

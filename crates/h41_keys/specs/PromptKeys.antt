@@ -5,7 +5,8 @@ use Rattle.h41_codes.specs.declared.functions.Function.{Function}
 use Rattle.h41_codes.specs.declared.functions.Function.TheVariants as functions
 use Rattle.h41_keys.specs.Keyboard.{KeyRow, row_of}
 use Rattle.h41_keys.specs.NumberTyping.{value_of, without_last}
-use Rattle.h41_keys.specs.Prompts.{prompt_row, wanted, takes_stack, parameter_line, name_line}
+use Rattle.h41_keys.specs.Prompts.{prompt_row, wanted, takes_stack, parameter_line}
+use Rattle.h41_keys.specs.Prompts.{name_line}
 use Rattle.h41_keys.specs.Prompts.{stack_register}
 use Rattle.h41_keys.specs.declared.key.Digit.{Digit}
 use Rattle.h41_keys.specs.declared.key.Key.{Key}
@@ -50,29 +51,29 @@ first_point prompt =
     else None
 
 -- + - * / behind a bare STO: the register and X are combined
-abbrev pub combining : Function → Option PromptFunction
-combining functions.Add = Some prompts.StoreAdd
-combining functions.Subtract = Some prompts.StoreSubtract
-combining functions.Multiply = Some prompts.StoreMultiply
-combining functions.Divide = Some prompts.StoreDivide
-combining other = None
+abbrev pub combined_function : Function → Option PromptFunction
+combined_function functions.Add = Some prompts.StoreAdd
+combined_function functions.Subtract = Some prompts.StoreSubtract
+combined_function functions.Multiply = Some prompts.StoreMultiply
+combined_function functions.Divide = Some prompts.StoreDivide
+combined_function other = None
 
 abbrev pub is_bare_store : PromptFunction → Bool → Bool
 is_bare_store prompts.Store false = true
 is_bare_store function indirect = false
 
-abbrev pub combined : Prompt → Option PromptFunction → Option PromptStep
-combined prompt (Some function) =
+abbrev pub step_combined : Prompt → Option PromptFunction → Option PromptStep
+step_combined prompt (Some function) =
     if is_bare_store prompt.function prompt.indirect
     then Some (steps.Becomes (record prompt { function = function }))
     else None
-combined prompt None = None
+step_combined prompt None = None
 
 -- nothing is typed yet
 abbrev pub with_nothing : Prompt → Meaning → Option PromptStep
 with_nothing prompt (meanings.Digit digit) = first_digit prompt digit
 with_nothing prompt meanings.Point = first_point prompt
-with_nothing prompt (meanings.Function function) = combined prompt (combining function)
+with_nothing prompt (meanings.Function function) = step_combined prompt (combined_function function)
 with_nothing prompt meanings.Shift =
     if (prompt_row prompt.function).indirect then turns_indirect prompt else None
 -- ALPHA begins a name, of what has one without IND
@@ -100,16 +101,16 @@ abbrev pub ends_at : Prompt → Option ℕ → Option PromptStep
 ends_at prompt (Some register) = ends_with prompt register
 ends_at prompt None = None
 
-abbrev pub lettered : Prompt → Meaning → Option PromptStep
-lettered prompt (meanings.Letter letter) = ends_at prompt (stack_register letter)
-lettered prompt other = None
+abbrev pub step_by_letter : Prompt → Meaning → Option PromptStep
+step_by_letter prompt (meanings.Letter letter) = ends_at prompt (stack_register letter)
+step_by_letter prompt other = None
 
 abbrev pub with_stack_typed : Prompt → (plain letter : Meaning) → Option PromptStep
 -- IND is put or taken away where the stack can be named without it too
 with_stack_typed prompt meanings.Shift letter =
     if (prompt_row prompt.function).registers then turns_indirect prompt else None
 with_stack_typed prompt meanings.Back letter = goes_on prompt typed.Nothing
-with_stack_typed prompt other letter = lettered prompt letter
+with_stack_typed prompt other letter = step_by_letter prompt letter
 
 -- the point of GTO . is typed
 abbrev pub with_point_typed : Prompt → Meaning → Option PromptStep

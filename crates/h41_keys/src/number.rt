@@ -2,6 +2,7 @@
 ghost use Rattle.std.specs.Prelude.{◌≡◌, ◌+◌, ◌≤◌, ◌++◌, ◌∷◌, length, filter, IsTrue};
 ghost use Rattle.std.specs.List.{list_any};
 ghost use Rattle.h41_codes.specs.Counts.{number_most};
+ghost use Rattle.h41_codes.specs.NumberCharacters.{is_point};
 ghost use Rattle.h41_codes.specs.declared.characters.Character.TheVariants as characters;
 ghost use Rattle.h41_keys.specs.KeyPress as press;
 ghost use Rattle.h41_keys.specs.NumberTyping as spec;
@@ -10,10 +11,7 @@ use crate::action::Action;
 use crate::input::{Entry, Input, Pressed};
 use crate::key::Digit;
 use crate::typing::{does, ended, typing};
-use h41_codes::{Character, Line, Number};
-
-/// The most characters of a number.
-const NUMBER_MOST: usize = 16;
+use h41_codes::{Character, Line, NUMBER_MOST, Number, exponent_place};
 
 /// A digit.
 pub(crate) fn digit_typed(input: Input, digit: Digit) -> Pressed
@@ -112,7 +110,7 @@ fn characters(entry: &Entry) -> &[Character]
 fn grown(input: Input, text: &[Character], more: &[Character]) -> Pressed
     requires text { length text.now ≤ number_most }
     requires more { length more.now ≤ number_most }
-    ensures { result ≡ press.retyped input text.now (text.now ++ more.now) }
+    ensures { result ≡ press.press_of_number input text.now (text.now ++ more.now) }
 {
     let count = text.len() + more.len();
     if count > NUMBER_MOST {
@@ -136,7 +134,7 @@ fn spliced(
     requires front { length front.now ≤ number_most }
     requires more { length more.now ≤ number_most }
     requires rest { length rest.now ≤ number_most }
-    ensures { result ≡ press.retyped input text.now (front.now ++ more.now ++ rest.now) }
+    ensures { result ≡ press.press_of_number input text.now (front.now ++ more.now ++ rest.now) }
 {
     let middle = front.len() + more.len();
     let count = middle + rest.len();
@@ -231,27 +229,14 @@ fn count_of_digits(text: &[Character]) -> usize
 
 /// Whether a text has a point.
 fn has_point(text: &[Character]) -> bool
-    ensures { result ≡ list_any spec.is_point text.now }
+    ensures { result ≡ list_any is_point text.now }
 {
     for character in text {
-        if matches!(*character, Character::Point) {
+        if character.is_point() {
             return true;
         }
     }
     false
-}
-
-/// Where the first E stands, or the length where there is none.
-fn exponent_place(text: &[Character]) -> usize
-    ensures place { result ≡ spec.exponent_place text.now }
-    ensures bound { result ≤ length text.now }
-{
-    for (index, character) in text.iter().enumerate() {
-        if is_exponent(*character) {
-            return index;
-        }
-    }
-    text.len()
 }
 
 /// Whether a part begins with its sign.
@@ -259,14 +244,7 @@ fn begins_with_minus(part: &[Character]) -> bool
     ensures value { result ≡ spec.begins_with_minus part.now }
     ensures some { IsTrue result → 1 ≤ length part.now }
 {
-    !part.is_empty() && matches!(part[0], Character::Minus)
-}
-
-/// Whether a character is the E in front of an exponent.
-fn is_exponent(character: Character) -> bool
-    ensures { result ≡ spec.is_exponent character }
-{
-    matches!(character, Character::Exponent)
+    !part.is_empty() && part[0].is_minus()
 }
 
 /// Whether a character is a digit.

@@ -148,7 +148,7 @@ fn acts(input: Input, meaning: Meaning) -> Option<Pressed>
 
 /// SHIFT.
 fn shifted(input: Input) -> Input
-    ensures { result ≡ spec.shifted input }
+    ensures { result ≡ spec.with_shift_turned input }
 {
     Input {
         shift: !input.shift,
@@ -168,7 +168,7 @@ fn program_mode_turned(input: Input) -> Input
 
 /// A prompt opens.
 fn asking(input: Input, function: PromptFunction) -> Input
-    ensures { result ≡ spec.asking input function }
+    ensures { result ≡ spec.with_prompt input function }
 {
     Input {
         prompt: Some(Prompt {
@@ -214,7 +214,7 @@ fn back_pressed(input: Input) -> Pressed
 
 /// BACK where no number is being typed.
 fn clearing(input: Input) -> Pressed
-    ensures { result ≡ spec.clearing input input.program_mode }
+    ensures { result ≡ spec.press_of_clear input input.program_mode }
 {
     if input.program_mode {
         does(Action::Delete, ended(input))

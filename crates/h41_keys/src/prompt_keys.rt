@@ -114,7 +114,7 @@ fn first_point(prompt: Prompt) -> Option<PromptStep>
 
 /// The function that a sign makes of STO, or nothing for another function.
 fn combining(function: Function) -> Option<PromptFunction>
-    ensures { result ≡ spec.combining function }
+    ensures { result ≡ spec.combined_function function }
 {
     match function {
         Function::Add => Some(PromptFunction::StoreAdd),
@@ -127,7 +127,7 @@ fn combining(function: Function) -> Option<PromptFunction>
 
 /// A sign behind a bare STO.
 fn combined(prompt: Prompt, sign: Option<PromptFunction>) -> Option<PromptStep>
-    ensures { result ≡ spec.combined prompt sign }
+    ensures { result ≡ spec.step_combined prompt sign }
 {
     match sign {
         Some(function) => {
@@ -178,7 +178,7 @@ fn with_stack_typed(prompt: Prompt, key: Key) -> Option<PromptStep>
 
 /// A key with a letter where the point is typed.
 fn lettered(prompt: Prompt, meaning: Meaning) -> Option<PromptStep>
-    ensures { result ≡ spec.lettered prompt meaning }
+    ensures { result ≡ spec.step_by_letter prompt meaning }
 {
     match meaning {
         Meaning::Letter(letter) => match stack_parameter(letter) {

@@ -1,26 +1,12 @@
 //! Digits and characters as texts show them.
 
-ghost use Rattle.std.specs.Prelude.{◌≡◌, ◌+◌, ◌<◌, ◌≤◌, [], ◌∷◌, ◌++◌, true};
+ghost use Rattle.std.specs.Prelude.{◌≡◌, ◌+◌, ◌<◌, ◌≤◌, [], ◌∷◌, ◌++◌, ◌*◌, length, true};
 ghost use Rattle.std.specs.Fmt.{digit_glyph};
 ghost use Rattle.arrayvec.specs.ArrayString.{array_string_len};
 ghost use Rattle.h41_digits.specs.Register.{hexadecimal_text};
 ghost use Rattle.h41_lines.specs.Characters as spec;
 
 use arrayvec::ArrayString;
-
-/// A hexadecimal digit, 0 to 15, in upper case.
-#[inline(always)]
-pub fn glyph(digit: u8) -> u8
-    requires { digit < 16 }
-    ensures value { result ≡ digit_glyph true digit }
-    ensures ascii { result < 128 }
-{
-    if digit < 10 {
-        b'0' + digit
-    } else {
-        b'A' + digit - 10
-    }
-}
 
 /// The two decimal digits of a number below 100.
 #[inline]
@@ -40,7 +26,7 @@ pub fn byte_digits(byte: u8) -> ArrayString<2>
     ensures { result.bytes ≡ hexadecimal_text 2 byte }
 {
     let mut digits = ArrayString::new();
-    push_byte(&mut digits, byte);
+    push_byte_digits(&mut digits, byte);
     digits
 }
 
@@ -50,14 +36,14 @@ pub fn address_digits(address: u16) -> ArrayString<4>
     ensures { result.bytes ≡ hexadecimal_text 4 address }
 {
     let mut digits = ArrayString::new();
-    push_byte(&mut digits, (address / 256) as u8);
-    push_byte(&mut digits, (address % 256) as u8);
+    push_byte_digits(&mut digits, (address / 256) as u8);
+    push_byte_digits(&mut digits, (address % 256) as u8);
     digits
 }
 
 /// Appends the two hexadecimal digits of a byte.
 #[inline(always)]
-fn push_byte<const N: usize>(text: &mut ArrayString<N>, byte: u8)
+pub fn push_byte_digits<const N: usize>(text: &mut ArrayString<N>, byte: u8)
     requires { array_string_len text.old + 2 ≤ N }
     ensures { text.new.bytes ≡ text.old.bytes ++ hexadecimal_text 2 byte }
 {
@@ -67,7 +53,7 @@ fn push_byte<const N: usize>(text: &mut ArrayString<N>, byte: u8)
 
 /// A hexadecimal digit, 0 to 15, in upper case, as a text.
 #[inline(always)]
-fn glyph_text(digit: u8) -> &'static str
+pub fn glyph_text(digit: u8) -> &'static str
     requires { digit < 16 }
     ensures { result.now ≡ digit_glyph true digit ∷ [] }
 {
@@ -112,8 +98,19 @@ pub fn escaped(character: u8) -> ArrayString<3>
 {
     let mut text = ArrayString::new();
     text.push_str("\\");
-    push_byte(&mut text, character);
+    push_byte_digits(&mut text, character);
     text
+}
+
+/// Appends characters as the display shows them, one behind the other.
+#[inline]
+pub fn push_characters<const N: usize>(text: &mut ArrayString<N>, characters: &[u8])
+    requires { array_string_len text.old + 3 * length characters.now ≤ N }
+    ensures { text.new.bytes ≡ text.old.bytes ++ spec.characters_text characters.now }
+{
+    for character in characters {
+        text.push_str(character_text(*character).as_str());
+    }
 }
 
 /// Whether a character stands for itself: 20 to 7E, but for `\`.

@@ -8,8 +8,9 @@ use Rattle.h41_decimal.specs.NumberEntry.{IsTyped}
 use Rattle.h41_decimal.specs.declared.parts.Exponent.{Exponent}
 use Rattle.h41_decimal.specs.declared.sign.Sign.{Sign}
 use Rattle.h41_decimal.specs.declared.ten.Ten.{Ten}
-use Rattle.h41_numbers.specs.NumberLines.{IsNumberOf, biased_by, decimal_places, digits_in, exponent_part, is_exponent, is_point}
-use Rattle.h41_numbers.specs.NumberLines.{mantissa_digits, mantissa_part, number_from, sign_in, whole_digits}
+use Rattle.h41_codes.specs.NumberCharacters.{exponent_part, is_exponent, is_point, mantissa_part}
+use Rattle.h41_numbers.specs.NumberLines.{IsNumberOf, biased_by, decimal_places, digits_in}
+use Rattle.h41_numbers.specs.NumberLines.{mantissa_digits, number_from, sign_in, whole_digits}
 
 any_step : (here : Bool) (place size : ℕ) (rest : Bool) → (place < size → rest ≡ true) → cond (not here) (1 + place) 0 < suc size
     → (here || rest) ≡ true

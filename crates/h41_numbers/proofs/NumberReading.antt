@@ -3,7 +3,7 @@ use Rattle.std.proofs.Common.{◌≡◌, ℕ, suc, ◌+◌, ◌-◌, ◌*◌, �
 use Rattle.std.specs.Option.{option_map_or}
 use Rattle.h41_codes.specs.declared.characters.Character.{Character}
 use Rattle.h41_numbers.specs.NumberLines.{digit_of, digits_in, number_from}
-use Rattle.h41_numbers.specs.NumberReading.{read_count, read_number}
+use Rattle.h41_numbers.specs.private.NumberReading.{read_count, read_number}
 
 -- the digits of a text whose first character has this digit, or none
 digits_behind : (found : Option ℕ) (character : Character) (rest : List Character) → found ≡ digit_of character

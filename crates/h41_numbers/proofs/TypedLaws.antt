@@ -8,8 +8,9 @@ use Rattle.h41_decimal.specs.Units.{one}
 use Rattle.h41_decimal.specs.declared.parts.Exponent.{Exponent}
 use Rattle.h41_decimal.specs.declared.sign.Sign.{Sign}
 use Rattle.h41_decimal.specs.declared.ten.Ten.{Ten}
+use Rattle.h41_codes.specs.NumberCharacters.{mantissa_part}
 use Rattle.h41_numbers.specs.NumberLaws.{NumbersAreDetermined}
-use Rattle.h41_numbers.specs.NumberLines.{decimal_places, mantissa_digits, mantissa_part, number_from, sign_in}
+use Rattle.h41_numbers.specs.NumberLines.{decimal_places, mantissa_digits, number_from, sign_in}
 
 -- what is typed hangs on the number of its exponent
 typed_at : (sign : Sign) (digits places : ℕ) (e f : Exponent) (number : Ten)

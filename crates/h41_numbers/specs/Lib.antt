@@ -1,3 +1,3 @@
 pub mod NumberLaws
 pub mod NumberLines
-pub mod NumberReading
+pub mod private

@@ -1,11 +1,13 @@
 -- What the characters of a number line are worth. The Owner's Handbook has the rules of number
 -- entry; what is said of characters that it does not have there is this project's choice. Up to the
 -- first E they are the mantissa's, behind it the exponent's.
-use Rattle.std.specs.Prelude.{◌≡◌, ℕ, ◌+◌, ◌-◌, ◌*◌, ◌%◌, Bool, true, false, not, ◌&&◌, List, []}
+use Rattle.std.specs.Prelude.{◌≡◌, ℕ, ◌+◌, ◌-◌, ◌*◌, ◌%◌, not, ◌&&◌, List, []}
 use Rattle.std.specs.Prelude.{◌∷◌, length, take, drop, filter, ◌==◌, if◌then◌else◌, Option, Some}
 use Rattle.std.specs.Prelude.{None}
 use Rattle.std.specs.List.{list_any, take_while}
 use Rattle.std.specs.Option.{option_map_or}
+use Rattle.h41_codes.specs.NumberCharacters.{exponent_part, is_exponent, is_minus, is_point}
+use Rattle.h41_codes.specs.NumberCharacters.{mantissa_part}
 use Rattle.h41_codes.specs.declared.characters.Character.{Character}
 use Rattle.h41_codes.specs.declared.characters.Character.TheVariants as characters
 use Rattle.h41_decimal.specs.NumberEntry.{IsTyped}
@@ -27,25 +29,6 @@ digit_of characters.Seven = Some 7
 digit_of characters.Eight = Some 8
 digit_of characters.Nine = Some 9
 digit_of other = None
-
-abbrev pub is_point : Character → Bool
-is_point characters.Point = true
-is_point other = false
-
-abbrev pub is_exponent : Character → Bool
-is_exponent characters.Exponent = true
-is_exponent other = false
-
-abbrev pub is_minus : Character → Bool
-is_minus characters.Minus = true
-is_minus other = false
-
--- the characters in front of the first E, and those behind it
-abbrev pub mantissa_part : List Character → List Character
-mantissa_part text = take_while (λ character. not (is_exponent character)) text
-
-abbrev pub exponent_part : List Character → List Character
-exponent_part text = drop (length (mantissa_part text) + 1) text
 
 -- the digits of a text, in their order
 abbrev pub digits_in : List Character → List ℕ

@@ -3,10 +3,12 @@
 ghost use Rattle.std.specs.Prelude.{◌≡◌, ◌+◌, ◌-◌, ◌*◌, ◌^◌, ◌<◌, ◌≤◌, List, ◌∷◌, length, take};
 ghost use Rattle.std.specs.Prelude.{IfSome};
 ghost use Rattle.std.specs.List.{position_or_len};
+ghost use Rattle.h41_codes.specs.NumberCharacters.{exponent_part, is_exponent, is_point};
 ghost use Rattle.h41_numbers.specs.NumberLines as lines;
-ghost use Rattle.h41_numbers.specs.NumberReading.{ReadsCount, ReadsOn, biased_in, places_in};
+ghost use Rattle.h41_numbers.specs.private.NumberReading.{ReadsCount, ReadsOn, biased_in};
+ghost use Rattle.h41_numbers.specs.private.NumberReading.{places_in};
 
-use h41_codes::Character;
+use h41_codes::{Character, exponent_place};
 use h41_decimal::{Exponent, Sign, Ten};
 
 /// How many digits of a mantissa count.
@@ -20,14 +22,14 @@ const EXPONENT_BIAS: u8 = 99;
 
 /// Digits as one whole number, and how many they are.
 #[derive(Clone, Copy)]
-struct Digits {
+struct ReadDigits {
     number: u64,
     count: u8,
     ghost below: { number < 10 ^ count },
     ghost few: { count ≤ 10 },
 }
 
-impl Digits {
+impl ReadDigits {
     /// With one more digit.
     fn push(self, digit: u8) -> Self
         requires room { self.count < 10 }
@@ -35,7 +37,7 @@ impl Digits {
         ensures number { result.number ≡ 10 * self.number + digit }
         ensures count { result.count ≡ self.count + 1 }
     {
-        Digits {
+        ReadDigits {
             number: 10 * self.number + u64::from(digit),
             count: self.count + 1,
         }
@@ -91,8 +93,8 @@ fn exponent_of(text: &[Character]) -> Exponent
 
 /// The characters behind the E, where its place is given.
 fn exponent_part(text: &[Character], end: usize) -> &[Character]
-    requires { end ≡ position_or_len lines.is_exponent text.now }
-    ensures { result.now ≡ lines.exponent_part text.now }
+    requires { end ≡ position_or_len is_exponent text.now }
+    ensures { result.now ≡ exponent_part text.now }
 {
     if end < text.len() {
         &text[end + 1..]
@@ -102,14 +104,14 @@ fn exponent_part(text: &[Character], end: usize) -> &[Character]
 }
 
 /// The digits of the mantissa that count, where the place of the E is given.
-fn mantissa_digits(text: &[Character], end: usize) -> Digits
-    requires { end ≡ position_or_len lines.is_exponent text.now }
+fn mantissa_digits(text: &[Character], end: usize) -> ReadDigits
+    requires { end ≡ position_or_len is_exponent text.now }
     ensures number { result.number ≡ lines.number_from 0 (lines.mantissa_digits text.now) }
     ensures count { result.count ≡ length (lines.mantissa_digits text.now) }
 {
     let digits = first_digits(&text[..end], MANTISSA_DIGITS);
     if digits.count == 0 && end < text.len() {
-        Digits {
+        ReadDigits {
             number: 1,
             count: 1,
         }
@@ -133,13 +135,13 @@ fn decimal_places(mantissa: &[Character], count: u8) -> u8
 }
 
 /// The first digits of a text, as many as count.
-fn first_digits(text: &[Character], most: u8) -> Digits
+fn first_digits(text: &[Character], most: u8) -> ReadDigits
     requires { most ≤ 10 }
     ensures number { result.number ≡ lines.number_from 0 (take most (lines.digits_in text.now)) }
     ensures count { result.count ≡ length (take most (lines.digits_in text.now)) }
     ensures bound { result.number < 10 ^ most }
 {
-    let mut digits = Digits {
+    let mut digits = ReadDigits {
         number: 0,
         count: 0,
     };
@@ -155,7 +157,7 @@ fn sign_of(text: &[Character]) -> Sign
 {
     let mut signs: usize = 0;
     for character in text {
-        if is_minus(*character) {
+        if character.is_minus() {
             signs += 1;
         }
     }
@@ -166,26 +168,13 @@ fn sign_of(text: &[Character]) -> Sign
     }
 }
 
-/// Where the first E stands, or the length where there is none.
-fn exponent_place(text: &[Character]) -> usize
-    ensures place { result ≡ position_or_len lines.is_exponent text.now }
-    ensures bound { result ≤ length text.now }
-{
-    for (index, character) in text.iter().enumerate() {
-        if is_exponent(*character) {
-            return index;
-        }
-    }
-    text.len()
-}
-
 /// Where the first point stands, or the length where there is none.
 fn point_place(text: &[Character]) -> usize
-    ensures place { result ≡ position_or_len lines.is_point text.now }
+    ensures place { result ≡ position_or_len is_point text.now }
     ensures bound { result ≤ length text.now }
 {
     for (index, character) in text.iter().enumerate() {
-        if is_point(*character) {
+        if character.is_point() {
             return index;
         }
     }
@@ -210,25 +199,4 @@ fn digit_of(character: Character) -> Option<u8>
         Character::Nine => Some(9),
         Character::Point | Character::Exponent | Character::Minus => None,
     }
-}
-
-/// Whether a character is the radix mark.
-fn is_point(character: Character) -> bool
-    ensures { result ≡ lines.is_point character }
-{
-    matches!(character, Character::Point)
-}
-
-/// Whether a character is the E in front of an exponent.
-fn is_exponent(character: Character) -> bool
-    ensures { result ≡ lines.is_exponent character }
-{
-    matches!(character, Character::Exponent)
-}
-
-/// Whether a character is a minus sign.
-fn is_minus(character: Character) -> bool
-    ensures { result ≡ lines.is_minus character }
-{
-    matches!(character, Character::Minus)
 }

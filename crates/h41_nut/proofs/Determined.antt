@@ -13,7 +13,7 @@ use Rattle.h41_words.specs.WordTable.{row_of}
 use Rattle.h41_nut.specs.Arithmetic.{IntoA, IntoC, Operates}
 use Rattle.h41_nut.specs.Processor.{Processor}
 use Rattle.h41_nut.specs.ProcessorLaws.{MicroIsDetermined, ComplementSetsCarry}
-use Rattle.h41_nut.specs.WordStep.{Nut, Effect, word_of}
+use Rattle.h41_nut.specs.WordStep.{Nut, WordEffect, word_of}
 
 -- a rule that gives one register and one carry
 abbrev Single : (List ℕ → Bool → Type 0) → Type 0
@@ -54,7 +54,7 @@ module _ (ordered : PlacesAreOrdered) (sums : SumIsDetermined) (differences : Di
   same_operates ComplementC lo hi s t u le p q = same_c _ s t u (one_difference _ s.c zeros s.c true lo hi le) p q
   same_operates operation lo hi s t u le p q = p ∙ sym q
 
-  same_effect : (row : Row) (s t u : Nut) → Effect row s t → Effect row s u → t ≡ u
+  same_effect : (row : Row) (s t u : Nut) → WordEffect row s t → WordEffect row s u → t ≡ u
   same_effect (Arithmetic operation field) s t u p q =
       let le = ordered field s.processor.p s.processor.q s.processor.active in
       let same = same_operates operation _ _ _ t.processor u.processor le p.0 q.0 in
@@ -67,5 +67,5 @@ module _ (ordered : PlacesAreOrdered) (sums : SumIsDetermined) (differences : Di
 -- C=-C-1 borrows
 pub complement_carries : PlacesAreOrdered → ComplementBorrows → ComplementSetsCarry
 complement_carries ordered borrows s t field row micro =
-    let effect = subst (λ r. Effect r s t) row micro.effect in
+    let effect = subst (λ r. WordEffect r s t) row micro.effect in
     borrows _ _ _ _ _ _ t.processor.carry (ordered field s.processor.p s.processor.q s.processor.active) effect.0.0

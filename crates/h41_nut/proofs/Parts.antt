@@ -7,7 +7,7 @@ use Rattle.std.proofs.lemmas.List.{drop_more, get_or-take, take_all}
 use Rattle.std.proofs.lemmas.List.Elements.{All-get_or}
 use Rattle.h41_digits.specs.Register.{IsRegister, value}
 use Rattle.h41_digits.specs.Packed.{value-cons}
-use Rattle.h41_nut.specs.RegisterWords.{rotated}
+use Rattle.h41_nut.specs.RegisterWords.{rotated_register}
 use Rattle.h41_nut.proofs.Digits.{by_place-is}
 
 digit_at : (x : List ℕ) (place : ℕ) → IsRegister 14 x → place < 14 → slice_index x place < 16
@@ -52,7 +52,7 @@ same_part (suc count) a b k x y p q in_x in_y held inside =
 pub exchanged_parts : (x stayed z : List ℕ) (digits : ℕ) → digits < 14 → IsRegister 14 x → IsRegister 14 stayed → IsRegister 14 z
     → value (take (14 - digits) (drop 0 stayed)) ≡ value (take (14 - digits) (drop digits x))
     → value (take digits (drop (14 - digits) z)) ≡ value (take digits (drop 0 x)) → take (14 - digits) z ≡ take (14 - digits) stayed
-    → z ≡ rotated x digits
+    → z ≡ rotated_register x digits
 exchanged_parts x stayed z digits few from between register staying leaving below =
     by_place-is z (λ place. slice_index x ((place + digits) % 14)) register.size (λ place inside. elim (cases_lt place (14 - digits)) [
       | inl low ↦

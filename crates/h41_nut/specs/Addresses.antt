@@ -16,9 +16,9 @@ abbrev pub address_after : ℕ → ℕ → ℕ
 address_after address count = (address + count) % address_count
 
 -- an address that lies by a displacement further on or, where it is negative, back
-abbrev pub displaced : ℕ → ℤ → ℕ
-displaced address (pos words) = (address + words) % address_count
-displaced address (negsuc words) = (address + address_count - suc words) % address_count
+abbrev pub displaced_address : ℕ → ℤ → ℕ
+displaced_address address (pos words) = (address + words) % address_count
+displaced_address address (negsuc words) = (address + address_count - suc words) % address_count
 
 -- whether an address lies in the system's pages, where no step arrives but at the end of a function
 abbrev pub is_closed : ℕ → Bool

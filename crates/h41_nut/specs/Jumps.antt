@@ -7,7 +7,7 @@ use Rattle.h41_words.specs.declared.rows.Condition.TheVariants.{NoCarry, Carry}
 use Rattle.h41_words.specs.declared.second_word.LongJumpKind.{LongJumpKind}
 use Rattle.h41_words.specs.declared.second_word.LongJumpKind.TheVariants.{Execute, Go}
 use Rattle.h41_words.specs.declared.second_word.SecondWord.{SecondWord}
-use Rattle.h41_nut.specs.Addresses.{displaced}
+use Rattle.h41_nut.specs.Addresses.{displaced_address}
 use Rattle.h41_nut.specs.Arrivals.{next_address, address_after_both}
 use Rattle.h41_nut.specs.Processor.{Processor}
 
@@ -21,11 +21,11 @@ abbrev pub newest_return : Processor → ℕ
 newest_return s = slice_index s.returns 0
 
 -- the return addresses with the newest taken off, and with another in front
-abbrev pub popped : Processor → Processor
-popped s = record s { returns = drop 1 s.returns ++ 0 ∷ [] }
+abbrev pub with_return_popped : Processor → Processor
+with_return_popped s = record s { returns = drop 1 s.returns ++ 0 ∷ [] }
 
-abbrev pub pushed : ℕ → Processor → Processor
-pushed address s = record s { returns = address ∷ take 3 s.returns }
+abbrev pub with_return_pushed : ℕ → Processor → Processor
+with_return_pushed address s = record s { returns = address ∷ take 3 s.returns }
 
 -- whether a long jump keeps the address after it: XQ does, GO does not
 abbrev pub is_execute : LongJumpKind → Bool
@@ -42,20 +42,20 @@ jump_target low_byte second s =
 abbrev pub jump_change : SecondWord → Processor → Processor
 jump_change second s =
     if is_taken second.condition s.carry && is_execute second.kind
-    then pushed (address_after_both s) s
+    then with_return_pushed (address_after_both s) s
     else s
 
 -- a short jump goes by its displacement from the word's own address, where it is taken
 abbrev pub short_jump_target : Condition → ℤ → Processor → ℕ
 short_jump_target condition displacement s =
-    if is_taken condition s.carry then displaced s.pc displacement else next_address s
+    if is_taken condition s.carry then displaced_address s.pc displacement else next_address s
 
 -- a return goes to the newest return address, which it takes off, where it is taken
 abbrev pub return_target : Condition → Processor → ℕ
 return_target condition s = if is_taken condition s.carry then newest_return s else next_address s
 
 abbrev pub return_change : Condition → Processor → Processor
-return_change condition s = if is_taken condition s.carry then popped s else s
+return_change condition s = if is_taken condition s.carry then with_return_popped s else s
 
 -- GOTO KEY: the next address with the key's code as its low byte
 abbrev pub key_target : ℕ → Processor → ℕ

@@ -6,9 +6,8 @@ pub mod MemoryWords
 pub mod PageWords
 pub mod Pointers
 pub mod Processor
-pub mod ProcessorSteps
 pub mod ProcessorLaws
 pub mod RegisterWords
-pub mod RowStep
 pub mod Unheld
 pub mod WordStep
+pub mod private

@@ -13,14 +13,14 @@ block_address register s = s.selected / 16 * 16 + register
 
 -- a selected address: RAM SLCT takes the low ten bits of C's digits 2 to 0, WRIT n and READ n keep
 -- their n as its low digit (this project's choice)
-abbrev pub selecting : ℕ → Processor → Processor
-selecting address s = record s { selected = address }
+abbrev pub with_selected : ℕ → Processor → Processor
+with_selected address s = record s { selected = address }
 
 abbrev pub selecting_from_c : Processor → Processor
-selecting_from_c s = selecting (word_in_c s) s
+selecting_from_c s = with_selected (word_in_c s) s
 
 abbrev pub selecting_in_block : ℕ → Processor → Processor
-selecting_in_block register s = selecting (block_address register s) s
+selecting_in_block register s = with_selected (block_address register s) s
 
 -- READ DATA and READ n: C from the selected register
 abbrev pub with_selected_in_c : RegisterMap → Processor → Processor

@@ -12,12 +12,12 @@ abbrev pub pointer_of : Processor → ℕ
 pointer_of s = active_place s.p s.q s.active
 
 -- the active pointer at another place
-abbrev pub moved : Pointer → ℕ → Processor → Processor
-moved P place s = record s { p = place }
-moved Q place s = record s { q = place }
+abbrev pub with_pointer_at : Pointer → ℕ → Processor → Processor
+with_pointer_at P place s = record s { p = place }
+with_pointer_at Q place s = record s { q = place }
 
 abbrev pub with_pointer : ℕ → Processor → Processor
-with_pointer place s = moved s.active place s
+with_pointer place s = with_pointer_at s.active place s
 
 -- the place above another, and the place below
 abbrev pub place_above : ℕ → ℕ

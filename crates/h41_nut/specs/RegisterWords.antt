@@ -15,7 +15,7 @@ use Rattle.h41_words.specs.declared.rows.RegisterTransfer.TheVariants.{ExchangeC
 use Rattle.h41_ram.specs.RegisterMap.{zeros}
 use Rattle.h41_words.specs.Counts.{word_count}
 use Rattle.h41_nut.specs.declared.base.Base.{Base}
-use Rattle.h41_nut.specs.Jumps.{newest_return, popped, pushed}
+use Rattle.h41_nut.specs.Jumps.{newest_return, with_return_popped, with_return_pushed}
 use Rattle.h41_nut.specs.Processor.{Processor}
 use Rattle.h41_nut.specs.Pointers.{pointer_of, with_pointer_down, place_above, status_byte}
 use Rattle.h41_nut.specs.Pointers.{with_status_byte}
@@ -58,10 +58,10 @@ with_address_in_c address s = with_c (with_digits s.c 3 (address_digits address)
 
 -- PUSH ADR and POP ADR: C's address to and from the return addresses
 abbrev pub with_address_pushed : Processor → Processor
-with_address_pushed s = pushed (address_in_c s) s
+with_address_pushed s = with_return_pushed (address_in_c s) s
 
 abbrev pub with_address_popped : Processor → Processor
-with_address_popped s = popped (with_address_in_c (newest_return s) s)
+with_address_popped s = with_return_popped (with_address_in_c (newest_return s) s)
 
 -- C=KEY: a key's code in digits 4 and 3
 abbrev pub with_key_in_c : ℕ → Processor → Processor
@@ -85,22 +85,22 @@ with_byte_at_pointer byte s =
 
 -- copies and exchanges of whole registers; the status bits take part with S7 to S0, and C then with
 -- its digits 1 and 0
-abbrev pub transferred : RegisterTransfer → Processor → Processor
-transferred CToG s = record s { g = byte_at_pointer s }
-transferred GToC s = with_byte_at_pointer s.g s
-transferred ExchangeCG s = record (with_byte_at_pointer s.g s) { g = byte_at_pointer s }
-transferred CToM s = record s { m = s.c }
-transferred MToC s = record s { c = s.m }
-transferred ExchangeCM s = record s { c = s.m; m = s.c }
-transferred CToN s = record s { n = s.c }
-transferred NToC s = record s { c = s.n }
-transferred ExchangeCN s = record s { c = s.n; n = s.c }
-transferred StatusToT s = record s { t = status_byte s }
-transferred TToStatus s = with_status_byte s.t s
-transferred ExchangeStatusT s = record (with_status_byte s.t s) { t = status_byte s }
-transferred CToStatus s = with_status_byte (byte_at s.c 0) s
-transferred StatusToC s = record s { c = set_byte s.c 0 (status_byte s) }
-transferred ExchangeCStatus s =
+abbrev pub after_transfer : RegisterTransfer → Processor → Processor
+after_transfer CToG s = record s { g = byte_at_pointer s }
+after_transfer GToC s = with_byte_at_pointer s.g s
+after_transfer ExchangeCG s = record (with_byte_at_pointer s.g s) { g = byte_at_pointer s }
+after_transfer CToM s = record s { m = s.c }
+after_transfer MToC s = record s { c = s.m }
+after_transfer ExchangeCM s = record s { c = s.m; m = s.c }
+after_transfer CToN s = record s { n = s.c }
+after_transfer NToC s = record s { c = s.n }
+after_transfer ExchangeCN s = record s { c = s.n; n = s.c }
+after_transfer StatusToT s = record s { t = status_byte s }
+after_transfer TToStatus s = with_status_byte s.t s
+after_transfer ExchangeStatusT s = record (with_status_byte s.t s) { t = status_byte s }
+after_transfer CToStatus s = with_status_byte (byte_at s.c 0) s
+after_transfer StatusToC s = record s { c = set_byte s.c 0 (status_byte s) }
+after_transfer ExchangeCStatus s =
     record (with_status_byte (byte_at s.c 0) s) { c = set_byte s.c 0 (status_byte s) }
 
 -- a register with a digit for each of its 14 places
@@ -108,11 +108,11 @@ abbrev pub by_place : (ℕ → ℕ) → List ℕ
 by_place digit = map digit (range_with_len 0 14)
 
 -- a register rotated right by some digits: those that leave at the right come in at the left
-abbrev pub rotated : List ℕ → ℕ → List ℕ
-rotated register digits = by_place (λ place. slice_index register ((place + digits) % 14))
+abbrev pub rotated_register : List ℕ → ℕ → List ℕ
+rotated_register register digits = by_place (λ place. slice_index register ((place + digits) % 14))
 
 abbrev pub with_c_rotated : ℕ → Processor → Processor
-with_c_rotated digits s = with_c (rotated s.c digits) s
+with_c_rotated digits s = with_c (rotated_register s.c digits) s
 
 -- the bits that one of two registers has, and those that both have
 abbrev pub digits_or : List ℕ → List ℕ → List ℕ

@@ -99,14 +99,14 @@ registers_after (rows.LoadDigit digit) s = registers.with_digit_loaded digit s.p
 registers_after rows.LoadImmediate s = registers.with_word_in_c (second_word s) s.processor
 registers_after rows.FetchWord s = memory.with_fetched_word s.pages s.processor
 -- G=C, C=M and the like
-registers_after (rows.Transfer transfer) s = registers.transferred transfer s.processor
+registers_after (rows.Transfer transfer) s = registers.after_transfer transfer s.processor
 -- CLRABC, C=C OR A and C=C AND A
 registers_after rows.ClearRegisters s = registers.with_abc_clear s.processor
 registers_after rows.Or s = registers.with_c_or_a s.processor
 registers_after rows.And s = registers.with_c_and_a s.processor
 -- XQ->GO, RTN, ?C RTN and ?NC RTN take the newest return address off
-registers_after rows.DropReturn s = jumps.popped s.processor
-registers_after rows.Return s = jumps.popped s.processor
+registers_after rows.DropReturn s = jumps.with_return_popped s.processor
+registers_after rows.Return s = jumps.with_return_popped s.processor
 registers_after (rows.ReturnIf condition) s = jumps.return_change condition s.processor
 -- PUSH ADR and POP ADR
 registers_after rows.PushAddress s = registers.with_address_pushed s.processor
@@ -153,11 +153,11 @@ after row s = record {
 
 -- what a row does: arithmetic by the digit rule, which a relation states; all else is a function of
 -- the state
-abbrev pub Effect : Row → Nut → Nut → Type 0
-Effect (rows.Arithmetic operation field) s t =
+abbrev pub WordEffect : Row → Nut → Nut → Type 0
+WordEffect (rows.Arithmetic operation field) s t =
     OperatesOn operation field (gone_on s.processor) t.processor
     × (t ≡ record s { processor = t.processor })
-Effect row s t = t ≡ after row s
+WordEffect row s t = t ≡ after row s
 
 -- why a word itself is refused, with its address: no instruction; a bank (7); a peripheral that is
 -- selected (10); the processor goes to sleep (11)
@@ -197,7 +197,7 @@ refused s =
 -- the change that a step makes, which is there only where it is not refused
 pub record Micro (s t : Nut) : Type 0 where
   pub accepted : refused s ≡ None
-  pub effect : Effect (row_of (word_of s)) s t
+  pub effect : WordEffect (row_of (word_of s)) s t
 
 -- from s to t with an answer: refused for this reason and then not changed, or with this change
 pub record RefusesOr {T : Type 0} (reason : Option WordRefusal) (Change : Nut → Nut → Type 0)

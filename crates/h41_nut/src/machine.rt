@@ -2,7 +2,7 @@
 
 ghost use Rattle.std.specs.Prelude.{◌≤◌};
 ghost use Rattle.h41_pages.specs.Addresses.{first_address};
-ghost use Rattle.h41_nut.specs.RowStep.{Ran};
+ghost use Rattle.h41_nut.specs.private.RowStep.{Ran};
 ghost use Rattle.h41_nut.specs.WordStep.{Stepped};
 
 use crate::base::Base;

@@ -13,7 +13,7 @@ use Rattle.h41_words.specs.Counts.{word_count}
 use Rattle.h41_words.specs.declared.rows.Bank.{Bank}
 use Rattle.h41_words.specs.declared.rows.Bank.TheVariants.{First}
 use Rattle.h41_pages.specs.Addresses.{page_count, page_size, page_of, offset_of, first_page, last_page, is_pluggable, is_system}
-use Rattle.h41_pages.specs.AddressSpace.{address_count, nothing, empty_space, with_page, number_of, IsSpaceOf, IsPages}
+use Rattle.h41_pages.specs.private.AddressSpace.{address_count, nothing, empty_space, with_page, number_of, IsSpaceOf, IsPages}
 use Rattle.h41_pages.specs.PageLaws.{address_in}
 use Rattle.h41_pages.specs.PageMap.{PageMap, IsPageMap, no_banks, no_pages, fetched, word_in, plugged, unplugged, written, chosen_at}
 use Rattle.h41_pages.specs.PageMap.{chosen_image, bank_place, bank_numbered, image_at, with_first_banks, plug_refusal, write_refusal}

@@ -14,7 +14,7 @@ use Rattle.h41_words.specs.declared.rows.Bank.TheVariants.{First, Second, Third,
 use Rattle.h41_pages.specs.Addresses.{page_size, page_of, offset_of, is_pluggable}
 use Rattle.h41_pages.specs.PageMap.{PageMap, PageImage, IsHeldImage, IsPageMap, no_banks, no_pages, banks_at, image_at, bank_place}
 use Rattle.h41_pages.specs.PageMap.{bank_numbered, chosen_at, chosen_image, is_held, is_image, is_writable, plug_refusal, plugged}
-use Rattle.h41_pages.specs.PageMap.{rewritten, write_refusal, written}
+use Rattle.h41_pages.specs.PageMap.{with_word, write_refusal, written}
 use Rattle.h41_pages.specs.declared.refusal.PlugRefusal.TheVariants as plugs
 use Rattle.h41_pages.proofs.OtherPages.{other_banks, own_banks, other_chosen, own_image, bank_below}
 
@@ -237,7 +237,7 @@ chosen_as images chosen address from place row image at read bank found =
 pub written_as : (images : List (List (Option PageImage))) (chosen : List Bank)
     (address word from place : ℕ) (row : List (Option PageImage)) (image made : PageImage)
     → from ≡ page_of address → row ≡ slice_index_or images from [] → place ≡ bank_place (slice_index_or chosen from First)
-    → slice_index_or row place None ≡ Some image → made ≡ rewritten (offset_of address) word image
+    → slice_index_or row place None ≡ Some image → made ≡ with_word (offset_of address) word image
     → record { images = slice_set images from (slice_set row place (Some made)); chosen = chosen }
     ≡ written (record { images = images; chosen = chosen }) address word
 unfolding written
@@ -247,7 +247,7 @@ written_as images chosen address word from place row image made at read bank fou
     let its_bank : place ≡ bank_place (slice_index_or chosen page First) = bank ∙ ap (λ i. bank_place (slice_index_or chosen i First)) at in
     let its_image =
     ap Some new
-    ∙ ap (option_map (rewritten (offset_of address) word))
+    ∙ ap (option_map (with_word (offset_of address) word))
     (sym (chosen_as images chosen address from place row image at read bank found)) in
     ap (λ i. record { images = slice_set images i (slice_set row place (Some made)); chosen = chosen }) at
     ∙ ap (λ r. record { images = slice_set images page (slice_set r place (Some made)); chosen = chosen }) here
@@ -267,7 +267,7 @@ accepted_as pages address image here writable =
 
 -- the image at a bank with another word
 rewritten_held : (page place offset word : ℕ) (image : Option PageImage) → word < 0x400 → IfSome image (IsHeldImage page place)
-    → IfSome (option_map (rewritten offset word) image) (IsHeldImage page place)
+    → IfSome (option_map (with_word offset word) image) (IsHeldImage page place)
 rewritten_held page place offset word None small held = tt
 rewritten_held page place offset word (Some image) small held = image_held_with page place image offset word held small
 
@@ -277,6 +277,6 @@ unfolding written
 word_changed pages address word is below small =
     let page = page_of address in
     let place = bank_place (chosen_at pages page) in
-    image_changed pages page place (option_map (rewritten (offset_of address) word) (chosen_image pages page))
+    image_changed pages page place (option_map (with_word (offset_of address) word) (chosen_image pages page))
     is below (bank_below (chosen_at pages page))
     (rewritten_held page place (offset_of address) word (chosen_image pages page) small (is.each page place))

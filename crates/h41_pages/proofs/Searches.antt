@@ -4,7 +4,7 @@ use Rattle.std.specs.List.{find}
 use Rattle.std.specs.Option.{option_map, option_or}
 use Rattle.std.proofs.lemmas.List.Folds.{find-append}
 use Rattle.h41_pages.specs.FunctionTables.{is_named, found_in, numbers_of}
-use Rattle.h41_pages.specs.declared.functions.Function.{Function}
+use Rattle.h41_pages.specs.declared.functions.ModuleFunction.{ModuleFunction}
 
 map-skips : {X Y : Type 0} (f : X → Y) → (first second : Option X) → option_map f first ≡ None
     → option_map f (option_or first second) ≡ option_map f second
@@ -17,23 +17,23 @@ map-takes f y None second some = cc
 map-takes f y (Some x) second some = some
 
 -- in two lists behind each other: in the second where the first has none, else in the first
-pub found_behind : (name : List ℕ) (first second : List Function) → found_in name first ≡ None
+pub found_behind : (name : List ℕ) (first second : List ModuleFunction) → found_in name first ≡ None
     → found_in name (first ++ second) ≡ found_in name second
 found_behind name first second none =
     ap (option_map numbers_of) (find-append (is_named name) first second)
     ∙ map-skips numbers_of (find (is_named name) first) (find (is_named name) second) none
 
-pub found_before : (name : List ℕ) (numbers : ℕ × ℕ) (first second : List Function) → found_in name first ≡ Some numbers
+pub found_before : (name : List ℕ) (numbers : ℕ × ℕ) (first second : List ModuleFunction) → found_in name first ≡ Some numbers
     → found_in name (first ++ second) ≡ Some numbers
 found_before name numbers first second some =
     ap (option_map numbers_of) (find-append (is_named name) first second)
     ∙ map-takes numbers_of numbers (find (is_named name) first) (find (is_named name) second) some
 
 -- in a list with a first function
-pub found_later : (name : List ℕ) (function : Function) (others : List Function) → is_named name function ≡ false
+pub found_later : (name : List ℕ) (function : ModuleFunction) (others : List ModuleFunction) → is_named name function ≡ false
     → found_in name (function ∷ others) ≡ found_in name others
 found_later name function others fails = ap (λ b. option_map numbers_of (cond b (Some function) (find (is_named name) others))) fails
 
-pub found_first : (name : List ℕ) (function : Function) (others : List Function) → is_named name function ≡ true
+pub found_first : (name : List ℕ) (function : ModuleFunction) (others : List ModuleFunction) → is_named name function ≡ true
     → found_in name (function ∷ others) ≡ Some (numbers_of function)
 found_first name function others passes = ap (λ b. option_map numbers_of (cond b (Some function) (find (is_named name) others))) passes

@@ -11,7 +11,7 @@ use Rattle.std.proofs.lemmas.List.{set_past}
 use Rattle.h41_pages.specs.Addresses.{page_of, offset_of, page_size, is_pluggable, is_system}
 use Rattle.h41_pages.specs.PageLaws.{WrittenIsFetched, WritingKeepsOthers}
 use Rattle.h41_pages.specs.PageMap.{PageMap, PageImage, IsHeldImage, IsPageMap, banks_at, chosen_at, chosen_image, bank_place, is_held}
-use Rattle.h41_pages.specs.PageMap.{is_image, is_writable, fetched, word_in, rewritten, written}
+use Rattle.h41_pages.specs.PageMap.{is_image, is_writable, fetched, word_in, with_word, written}
 use Rattle.h41_pages.specs.declared.refusal.FetchRefusal.TheVariants.{SystemRom}
 use Rattle.h41_pages.specs.declared.refusal.ReadOnly.{ReadOnly}
 use Rattle.h41_pages.proofs.OtherPages.{same_fetch, other_banks, own_banks, own_image, bank_below}
@@ -39,13 +39,13 @@ image_size words image = eqb-true (length words) page_size (and_parts (length wo
 -- the image that is chosen behind a write
 chosen_after : (pages : PageMap) (address word : ℕ) → IsPageMap pages → page_of address < 16
     → chosen_image (written pages address word) (page_of address)
-    ≡ option_map (rewritten (offset_of address) word) (chosen_image pages (page_of address))
+    ≡ option_map (with_word (offset_of address) word) (chosen_image pages (page_of address))
 unfolding written
 chosen_after pages address word is below =
     let page = page_of address in
     let place = bank_place (chosen_at pages page) in
     let size : length (banks_at pages page) ≡ 4 = is.banks page below in
-    let image = option_map (rewritten (offset_of address) word) (chosen_image pages page) in
+    let image = option_map (with_word (offset_of address) word) (chosen_image pages page) in
     ap (λ banks. slice_index_or banks place None)
     (own_banks pages.images (slice_set (banks_at pages page) place image) page (omega (arith, is.images, below)))
     ∙ own_image (banks_at pages page) image place (omega (arith, size, bank_below (chosen_at pages page)))
@@ -72,8 +72,8 @@ of_image pages address word (Some image) is here writable =
     let held = chosen_held pages (page_of address) image is here in
     let inside = pluggable (page_of address) (bank_place (chosen_at pages (page_of address))) held.held in
     let size : length image.words ≡ page_size = image_size image.words held.words in
-    fetched_in (written pages address word) address (Some (rewritten (offset_of address) word image)) (outside_system address inside.0)
-    (chosen_after pages address word is (omega (arith, inside.1)) ∙ ap (option_map (rewritten (offset_of address) word)) here)
+    fetched_in (written pages address word) address (Some (with_word (offset_of address) word image)) (outside_system address inside.0)
+    (chosen_after pages address word is (omega (arith, inside.1)) ∙ ap (option_map (with_word (offset_of address) word)) here)
     ∙ ap Ok (own_word image.words (offset_of address) word (omega (arith, size)))
   where
     own_word : (words : List ℕ) (offset word : ℕ) → offset < length words → slice_index (slice_set words offset word) offset ≡ word
@@ -86,7 +86,7 @@ word_fetched pages address word is accepted =
 
 -- another word of an image of which one was written
 other_word : (address offset word : ℕ) (image : Option PageImage) → offset_of address ≢ offset
-    → word_in address (option_map (rewritten offset word) image) ≡ word_in address image
+    → word_in address (option_map (with_word offset word) image) ≡ word_in address image
 other_word address offset word None apart = refl
 other_word address offset word (Some image) apart = ap Ok (same_word image.words (offset_of address) offset word apart)
   where
@@ -105,7 +105,7 @@ in_same_page : (pages : PageMap) (at word address : ℕ) → IsPageMap pages →
 unfolding fetched
 in_same_page pages at word address is same apart (inl below) =
     let here = ap (chosen_image (written pages at word)) same ∙ chosen_after pages at word is below
-    ∙ ap (λ page. option_map (rewritten (offset_of at) word) (chosen_image pages page)) (sym same) in
+    ∙ ap (λ page. option_map (with_word (offset_of at) word) (chosen_image pages page)) (sym same) in
     ap (λ image. if is_system address then Err (SystemRom address) else word_in address image) here
     ∙ ap (λ answer. if is_system address then Err (SystemRom address) else answer)
     (other_word address (offset_of at) word (chosen_image pages (page_of address)) apart)

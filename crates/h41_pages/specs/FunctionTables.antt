@@ -12,7 +12,7 @@ use Rattle.h41_words.specs.declared.rows.Bank.TheVariants.{First}
 use Rattle.h41_pages.specs.Addresses.{page_count, page_size}
 use Rattle.h41_pages.specs.PageMap.{PageMap, PageImage, image_at}
 use Rattle.h41_pages.specs.declared.functions.Entry.{Entry}
-use Rattle.h41_pages.specs.declared.functions.Function.{Function}
+use Rattle.h41_pages.specs.declared.functions.ModuleFunction.{ModuleFunction}
 
 -- a page's number, and how many entries it has: none where its number is not 1 to 31 or its count
 -- is above 64
@@ -73,7 +73,7 @@ entry_name words entry =
     else spelled (words_before words (entry_offset words entry))
 
 -- an entry as a function: its two numbers, and its name
-abbrev pub function_in : List ℕ → ℕ → Function
+abbrev pub function_in : List ℕ → ℕ → ModuleFunction
 function_in words entry =
     record { number = number_in words; entry = entry; name = entry_name words entry }
 
@@ -82,27 +82,27 @@ unfoldable pub all_pages : List ℕ
 all_pages = range_with_len 0 page_count
 
 -- the functions of a page, those of bank 1, and of all pages: by page, then entry
-abbrev pub functions_of : List ℕ → List Function
+abbrev pub functions_of : List ℕ → List ModuleFunction
 functions_of words = map (function_in words) (range_with_len 0 (entry_count words))
 
 abbrev pub first_image : PageMap → ℕ → Option PageImage
 first_image pages page = image_at pages page First
 
-abbrev pub functions_at : PageMap → ℕ → List Function
+abbrev pub functions_at : PageMap → ℕ → List ModuleFunction
 functions_at pages page =
     option_map_or (λ image. functions_of image.words) (first_image pages page) []
 
-abbrev pub functions : PageMap → List Function
+abbrev pub functions : PageMap → List ModuleFunction
 functions pages = flat_map (functions_at pages) all_pages
 
 -- the function with a name is the first that has it; it is called by its two numbers
-abbrev pub is_named : List ℕ → Function → Bool
+abbrev pub is_named : List ℕ → ModuleFunction → Bool
 is_named name function = option_map_or (λ own. bytes_eq own name) function.name false
 
-abbrev pub numbers_of : Function → ℕ × ℕ
+abbrev pub numbers_of : ModuleFunction → ℕ × ℕ
 numbers_of function = (function.number, function.entry)
 
-abbrev pub found_in : List ℕ → List Function → Option (ℕ × ℕ)
+abbrev pub found_in : List ℕ → List ModuleFunction → Option (ℕ × ℕ)
 found_in name functions = option_map numbers_of (find (is_named name) functions)
 
 abbrev pub found : PageMap → List ℕ → Option (ℕ × ℕ)

@@ -1,7 +1,6 @@
 pub mod Addresses
 pub mod PageMap
-pub mod AddressSpace
 pub mod Images
 pub mod FunctionTables
-pub mod AddedFunctions
 pub mod PageLaws
+pub mod private

@@ -179,11 +179,11 @@ write_refusal pages address =
     (record { address = address })
 
 -- an image with another word at an offset
-abbrev pub rewritten : ℕ → ℕ → PageImage → PageImage
-rewritten offset word image = record image { words = slice_set image.words offset word }
+abbrev pub with_word : ℕ → ℕ → PageImage → PageImage
+with_word offset word image = record image { words = slice_set image.words offset word }
 
 -- the pages with another word at an address
 unfoldable pub written : PageMap → ℕ → ℕ → PageMap
 written pages address word =
     with_image pages (page_of address) (chosen_at pages (page_of address))
-    (option_map (rewritten (offset_of address) word) (chosen_image pages (page_of address)))
+    (option_map (with_word (offset_of address) word) (chosen_image pages (page_of address)))

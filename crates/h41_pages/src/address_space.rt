@@ -4,7 +4,7 @@ ghost use Rattle.std.specs.Prelude.{◌≡◌, ◌<◌, ◌↔◌, IsSome, IfSom
 ghost use Rattle.std.specs.Prelude.{slice_index, slice_set};
 ghost use Rattle.h41_words.specs.Counts.{word_count};
 ghost use Rattle.h41_pages.specs.Addresses.{page_count, page_size};
-ghost use Rattle.h41_pages.specs.AddressSpace as spec;
+ghost use Rattle.h41_pages.specs.private.AddressSpace as spec;
 
 use crate::addresses::{PAGE_WORDS, PAGES};
 use h41_words::Word;
@@ -25,7 +25,7 @@ pub struct AddressSpace {
 
 impl Model for AddressSpace {
     ghost use Rattle.std.specs.Prelude.{◌≡◌, ℕ, List, vec_len};
-    ghost use Rattle.h41_pages.specs.AddressSpace.{address_count};
+    ghost use Rattle.h41_pages.specs.private.AddressSpace.{address_count};
 
     ghost Value = { List ℕ };
 

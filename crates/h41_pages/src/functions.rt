@@ -4,7 +4,7 @@
 ghost use Rattle.std.specs.Prelude.{◌≡◌, ◌<◌, ◌≤◌, ◌+◌, ◌++◌, find, option_map, IfOk, IfSome, OnOk};
 ghost use Rattle.std.specs.Prelude.{Some, length, slice_index};
 ghost use Rattle.h41_words.specs.Counts.{word_count};
-ghost use Rattle.h41_pages.specs.AddedFunctions.{AddsAt, AddsOf};
+ghost use Rattle.h41_pages.specs.private.AddedFunctions.{AddsAt, AddsOf};
 ghost use Rattle.h41_pages.specs.Addresses.{page_size};
 ghost use Rattle.h41_pages.specs.FunctionTables as spec;
 
@@ -31,7 +31,7 @@ pub struct Entry {
 
 /// A function of a module.
 #[derive(Debug, Drop)]
-pub struct Function {
+pub struct ModuleFunction {
     /// The XROM number of its module, 1 to 31.
     pub number: u8,
     /// Its entry there, 0 to 63.
@@ -112,7 +112,7 @@ impl Pages {
     }
 
     /// All functions, by page, then entry. 21 where memory is refused.
-    pub fn functions(&self, alloc: Global) -> Result<Vec<Function>, AllocError>
+    pub fn functions(&self, alloc: Global) -> Result<Vec<ModuleFunction>, AllocError>
         ensures { IfOk result (λ functions. functions.items ≡ spec.functions self.now) }
     {
         let mut functions = Vec::new(alloc);
@@ -123,7 +123,11 @@ impl Pages {
     }
 
     /// Adds the functions of a page to a list.
-    fn add_functions_at(&self, page: usize, functions: &mut Vec<Function>) -> Result<(), AllocError>
+    fn add_functions_at(
+        &self,
+        page: usize,
+        functions: &mut Vec<ModuleFunction>,
+    ) -> Result<(), AllocError>
         requires { page < 16 }
         ensures { OnOk result (AddsAt self.now page functions.old.items functions.new.items) }
     {
@@ -230,12 +234,12 @@ impl Image {
     }
 
     /// An entry's function.
-    fn function(&self, entry: usize) -> Function
+    fn function(&self, entry: usize) -> ModuleFunction
         requires { entry < spec.entry_count self.now.words }
         ensures { result ≡ spec.function_in self.now.words entry }
     {
         let _count = self.entry_count();
-        Function {
+        ModuleFunction {
             number: self.number() as u8,
             entry: entry as u8,
             name: self.entry_name(entry),
@@ -257,7 +261,7 @@ impl Image {
     }
 
     /// Adds its functions to a list.
-    fn add_functions(&self, functions: &mut Vec<Function>) -> Result<(), AllocError>
+    fn add_functions(&self, functions: &mut Vec<ModuleFunction>) -> Result<(), AllocError>
         ensures { OnOk result (AddsOf self.now.words functions.old.items functions.new.items) }
     {
         let count = self.entry_count();

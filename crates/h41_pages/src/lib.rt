@@ -13,7 +13,7 @@ mod pages;
 mod refusal;
 
 pub use addresses::FIRST_ADDRESS;
-pub use functions::{Entry, Function};
+pub use functions::{Entry, ModuleFunction};
 pub use image_bytes::{image_read, is_image_bytes};
 pub use name::Name;
 pub use pages::Pages;

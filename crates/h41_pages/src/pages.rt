@@ -31,7 +31,7 @@ pub struct Pages {
 
 impl Model for Pages {
     ghost use Rattle.h41_pages.specs.PageMap.{PageMap};
-    ghost use Rattle.h41_pages.specs.AddressSpace.{IsPages};
+    ghost use Rattle.h41_pages.specs.private.AddressSpace.{IsPages};
 
     ghost Value = { PageMap };
 

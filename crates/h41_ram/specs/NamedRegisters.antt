@@ -2,28 +2,9 @@
 -- registers by number. The layout is that of HP's calculator.
 use Rattle.std.specs.Prelude.{ℕ, ◌+◌, ◌-◌, List, Option, nat_lt}
 use Rattle.std.specs.Bool.{then_some}
-use Rattle.h41_ram.specs.RegisterMap.{RegisterMap, register_at, with_register, curtain_of, top_of}
+use Rattle.h41_ram.specs.RegisterMap.{RegisterMap, address_of, register_at, with_register}
+use Rattle.h41_ram.specs.RegisterMap.{curtain_of, top_of}
 use Rattle.h41_ram.specs.declared.status.StatusRegister.{StatusRegister}
-use Rattle.h41_ram.specs.declared.status.StatusRegister.TheVariants as names
-
--- the address of a status register
-abbrev pub address_of : StatusRegister → ℕ
-address_of names.T = 0x000
-address_of names.Z = 0x001
-address_of names.Y = 0x002
-address_of names.X = 0x003
-address_of names.L = 0x004
-address_of names.M = 0x005
-address_of names.N = 0x006
-address_of names.O = 0x007
-address_of names.P = 0x008
-address_of names.Q = 0x009
-address_of names.Append = 0x00A
-address_of names.A = 0x00B
-address_of names.B = 0x00C
-address_of names.C = 0x00D
-address_of names.D = 0x00E
-address_of names.E = 0x00F
 
 -- a status register, and the memory with another in its place
 abbrev pub status_of : RegisterMap → StatusRegister → List ℕ

@@ -6,6 +6,8 @@ use Rattle.std.specs.Prelude.{◌≡◌, ℕ, ◌≤◌, ◌+◌, ◌-◌, ◌*�
 use Rattle.std.specs.Prelude.{◌++◌, map, length, slice_index, slice_index_or, slice_set, replicate}
 use Rattle.std.specs.Prelude.{drop, nat_lt, nat_le, ◌==◌, if◌then◌else◌}
 use Rattle.h41_digits.specs.Register.{byte_at}
+use Rattle.h41_ram.specs.declared.status.StatusRegister.{StatusRegister}
+use Rattle.h41_ram.specs.declared.status.StatusRegister.TheVariants as names
 
 -- the registers in the order of their addresses
 pub record RegisterMap : Type 0 where
@@ -52,25 +54,43 @@ with_register memory address register =
     else if nat_lt address main_start then memory
     else record memory { main = slice_set memory.main (address - main_start) register }
 
--- the addresses of the status registers that hold ALPHA, the addresses of the parts of memory, and
--- the flags
+-- the address of a status register
+abbrev pub address_of : StatusRegister → ℕ
+address_of names.T = 0x000
+address_of names.Z = 0x001
+address_of names.Y = 0x002
+address_of names.X = 0x003
+address_of names.L = 0x004
+address_of names.M = 0x005
+address_of names.N = 0x006
+address_of names.O = 0x007
+address_of names.P = 0x008
+address_of names.Q = 0x009
+address_of names.Append = 0x00A
+address_of names.A = 0x00B
+address_of names.B = 0x00C
+address_of names.C = 0x00D
+address_of names.D = 0x00E
+address_of names.E = 0x00F
+
+-- those of the registers that hold ALPHA, the addresses of the parts of memory, and the flags
 abbrev pub m_address : ℕ
-m_address = 0x005
+m_address = address_of names.M
 
 abbrev pub n_address : ℕ
-n_address = 0x006
+n_address = address_of names.N
 
 abbrev pub o_address : ℕ
-o_address = 0x007
+o_address = address_of names.O
 
 abbrev pub p_address : ℕ
-p_address = 0x008
+p_address = address_of names.P
 
 abbrev pub c_address : ℕ
-c_address = 0x00D
+c_address = address_of names.C
 
 abbrev pub d_address : ℕ
-d_address = 0x00E
+d_address = address_of names.D
 
 -- these registers
 abbrev pub m_of : RegisterMap → List ℕ

@@ -17,17 +17,17 @@ pub const STATUS_REGISTERS: usize = 16;
 pub const MAIN_START: usize = 0x0C0;
 
 /// The addresses of the status registers that hold ALPHA, the addresses of the parts of memory, and the flags.
-const M: usize = 0x005;
+const M: usize = StatusRegister::M as usize;
 
-const N: usize = 0x006;
+const N: usize = StatusRegister::N as usize;
 
-const O: usize = 0x007;
+const O: usize = StatusRegister::O as usize;
 
-const P: usize = 0x008;
+const P: usize = StatusRegister::P as usize;
 
-const C: usize = 0x00D;
+const C: usize = StatusRegister::C as usize;
 
-const D: usize = 0x00E;
+const D: usize = StatusRegister::D as usize;
 
 /// The number of the flag that is the lowest bit of register d.
 const LAST_FLAG: usize = 55;

@@ -1,7 +1,7 @@
 //! The names of the status registers.
 
 ghost use Rattle.std.specs.Prelude.{◌≡◌, ◌<◌};
-ghost use Rattle.h41_ram.specs.NamedRegisters as spec;
+ghost use Rattle.h41_ram.specs.RegisterMap as spec;
 
 /// A status register, by its name. T, Z, Y and X are the stack, L is LAST X.
 #[derive(Clone, Copy, Debug, PartialEq, Eq)]

@@ -4,7 +4,7 @@ use Rattle.std.specs.Prelude.{ℤ, pos, ◌&&◌, MatchBool, is_some}
 use Rattle.std.specs.Option.{option_map_or}
 use Rattle.h41_decimal.specs.Holding.{holding_of, number_in, worth}
 use Rattle.h41_decimal.proofs.Registers.{worth-holding_of}
-use Rattle.h41_rows.specs.Comparisons.{answer_of_comparison}
+use Rattle.h41_rows.specs.private.Comparisons.{answer_of_comparison}
 use Rattle.h41_rows.specs.declared.fault.LineFault.{LineFault}
 use Rattle.h41_rows.specs.declared.fault.LineFault.TheVariants.{AlphaData}
 

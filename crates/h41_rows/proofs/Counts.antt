@@ -8,7 +8,7 @@ use Rattle.std.proofs.lemmas.Int.{ints}
 use Rattle.h41_decimal.specs.Signs.{signed, sign_of}
 use Rattle.h41_decimal.specs.Units.{one, size, units}
 use Rattle.h41_decimal.specs.WholeParts.{HasOnes, IsFraction}
-use Rattle.h41_decimal.specs.declared.parts.Size.{Size}
+use Rattle.h41_decimal.specs.declared.parts.Magnitude.{Magnitude}
 use Rattle.h41_decimal.specs.declared.sign.Sign.{Sign}
 use Rattle.h41_decimal.specs.declared.sign.Sign.TheVariants.{Plus, Minus}
 use Rattle.h41_decimal.specs.declared.ten.Ten.{Ten}
@@ -18,7 +18,7 @@ use Rattle.h41_decimal.proofs.Signed.{signed-sub}
 use Rattle.h41_decimal.proofs.Tens.{size_pos, unsigned_abs-signed}
 use Rattle.h41_decimal.proofs.Wholes.{all_ones, ten_of_fewer, filled_worth}
 use Rattle.h41_rows.specs.Counters.{counter_of, fraction_of}
-use Rattle.h41_rows.specs.Counting.{count_in, number_along, with_ones}
+use Rattle.h41_rows.specs.private.Counting.{count_in, number_along, with_ones}
 
 -- a whole number of up to ten digits, filled with zeros
 pub log_few : (log n : ℕ) → 10 ^ log ≤ n → n < 10 ^ 10 → log ≤ 9
@@ -60,7 +60,7 @@ fraction_size z rest f =
     let same : r ≡ n % 10 ^ 108 = omega arith in
     ap unsigned_abs e ∙ (unsigned_abs-signed (sign_of z) r ∙ same)
 
-pub rest_size : (number rest : Ten) (sign : Sign) (x : Size) → IsFraction (units number) (units rest) → rest ≡ Nonzero sign x
+pub rest_size : (number rest : Ten) (sign : Sign) (x : Magnitude) → IsFraction (units number) (units rest) → rest ≡ Nonzero sign x
     → size x ≡ fraction_of (units number)
 rest_size number rest sign x fraction is =
     sym (unsigned_abs-signed sign (size x))
@@ -85,7 +85,7 @@ small_with_fraction (Nonzero sign x) some =
     let rest : 0 < size x % 10 ^ 108 = subst (λ (t : ℕ). 0 < t % 10 ^ 108) e some in
     subst (λ (t : ℕ). t < 10 ^ 9 * 10 ^ 108) (sym e) (small_size x.mantissa.digits x.exponent.biased x.mantissa.below rest)
 
-pub few_ones : (number : Ten) (x : Size) → size x ≡ fraction_of (units number) → unsigned_abs (units number) < 10 ^ 9 * 10 ^ 108
+pub few_ones : (number : Ten) (x : Magnitude) → size x ≡ fraction_of (units number) → unsigned_abs (units number) < 10 ^ 9 * 10 ^ 108
 few_ones number x same = small_with_fraction number (subst (λ (t : ℕ). 0 < t) same (size_pos x))
 
 -- a number with no fraction counts 1

@@ -3,7 +3,7 @@ use Rattle.std.proofs.Common.{◌≡◌, ℕ, List, Bool, true, false, refl, ap,
 use Rattle.h41_ram.specs.NamedRegisters.{with_status}
 use Rattle.h41_ram.specs.RegisterMap.{RegisterMap, register_at}
 use Rattle.h41_ram.specs.declared.status.StatusRegister.TheVariants as names
-use Rattle.h41_rows.specs.Places.{Place, X, place_address}
+use Rattle.h41_rows.specs.Places.{RowPlace, X, place_address}
 use Rattle.h41_rows.specs.RowEffects.{lift_takes, takes_of, with_taken}
 use Rattle.h41_rows.specs.Rows.{coming_in, compute, copy}
 
@@ -24,7 +24,7 @@ in_x old memory named register lift off e =
     ap (λ m. with_status m names.X register) e ∙ ap (with_coming old named register) (sym off)
 
 -- the register of a place comes in as a register that is given
-pub from_place : (old : RegisterMap) (named : ℕ) (place : Place) (register : List ℕ) (lift : Bool)
+pub from_place : (old : RegisterMap) (named : ℕ) (place : RowPlace) (register : List ℕ) (lift : Bool)
     → with_coming old named (register_at old (place_address named place)) lift
     ≡ with_taken old named register (takes_of (coming_in (copy X place)) lift) old
 from_place old named place register true = refl

@@ -9,7 +9,7 @@ use Rattle.h41_decimal.specs.Units.{one}
 use Rattle.h41_decimal.specs.declared.sign.Sign.{Sign}
 use Rattle.h41_decimal.specs.declared.sign.Sign.TheVariants.{Plus, Minus}
 use Rattle.h41_rows.specs.Counters.{Up, Down, counter_of, count_of, final_of, fraction_of, goes_on}
-use Rattle.h41_rows.specs.Wholes.{told_ones}
+use Rattle.h41_rows.specs.private.Wholes.{told_ones}
 
 few_below : (n : ℕ) → n < 10 ^ 10 → told_ones n ≡ n
 few_below n small =

@@ -4,7 +4,7 @@ use Rattle.std.specs.Prelude.{ℤ, if◌then◌else◌, nat_lt}
 use Rattle.std.proofs.lemmas.Bool.{cases_lt}
 use Rattle.std.proofs.lemmas.Bool.Decides.{nat_tests}
 use Rattle.h41_decimal.specs.Holding.{Holding, Number, Text, Other, worth}
-use Rattle.h41_rows.specs.Wholes.{told_number}
+use Rattle.h41_rows.specs.private.Wholes.{told_number}
 
 -- where a test is below 1000, or at least it
 pub told_below : (n : ℕ) → n < 1000 → told_number n ≡ n

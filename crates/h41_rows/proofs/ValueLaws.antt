@@ -16,6 +16,7 @@ use Rattle.h41_decimal.specs.declared.fault.DecimalFault.{DecimalFault}
 use Rattle.h41_decimal.specs.declared.fault.DecimalFault.TheVariants.{Data, Range}
 use Rattle.h41_decimal.specs.declared.sign.Sign.{Sign}
 use Rattle.h41_decimal.specs.declared.ten.Ten.{Ten}
+use Rattle.h41_ram.specs.NamedFlags.{range_ignore}
 use Rattle.h41_ram.specs.RegisterMap.{RegisterMap, d_address, flag_of, register_at, zeros}
 use Rattle.h41_show.specs.DisplayFormat.{format_of}
 use Rattle.h41_numbers.specs.NumberLaws.{NumbersAreDetermined}
@@ -28,7 +29,7 @@ use Rattle.h41_rows.specs.RowLaws.{AlwaysIsDetermined, OneIsDetermined, TestIsDe
 use Rattle.h41_rows.specs.Rows.{places_in_condition, places_in_value}
 use Rattle.h41_rows.specs.Values.{Computes, Counted, Difference, Displayed, Fraction, Given, IntegerPart, Inverse, IsRegisterOf, IsValue}
 use Rattle.h41_rows.specs.Values.{Kept, Negative, Percentage, Product, Quotient, Remainder, Root, AbsoluteValue, Sum, Unit, Value, Written}
-use Rattle.h41_rows.specs.Values.{places_of, range_flag, sign_of_value, unit_of}
+use Rattle.h41_rows.specs.Values.{places_of, sign_of_value, unit_of}
 use Rattle.h41_rows.specs.declared.fault.LineFault.{LineFault}
 use Rattle.h41_rows.specs.declared.fault.LineFault.TheVariants.{AlphaData}
 
@@ -133,10 +134,10 @@ module _
       same_answer same_nearest same_root same_part same_fraction same_number same_units same_quotient same_modulo same_steps
       value memory named p.answer q.answer p.nearest q.nearest
       in
-      let kept : Kept (sign_of_value value memory named) (flag_of memory range_flag) q.answer a =
-      subst (λ answer. Kept (sign_of_value value memory named) (flag_of memory range_flag) answer a) same p.kept
+      let kept : Kept (sign_of_value value memory named) (flag_of memory range_ignore) q.answer a =
+      subst (λ answer. Kept (sign_of_value value memory named) (flag_of memory range_ignore) answer a) same p.kept
       in
-      same_kept same_register (sign_of_value value memory named) (flag_of memory range_flag) q.answer a b kept q.kept
+      same_kept same_register (sign_of_value value memory named) (flag_of memory range_ignore) q.answer a b kept q.kept
 
   -- a value that works on numbers
   works_determined : (memory : RegisterMap) (named : ℕ) (value : Value) (a b : Result (List ℕ) LineFault)

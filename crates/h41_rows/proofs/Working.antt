@@ -10,14 +10,15 @@ use Rattle.h41_decimal.specs.Signs.{sign_of}
 use Rattle.h41_decimal.specs.Units.{one, units}
 use Rattle.h41_decimal.specs.WholeParts.{IsFraction, IsIntegerPart}
 use Rattle.h41_decimal.specs.declared.ten.Ten.{Ten}
+use Rattle.h41_ram.specs.NamedFlags.{range_ignore}
 use Rattle.h41_ram.specs.RegisterMap.{RegisterMap, flag_of, register_at}
-use Rattle.h41_rows.specs.Answers.{KeptOne, KeptTwo, WithoutNumber, sign_of_two, worth_at}
+use Rattle.h41_rows.specs.private.Answers.{KeptOne, KeptTwo, WithoutNumber, sign_of_two, worth_at}
 use Rattle.h41_rows.specs.Computing.{IsAlways, WorksOn, WorksOnOne, WorksOnTwo, value_of_one, value_of_two}
 use Rattle.h41_rows.specs.Counters.{Up, Down, number_after}
-use Rattle.h41_rows.specs.Places.{Place, amount_in, are_numbers, place_address, register_in}
+use Rattle.h41_rows.specs.Places.{RowPlace, amount_in, are_numbers, place_address, register_in}
 use Rattle.h41_rows.specs.Rows.{places_in_value}
 use Rattle.h41_rows.specs.Values as values
-use Rattle.h41_rows.specs.Values.{Given, Computes, Kept, range_flag, unit_of}
+use Rattle.h41_rows.specs.Values.{Given, Computes, Kept, unit_of}
 use Rattle.h41_rows.specs.declared.fault.LineFault.{LineFault}
 use Rattle.h41_rows.specs.declared.fault.LineFault.TheVariants.{AlphaData}
 use Rattle.h41_rows.specs.declared.values.OfOne.{OfOne}
@@ -42,18 +43,18 @@ worth_is_number (Some number) register = refl
 worth_is_number None register = no_worth (slice_index register 13 == 1) (Text (text_in register)) refl
 
 -- the number in a place
-pub amount_of : (memory : RegisterMap) (named : ℕ) (a : Place) (address : ℕ) (number : ℤ) → place_address named a ≡ address
+pub amount_of : (memory : RegisterMap) (named : ℕ) (a : RowPlace) (address : ℕ) (number : ℤ) → place_address named a ≡ address
     → worth_at memory address ≡ Some number → number ≡ amount_in memory named a
 amount_of memory named a address number e w =
     sym (ap (λ k. option_map_or (λ (n : ℤ). n) (worth_at memory k) (pos 0)) e ∙ ap (λ o. option_map_or (λ (n : ℤ). n) o (pos 0)) w)
 
-pub number_of : (memory : RegisterMap) (named : ℕ) (a : Place) (address : ℕ) (number : Option ℤ) → place_address named a ≡ address
+pub number_of : (memory : RegisterMap) (named : ℕ) (a : RowPlace) (address : ℕ) (number : Option ℤ) → place_address named a ≡ address
     → worth_at memory address ≡ number → number_in (register_in memory named a) ≡ number
 number_of memory named a address number e w =
     sym (worth_is_number (number_in (register_in memory named a)) (register_in memory named a)) ∙ (ap (λ k. worth_at memory k) e ∙ w)
 
 -- one place
-pub computes_one : (value : OfOne) (memory : RegisterMap) (named : ℕ) (a : Place) (number : Ten) (result : Result (List ℕ) LineFault)
+pub computes_one : (value : OfOne) (memory : RegisterMap) (named : ℕ) (a : RowPlace) (number : Ten) (result : Result (List ℕ) LineFault)
     → units number ≡ amount_in memory named a → worth (holding_of (register_in memory named a)) ≡ Some (units number)
     → KeptOne value memory number result → Computes (value_of_one value a) memory named result
 computes_one ones.Root memory named a number result e w k =
@@ -80,7 +81,7 @@ computes_one ones.Displayed memory named a number result e w k =
     record {
       answer = k.answer;
       nearest = (number, e, k.answers);
-      kept = subst (λ (t : ℤ). Kept (sign_of t) (flag_of memory range_flag) k.answer result) e k.kept;
+      kept = subst (λ (t : ℤ). Kept (sign_of t) (flag_of memory range_ignore) k.answer result) e k.kept;
     }
 computes_one ones.Unit memory named a number result e w k =
     record {
@@ -116,7 +117,7 @@ works_one value memory address number result w k named a e =
     worked ones.CountedDown t computes = where_true _ _ _ t computes
 
 -- the unit of no number
-unit_of_none : (memory : RegisterMap) (named : ℕ) (a : Place) (result : Result (List ℕ) LineFault)
+unit_of_none : (memory : RegisterMap) (named : ℕ) (a : RowPlace) (result : Result (List ℕ) LineFault)
     → worth (holding_of (register_in memory named a)) ≡ None → IsOkAnd result (λ register. IsAlways (Given (pos 0)) register)
     → Computes (values.Unit a) memory named result
 unit_of_none memory named a (Ok register) none always =
@@ -152,7 +153,7 @@ works_without value memory address fault result w f without named a e =
     refused ones.CountedDown t none said without = where_false _ _ _ t (without ∙ said)
 
 -- two places
-pub computes_two : (value : OfTwo) (memory : RegisterMap) (named : ℕ) (a b : Place) (x y : Ten) (result : Result (List ℕ) LineFault)
+pub computes_two : (value : OfTwo) (memory : RegisterMap) (named : ℕ) (a b : RowPlace) (x y : Ten) (result : Result (List ℕ) LineFault)
     → units x ≡ amount_in memory named a → units y ≡ amount_in memory named b
     → KeptTwo value memory x y result → Computes (value_of_two value a b) memory named result
 computes_two twos.Sum memory named a b x y result e f k =
@@ -160,21 +161,21 @@ computes_two twos.Sum memory named a b x y result e f k =
     record {
       answer = k.answer;
       nearest = subst (λ (t : ℤ). Nearest t 1 k.answer) together k.answers;
-      kept = subst (λ (t : ℤ). Kept (sign_of t) (flag_of memory range_flag) k.answer result) together k.kept;
+      kept = subst (λ (t : ℤ). Kept (sign_of t) (flag_of memory range_ignore) k.answer result) together k.kept;
     }
 computes_two twos.Difference memory named a b x y result e f k =
     let together : units x -ℤ units y ≡ amount_in memory named a -ℤ amount_in memory named b = cc in
     record {
       answer = k.answer;
       nearest = subst (λ (t : ℤ). Nearest t 1 k.answer) together k.answers;
-      kept = subst (λ (t : ℤ). Kept (sign_of t) (flag_of memory range_flag) k.answer result) together k.kept;
+      kept = subst (λ (t : ℤ). Kept (sign_of t) (flag_of memory range_ignore) k.answer result) together k.kept;
     }
 computes_two twos.Product memory named a b x y result e f k =
     let together : units x *ℤ units y ≡ amount_in memory named a *ℤ amount_in memory named b = cc in
     record {
       answer = k.answer;
       nearest = subst (λ (t : ℤ). Nearest t one k.answer) together k.answers;
-      kept = subst (λ (t : ℤ). Kept (sign_of t) (flag_of memory range_flag) k.answer result) together k.kept;
+      kept = subst (λ (t : ℤ). Kept (sign_of t) (flag_of memory range_ignore) k.answer result) together k.kept;
     }
 computes_two twos.Quotient memory named a b x y result e f k =
     let together : units x *ℤ units y ≡ amount_in memory named a *ℤ amount_in memory named b = cc in
@@ -183,7 +184,7 @@ computes_two twos.Quotient memory named a b x y result e f k =
       nearest =
           subst (λ (t : ℤ). NearestQuotient t (amount_in memory named b) k.answer)
           e (subst (λ (t : ℤ). NearestQuotient (units x) t k.answer) f k.answers);
-      kept = subst (λ (t : ℤ). Kept (sign_of t) (flag_of memory range_flag) k.answer result) together k.kept;
+      kept = subst (λ (t : ℤ). Kept (sign_of t) (flag_of memory range_ignore) k.answer result) together k.kept;
     }
 computes_two twos.Remainder memory named a b x y result e f k =
     record { answer = k.answer; nearest = (x, y, e, f, k.answers); kept = k.kept }
@@ -192,7 +193,7 @@ computes_two twos.Percentage memory named a b x y result e f k =
     record {
       answer = k.answer;
       nearest = subst (λ (t : ℤ). Nearest t (100 * one) k.answer) together k.answers;
-      kept = subst (λ (t : ℤ). Kept (sign_of t) (flag_of memory range_flag) k.answer result) together k.kept;
+      kept = subst (λ (t : ℤ). Kept (sign_of t) (flag_of memory range_ignore) k.answer result) together k.kept;
     }
 
 -- where both hold numbers
@@ -208,7 +209,7 @@ second_without None p e = refl
 second_without (Some x) p e = ap (λ (t : Option ℤ). is_some t && true) e
 
 -- two places are asked for by each value of two numbers
-two_asked : (value : OfTwo) (memory : RegisterMap) (named : ℕ) (a b : Place)
+two_asked : (value : OfTwo) (memory : RegisterMap) (named : ℕ) (a b : RowPlace)
     → are_numbers memory named (places_in_value (value_of_two value a b)) ≡ are_numbers memory named (a ∷ b ∷ [])
 two_asked twos.Sum memory named a b = refl
 two_asked twos.Difference memory named a b = refl
@@ -218,17 +219,17 @@ two_asked twos.Remainder memory named a b = refl
 two_asked twos.Percentage memory named a b = refl
 
 -- a register that stands elsewhere holds the number that it holds here
-held_elsewhere : (memory other : RegisterMap) (named : ℕ) (a : Place) (address : ℕ) (number : Option ℤ)
+held_elsewhere : (memory other : RegisterMap) (named : ℕ) (a : RowPlace) (address : ℕ) (number : Option ℤ)
     → register_in other named a ≡ register_at memory address → worth_at memory address ≡ number
     → worth (holding_of (register_in other named a)) ≡ number
 held_elsewhere memory other named a address number e w = ap (λ (r : List ℕ). worth (holding_of r)) e ∙ w
 
-amount_elsewhere : (memory other : RegisterMap) (named : ℕ) (a : Place) (address : ℕ) (number : ℤ)
+amount_elsewhere : (memory other : RegisterMap) (named : ℕ) (a : RowPlace) (address : ℕ) (number : ℤ)
     → register_in other named a ≡ register_at memory address → worth_at memory address ≡ Some number → number ≡ amount_in other named a
 amount_elsewhere memory other named a address number e w =
     amount_of other named a (place_address named a) number refl (held_elsewhere memory other named a address (Some number) e w)
 
-number_elsewhere : (memory other : RegisterMap) (named : ℕ) (a : Place) (address : ℕ) (number : Option ℤ)
+number_elsewhere : (memory other : RegisterMap) (named : ℕ) (a : RowPlace) (address : ℕ) (number : Option ℤ)
     → register_in other named a ≡ register_at memory address → worth_at memory address ≡ number
     → number_in (register_in other named a) ≡ number
 number_elsewhere memory other named a address number e w =
@@ -236,7 +237,7 @@ number_elsewhere memory other named a address number e w =
 
 -- of memory flag 24 alone has a part in what is kept of an answer
 kept_elsewhere : (value : OfTwo) (memory other : RegisterMap) (x y : Ten) (result : Result (List ℕ) LineFault)
-    → flag_of other range_flag ≡ flag_of memory range_flag → KeptTwo value memory x y result → KeptTwo value other x y result
+    → flag_of other range_ignore ≡ flag_of memory range_ignore → KeptTwo value memory x y result → KeptTwo value other x y result
 kept_elsewhere value memory other x y result same k =
     record {
       answer = k.answer;

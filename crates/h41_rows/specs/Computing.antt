@@ -3,16 +3,17 @@
 use Rattle.std.specs.Prelude.{◌≡◌, ℕ, Bool, List, [], ◌∷◌, MatchBool, Some, Result, Ok, Err, ℤ, pos}
 use Rattle.std.specs.Option.{option_map_or}
 use Rattle.h41_decimal.specs.Holding.{holding_of, worth}
+use Rattle.h41_ram.specs.NamedFlags.{range_ignore}
 use Rattle.h41_ram.specs.RegisterMap.{RegisterMap, flag_of, register_at}
 use Rattle.h41_rows.specs.Counters.{Up, Down}
 use Rattle.h41_rows.specs.Operands.{Meant, Count, Name}
-use Rattle.h41_rows.specs.Places.{Place, are_numbers, place_address, register_in}
+use Rattle.h41_rows.specs.Places.{RowPlace, are_numbers, place_address, register_in}
 use Rattle.h41_rows.specs.RowEffects.{holds_in, takes_of, with_alpha_change, with_taken}
 use Rattle.h41_rows.specs.Rows.{AlphaChange, Condition, Takes, coming_in, compute, copy}
 use Rattle.h41_rows.specs.Rows.{places_in_condition, places_in_value}
 use Rattle.h41_rows.specs.Rows as rows
 use Rattle.h41_rows.specs.Places as places
-use Rattle.h41_rows.specs.Values.{Value, Computes, range_flag}
+use Rattle.h41_rows.specs.Values.{Value, Computes}
 use Rattle.h41_rows.specs.Values as values
 use Rattle.h41_rows.specs.declared.conditions.Test.{Test}
 use Rattle.h41_rows.specs.declared.conditions.Test.TheVariants as tests
@@ -32,7 +33,7 @@ WorksOn memory named value result =
     (Computes value memory named result) (result ≡ Err AlphaData)
 
 -- a value of the number in one place
-abbrev pub value_of_one : OfOne → Place → Value
+abbrev pub value_of_one : OfOne → RowPlace → Value
 value_of_one ones.Root a = values.Root a
 value_of_one ones.Inverse a = values.Inverse a
 value_of_one ones.Negative a = values.Negative a
@@ -45,7 +46,7 @@ value_of_one ones.CountedUp a = values.Counted Up a
 value_of_one ones.CountedDown a = values.Counted Down a
 
 -- a value of the numbers in two
-abbrev pub value_of_two : OfTwo → Place → Place → Value
+abbrev pub value_of_two : OfTwo → RowPlace → RowPlace → Value
 value_of_two twos.Sum a b = values.Sum a b
 value_of_two twos.Difference a b = values.Difference a b
 value_of_two twos.Product a b = values.Product a b
@@ -56,7 +57,7 @@ value_of_two twos.Percentage a b = values.Percentage a b
 -- it is computed of the register at this address, whatever its place is called
 abbrev pub WorksOnOne : OfOne → RegisterMap → ℕ → Result (List ℕ) LineFault → Type 0
 WorksOnOne value memory address result =
-    (named : ℕ) (a : Place)
+    (named : ℕ) (a : RowPlace)
     → place_address named a ≡ address → WorksOn memory named (value_of_one value a) result
 
 -- It is computed of the registers at these two addresses, whatever memory they stand in and
@@ -64,10 +65,10 @@ WorksOnOne value memory address result =
 -- memory for any two registers.
 abbrev pub WorksOnTwo : OfTwo → RegisterMap → ℕ → ℕ → Result (List ℕ) LineFault → Type 0
 WorksOnTwo value memory first second result =
-    (other : RegisterMap) (named : ℕ) (a b : Place)
+    (other : RegisterMap) (named : ℕ) (a b : RowPlace)
     → register_in other named a ≡ register_at memory first
     → register_in other named b ≡ register_at memory second
-    → flag_of other range_flag ≡ flag_of memory range_flag
+    → flag_of other range_ignore ≡ flag_of memory range_ignore
     → WorksOn other named (value_of_two value a b) result
 
 -- a value that memory has no part in
@@ -113,17 +114,17 @@ meant_by (targets.Name name) = Name name
 -- X
 abbrev pub BringsIn : (old new : RegisterMap) → ℕ → Bool → Type 0
 BringsIn old new address lift =
-    (named : ℕ) (place : Place) (register : List ℕ) → place_address named place ≡ address
+    (named : ℕ) (place : RowPlace) (register : List ℕ) → place_address named place ≡ address
     → new ≡ with_taken old named register (takes_of (coming_in (copy places.X place)) lift) old
 
 abbrev pub Exchanges : (old new : RegisterMap) → ℕ → Type 0
 Exchanges old new address =
-    (named : ℕ) (place : Place) (register : List ℕ) → place_address named place ≡ address
+    (named : ℕ) (place : RowPlace) (register : List ℕ) → place_address named place ≡ address
     → new ≡ with_taken old named register (copy places.X place ∷ copy place places.X ∷ []) old
 
 abbrev pub Stores : (old new : RegisterMap) → ℕ → Type 0
 Stores old new address =
-    (named : ℕ) (place : Place) (register : List ℕ) → place_address named place ≡ address
+    (named : ℕ) (place : RowPlace) (register : List ℕ) → place_address named place ≡ address
     → new ≡ with_taken old named register (copy place places.X ∷ []) old
 
 -- the same where nothing is computed

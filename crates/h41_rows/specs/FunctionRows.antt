@@ -3,6 +3,7 @@ use Rattle.std.specs.Prelude.{ℕ, true, false, [], ◌∷◌, Option, Some, Non
 use Rattle.h41_codes.specs.declared.functions.Function.{Function}
 use Rattle.h41_codes.specs.declared.functions.Function.TheVariants as functions
 use Rattle.h41_decimal.specs.Units.{size_of}
+use Rattle.h41_ram.specs.NamedFlags.{alpha_mode, grads, radians}
 use Rattle.h41_rows.specs.Places.{T, Z, Y, X, LastX}
 use Rattle.h41_rows.specs.Rows.{Row, Becomes, LosesSix, FlagChange, In, Nought, Same, Differ, Below}
 use Rattle.h41_rows.specs.Rows.{AtMost, Returns, NoText, AlphaText, Stops, TurnsOff, Off, nothing}
@@ -13,9 +14,9 @@ use Rattle.h41_rows.specs.Values as values
 abbrev pub pi : ℕ
 pi = size_of 3141592654 99
 
--- flags 42 and 43 tell the unit of angles: 42 GRAD, 43 RAD, none DEG
-abbrev pub angles : (grads radians : FlagChange) → Row
-angles grads radians = record nothing { flags = grads ∷ radians ∷ [] }
+-- two flags tell the unit of angles: the one GRAD, the other RAD, none DEG
+abbrev pub angles : (for_grads for_radians : FlagChange) → Row
+angles for_grads for_radians = record nothing { flags = for_grads ∷ for_radians ∷ [] }
 
 -- a function that is carried out has a row
 abbrev pub function_row : Function → Option Row
@@ -74,11 +75,11 @@ function_row functions.TestXAtMostZero = Some (test (AtMost (In X) Nought))
 function_row functions.ViewAlpha = Some (record nothing { shows = AlphaText })
 function_row functions.ClearDisplay = Some (record nothing { shows = NoText })
 function_row functions.Degrees =
-    Some (angles (record { flag = 42; on = false }) (record { flag = 43; on = false }))
+    Some (angles (record { flag = grads; on = false }) (record { flag = radians; on = false }))
 function_row functions.Radians =
-    Some (angles (record { flag = 42; on = false }) (record { flag = 43; on = true }))
+    Some (angles (record { flag = grads; on = false }) (record { flag = radians; on = true }))
 function_row functions.Grads =
-    Some (angles (record { flag = 42; on = true }) (record { flag = 43; on = false }))
+    Some (angles (record { flag = grads; on = true }) (record { flag = radians; on = false }))
 -- X stays, and the next number takes its place
 function_row functions.Enter =
     Some (record nothing { takes = copy T Z ∷ copy Z Y ∷ copy Y X ∷ []; lift = Off })
@@ -92,11 +93,11 @@ function_row functions.Advance = Some nothing
 function_row functions.ClearAlpha = Some (record nothing { alpha = Some (Becomes []) })
 function_row functions.ShiftAlpha = Some (record nothing { alpha = Some LosesSix })
 function_row functions.ClearRegisters = Some (record nothing { clears_data = true })
--- flag 48 brings ALPHA into the display
+-- ALPHA comes into the display, or goes
 function_row functions.AlphaOff =
-    Some (record nothing { flags = record { flag = 48; on = false } ∷ [] })
+    Some (record nothing { flags = record { flag = alpha_mode; on = false } ∷ [] })
 function_row functions.AlphaOn =
-    Some (record nothing { flags = record { flag = 48; on = true } ∷ [] })
+    Some (record nothing { flags = record { flag = alpha_mode; on = true } ∷ [] })
 function_row functions.TurnOff = Some (record nothing { ends = TurnsOff })
 function_row functions.Prompt = Some (record nothing { shows = AlphaText; ends = Stops })
 -- the others are not carried out

@@ -14,6 +14,7 @@ use Rattle.h41_codes.specs.declared.functions.RegisterFunction.TheVariants.{Reca
 use Rattle.h41_codes.specs.declared.functions.RegisterFunction.TheVariants.{StoreRegister}
 use Rattle.h41_codes.specs.declared.line.Line.{Line}
 use Rattle.h41_codes.specs.declared.line.Line.TheVariants as lines
+use Rattle.h41_ram.specs.NamedFlags as flags
 use Rattle.h41_rows.specs.Counters.{Way, Up, Down}
 use Rattle.h41_rows.specs.FunctionRows.{function_row}
 use Rattle.h41_rows.specs.Operands.{Meant, Count, Name}
@@ -51,9 +52,9 @@ change flag on = record { flag = flag; on = on }
 abbrev pub format : ℕ → (fixed engineering : Bool) → Row
 format n fixed engineering = record nothing {
   flags =
-      change 36 (n / 8 % 2 == 1) ∷ change 37 (n / 4 % 2 == 1) ∷ change 38 (n / 2 % 2 == 1)
-      ∷ change 39 (n % 2 == 1)
-      ∷ change 40 fixed ∷ change 41 engineering ∷ [];
+      change flags.digits_8 (n / 8 % 2 == 1) ∷ change flags.digits_4 (n / 4 % 2 == 1)
+      ∷ change flags.digits_2 (n / 2 % 2 == 1) ∷ change flags.digits_1 (n % 2 == 1)
+      ∷ change flags.fixed fixed ∷ change flags.engineering engineering ∷ [];
 }
 
 -- functions of a number of digits, of a flag

@@ -3,21 +3,20 @@ use Rattle.std.specs.Prelude.{ℕ, Bool, List, is_some, ℤ, pos}
 use Rattle.std.specs.List.{list_all}
 use Rattle.std.specs.Option.{option_map_or}
 use Rattle.h41_decimal.specs.Holding.{holding_of, number_in, worth}
-use Rattle.h41_ram.specs.NamedRegisters.{address_of}
-use Rattle.h41_ram.specs.RegisterMap.{RegisterMap, register_at}
+use Rattle.h41_ram.specs.RegisterMap.{RegisterMap, address_of, register_at}
 use Rattle.h41_ram.specs.declared.status.StatusRegister.TheVariants as names
 
-pub data Place : Type 0 where
-  T : Place
-  Z : Place
-  Y : Place
-  X : Place
-  LastX : Place
+pub data RowPlace : Type 0 where
+  T : RowPlace
+  Z : RowPlace
+  Y : RowPlace
+  X : RowPlace
+  LastX : RowPlace
   -- the register that the line names
-  Named : Place
+  Named : RowPlace
 
 -- the address of a place, where that of the register that the line names is given
-abbrev pub place_address : ℕ → Place → ℕ
+abbrev pub place_address : ℕ → RowPlace → ℕ
 place_address named T = address_of names.T
 place_address named Z = address_of names.Z
 place_address named Y = address_of names.Y
@@ -26,15 +25,15 @@ place_address named LastX = address_of names.L
 place_address named Named = named
 
 -- the register there
-abbrev pub register_in : RegisterMap → ℕ → Place → List ℕ
+abbrev pub register_in : RegisterMap → ℕ → RowPlace → List ℕ
 register_in memory named place = register_at memory (place_address named place)
 
 -- what the number there is worth, in units; zero where it holds none, which no line asks
-abbrev pub amount_in : RegisterMap → ℕ → Place → ℤ
+abbrev pub amount_in : RegisterMap → ℕ → RowPlace → ℤ
 amount_in memory named place =
     option_map_or (λ number. number) (worth (holding_of (register_in memory named place))) (pos 0)
 
 -- whether each place holds a number
-abbrev pub are_numbers : RegisterMap → ℕ → List Place → Bool
+abbrev pub are_numbers : RegisterMap → ℕ → List RowPlace → Bool
 are_numbers memory named places =
     list_all (λ place. is_some (number_in (register_in memory named place))) places

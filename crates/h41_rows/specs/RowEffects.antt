@@ -29,7 +29,7 @@ abbrev pub six_characters : RegisterMap → List ℕ
 six_characters memory = take 6 (after_nulls (alpha_of memory))
 
 -- the register that a place takes
-abbrev pub taken_from : RegisterMap → ℕ → List ℕ → rows.Source → List ℕ
+abbrev pub taken_from : RegisterMap → ℕ → List ℕ → rows.RegisterSource → List ℕ
 taken_from memory named result (rows.From place) = register_in memory named place
 taken_from memory named result rows.Result = result
 taken_from memory named result rows.SixCharacters = text_register (six_characters memory)

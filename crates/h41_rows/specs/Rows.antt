@@ -3,23 +3,23 @@ use Rattle.std.specs.Prelude.{ℕ, Bool, true, false, List, [], ◌∷◌, ◌++
 use Rattle.std.specs.Option.{option_map_or}
 use Rattle.h41_codes.specs.declared.functions.Branch.{Branch}
 use Rattle.h41_rows.specs.Counters.{Way}
-use Rattle.h41_rows.specs.Places.{Place, T, Z, Y, X, LastX}
+use Rattle.h41_rows.specs.Places.{RowPlace, T, Z, Y, X, LastX}
 use Rattle.h41_rows.specs.Values.{Value, Given, Written, Sum, Difference, Product, Quotient}
 use Rattle.h41_rows.specs.Values.{Remainder, Percentage, Root, Inverse, Negative, AbsoluteValue}
 use Rattle.h41_rows.specs.Values.{IntegerPart, Fraction, Displayed, Unit, Counted}
 
 -- what a place takes; all are taken from what stood there before the line
-pub data Source : Type 0 where
+pub data RegisterSource : Type 0 where
   -- the register of a place, whatever it holds
-  From : Place → Source
+  From : RowPlace → RegisterSource
   -- the value that the line computes
-  Result : Source
+  Result : RegisterSource
   -- ALPHA's first six characters
-  SixCharacters : Source
+  SixCharacters : RegisterSource
 
 pub record Takes : Type 0 where
-  pub place : Place
-  pub source : Source
+  pub place : RowPlace
+  pub source : RegisterSource
 
 -- what becomes of ALPHA
 pub data AlphaChange : Type 0 where
@@ -39,7 +39,7 @@ pub record FlagChange : Type 0 where
 
 -- what a test compares: the register of a place, or zero
 pub data Term : Type 0 where
-  In : Place → Term
+  In : RowPlace → Term
   Nought : Term
 
 -- what a line asks before it goes on
@@ -53,7 +53,7 @@ pub data Condition : Type 0 where
   -- a flag is set, or clear
   Flag : ℕ → Bool → Condition
   -- a loop goes on, by its counter in a place
-  Loops : Way → Place → Condition
+  Loops : Way → RowPlace → Condition
 
 -- where a line goes
 pub data Going : Type 0 where
@@ -81,10 +81,10 @@ pub data Showing : Type 0 where
   AlphaText : Showing
 
 -- whether the program goes on
-pub data Ending : Type 0 where
-  GoesOn : Ending
-  Stops : Ending
-  TurnsOff : Ending
+pub data RowEnding : Type 0 where
+  GoesOn : RowEnding
+  Stops : RowEnding
+  TurnsOff : RowEnding
 
 -- whether the stack is lifted when the next number comes in. Which lines turn lift on is this
 -- project's choice.
@@ -107,7 +107,7 @@ pub record Row : Type 0 where
   pub lift : Lift
   pub goes : Going
   pub shows : Showing
-  pub ends : Ending
+  pub ends : RowEnding
 
 -- the row of a line that does nothing but turn lift on
 abbrev pub nothing : Row
@@ -129,10 +129,10 @@ abbrev pub silent : Row
 silent = record nothing { lift = AsItWas }
 
 -- a place takes the register of another, the computed value, or six characters
-abbrev pub copy : Place → Place → Takes
+abbrev pub copy : RowPlace → RowPlace → Takes
 copy place other = record { place = place; source = From other }
 
-abbrev pub compute : Place → Takes
+abbrev pub compute : RowPlace → Takes
 compute place = record { place = place; source = Result }
 
 -- X takes a value of X, and L what X held
@@ -156,7 +156,7 @@ test condition = record nothing { goes = Tests condition }
 
 -- The places that must hold numbers: those of the value, and those of the condition
 
-abbrev pub places_in_value : Value → List Place
+abbrev pub places_in_value : Value → List RowPlace
 places_in_value (Given number) = []
 places_in_value (Written characters) = []
 places_in_value (Sum a b) = a ∷ b ∷ []
@@ -176,11 +176,11 @@ places_in_value (Displayed a) = a ∷ []
 places_in_value (Unit a) = []
 places_in_value (Counted way a) = a ∷ []
 
-abbrev pub places_in_term : Term → List Place
+abbrev pub places_in_term : Term → List RowPlace
 places_in_term (In place) = place ∷ []
 places_in_term Nought = []
 
-abbrev pub places_in_condition : Condition → List Place
+abbrev pub places_in_condition : Condition → List RowPlace
 places_in_condition (Same a b) = []
 places_in_condition (Differ a b) = []
 places_in_condition (Below a b) = places_in_term a ++ places_in_term b
@@ -188,10 +188,10 @@ places_in_condition (AtMost a b) = places_in_term a ++ places_in_term b
 places_in_condition (Flag flag on) = []
 places_in_condition (Loops way place) = place ∷ []
 
-abbrev pub places_in_going : Going → List Place
+abbrev pub places_in_going : Going → List RowPlace
 places_in_going (Tests condition) = places_in_condition condition
 places_in_going (Counts condition) = places_in_condition condition
 places_in_going going = []
 
-abbrev pub numbers_of : Row → List Place
+abbrev pub numbers_of : Row → List RowPlace
 numbers_of row = option_map_or places_in_value row.value [] ++ places_in_going row.goes

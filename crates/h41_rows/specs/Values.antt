@@ -19,6 +19,7 @@ use Rattle.h41_decimal.specs.declared.sign.Sign.{Sign}
 use Rattle.h41_decimal.specs.declared.sign.Sign.TheVariants.{Plus}
 use Rattle.h41_decimal.specs.declared.ten.Ten.{Ten}
 use Rattle.h41_digits.specs.Register.{IsRegister}
+use Rattle.h41_ram.specs.NamedFlags.{range_ignore}
 use Rattle.h41_ram.specs.RegisterMap.{RegisterMap, flag_of}
 use Rattle.h41_show.specs.DisplayFormat.{format_of}
 use Rattle.h41_show.specs.declared.format.Format.{Format}
@@ -26,7 +27,7 @@ use Rattle.h41_show.specs.declared.format.Notation.{Notation}
 use Rattle.h41_show.specs.declared.format.Notation.TheVariants.{Fixed, Scientific, Engineering}
 use Rattle.h41_numbers.specs.NumberLines.{IsNumberOf}
 use Rattle.h41_rows.specs.Counters.{Way, number_after}
-use Rattle.h41_rows.specs.Places.{Place, amount_in, register_in}
+use Rattle.h41_rows.specs.Places.{RowPlace, amount_in, register_in}
 use Rattle.h41_rows.specs.declared.fault.LineFault.{LineFault}
 use Rattle.h41_rows.specs.declared.fault.LineFault.TheVariants.{DataError, OutOfRange}
 
@@ -36,29 +37,29 @@ pub data Value : Type 0 where
   -- that of a number line
   Written : List Character → Value
   -- the sum
-  Sum : Place → Place → Value
+  Sum : RowPlace → RowPlace → Value
   -- the first without the second
-  Difference : Place → Place → Value
-  Product : Place → Place → Value
+  Difference : RowPlace → RowPlace → Value
+  Product : RowPlace → RowPlace → Value
   -- the first over the second
-  Quotient : Place → Place → Value
+  Quotient : RowPlace → RowPlace → Value
   -- the first modulo the second
-  Remainder : Place → Place → Value
+  Remainder : RowPlace → RowPlace → Value
   -- a hundredth of the product
-  Percentage : Place → Place → Value
-  Root : Place → Value
-  Inverse : Place → Value
-  Negative : Place → Value
-  AbsoluteValue : Place → Value
-  IntegerPart : Place → Value
-  Fraction : Place → Value
+  Percentage : RowPlace → RowPlace → Value
+  Root : RowPlace → Value
+  Inverse : RowPlace → Value
+  Negative : RowPlace → Value
+  AbsoluteValue : RowPlace → Value
+  IntegerPart : RowPlace → Value
+  Fraction : RowPlace → Value
   -- the number rounded as the display format says
-  Displayed : Place → Value
+  Displayed : RowPlace → Value
   -- 1 with the number's sign, and 0 where there is no number (this project's choice where there is
   -- no ALPHA data either)
-  Unit : Place → Value
+  Unit : RowPlace → Value
   -- a loop's counter, counted
-  Counted : Way → Place → Value
+  Counted : Way → RowPlace → Value
 
 -- to how many decimals or digits the display format rounds: SCI and ENG have one digit in front of
 -- the mark
@@ -131,10 +132,6 @@ sign_of_value (Percentage a b) memory named =
 sign_of_value (Displayed a) memory named = sign_of (amount_in memory named a)
 sign_of_value value memory named = Plus
 
--- the flag that has results out of range answered by the greatest number with their sign
-abbrev pub range_flag : ℕ
-range_flag = 24
-
 -- the register that holds a number
 pub record IsRegisterOf (number : ℤ) (register : List ℕ) : Type 0 where
   pub valid : IsRegister 14 register
@@ -153,4 +150,4 @@ pub record Computes (value : Value) (memory : RegisterMap)
     (named : ℕ) (result : Result (List ℕ) LineFault) : Type 0 where
   pub answer : Result Ten DecimalFault
   pub nearest : IsValue value memory named answer
-  pub kept : Kept (sign_of_value value memory named) (flag_of memory range_flag) answer result
+  pub kept : Kept (sign_of_value value memory named) (flag_of memory range_ignore) answer result

@@ -7,9 +7,9 @@ ghost use Rattle.h41_rows.specs.RowEffects.{last_24, six_characters, text_regist
 ghost use Rattle.h41_rows.specs.RowEffects.{with_alpha_change};
 ghost use Rattle.h41_rows.specs.Rows.{Appends, AppendsNamed, Becomes, LosesSix};
 
-use crate::texts::{ALPHA_DATA, KIND_PLACE, REGISTER_CHARACTERS, after_nulls, alpha_data};
 use h41_digits::Reg;
 use h41_ram::{ALPHA_LENGTH, Ram};
+use h41_show::characters::{ALPHA_DATA, KIND_PLACE, REGISTER_CHARACTERS, after_nulls, alpha_data};
 use h41_show::{Format, register_text};
 
 /// ALPHA holds a text alone: its last 24 characters.

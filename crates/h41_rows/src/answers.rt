@@ -6,8 +6,8 @@ ghost use Rattle.h41_decimal.specs.Operations.{NearestQuotient};
 ghost use Rattle.h41_decimal.specs.Units.{one, units};
 ghost use Rattle.h41_decimal.specs.WholeParts.{IsFraction, IsIntegerPart};
 ghost use Rattle.h41_show.specs.DisplayFormat.{format_of};
-ghost use Rattle.h41_rows.specs.Answers.{AnswersOne, AnswersTwo, IsNumberAt, KeptRange};
-ghost use Rattle.h41_rows.specs.Answers.{sign_of_one, sign_of_two};
+ghost use Rattle.h41_rows.specs.private.Answers.{AnswersOne, AnswersTwo, IsNumberAt, KeptRange};
+ghost use Rattle.h41_rows.specs.private.Answers.{sign_of_one, sign_of_two};
 ghost use Rattle.h41_rows.specs.Values.{IsRegisterOf, places_of, unit_of};
 
 use crate::counters::{counted_down, counted_up};
@@ -18,10 +18,8 @@ use h41_decimal::{DecimalFault, Places, Sign, Ten};
 use h41_digits::Reg;
 use h41_numbers::{sign_of_difference, sign_of_product, sign_of_sum};
 use h41_ram::Ram;
+use h41_ram::flags::RANGE_IGNORE;
 use h41_show::{Format, Notation};
-
-/// The flag that has results out of range answered by the greatest number with their sign.
-const RANGE_FLAG: usize = 24;
 
 /// The number in the register at an address, or that it holds none.
 pub fn number_at<const REGS: usize>(ram: &Ram<REGS>, address: u16) -> Result<Ten, LineFault>
@@ -44,7 +42,7 @@ pub fn register(number: Ten) -> Reg
 pub fn out_of_range<const REGS: usize>(ram: &Ram<REGS>, sign: Sign) -> Result<Reg, LineFault>
     ensures { KeptRange ram.now sign result }
 {
-    if ram.flag(RANGE_FLAG) {
+    if ram.flag(RANGE_IGNORE) {
         Ok(register(Ten::greatest(sign)))
     } else {
         Err(LineFault::OutOfRange)

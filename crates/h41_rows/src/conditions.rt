@@ -8,7 +8,7 @@ ghost use Rattle.h41_decimal.specs.Units.{units};
 ghost use Rattle.h41_ram.specs.NamedRegisters.{status_of};
 ghost use Rattle.h41_ram.specs.RegisterMap.{zeros};
 ghost use Rattle.h41_ram.specs.declared.status.StatusRegister.TheVariants as names;
-ghost use Rattle.h41_rows.specs.Comparisons.{answer_of_comparison};
+ghost use Rattle.h41_rows.specs.private.Comparisons.{answer_of_comparison};
 ghost use Rattle.h41_rows.specs.Computing.{Tells, condition_of};
 
 use crate::fault::LineFault;

@@ -7,11 +7,11 @@ ghost use Rattle.h41_decimal.specs.Signs.{signed};
 ghost use Rattle.h41_decimal.specs.Units.{one, size, units};
 ghost use Rattle.h41_rows.specs.Computing.{amount_at};
 ghost use Rattle.h41_rows.specs.Counters.{Down, Up, fraction_of, goes_on, number_after};
-ghost use Rattle.h41_rows.specs.Counting.{number_along, way_of};
-ghost use Rattle.h41_rows.specs.Readings.{IsCounted};
-ghost use Rattle.h41_rows.specs.Wholes.{told_ones};
+ghost use Rattle.h41_rows.specs.private.Counting.{number_along, way_of};
+ghost use Rattle.h41_rows.specs.private.Readings.{IsCounted};
+ghost use Rattle.h41_rows.specs.private.Wholes.{told_ones};
 
-use h41_decimal::{DecimalFault, Exponent, Mantissa, Sign, Size, Ten};
+use h41_decimal::{DecimalFault, Exponent, Magnitude, Mantissa, Sign, Ten};
 use h41_ram::Ram;
 
 /// Whether a loop goes on that counts up by the register at an address.
@@ -89,7 +89,7 @@ fn five_decimals(number: Ten) -> u64
 }
 
 /// The first five decimals of a size below 1.
-fn five_digits(rest: Size) -> u64
+fn five_digits(rest: Magnitude) -> u64
     requires { size rest < one }
     ensures value { result ≡ size rest / 10 ^ 103 }
     ensures bound { result < 100000 }
@@ -97,7 +97,7 @@ fn five_digits(rest: Size) -> u64
     let exponent = Exponent {
         biased: rest.exponent.biased + 5,
     };
-    let shifted = Size {
+    let shifted = Magnitude {
         mantissa: rest.mantissa,
         exponent,
     };
@@ -167,7 +167,7 @@ fn single(sign: Sign) -> Ten
         digits: 1_000_000_000,
     };
     let exponent = Exponent { biased: 99 };
-    Ten::Nonzero(sign, Size { mantissa, exponent })
+    Ten::Nonzero(sign, Magnitude { mantissa, exponent })
 }
 
 /// Ones with a sign counted in a direction, with the same fraction.
@@ -176,7 +176,7 @@ fn stepped(
     ones: u64,
     direction: Sign,
     count: u64,
-    fraction: Size,
+    fraction: Magnitude,
 ) -> Result<Ten, DecimalFault>
     requires few_ones { ones < 10 ^ 9 }
     requires some { 0 < count }
@@ -195,7 +195,7 @@ fn stepped(
 }
 
 /// The number of ones and a fraction, with a sign.
-fn joined(sign: Sign, ones: u64, fraction: Size) -> Result<Ten, DecimalFault>
+fn joined(sign: Sign, ones: u64, fraction: Magnitude) -> Result<Ten, DecimalFault>
     requires { ones < 10 ^ 10 }
     ensures { Nearest (signed sign (ones * one + size fraction)) 1 result }
 {
@@ -217,5 +217,5 @@ fn whole_number(sign: Sign, ones: u64) -> Ten
     let exponent = Exponent {
         biased: 99 + log as u8,
     };
-    Ten::Nonzero(sign, Size { mantissa, exponent })
+    Ten::Nonzero(sign, Magnitude { mantissa, exponent })
 }

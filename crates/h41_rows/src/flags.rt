@@ -1,10 +1,11 @@
 //! The flags of formats and angles.
 
 ghost use Rattle.std.specs.Prelude.{◌≡◌, ◌<◌, [], ◌∷◌};
+ghost use Rattle.h41_ram.specs.NamedFlags as named;
 ghost use Rattle.h41_rows.specs.LineRows.{change, format};
 ghost use Rattle.h41_rows.specs.RowEffects.{with_flags};
 
-use h41_ram::Ram;
+use h41_ram::{Ram, flags};
 
 /// The display format: the digit in flags 36 to 39, the notation in flags 40 (FIX) and 41 (ENG).
 pub fn set_format<const REGS: usize>(
@@ -16,18 +17,19 @@ pub fn set_format<const REGS: usize>(
     requires { digits < 10 }
     ensures { ram.new ≡ with_flags (format digits fixed engineering).flags ram.old }
 {
-    ram.set_flag(36, digits / 8 % 2 == 1);
-    ram.set_flag(37, digits / 4 % 2 == 1);
-    ram.set_flag(38, digits / 2 % 2 == 1);
-    ram.set_flag(39, digits % 2 == 1);
-    ram.set_flag(40, fixed);
-    ram.set_flag(41, engineering);
+    ram.set_flag(flags::DIGITS_8, digits / 8 % 2 == 1);
+    ram.set_flag(flags::DIGITS_4, digits / 4 % 2 == 1);
+    ram.set_flag(flags::DIGITS_2, digits / 2 % 2 == 1);
+    ram.set_flag(flags::DIGITS_1, digits % 2 == 1);
+    ram.set_flag(flags::FIXED, fixed);
+    ram.set_flag(flags::ENGINEERING, engineering);
 }
 
 /// The unit of angles: flag 42 for GRAD, 43 for RAD.
 pub fn set_angles<const REGS: usize>(ram: &mut Ram<REGS>, grads: bool, radians: bool)
-    ensures { ram.new ≡ with_flags (change 42 grads ∷ change 43 radians ∷ []) ram.old }
+    ensures { ram.new
+        ≡ with_flags (change named.grads grads ∷ change named.radians radians ∷ []) ram.old }
 {
-    ram.set_flag(42, grads);
-    ram.set_flag(43, radians);
+    ram.set_flag(flags::GRADS, grads);
+    ram.set_flag(flags::RADIANS, radians);
 }

@@ -13,7 +13,6 @@ mod operands;
 mod readings;
 mod stack;
 mod targets;
-mod texts;
 mod values;
 
 pub use alpha::{append_register, append_text, first_six, replace_text, shift_six};

@@ -6,8 +6,8 @@ ghost use Rattle.h41_decimal.specs.Units.{one, units};
 ghost use Rattle.h41_ram.specs.NamedRegisters.{size_of};
 ghost use Rattle.h41_rows.specs.Operands as spec;
 ghost use Rattle.h41_rows.specs.Profile.{is_operand_left_out, is_parameter_left_out};
-ghost use Rattle.h41_rows.specs.Readings.{IsTold, number_found, register_found};
-ghost use Rattle.h41_rows.specs.Wholes.{told_number};
+ghost use Rattle.h41_rows.specs.private.Readings.{IsTold, number_found, register_found};
+ghost use Rattle.h41_rows.specs.private.Wholes.{told_number};
 
 use crate::fault::LineFault;
 use h41_codes::{Operand, Parameter};

@@ -5,15 +5,15 @@ ghost use Rattle.std.specs.Result.{result_map_both};
 ghost use Rattle.h41_decimal.specs.Holding.{holding_of, worth};
 ghost use Rattle.h41_rows.specs.Computing.{meant_by};
 ghost use Rattle.h41_rows.specs.Operands as spec;
-ghost use Rattle.h41_rows.specs.Readings.{LeadsTo};
+ghost use Rattle.h41_rows.specs.private.Readings.{LeadsTo};
 
 use crate::fault::LineFault;
 use crate::operands::BranchTarget;
 use crate::readings;
-use crate::texts::{ALPHA_DATA, KIND_PLACE, after_nulls, alpha_data};
 use h41_codes::{Parameter, Text};
 use h41_decimal::Ten;
 use h41_digits::Reg;
+use h41_show::characters::{ALPHA_DATA, KIND_PLACE, after_nulls, alpha_data};
 
 /// Where a branch goes by what a register holds.
 pub(crate) fn target_in(register: Reg) -> Result<BranchTarget, LineFault>

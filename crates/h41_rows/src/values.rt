@@ -2,7 +2,7 @@
 
 ghost use Rattle.std.specs.Prelude.{pos};
 ghost use Rattle.h41_decimal.specs.Units.{units};
-ghost use Rattle.h41_rows.specs.Answers.{KeptOne, KeptTwo, WithoutNumber};
+ghost use Rattle.h41_rows.specs.private.Answers.{KeptOne, KeptTwo, WithoutNumber};
 ghost use Rattle.h41_rows.specs.Computing.{IsAlways, WorksOnOne, WorksOnTwo};
 ghost use Rattle.h41_rows.specs.FunctionRows as functions;
 ghost use Rattle.h41_rows.specs.Values.{Given, Written};
@@ -13,7 +13,7 @@ use crate::answers::{
 use crate::fault::LineFault;
 use h41_codes::Number;
 use h41_decimal::laws::decimal_is_its_nearest;
-use h41_decimal::{DecimalFault, Exponent, Mantissa, Sign, Size, Ten};
+use h41_decimal::{DecimalFault, Exponent, Magnitude, Mantissa, Sign, Ten};
 use h41_digits::Reg;
 use h41_numbers::number_of;
 use h41_ram::Ram;
@@ -99,7 +99,7 @@ pub fn pi() -> Reg
         digits: 3_141_592_654,
     };
     let exponent = Exponent { biased: 99 };
-    always(Ten::Nonzero(Sign::Plus, Size { mantissa, exponent }))
+    always(Ten::Nonzero(Sign::Plus, Magnitude { mantissa, exponent }))
 }
 
 /// The register of zero.

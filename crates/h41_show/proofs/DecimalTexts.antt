@@ -5,7 +5,7 @@ use Rattle.std.specs.Fmt.{decimal}
 use Rattle.std.proofs.Common.{ap, ◌∙◌, arith, append_assoc, length-append}
 use Rattle.std.proofs.lemmas.Fmt.{decimal_digit, decimal_step, length-decimal-le}
 use Rattle.std.proofs.lemmas.Bool.Decides.{nat_tests}
-use Rattle.h41_show.specs.Digits.{digits_text, ends_group, grouped}
+use Rattle.h41_show.specs.Digits.{digits_text, ends_group, grouped_digits}
 
 -- so many digits are so many bytes
 pub length-digits_text : (count number : ℕ) → length (digits_text count number) ≡ count
@@ -46,17 +46,17 @@ length-decimal_group n high fits =
     ∙ ap (λ k. length (decimal (n / 1000)) + k) (length-digits_text 3 (n % 1000)))
 
 -- marks are at most as many as digits
-twice : (mark digit : ℕ) (behind : List ℕ) (ends : Bool) → length (grouped mark behind) ≤ 2 * length behind
-    → length (if ends then digit ∷ mark ∷ grouped mark behind else digit ∷ grouped mark behind) ≤ 2 * length (digit ∷ behind)
+twice : (mark digit : ℕ) (behind : List ℕ) (ends : Bool) → length (grouped_digits mark behind) ≤ 2 * length behind
+    → length (if ends then digit ∷ mark ∷ grouped_digits mark behind else digit ∷ grouped_digits mark behind) ≤ 2 * length (digit ∷ behind)
 twice mark digit behind true most = omega arith
 twice mark digit behind false most = omega arith
 
-pub length-grouped : (mark : ℕ) (digits : List ℕ) → length (grouped mark digits) ≤ 2 * length digits
+pub length-grouped : (mark : ℕ) (digits : List ℕ) → length (grouped_digits mark digits) ≤ 2 * length digits
 length-grouped mark [] = omega arith
 length-grouped mark (digit ∷ behind) = twice mark digit behind (ends_group behind) (length-grouped mark behind)
 
 -- up to three digits have no mark
-pub grouped_short : (mark : ℕ) (digits : List ℕ) → length digits ≤ 3 → grouped mark digits ≡ digits
+pub grouped_short : (mark : ℕ) (digits : List ℕ) → length digits ≤ 3 → grouped_digits mark digits ≡ digits
 grouped_short mark [] few = refl
 grouped_short mark (a ∷ []) few = refl
 grouped_short mark (a ∷ b ∷ []) few = refl
@@ -84,10 +84,10 @@ behind_digit false mark digit rest group = refl
 
 -- and stand behind a mark
 pub grouped-group : (mark : ℕ) (front : List ℕ) (x y z : ℕ) → 0 < length front
-    → grouped mark (front ++ x ∷ y ∷ z ∷ []) ≡ grouped mark front ++ mark ∷ x ∷ y ∷ z ∷ []
+    → grouped_digits mark (front ++ x ∷ y ∷ z ∷ []) ≡ grouped_digits mark front ++ mark ∷ x ∷ y ∷ z ∷ []
 grouped-group mark [] x y z some = absurd (omega arith)
 grouped-group mark (digit ∷ []) x y z some = refl
 grouped-group mark (digit ∷ next ∷ behind) x y z some =
     let rest = grouped-group mark (next ∷ behind) x y z (omega arith) in
     let ends = same_end next behind (x ∷ y ∷ z ∷ []) refl in
-    rw (ends, rest) (behind_digit (ends_group (next ∷ behind)) mark digit (grouped mark (next ∷ behind)) (mark ∷ x ∷ y ∷ z ∷ []))
+    rw (ends, rest) (behind_digit (ends_group (next ∷ behind)) mark digit (grouped_digits mark (next ∷ behind)) (mark ∷ x ∷ y ∷ z ∷ []))

@@ -8,7 +8,7 @@ use Rattle.std.proofs.lemmas.List.Sums.{sum_by-cons}
 use Rattle.std.proofs.lemmas.Bool.{cases_lt}
 use Rattle.std.proofs.lemmas.Bool.Decides.{nat_tests}
 use Rattle.h41_decimal.specs.Units.{one}
-use Rattle.h41_show.specs.Rounding.{nearest, exponent_of, rounded}
+use Rattle.h41_show.specs.Rounding.{nearest, exponent_of, rounded_size}
 use Rattle.h41_show.proofs.Powers.{power_pos, pow-lt-pow, power_split, scaled_low, scaled_high, scaled_quotient}
 
 -- none of the powers from a number's next one up is at most the number
@@ -91,16 +91,16 @@ module _ (d m : ℕ) (few : m ≤ 7) (low : 10 ^ 9 ≤ d) (high : d < 10 ^ 10) w
 
 -- a size is rounded to what is nearest, where that is below 10^100
 rounded_near : (m n e c : ℕ) → exponent_of n ≡ e → nearest n (10 ^ (e - m)) ≡ c → c * 10 ^ (e - m) < 10 ^ 100 * one
-    → rounded m n ≡ c * 10 ^ (e - m)
-unfolding rounded
+    → rounded_size m n ≡ c * 10 ^ (e - m)
+unfolding rounded_size
 rounded_near m n e c exponent count below =
     let test : nat_lt (c * 10 ^ (e - m)) (10 ^ 100 * one) ≡ true = grind (arith, nat_tests) in
     rw (exponent, count, test) refl
 
 -- and else it is cut
 rounded_cut : (m n e c : ℕ) → exponent_of n ≡ e → nearest n (10 ^ (e - m)) ≡ c → 10 ^ 100 * one ≤ c * 10 ^ (e - m)
-    → rounded m n ≡ n / 10 ^ (e - m) * 10 ^ (e - m)
-unfolding rounded
+    → rounded_size m n ≡ n / 10 ^ (e - m) * 10 ^ (e - m)
+unfolding rounded_size
 rounded_cut m n e c exponent count above =
     let test : nat_lt (c * 10 ^ (e - m)) (10 ^ 100 * one) ≡ false = grind (arith, nat_tests) in
     rw (exponent, count, test) refl
@@ -122,7 +122,7 @@ module _ (d s m : ℕ) (few : m ≤ 7) (small : s ≤ 198) (low : 10 ^ 9 ≤ d) 
   count : nearest (d * 10 ^ s) (10 ^ (s + 9 - m)) ≡ nearest d (10 ^ (9 - m))
   count = ap (nearest (d * 10 ^ s)) step ∙ nearest_scaled d (10 ^ (9 - m)) (10 ^ s) (power_pos s)
 
-  pub rounded_within : nearest d (10 ^ (9 - m)) < 10 ^ (m + 1) → nearest d (10 ^ (9 - m)) * 10 ^ (s + 9 - m) ≡ rounded m (d * 10 ^ s)
+  pub rounded_within : nearest d (10 ^ (9 - m)) < 10 ^ (m + 1) → nearest d (10 ^ (9 - m)) * 10 ^ (s + 9 - m) ≡ rounded_size m (d * 10 ^ s)
   rounded_within less =
       let c = nearest d (10 ^ (9 - m)) in
       let below : c * 10 ^ (s + 9 - m) < 10 ^ (m + 1 + (s + 9 - m)) = scaled_high c (s + 9 - m) (m + 1) less in
@@ -137,7 +137,7 @@ module _ (d s m : ℕ) (few : m ≤ 7) (small : s ≤ 198) (low : 10 ^ 9 ≤ d) 
       let is : nearest d (10 ^ (9 - m)) ≡ 10 ^ (m + 1) = omega arith in
       ap (λ t. t * 10 ^ (s + 9 - m)) is ∙ sym (power_split (s + 10) (m + 1) (s + 9 - m) (omega arith))
 
-  pub rounded_up : 10 ^ (m + 1) ≤ nearest d (10 ^ (9 - m)) → s < 198 → 10 ^ m * 10 ^ (s + 1 + 9 - m) ≡ rounded m (d * 10 ^ s)
+  pub rounded_up : 10 ^ (m + 1) ≤ nearest d (10 ^ (9 - m)) → s < 198 → 10 ^ m * 10 ^ (s + 1 + 9 - m) ≡ rounded_size m (d * 10 ^ s)
   rounded_up not less =
       let c = nearest d (10 ^ (9 - m)) in
       let value = carried not in
@@ -148,7 +148,7 @@ module _ (d s m : ℕ) (few : m ≤ 7) (small : s ≤ 198) (low : 10 ^ 9 ≤ d) 
       ∙ sym (rounded_near m (d * 10 ^ s) (s + 9) c exponent_of-size count
       (subst (λ t. t < 10 ^ 100 * one) (sym value) (subst (λ t. 10 ^ (s + 10) < t) (sym top) below))))
 
-  pub rounded_down : 10 ^ (m + 1) ≤ nearest d (10 ^ (9 - m)) → 198 ≤ s → d / 10 ^ (9 - m) * 10 ^ (s + 9 - m) ≡ rounded m (d * 10 ^ s)
+  pub rounded_down : 10 ^ (m + 1) ≤ nearest d (10 ^ (9 - m)) → 198 ≤ s → d / 10 ^ (9 - m) * 10 ^ (s + 9 - m) ≡ rounded_size m (d * 10 ^ s)
   rounded_down not large =
       let c = nearest d (10 ^ (9 - m)) in
       let value = carried not in

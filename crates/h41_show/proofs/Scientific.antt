@@ -6,7 +6,7 @@ use Rattle.std.proofs.lemmas.Bool.Decides.{nat_tests}
 use Rattle.h41_decimal.specs.Signs.{signed}
 use Rattle.h41_decimal.specs.declared.sign.Sign.{Sign}
 use Rattle.h41_decimal.specs.declared.sign.Sign.TheVariants.{Plus, Minus}
-use Rattle.h41_show.specs.Rounding.{nearest, exponent_of, rounded}
+use Rattle.h41_show.specs.Rounding.{nearest, exponent_of, rounded_size}
 use Rattle.h41_show.specs.NumberText.{fixed_decimals, fixed_count, is_fixed, fixed_text, steps_text, mantissa_decimals, mantissa_text}
 use Rattle.h41_show.specs.NumberText.{exponent_text, extra_digits, exponential_text, scientific_text, notation_text, sign_text, number_text}
 use Rattle.h41_show.specs.declared.format.Format.{Format}
@@ -38,7 +38,7 @@ module _ (c t m : ℕ) (few : m ≤ 7) (small : t ≤ 198) (low : 10 ^ m ≤ c) 
       rw (e, shown, quotient) refl
 
   pub scientific_text-shown : (format : Format) (size extra : ℕ) → 0 < size → m ≡ mantissa_decimals format.digits
-      → c * 10 ^ (t + 9 - m) ≡ rounded m size → extra ≡ extra_digits format.notation (t + 9) → extra ≤ 2 → extra ≤ t
+      → c * 10 ^ (t + 9 - m) ≡ rounded_size m size → extra ≡ extra_digits format.notation (t + 9) → extra ≤ 2 → extra ≤ t
       → mantissa_text format.radix (m - extra) (c * 10 ^ (extra - m)) ++ exponent_text (t - extra + 9) ≡ scientific_text format size
   unfolding scientific_text
   scientific_text-shown format size extra some decimals value digits most within =

@@ -12,7 +12,8 @@ abbrev pub ends_group : List ℕ → Bool
 ends_group behind = nat_lt 0 (length behind) && length behind % 3 == 0
 
 -- digits in groups of three, counted from the right, with a mark between two groups
-abbrev pub grouped : ℕ → List ℕ → List ℕ
-grouped mark [] = []
-grouped mark (digit ∷ behind) =
-    if ends_group behind then digit ∷ mark ∷ grouped mark behind else digit ∷ grouped mark behind
+abbrev pub grouped_digits : ℕ → List ℕ → List ℕ
+grouped_digits mark [] = []
+grouped_digits mark (digit ∷ behind) =
+    if ends_group behind then digit ∷ mark ∷ grouped_digits mark behind
+    else digit ∷ grouped_digits mark behind

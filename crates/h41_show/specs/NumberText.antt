@@ -8,8 +8,8 @@ use Rattle.h41_decimal.specs.Units.{one}
 use Rattle.h41_decimal.specs.Signs.{sign_of}
 use Rattle.h41_decimal.specs.declared.sign.Sign.{Sign}
 use Rattle.h41_decimal.specs.declared.sign.Sign.TheVariants.{Plus, Minus}
-use Rattle.h41_show.specs.Digits.{digits_text, grouped}
-use Rattle.h41_show.specs.Rounding.{nearest, exponent_of, rounded}
+use Rattle.h41_show.specs.Digits.{digits_text, grouped_digits}
+use Rattle.h41_show.specs.Rounding.{nearest, exponent_of, rounded_size}
 use Rattle.h41_show.specs.declared.format.Format.{Format}
 use Rattle.h41_show.specs.declared.format.Notation.{Notation}
 use Rattle.h41_show.specs.declared.format.Notation.TheVariants.{Fixed, Scientific, Engineering}
@@ -45,7 +45,8 @@ is_fixed digits size =
 -- the digits in front of the radix mark, grouped by threes with flag 29
 abbrev pub integer_text : Format → ℕ → List ℕ
 integer_text format whole =
-    if format.grouping then grouped (group_byte format.radix) (decimal whole) else decimal whole
+    if format.grouping then grouped_digits (group_byte format.radix) (decimal whole)
+    else decimal whole
 
 -- FIX 0 has a radix mark only with flag 29
 abbrev pub fixed_mark : Format → List ℕ
@@ -97,7 +98,7 @@ exponential_text radix decimals extra size =
 unfoldable pub scientific_text : Format → ℕ → List ℕ
 scientific_text format size =
     let decimals = mantissa_decimals format.digits in
-    let shown = rounded decimals size in
+    let shown = rounded_size decimals size in
     if size == 0 then mantissa_text format.radix decimals 0 ++ exponent_text 108
     else exponential_text format.radix decimals
     (extra_digits format.notation (exponent_of shown)) shown

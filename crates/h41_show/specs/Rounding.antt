@@ -21,8 +21,8 @@ worth_at digits exponent decimals = digits * 10 ^ (exponent + 9 - decimals)
 
 -- a size rounded to its first digit and so many behind it; where that would give exponent 100, the
 -- others are cut off instead (this project's choice)
-unfoldable pub rounded : ℕ → ℕ → ℕ
-rounded decimals size =
+unfoldable pub rounded_size : ℕ → ℕ → ℕ
+rounded_size decimals size =
     let step = 10 ^ (exponent_of size - decimals) in
     let near = nearest size step * step in
     if nat_lt near (10 ^ 100 * one) then near else size / step * step

@@ -3,7 +3,7 @@
 ghost use Rattle.std.specs.Prelude.{◌≡◌, ◌+◌, ◌*◌, ◌<◌, ◌≤◌, ◌++◌, [], ◌∷◌, length};
 ghost use Rattle.std.specs.Fmt.{decimal};
 ghost use Rattle.arrayvec.specs.ArrayString.{array_string_len};
-ghost use Rattle.h41_show.specs.Digits.{digits_text, grouped};
+ghost use Rattle.h41_show.specs.Digits.{digits_text, grouped_digits};
 
 use arrayvec::ArrayString;
 
@@ -11,10 +11,10 @@ use arrayvec::ArrayString;
 pub const TEXT_CAPACITY: usize = 80;
 
 /// A text in the making.
-pub(crate) type Text = ArrayString<TEXT_CAPACITY>;
+pub(crate) type DisplayText = ArrayString<TEXT_CAPACITY>;
 
 /// Appends an ASCII character.
-pub(crate) fn push_byte(text: &mut Text, byte: u8)
+pub(crate) fn push_byte(text: &mut DisplayText, byte: u8)
     requires room { array_string_len text.old < 80 }
     requires ascii { byte < 128 }
     ensures { text.new.bytes ≡ text.old.bytes ++ byte ∷ [] }
@@ -23,7 +23,7 @@ pub(crate) fn push_byte(text: &mut Text, byte: u8)
 }
 
 /// Appends so many decimal digits of a number, the lowest last.
-pub(crate) fn push_digits(text: &mut Text, number: u64, count: usize)
+pub(crate) fn push_digits(text: &mut DisplayText, number: u64, count: usize)
     requires { array_string_len text.old + count ≤ 80 }
     ensures bytes { text.new.bytes ≡ text.old.bytes ++ digits_text count number }
     ensures size { array_string_len text.new ≡ array_string_len text.old + count }
@@ -35,7 +35,7 @@ pub(crate) fn push_digits(text: &mut Text, number: u64, count: usize)
 }
 
 /// Appends a number, in as many decimal digits as it has.
-pub(crate) fn push_decimal(text: &mut Text, number: u64)
+pub(crate) fn push_decimal(text: &mut DisplayText, number: u64)
     requires { array_string_len text.old + length (decimal number) ≤ 80 }
     ensures { text.new.bytes ≡ text.old.bytes ++ decimal number }
 {
@@ -46,10 +46,10 @@ pub(crate) fn push_decimal(text: &mut Text, number: u64)
 }
 
 /// Appends a number in groups of three digits, with a mark between them.
-pub(crate) fn push_grouped(text: &mut Text, number: u64, mark: u8)
+pub(crate) fn push_grouped(text: &mut DisplayText, number: u64, mark: u8)
     requires room { array_string_len text.old + 2 * length (decimal number) ≤ 80 }
     requires mark { mark < 128 }
-    ensures bytes { text.new.bytes ≡ text.old.bytes ++ grouped mark (decimal number) }
+    ensures bytes { text.new.bytes ≡ text.old.bytes ++ grouped_digits mark (decimal number) }
     ensures most { length text.new.bytes ≤ length text.old.bytes + 2 * length (decimal number) }
 {
     if number >= 1000 {

@@ -1,6 +1,7 @@
 //! The texts that the HP-41's display shows for numbers, registers and ALPHA.
 #![tactic(auto)]
 
+pub mod characters;
 mod digits;
 mod flags;
 pub mod format;

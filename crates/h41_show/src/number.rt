@@ -6,11 +6,13 @@ ghost use Rattle.arrayvec.specs.ArrayString.{array_string_len};
 ghost use Rattle.h41_decimal.specs.Units.{size, units};
 ghost use Rattle.h41_show.specs.NumberText as spec;
 
-use crate::digits::{TEXT_CAPACITY, Text, push_byte, push_decimal, push_digits, push_grouped};
+use crate::digits::{
+    DisplayText, TEXT_CAPACITY, push_byte, push_decimal, push_digits, push_grouped,
+};
 use crate::format::{Format, Notation, RadixMark};
 use crate::rounding::{Rounded, power_of_ten, round, without_last};
 use arrayvec::ArrayString;
-use h41_decimal::{Sign, Size, Ten};
+use h41_decimal::{Magnitude, Sign, Ten};
 
 /// The most digits that a number shows in FIX.
 const DIGITS: u32 = 10;
@@ -30,7 +32,7 @@ const EXPONENT_ZERO: u32 = 99;
 pub fn number_text(number: Ten, format: Format) -> ArrayString<TEXT_CAPACITY>
     ensures { result.bytes ≡ spec.number_text format (units number) }
 {
-    let mut text = Text::new();
+    let mut text = DisplayText::new();
     match number {
         Ten::Zero => push_zero(&mut text, format),
         Ten::Nonzero(sign, x) => {
@@ -42,7 +44,7 @@ pub fn number_text(number: Ten, format: Format) -> ArrayString<TEXT_CAPACITY>
 }
 
 /// Appends a minus for a negative number.
-fn push_sign(text: &mut Text, sign: Sign)
+fn push_sign(text: &mut DisplayText, sign: Sign)
     requires { array_string_len text.old ≡ 0 }
     ensures bytes { text.new.bytes ≡ text.old.bytes ++ spec.sign_text sign }
     ensures most { array_string_len text.new ≤ 1 }
@@ -54,14 +56,14 @@ fn push_sign(text: &mut Text, sign: Sign)
 }
 
 /// Appends zero.
-fn push_zero(text: &mut Text, format: Format)
+fn push_zero(text: &mut DisplayText, format: Format)
     requires { array_string_len text.old ≤ 1 }
     ensures { text.new.bytes ≡ text.old.bytes ++ spec.size_text format 0 }
 {
     match format.notation {
         Notation::Fixed => {
             let decimals = fixed_decimals(0, format.digits);
-            push_steps(text, format, Steps { decimals, count: 0 });
+            push_steps(text, format, DecimalSteps { decimals, count: 0 });
         }
         Notation::Scientific | Notation::Engineering => {
             push_mantissa(text, format.radix, 0, mantissa_decimals(format.digits));
@@ -71,7 +73,7 @@ fn push_zero(text: &mut Text, format: Format)
 }
 
 /// Appends a size above zero.
-fn push_size(text: &mut Text, x: Size, format: Format)
+fn push_size(text: &mut DisplayText, x: Magnitude, format: Format)
     requires { array_string_len text.old ≤ 1 }
     ensures { text.new.bytes ≡ text.old.bytes ++ spec.size_text format (size x) }
 {
@@ -86,7 +88,7 @@ fn push_size(text: &mut Text, x: Size, format: Format)
 
 /// A size as FIX shows it: a number of steps of its last decimal.
 #[derive(Clone, Copy)]
-struct Steps {
+struct DecimalSteps {
     /// How many decimals there are: 0 to 9.
     decimals: u32,
     /// The number of steps.
@@ -95,7 +97,7 @@ struct Steps {
 }
 
 /// A size as FIX shows it, or nothing where it shows it as SCI does.
-fn fixed(x: Size, digits: u8) -> Option<Steps>
+fn fixed(x: Magnitude, digits: u8) -> Option<DecimalSteps>
     ensures fixed { is_some result ≡ spec.is_fixed digits (size x) }
     ensures decimals { IfSome result (λ s. s.decimals ≡ spec.fixed_decimals digits (size x)) }
     ensures count { IfSome result (λ s. s.count ≡ spec.fixed_count digits (size x)) }
@@ -112,7 +114,7 @@ fn fixed(x: Size, digits: u8) -> Option<Steps>
     }
     match without_last(x.mantissa.digits, dropped) {
         0 => None,
-        count => Some(Steps { decimals, count }),
+        count => Some(DecimalSteps { decimals, count }),
     }
 }
 
@@ -133,7 +135,7 @@ fn mantissa_decimals(digits: u8) -> u32
 }
 
 /// Appends a number of steps of the last decimal as FIX shows it.
-fn push_steps(text: &mut Text, format: Format, steps: Steps)
+fn push_steps(text: &mut DisplayText, format: Format, steps: DecimalSteps)
     requires { array_string_len text.old ≤ 1 }
     ensures { text.new.bytes ≡ text.old.bytes ++ spec.steps_text format steps.decimals steps.count }
 {
@@ -144,7 +146,7 @@ fn push_steps(text: &mut Text, format: Format, steps: Steps)
 }
 
 /// Appends the digits before the radix mark in FIX.
-fn push_integer(text: &mut Text, format: Format, whole: u64)
+fn push_integer(text: &mut DisplayText, format: Format, whole: u64)
     requires { array_string_len text.old ≤ 1 }
     ensures bytes { text.new.bytes ≡ text.old.bytes ++ spec.integer_text format whole }
     ensures most { array_string_len text.new ≤ 41 }
@@ -157,7 +159,7 @@ fn push_integer(text: &mut Text, format: Format, whole: u64)
 }
 
 /// Appends the radix mark of FIX, where it has one.
-fn push_fixed_mark(text: &mut Text, format: Format)
+fn push_fixed_mark(text: &mut DisplayText, format: Format)
     requires { array_string_len text.old ≤ 41 }
     ensures bytes { text.new.bytes ≡ text.old.bytes ++ spec.fixed_mark format }
     ensures most { array_string_len text.new ≤ 42 }
@@ -168,7 +170,7 @@ fn push_fixed_mark(text: &mut Text, format: Format)
 }
 
 /// Appends a size as SCI and ENG show it.
-fn push_scientific(text: &mut Text, x: Size, format: Format)
+fn push_scientific(text: &mut DisplayText, x: Magnitude, format: Format)
     requires { array_string_len text.old ≤ 1 }
     ensures { text.new.bytes ≡ text.old.bytes ++ spec.scientific_text format (size x) }
 {
@@ -196,7 +198,7 @@ fn extra_digits(notation: Notation, above_least: u32) -> u32
 }
 
 /// Appends a mantissa, given as a number of steps of its last decimal.
-fn push_mantissa(text: &mut Text, radix: RadixMark, count: u64, decimals: u32)
+fn push_mantissa(text: &mut DisplayText, radix: RadixMark, count: u64, decimals: u32)
     requires room { array_string_len text.old ≤ 1 }
     requires decimals { decimals ≤ 7 }
     ensures bytes { text.new.bytes ≡ text.old.bytes ++ spec.mantissa_text radix decimals count }
@@ -208,7 +210,7 @@ fn push_mantissa(text: &mut Text, radix: RadixMark, count: u64, decimals: u32)
 }
 
 /// Appends an exponent, counted from -99.
-fn push_exponent(text: &mut Text, above_least: u32)
+fn push_exponent(text: &mut DisplayText, above_least: u32)
     requires room { array_string_len text.old ≤ 29 }
     requires range { above_least ≤ 198 }
     ensures { text.new.bytes ≡ text.old.bytes ++ spec.exponent_text (above_least + 9) }

@@ -2,9 +2,9 @@
 
 ghost use Rattle.std.specs.Prelude.{◌≡◌, ◌+◌, ◌-◌, ◌*◌, ◌^◌, ◌<◌, ◌≤◌};
 ghost use Rattle.h41_decimal.specs.Units.{size};
-ghost use Rattle.h41_show.specs.Rounding.{nearest, rounded, worth_at};
+ghost use Rattle.h41_show.specs.Rounding.{nearest, rounded_size, worth_at};
 
-use h41_decimal::Size;
+use h41_decimal::Magnitude;
 
 /// The exponent of the greatest numbers, counted from -99.
 const GREATEST_EXPONENT: u32 = 198;
@@ -38,9 +38,10 @@ pub(crate) struct Rounded {
 }
 
 /// A size, rounded to its first digit and so many behind it. Where that would give exponent 100, the others are cut off instead.
-pub(crate) fn round(x: Size, decimals: u32) -> Rounded
+pub(crate) fn round(x: Magnitude, decimals: u32) -> Rounded
     requires { decimals ≤ 7 }
-    ensures value { worth_at result.digits result.above_least decimals ≡ rounded decimals (size x) }
+    ensures value { worth_at result.digits result.above_least decimals
+        ≡ rounded_size decimals (size x) }
     ensures least { 10 ^ decimals ≤ result.digits }
     ensures most { result.digits < 10 ^ (decimals + 1) }
     ensures exponent { result.above_least ≤ 198 }

@@ -10,7 +10,7 @@ use std::io::ErrorKind;
 
 /// A source over a slice, which gives at most `most` bytes a call and fails once `calls` is spent.
 #[derive(Drop)]
-pub struct Pieces<'a> {
+pub struct SourceInPieces<'a> {
     pub rest: &'a [u8],
     pub most: usize,
     pub calls: usize,
@@ -18,7 +18,7 @@ pub struct Pieces<'a> {
     ghost some: { 0 < most },
 }
 
-impl Source for Pieces<'_> {
+impl Source for SourceInPieces<'_> {
     ghost remaining = { λ s. Some s.rest.now };
 
     ghost failed = { λ s. s.has_failed };
@@ -90,11 +90,11 @@ impl Sink for Slow {
 }
 
 /// A text in pieces of so many bytes, up to a call that fails.
-pub fn reader<'a>(text: &'a str, most: usize, calls: usize) -> Pieces<'a>
+pub fn reader<'a>(text: &'a str, most: usize, calls: usize) -> SourceInPieces<'a>
     requires { 0 < most }
     ensures { result.has_failed ≡ false }
 {
-    Pieces {
+    SourceInPieces {
         rest: text.as_bytes(),
         most,
         calls,

@@ -15,7 +15,7 @@ const LIST: Task = Task::List { origin: 0x8000 };
 
 /// A job over an input.
 #[derive(Clone, Copy)]
-struct Input {
+struct GivenInput {
     task: Task,
     text: &'static str,
     /// What it prints.
@@ -24,10 +24,10 @@ struct Input {
 
 /// The calls that the input, the output and the end for faults take, each write a byte; the status, how many bytes stand on
 /// the output, and what is told.
-type Row = (usize, usize, usize, u8, usize, &'static str);
+type ServedRow = (usize, usize, usize, u8, usize, &'static str);
 
 /// Each row ends so.
-fn end(rt: &impl Abort, alloc: Global, input: &Input, rows: &[Row]) {
+fn end(rt: &impl Abort, alloc: Global, input: &GivenInput, rows: &[ServedRow]) {
     let job = Job {
         task: input.task,
         file: "-",
@@ -46,14 +46,14 @@ fn end(rt: &impl Abort, alloc: Global, input: &Input, rows: &[Row]) {
 
 #[test]
 fn jobs(rt: HostRuntime) {
-    let idle = Input {
+    let idle = GivenInput {
         task: RUN,
         text: "# idle\nstep\n",
         output: "",
     };
     end(&rt, rt.alloc(), &idle, &[(1000, 1000, 1000, 0, 0, "")]);
 
-    let deck = Input {
+    let deck = GivenInput {
         task: RUN,
         text: DECK,
         output: TEXT,
@@ -69,7 +69,7 @@ fn jobs(rt: HostRuntime) {
     ];
     end(&rt, rt.alloc(), &deck, &rows);
 
-    let source = Input {
+    let source = GivenInput {
         task: ASSEMBLE,
         text: "LDI 123\nRTN\n",
         output: "130\n123\n3E0\n",
@@ -82,14 +82,14 @@ fn jobs(rt: HostRuntime) {
     ];
     end(&rt, rt.alloc(), &source, &rows);
 
-    let list = Input {
+    let list = GivenInput {
         task: LIST,
         text: "130 123 3E0",
         output: "LDI 123\nRTN\n",
     };
     end(&rt, rt.alloc(), &list, &rows);
 
-    let wrong = Input {
+    let wrong = GivenInput {
         task: LIST,
         text: "3E0 400 123",
         output: "",

@@ -9,7 +9,7 @@ use Rattle.std.proofs.lemmas.Bool.{agree_below_at, cond_both, cond-false, false_
 use Rattle.std.proofs.lemmas.Slice.Eq.{bytes_eq-Decides}
 use Rattle.h41_codes.specs.declared.line.Line.TheVariants.{Number}
 use Rattle.h41_text.specs.LineText.{parameter_text}
-use Rattle.h41_text.specs.TextParts.{with_text, parameter_of, number_of, character_of, characters_of, two_digits_of}
+use Rattle.h41_text.specs.private.TextParts.{with_text, parameter_of, number_of, character_of, characters_of, two_digits_of}
 
 -- text with a byte that is no character is no number
 pub characters_none : (text : List ℕ) (index : ℕ) → index < length text → character_of (get_or text index 0) ≡ None

@@ -18,7 +18,7 @@ use Rattle.h41_codes.specs.Canon.{canonical, shortest_function, shortest_branch}
 use Rattle.h41_text.specs.LineText.{line_text}
 use Rattle.h41_text.specs.LineReading.{HasText, IsTextOf}
 use Rattle.h41_text.specs.TextLaws.{LineTextRoundTrip, OneLineOfText, CanonicalIsShortestOfText}
-use Rattle.h41_text.specs.TextParts.{candidate_line}
+use Rattle.h41_text.specs.private.TextParts.{candidate_line}
 use Rattle.h41_text.proofs.Canonical.{same_text}
 use Rattle.h41_text.proofs.Reading.{reading_again}
 

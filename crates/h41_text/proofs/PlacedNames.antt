@@ -11,14 +11,14 @@ use Rattle.h41_codes.specs.declared.functions.Function as functions
 use Rattle.h41_codes.specs.declared.functions.Function.TheVariants.{Add}
 use Rattle.h41_codes.specs.declared.functions.ParameterFunction.{ParameterFunction}
 use Rattle.h41_codes.specs.declared.functions.ParameterFunction.TheVariants.{Recall}
-use Rattle.h41_text.specs.declared.words.Word.{Word}
-use Rattle.h41_text.specs.declared.words.Word.TheVariants.{Function, Branch, Wordless, Module}
+use Rattle.h41_text.specs.declared.words.LeadingWord.{LeadingWord}
+use Rattle.h41_text.specs.declared.words.LeadingWord.TheVariants.{Function, Branch, Wordless, Module}
 use Rattle.h41_text.specs.declared.names.TheConstants.{FUNCTIONS}
 use Rattle.h41_text.specs.declared.places.TheConstants.{FUNCTION_PLACES, WORD_PLACES}
 use Rattle.h41_text.specs.declared.words.TheConstants.{WORDS}
 use Rattle.h41_text.specs.Names.{function_name, parameter_function_name}
-use Rattle.h41_text.specs.Places.{IsPlaced, at_place}
-use Rattle.h41_text.specs.TextParts.{with_text, word_text}
+use Rattle.h41_text.specs.private.Places.{IsPlaced, at_place}
+use Rattle.h41_text.specs.private.TextParts.{with_text, word_text}
 
 no_both : (test : Bool) → test ≡ true → test ≡ false → true ≡ false
 no_both test holds fails = sym holds ∙ fails
@@ -63,7 +63,7 @@ parameter_function_found : (function : ParameterFunction)
 parameter_function_found Recall = refl
 parameter_function_found function = refl
 
-word_found : (word : Word) → with_text word_text WORDS (word_text word) ≡ Some word
+word_found : (word : LeadingWord) → with_text word_text WORDS (word_text word) ≡ Some word
 word_found (Function function) = parameter_function_found function
 word_found (Branch GoTo) = refl
 word_found (Branch Execute) = refl

@@ -26,14 +26,15 @@ use Rattle.h41_codes.specs.ByteGrammar.{IsBytes, IsLine, IsOperand}
 use Rattle.h41_codes.specs.Canon.{canonical}
 use Rattle.h41_lines.specs.Characters.{two_digits, is_plain, escaped, character_text}
 use Rattle.h41_lines.proofs.HexadecimalDigits.{read_hexadecimal}
-use Rattle.h41_text.specs.declared.words.Word.{Word}
-use Rattle.h41_text.specs.declared.words.Word.TheVariants as word
+use Rattle.h41_text.specs.declared.words.LeadingWord.{LeadingWord}
+use Rattle.h41_text.specs.declared.words.LeadingWord.TheVariants as word
 use Rattle.h41_text.specs.Names.{function_name, parameter_function_name, character_byte}
-use Rattle.h41_text.specs.LineText.{line_text, parameter_text, operand_text, number_line, character_quoted, quoted, text_line, ◌&◌}
+use Rattle.h41_text.specs.LineText.{line_text, parameter_text, operand_text, number_line, character_quoted, quoted_text, text_line, ◌&◌}
 use Rattle.h41_text.specs.LineReading.{HasText}
-use Rattle.h41_text.specs.TextParts.{word_text, word_line, operand_of, operand_from, behind_ind, two_digits_of, module_line}
-use Rattle.h41_text.specs.TextParts.{first_character, unquoted, at_most, begins_with, branch_line, character_of, characters_of, number_of}
-use Rattle.h41_text.specs.TextParts.{cut, cut_line, or_else, minus_line, unquoted_line, candidate_line}
+use Rattle.h41_text.specs.private.TextParts.{word_text, word_line, operand_of, operand_from, behind_ind, two_digits_of, module_line}
+use Rattle.h41_text.specs.private.TextParts.{first_character, unquoted_text, at_most, begins_with, branch_line, character_of, characters_of}
+use Rattle.h41_text.specs.private.TextParts.{number_of}
+use Rattle.h41_text.specs.private.TextParts.{parts_at_blank, cut_line, or_else, minus_line, unquoted_line, candidate_line}
 use Rattle.h41_text.proofs.Canonical as canonical_text
 use Rattle.h41_text.proofs.Finding.{is_found, parameter_found, number_none}
 use Rattle.h41_text.proofs.Unquoting.{unquoted_more, unquoted_end}
@@ -61,12 +62,12 @@ first_again byte rest inside =
 
 -- all characters within quotes
 unquoted_again : (most : ℕ) (characters : List ℕ) → length characters ≤ most → IsBytes characters
-    → unquoted most (flat_map character_quoted characters ++ 0x22 ∷ []) ≡ characters
+    → unquoted_text most (flat_map character_quoted characters ++ 0x22 ∷ []) ≡ characters
 unquoted_again most [] room bytes = unquoted_end most (0x22 ∷ []) refl
 unquoted_again zero (byte ∷ more) room bytes = absurd (omega arith)
 unquoted_again (suc most) (byte ∷ more) room bytes =
     let rest = flat_map character_quoted more ++ 0x22 ∷ [] in
-    ap (unquoted (suc most)) (append_assoc (character_quoted byte) (flat_map character_quoted more) (0x22 ∷ []))
+    ap (unquoted_text (suc most)) (append_assoc (character_quoted byte) (flat_map character_quoted more) (0x22 ∷ []))
     ∙ unquoted_more (suc most) most (character_quoted byte ++ rest) byte rest (omega arith) (first_again byte rest (bytes 0 (omega arith)))
     ∙ ap (λ characters. byte ∷ characters) (unquoted_again most more (omega arith) (λ index inside. bytes (suc index) (omega arith)))
 
@@ -75,13 +76,13 @@ at_most_all most characters room = cond-true (nat_le (length characters) most) _
 
 -- a text for ALPHA
 quoted_again : (characters : List ℕ) → length characters ≤ 15 → IsBytes characters
-    → candidate_line (quoted characters) ≡ Some (Text characters)
+    → candidate_line (quoted_text characters) ≡ Some (Text characters)
 quoted_again characters room bytes =
     ap (λ read. option_map Text (at_most 15 read)) (unquoted_again 15 characters room bytes)
     ∙ ap (option_map Text) (at_most_all 15 characters room)
 
 appended_again : (characters : List ℕ) → length characters ≤ 14 → IsBytes characters
-    → candidate_line (0x3E ∷ quoted characters) ≡ Some (Text (0x7F ∷ characters))
+    → candidate_line (0x3E ∷ quoted_text characters) ≡ Some (Text (0x7F ∷ characters))
 appended_again characters room bytes =
     ap (λ read. option_map Text (at_most 15 (0x7F ∷ read))) (unquoted_again 14 characters room bytes)
     ∙ ap (option_map Text) (at_most_all 15 (0x7F ∷ characters) (omega arith))
@@ -90,19 +91,20 @@ text_again : (characters : List ℕ) → length characters ≤ 15 → IsBytes ch
     → candidate_line (text_line characters) ≡ Some (Text characters)
 text_again [] room bytes = quoted_again [] room bytes
 text_again (first ∷ rest) room bytes =
-    cond_both (first == 0x7F) (0x3E ∷ quoted rest) (quoted (first ∷ rest)) (λ text. candidate_line text ≡ Some (Text (first ∷ rest)))
+    cond_both (first == 0x7F) (0x3E ∷ quoted_text rest) (quoted_text (first ∷ rest))
+    (λ text. candidate_line text ≡ Some (Text (first ∷ rest)))
     (λ append. appended_again rest (omega arith) (λ index inside. bytes (suc index) (omega arith))
     ∙ ap (λ byte. Some (Text (byte ∷ rest))) (sym (eqb-true first 0x7F append)))
     (λ other. quoted_again (first ∷ rest) room bytes)
 
 -- a text that is no number is cut at its blank
-cut_again : (text : List ℕ) → minus_line text ≡ None → characters_of text ≡ None → unquoted_line text ≡ cut_line text (cut text)
+cut_again : (text : List ℕ) → minus_line text ≡ None → characters_of text ≡ None → unquoted_line text ≡ cut_line text (parts_at_blank text)
 cut_again text minus none =
-    ap (λ line. or_else line (or_else (number_of text) (cut_line text (cut text)))) minus
-    ∙ ap (λ line. or_else line (cut_line text (cut text))) (number_none text none)
+    ap (λ line. or_else line (or_else (number_of text) (cut_line text (parts_at_blank text)))) minus
+    ∙ ap (λ line. or_else line (cut_line text (parts_at_blank text))) (number_none text none)
 
 -- a word and its operand
-worded_again : (word : Word) (operand : List ℕ) → candidate_line (word_text word & operand) ≡ word_line word operand
+worded_again : (word : LeadingWord) (operand : List ℕ) → candidate_line (word_text word & operand) ≡ word_line word operand
 worded_again (word.Function Recall) operand = cut_again (codes "RCL" & operand) refl refl
 worded_again (word.Function function) operand = cut_again (parameter_function_name function & operand) refl refl
 worded_again (word.Branch GoTo) operand = cut_again (codes "GTO" & operand) refl refl
@@ -190,8 +192,8 @@ number_again characters some most =
 -- a text that is no lone minus, and is a number
 number_first : (text : List ℕ) (line : Line) → minus_line text ≡ None → number_of text ≡ Some line → unquoted_line text ≡ Some line
 number_first text line minus number =
-    ap (λ first. or_else first (or_else (number_of text) (cut_line text (cut text)))) minus
-    ∙ ap (λ first. or_else first (cut_line text (cut text))) number
+    ap (λ first. or_else first (or_else (number_of text) (cut_line text (parts_at_blank text)))) minus
+    ∙ ap (λ first. or_else first (cut_line text (parts_at_blank text))) number
 
 several_again : (first second : Character) (more : List Character) → length more ≤ 14
     → candidate_line (number_line (first ∷ second ∷ more)) ≡ Some (Number (first ∷ second ∷ more))
@@ -215,11 +217,11 @@ plain_line_again Add = refl
 plain_line_again function = refl
 
 -- a name in quotes
-name_again : (word : Word) (function : List ℕ → Line) (most : ℕ) (name : List ℕ) → most ≤ 15 → length name ≤ most → IsBytes name
-    → ((text : List ℕ) → word_line word (0x22 ∷ text) ≡ option_map function (at_most most (unquoted 15 text)))
-    → candidate_line (word_text word & quoted name) ≡ Some (function name)
+name_again : (word : LeadingWord) (function : List ℕ → Line) (most : ℕ) (name : List ℕ) → most ≤ 15 → length name ≤ most → IsBytes name
+    → ((text : List ℕ) → word_line word (0x22 ∷ text) ≡ option_map function (at_most most (unquoted_text 15 text)))
+    → candidate_line (word_text word & quoted_text name) ≡ Some (function name)
 name_again word function most name few room bytes reads =
-    worded_again word (quoted name) ∙ reads (flat_map character_quoted name ++ 0x22 ∷ [])
+    worded_again word (quoted_text name) ∙ reads (flat_map character_quoted name ++ 0x22 ∷ [])
     ∙ ap (λ read. option_map function (at_most most read)) (unquoted_again 15 name (omega arith) bytes)
     ∙ ap (option_map function) (at_most_all most name room)
 

@@ -1,16 +1,16 @@
 -- The characters within quotes, one after another.
 use Rattle.std.proofs.Common.{◌≡◌, ℕ, zero, suc, ◌+◌, List, [], ◌∷◌, Some, None, refl, ◌∙◌, ap, arith}
-use Rattle.h41_text.specs.TextParts.{first_character, unquoted}
+use Rattle.h41_text.specs.private.TextParts.{first_character, unquoted_text}
 
 -- one more character
 pub unquoted_more : (most fewer : ℕ) (text : List ℕ) (character : ℕ) (rest : List ℕ) → most ≡ fewer + 1
-    → first_character text ≡ Some (character, rest) → unquoted most text ≡ character ∷ unquoted fewer rest
+    → first_character text ≡ Some (character, rest) → unquoted_text most text ≡ character ∷ unquoted_text fewer rest
 unquoted_more zero fewer text character rest count first = absurd (omega arith)
 unquoted_more (suc most) fewer text character rest count first =
     let same : most ≡ fewer = omega arith in
-    ap (λ parts. elim parts [ None ↦ [] | Some p ↦ p.0 ∷ unquoted most p.1 ]) first ∙ ap (λ n. character ∷ unquoted n rest) same
+    ap (λ parts. elim parts [ None ↦ [] | Some p ↦ p.0 ∷ unquoted_text most p.1 ]) first ∙ ap (λ n. character ∷ unquoted_text n rest) same
 
 -- no more characters
-pub unquoted_end : (most : ℕ) (text : List ℕ) → first_character text ≡ None → unquoted most text ≡ []
+pub unquoted_end : (most : ℕ) (text : List ℕ) → first_character text ≡ None → unquoted_text most text ≡ []
 unquoted_end zero text first = refl
-unquoted_end (suc most) text first = ap (λ parts. elim parts [ None ↦ [] | Some p ↦ p.0 ∷ unquoted most p.1 ]) first
+unquoted_end (suc most) text first = ap (λ parts. elim parts [ None ↦ [] | Some p ↦ p.0 ∷ unquoted_text most p.1 ]) first

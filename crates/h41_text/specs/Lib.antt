@@ -2,6 +2,5 @@ pub use Rattle.h41_lines.specs.Characters
 pub mod LineReading
 pub mod LineText
 pub mod Names
-pub mod Places
 pub mod TextLaws
-pub mod TextParts
+pub mod private

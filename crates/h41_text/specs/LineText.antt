@@ -37,13 +37,14 @@ character_quoted character =
     if character == 0x22 then escaped character else character_text character
 
 -- a text in its quotes
-abbrev pub quoted : List ℕ → List ℕ
-quoted characters = 0x22 ∷ (flat_map character_quoted characters ++ 0x22 ∷ [])
+abbrev pub quoted_text : List ℕ → List ℕ
+quoted_text characters = 0x22 ∷ (flat_map character_quoted characters ++ 0x22 ∷ [])
 
 -- a text for ALPHA; one that begins with the append sign has > in front of the rest
 abbrev pub text_line : List ℕ → List ℕ
-text_line [] = quoted []
-text_line (first ∷ rest) = if first == 0x7F then 0x3E ∷ quoted rest else quoted (first ∷ rest)
+text_line [] = quoted_text []
+text_line (first ∷ rest) =
+    if first == 0x7F then 0x3E ∷ quoted_text rest else quoted_text (first ∷ rest)
 
 -- a number's characters, and NEG for a lone minus
 abbrev pub number_line : List Character → List ℕ
@@ -65,14 +66,14 @@ abbrev pub line_text : Line → List ℕ
 line_text Null = []
 line_text (LocalLabel label) = codes "LBL" & two_digits label
 line_text (Number characters) = number_line characters
-line_text (Named function name) = name_function_name function & quoted name
+line_text (Named function name) = name_function_name function & quoted_text name
 line_text (Register function register) = register_function_name function & two_digits register
 line_text (Plain function) = function_name function
 line_text (WithOperand function operand) = parameter_function_name function & operand_text operand
 line_text (Module number entry) = codes "XROM" & (two_digits number ++ 0x2C ∷ two_digits entry)
 line_text (BranchIndirect branch register) = branch_name branch & operand_text (Indirect register)
 line_text (ShortGoTo label distance) = codes "GTO" & two_digits label
-line_text (GlobalLabel link key name) = codes "LBL" & quoted name
+line_text (GlobalLabel link key name) = codes "LBL" & quoted_text name
 line_text (End link marks) = codes "END"
 line_text (FinalEnd link marks) = codes ".END."
 line_text (BranchTo branch distance backwards label) = branch_name branch & parameter_text label

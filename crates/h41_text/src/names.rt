@@ -2,8 +2,8 @@
 ghost use Rattle.std.specs.Prelude.{◌≡◌, ◌+◌, ◌-◌, ◌<◌, ◌≤◌, length, slice_index_or, []};
 ghost use Rattle.h41_text.specs.LineText.{high_parameters};
 ghost use Rattle.h41_text.specs.Names as spec;
-ghost use Rattle.h41_text.specs.Places.{IsPlaced};
-ghost use Rattle.h41_text.specs.TextParts as part;
+ghost use Rattle.h41_text.specs.private.Places.{IsPlaced};
+ghost use Rattle.h41_text.specs.private.TextParts as part;
 
 use crate::places::{FUNCTION_PLACES, name_hash};
 use h41_codes::{Branch, Character, Function, NameFunction, ParameterFunction, RegisterFunction};

@@ -1,7 +1,7 @@
 //! Where names stand in their lists, by their hashes, as `tools/places` writes it.
 
 ghost use Rattle.std.specs.Prelude.{◌≡◌};
-ghost use Rattle.h41_text.specs.Places.{name_hash};
+ghost use Rattle.h41_text.specs.private.Places.{name_hash};
 
 use h41_lines::hashes::word_hash;
 

@@ -7,11 +7,11 @@ ghost use Rattle.h41_codes.specs.declared.line.Operand.{Operand as AnyOperand};
 ghost use Rattle.h41_codes.specs.Counts.{parameter_count};
 ghost use Rattle.h41_text.specs.LineReading.{HasText, IsTextOf};
 ghost use Rattle.h41_text.specs.LineText.{line_text, parameter_text};
-ghost use Rattle.h41_text.specs.TextParts as part;
+ghost use Rattle.h41_text.specs.private.TextParts as part;
 
 use crate::faults::BadText;
 use crate::names::{character_of, function_named, high_parameter};
-use crate::words::Word;
+use crate::words::LeadingWord;
 use crate::writer::write_line;
 use arrayvec::ArrayVec;
 use h41_codes::{
@@ -92,7 +92,7 @@ fn alpha(mut characters: Characters, quoted: &[u8]) -> Option<Line>
 /// Adds characters that stand within quotes, up to the closing quote or until there are 15.
 fn push_unquoted(characters: &mut Characters, quoted: &[u8])
     requires { array_vec_len characters.old ≤ 15 }
-    ensures { characters.new.items ≡ part.followed characters.old.items quoted.now }
+    ensures { characters.new.items ≡ part.text_behind characters.old.items quoted.now }
 {
     let mut rest = quoted;
     for _ in characters.len()..TEXT_MOST {
@@ -147,11 +147,11 @@ fn minus(text: &[u8]) -> Option<Line>
 
 /// The line of a text that begins with a name.
 fn named_line(text: &[u8]) -> Option<Line>
-    ensures line { result ≡ part.cut_line text.now (part.cut text.now) }
+    ensures line { result ≡ part.cut_line text.now (part.parts_at_blank text.now) }
     ensures text { IfSome result HasText }
 {
     match cut(text) {
-        Some((name, behind)) => worded(Word::named(name)?, behind),
+        Some((name, behind)) => worded(LeadingWord::named(name)?, behind),
         None => lone(text),
     }
 }
@@ -173,8 +173,8 @@ fn number(text: &[u8]) -> Option<Line>
 
 /// A text before its first blank, and behind it; nothing where it has none.
 fn cut(text: &[u8]) -> Option<(&[u8], &[u8])>
-    ensures parts { IfSome result (λ p. part.cut text.now ≡ Some (p.0.now, p.1.now)) }
-    ensures none { IfNone result (part.cut text.now ≡ None) }
+    ensures parts { IfSome result (λ p. part.parts_at_blank text.now ≡ Some (p.0.now, p.1.now)) }
+    ensures none { IfNone result (part.parts_at_blank text.now ≡ None) }
 {
     for (index, byte) in text.iter().enumerate() {
         if *byte == b' ' {
@@ -208,7 +208,7 @@ fn end(name: &[u8]) -> Option<Line>
 }
 
 /// The line of a word and what stands behind its blank.
-fn worded(word: Word, behind: &[u8]) -> Option<Line>
+fn worded(word: LeadingWord, behind: &[u8]) -> Option<Line>
     ensures line { result ≡ part.word_line word behind.now }
     ensures text { IfSome result HasText }
 {
@@ -219,36 +219,39 @@ fn worded(word: Word, behind: &[u8]) -> Option<Line>
 }
 
 /// The line of a word and a name in quotes.
-fn named(word: Word, quoted: &[u8]) -> Option<Line>
-    ensures line { result ≡ part.named_line word (part.unquoted 15 quoted.now) }
+fn named(word: LeadingWord, quoted: &[u8]) -> Option<Line>
+    ensures line { result ≡ part.named_line word (part.unquoted_text 15 quoted.now) }
     ensures text { IfSome result HasText }
 {
     let mut name = Characters::new();
     push_unquoted(&mut name, quoted);
     let name = name.as_slice();
     Some(match word {
-        Word::Function(ParameterFunction::Label) => Line::GlobalLabel(
+        LeadingWord::Function(ParameterFunction::Label) => Line::GlobalLabel(
             Link::new(0),
             0,
             Text::new(name)?,
         ),
-        Word::Branch(Branch::GoTo) => Line::Named(NameFunction::GoToName, Text::new(name)?),
-        Word::Branch(Branch::Execute) => Line::Named(NameFunction::ExecuteName, Text::new(name)?),
-        Word::Wordless => Line::Named(NameFunction::Wordless, Text::new(name)?),
+        LeadingWord::Branch(Branch::GoTo) => Line::Named(NameFunction::GoToName, Text::new(name)?),
+        LeadingWord::Branch(Branch::Execute) => Line::Named(
+            NameFunction::ExecuteName,
+            Text::new(name)?,
+        ),
+        LeadingWord::Wordless => Line::Named(NameFunction::Wordless, Text::new(name)?),
         _ => return None,
     })
 }
 
 /// The line of a word and an operand.
-fn with_operand(word: Word, text: &[u8]) -> Option<Line>
+fn with_operand(word: LeadingWord, text: &[u8]) -> Option<Line>
     ensures line { result ≡ part.operand_line word text.now }
     ensures text { IfSome result HasText }
 {
     match word {
-        Word::Function(function) => Some(Line::WithOperand(function, operand(text)?)),
-        Word::Branch(branch) => Some(branch_line(branch, operand(text)?)),
-        Word::Module => module(text),
-        Word::Wordless => None,
+        LeadingWord::Function(function) => Some(Line::WithOperand(function, operand(text)?)),
+        LeadingWord::Branch(branch) => Some(branch_line(branch, operand(text)?)),
+        LeadingWord::Module => module(text),
+        LeadingWord::Wordless => None,
     }
 }
 

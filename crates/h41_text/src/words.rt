@@ -1,7 +1,7 @@
 //! The words in front of operands.
 ghost use Rattle.std.specs.Prelude.{◌≡◌, ◌≤◌, length};
-ghost use Rattle.h41_text.specs.Places.{IsPlaced};
-ghost use Rattle.h41_text.specs.TextParts.{word_of, word_text, with_text};
+ghost use Rattle.h41_text.specs.private.Places.{IsPlaced};
+ghost use Rattle.h41_text.specs.private.TextParts.{word_of, word_text, with_text};
 
 use crate::names::{branch_name, parameter_function_name, parameter_functions};
 use crate::places::{WORD_PLACES, name_hash};
@@ -9,7 +9,7 @@ use h41_codes::{Branch, ParameterFunction};
 
 /// The word in front of an operand.
 #[derive(Clone, Copy)]
-pub(crate) enum Word {
+pub(crate) enum LeadingWord {
     /// A function with a parameter, as `STO`.
     Function(ParameterFunction),
     /// `GTO` or `XEQ`.
@@ -24,21 +24,21 @@ pub(crate) enum Word {
 macro_rules! all_words {
     (() $kind:ident $($name:ident => $text:literal,)*) => {
         [
-            Word::Branch(Branch::GoTo),
-            Word::Branch(Branch::Execute),
-            Word::Wordless,
-            Word::Module,
-            $(Word::Function($kind::$name),)*
+            LeadingWord::Branch(Branch::GoTo),
+            LeadingWord::Branch(Branch::Execute),
+            LeadingWord::Wordless,
+            LeadingWord::Module,
+            $(LeadingWord::Function($kind::$name),)*
         ]
     };
 }
 
 /// All words.
-static WORDS: [Word; 28] = parameter_functions!(all_words());
+static WORDS: [LeadingWord; 28] = parameter_functions!(all_words());
 
-impl Word {
+impl LeadingWord {
     /// The word of a name, or nothing where there is none.
-    pub(crate) fn named(name: &[u8]) -> Option<Word>
+    pub(crate) fn named(name: &[u8]) -> Option<LeadingWord>
         ensures { result ≡ word_of name.now }
     {
         word_among(&WORDS, &WORD_PLACES, name)
@@ -49,16 +49,16 @@ impl Word {
         ensures { result.now ≡ word_text self }
     {
         match self {
-            Word::Function(function) => parameter_function_name(function),
-            Word::Branch(branch) => branch_name(branch),
-            Word::Wordless => "W",
-            Word::Module => "XROM",
+            LeadingWord::Function(function) => parameter_function_name(function),
+            LeadingWord::Branch(branch) => branch_name(branch),
+            LeadingWord::Wordless => "W",
+            LeadingWord::Module => "XROM",
         }
     }
 }
 
 /// The word of a name, by a table of places.
-fn word_among(words: &[Word], places: &[u8], name: &[u8]) -> Option<Word>
+fn word_among(words: &[LeadingWord], places: &[u8], name: &[u8]) -> Option<LeadingWord>
     requires { IsPlaced word_text words.now places.now }
     ensures { result ≡ with_text word_text words.now name.now }
 {

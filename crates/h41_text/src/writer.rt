@@ -4,7 +4,7 @@ ghost use Rattle.arrayvec.specs.ArrayString.{array_string_len};
 ghost use Rattle.h41_codes.specs.declared.line.Line.TheVariants as line;
 ghost use Rattle.h41_codes.specs.Counts.{parameter_count};
 ghost use Rattle.h41_lines.specs.Characters.{two_digits as digits_of};
-ghost use Rattle.h41_text.specs.LineText.{line_text, ◌&◌, quoted, text_line};
+ghost use Rattle.h41_text.specs.LineText.{line_text, ◌&◌, quoted_text, text_line};
 ghost use Rattle.h41_text.specs.LineText as spec;
 
 use crate::names::{
@@ -113,7 +113,7 @@ fn with_operand(name: &str, operand: Operand) -> LineText
 fn named(name: &str, characters: &[u8]) -> LineText
     requires name { length name.now ≤ 3 }
     requires characters { length characters.now ≤ 15 }
-    ensures text { result.bytes ≡ name.now & quoted characters.now }
+    ensures text { result.bytes ≡ name.now & quoted_text characters.now }
     ensures most { length result.bytes ≤ 51 }
 {
     let mut text = begun(name);
@@ -201,7 +201,7 @@ fn push_parameter(text: &mut LineText, number: u8)
 fn push_quoted(text: &mut LineText, characters: &[u8])
     requires room { array_string_len text.old ≤ 4 }
     requires characters { length characters.now ≤ 15 }
-    ensures text { text.new.bytes ≡ text.old.bytes ++ quoted characters.now }
+    ensures text { text.new.bytes ≡ text.old.bytes ++ quoted_text characters.now }
     ensures most { length text.new.bytes ≤ length text.old.bytes + 47 }
 {
     text.push_str("\"");

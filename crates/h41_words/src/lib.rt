@@ -11,7 +11,7 @@ mod second_word;
 mod table;
 mod unassigned;
 
-pub use operands::{BlockRegister, Digit, Displacement, Place, ReadRegister, StatusBit};
+pub use operands::{BlockRegister, DigitPlace, Displacement, LoadedDigit, ReadRegister, StatusBit};
 pub use operation::Operation;
 pub use rom_word::Word;
 pub use rows::{Bank, Condition, RegisterTransfer, Row};

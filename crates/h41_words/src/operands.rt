@@ -42,11 +42,11 @@ impl StatusBit {
 
 /// A place of a register, 0 to 13, where a pointer can be, or a count of digits to rotate by.
 #[derive(Clone, Copy, Debug, PartialEq, Eq)]
-pub struct Place {
+pub struct DigitPlace {
     number: u8,
 }
 
-impl Model for Place {
+impl Model for DigitPlace {
     ghost Value = { ℕ };
 
     ghost view = { λ operand. operand.number };
@@ -56,13 +56,13 @@ impl Model for Place {
     ghost inverse = { λ number. record { number = number } };
 }
 
-impl Place {
+impl DigitPlace {
     /// The place with this number.
     pub fn new(number: u8) -> Self
         requires { number < place_count }
         ensures { result ≡ number }
     {
-        Place { number }
+        DigitPlace { number }
     }
 
     /// Its number, 0 to 13.
@@ -76,11 +76,11 @@ impl Place {
 
 /// A hexadecimal digit, 0 to 15.
 #[derive(Clone, Copy, Debug, PartialEq, Eq)]
-pub struct Digit {
+pub struct LoadedDigit {
     number: u8,
 }
 
-impl Model for Digit {
+impl Model for LoadedDigit {
     ghost Value = { ℕ };
 
     ghost view = { λ operand. operand.number };
@@ -90,13 +90,13 @@ impl Model for Digit {
     ghost inverse = { λ number. record { number = number } };
 }
 
-impl Digit {
+impl LoadedDigit {
     /// The digit with this number.
     pub fn new(number: u8) -> Self
         requires { number < digit_count }
         ensures { result ≡ number }
     {
-        Digit { number }
+        LoadedDigit { number }
     }
 
     /// Its number, 0 to 15.

@@ -1,5 +1,7 @@
 //! The rows of the table of words: what a word can stand for. Each comment begins with the mnemonic.
-use crate::operands::{BlockRegister, Digit, Displacement, Place, ReadRegister, StatusBit};
+use crate::operands::{
+    BlockRegister, DigitPlace, Displacement, LoadedDigit, ReadRegister, StatusBit,
+};
 use crate::operation::Operation;
 use crate::unassigned::UnassignedWord;
 use h41_fields::{Field, Pointer};
@@ -21,13 +23,13 @@ pub enum Row {
     /// `?FSET n`: whether a status bit is set.
     TestStatus(StatusBit),
     /// `?R= n`: whether the active pointer is at a place.
-    TestPointer(Place),
+    TestPointer(DigitPlace),
     /// `R= n`: puts the active pointer at a place.
-    SetPointer(Place),
+    SetPointer(DigitPlace),
     /// `RCR n`: rotates C right by so many digits.
-    RotateRight(Place),
+    RotateRight(DigitPlace),
     /// `LD@R n`: the digit goes to C at the active pointer.
-    LoadDigit(Digit),
+    LoadDigit(LoadedDigit),
     /// `WRIT n`: C goes to a register of the selected block of 16.
     Write(BlockRegister),
     /// `READ n`: a register of the selected block of 16 goes to C.

@@ -1,10 +1,12 @@
 //! The table of the words: from a word to its row, and back.
 ghost use Rattle.std.specs.Prelude.{◌≡◌, ◌%◌, ◌/◌, ◌<◌, ◌⊎◌, IfSome, IfNone};
 ghost use Rattle.h41_words.specs.Counts.{word_count, place_count};
-ghost use Rattle.h41_words.specs.MappedColumns.{IsMappedColumn};
+ghost use Rattle.h41_words.specs.private.MappedColumns.{IsMappedColumn};
 ghost use Rattle.h41_words.specs.WordTable as spec;
 
-use crate::operands::{BlockRegister, Digit, Displacement, Place, ReadRegister, StatusBit};
+use crate::operands::{
+    BlockRegister, DigitPlace, Displacement, LoadedDigit, ReadRegister, StatusBit,
+};
 use crate::operation::Operation;
 use crate::rom_word::Word;
 use crate::rows::{Bank, Condition, RegisterTransfer, Row};
@@ -306,7 +308,7 @@ fn miscellaneous(word: Word) -> Row
     let line = (number / 64) as u8;
     match number % 64 {
         0x00 => column_00(word),
-        0x10 => Row::LoadDigit(Digit::new(line)),
+        0x10 => Row::LoadDigit(LoadedDigit::new(line)),
         0x18 => column_18(word),
         0x20 => column_20(word),
         0x28 => Row::Write(BlockRegister::new(line)),
@@ -345,9 +347,9 @@ fn mapped(word: Word, meant: u8) -> Row
         0x04 => Row::ClearStatus(StatusBit::new(meant)),
         0x08 => Row::SetStatus(StatusBit::new(meant)),
         0x0C => Row::TestStatus(StatusBit::new(meant)),
-        0x14 => Row::TestPointer(Place::new(meant)),
-        0x1C => Row::SetPointer(Place::new(meant)),
-        _ => Row::RotateRight(Place::new(meant)),
+        0x14 => Row::TestPointer(DigitPlace::new(meant)),
+        0x1C => Row::SetPointer(DigitPlace::new(meant)),
+        _ => Row::RotateRight(DigitPlace::new(meant)),
     }
 }
 

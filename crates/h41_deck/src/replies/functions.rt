@@ -7,7 +7,7 @@ ghost use Rattle.h41_deck.specs.PageViews as spec;
 
 use crate::replies::digits::push_number;
 use h41_lines::characters::character_text;
-use h41_pages::{Function, Name, Pages};
+use h41_pages::{ModuleFunction, Name, Pages};
 use std::alloc::{AllocError, Global};
 
 /// A line for each function, with its two numbers and its name. 21 where memory is refused.
@@ -24,7 +24,7 @@ pub fn functions_text(alloc: Global, pages: &Pages) -> Result<Vec<u8>, AllocErro
 
 /// Appends the line of a function.
 #[tactic(auto, unfolding(crate::specs::PageViews::function_line))]
-fn push_function(text: &mut Vec<u8>, function: &Function) -> Result<(), AllocError>
+fn push_function(text: &mut Vec<u8>, function: &ModuleFunction) -> Result<(), AllocError>
     ensures { OnOk result (text.new.items ≡ text.old.items ++ spec.function_line function.now) }
 {
     text.extend_from_slice(b"XROM ")?;

@@ -2,11 +2,11 @@
 
 ghost use Rattle.std.specs.Prelude.{◌≡◌, ◌<◌, ◌≤◌, IfOk};
 ghost use Rattle.std.specs.Result.{result_err};
-ghost use Rattle.h41_nut.specs.Addresses.{displaced};
+ghost use Rattle.h41_nut.specs.Addresses.{displaced_address};
 ghost use Rattle.h41_pages.specs.Addresses.{first_address};
 ghost use Rattle.h41_nut.specs.Arrivals as arrivals;
-ghost use Rattle.h41_nut.specs.ProcessorSteps.{GoesTo, GoesOn, GoesOnTelling, JumpsLong};
-ghost use Rattle.h41_nut.specs.ProcessorSteps.{JumpsShort, ReturnsIf};
+ghost use Rattle.h41_nut.specs.private.ProcessorSteps.{GoesTo, GoesOn, GoesOnTelling, JumpsLong};
+ghost use Rattle.h41_nut.specs.private.ProcessorSteps.{JumpsShort, ReturnsIf};
 ghost use Rattle.h41_nut.specs.Jumps as spec;
 ghost use Rattle.h41_nut.specs.RegisterWords.{with_address_pushed, with_address_popped};
 
@@ -113,7 +113,7 @@ impl Cpu {
 
     /// `RTN`: goes to the newest return address, which is taken off.
     pub(crate) fn return_to_newest(&mut self) -> Result<(), WordRefusal>
-        ensures { GoesTo spec.newest_return spec.popped self.old self.new result }
+        ensures { GoesTo spec.newest_return spec.with_return_popped self.old self.new result }
     {
         let next = arrival(self.newest_return())?;
         self.pop();
@@ -134,7 +134,7 @@ impl Cpu {
 
     /// `XQ->GO`: drops the newest return address.
     pub(crate) fn drop_return(&mut self) -> Result<(), WordRefusal>
-        ensures { GoesOn spec.popped self.old self.new result }
+        ensures { GoesOn spec.with_return_popped self.old self.new result }
     {
         let next = arrival(self.next_address())?;
         self.pop();
@@ -180,7 +180,7 @@ impl Cpu {
 
     /// Takes the newest return address off; the oldest is 0000 then.
     fn pop(&mut self)
-        ensures { self.new ≡ spec.popped self.old }
+        ensures { self.new ≡ spec.with_return_popped self.old }
     {
         let [_newest, second, third, fourth] = self.returns;
         self.returns = [second, third, fourth, 0];
@@ -188,7 +188,7 @@ impl Cpu {
 
     /// Puts a return address in front; the oldest is lost.
     fn push(&mut self, address: u16)
-        ensures { self.new ≡ spec.pushed address self.old }
+        ensures { self.new ≡ spec.with_return_pushed address self.old }
     {
         let [newest, second, third, _oldest] = self.returns;
         self.returns = [address, newest, second, third];
@@ -209,7 +209,7 @@ fn is_taken(condition: Condition, carry: bool) -> bool
 /// The address that lies by a displacement further on or back.
 #[inline(always)]
 fn displaced(address: u16, displacement: Displacement) -> u16
-    ensures { result ≡ displaced address displacement }
+    ensures { result ≡ displaced_address address displacement }
 {
     let words = displacement.words();
     if words < 0 {

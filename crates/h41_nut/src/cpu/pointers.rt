@@ -1,7 +1,7 @@
 //! The words of the pointers.
 
 ghost use Rattle.std.specs.Prelude.{◌≡◌, ◌<◌};
-ghost use Rattle.h41_nut.specs.ProcessorSteps.{GoesOn};
+ghost use Rattle.h41_nut.specs.private.ProcessorSteps.{GoesOn};
 ghost use Rattle.h41_nut.specs.Pointers as spec;
 
 use crate::cpu::Cpu;

@@ -3,8 +3,8 @@
 ghost use Rattle.std.specs.Prelude.{◌≡◌, ◌<◌};
 ghost use Rattle.h41_words.specs.Counts.{word_count};
 ghost use Rattle.h41_nut.specs.Arrivals.{address_after_both};
-ghost use Rattle.h41_nut.specs.MemoryWords.{block_address, selecting};
-ghost use Rattle.h41_nut.specs.ProcessorSteps.{GoesOn, GoesTo, selecting_and_loading};
+ghost use Rattle.h41_nut.specs.MemoryWords.{block_address, with_selected};
+ghost use Rattle.h41_nut.specs.private.ProcessorSteps.{GoesOn, GoesTo, selecting_and_loading};
 ghost use Rattle.h41_nut.specs.RegisterWords as spec;
 
 use crate::base::Base;
@@ -13,7 +13,7 @@ use crate::cpu::jumps::arrival;
 use crate::cpu::pointers::{place_above, place_below};
 use crate::refusal::WordRefusal;
 use h41_digits::{PLACES, Reg};
-use h41_words::{Digit, Place, RegisterTransfer, Word};
+use h41_words::{DigitPlace, LoadedDigit, RegisterTransfer, Word};
 
 impl Cpu {
     /// The address in C's digits 6 to 3.
@@ -59,7 +59,7 @@ impl Cpu {
     }
 
     /// `LD@R n`: a digit goes to C at the active pointer, which goes down.
-    pub(crate) fn load_digit(&mut self, digit: Digit) -> Result<(), WordRefusal>
+    pub(crate) fn load_digit(&mut self, digit: LoadedDigit) -> Result<(), WordRefusal>
         ensures { GoesOn (spec.with_digit_loaded digit) self.old self.new result }
     {
         let next = arrival(self.next_address())?;
@@ -91,7 +91,7 @@ impl Cpu {
     }
 
     /// `RCR n`: rotates C right by so many digits.
-    pub(crate) fn rotate_right(&mut self, digits: Place) -> Result<(), WordRefusal>
+    pub(crate) fn rotate_right(&mut self, digits: DigitPlace) -> Result<(), WordRefusal>
         ensures { GoesOn (spec.with_c_rotated digits) self.old self.new result }
     {
         let next = arrival(self.next_address())?;
@@ -135,7 +135,7 @@ impl Cpu {
     /// `RAM SLCT`, `WRIT n`: selects an address of the memory.
     pub(crate) fn select(&mut self, address: u16) -> Result<(), WordRefusal>
         requires { address < word_count }
-        ensures { GoesOn (selecting address) self.old self.new result }
+        ensures { GoesOn (with_selected address) self.old self.new result }
     {
         let next = arrival(self.next_address())?;
         self.selected = address;
@@ -177,7 +177,7 @@ impl Cpu {
 
     /// `G=C`, `C=M`, `ST<>T` and the like: copies a register, or exchanges two.
     pub(crate) fn transfer(&mut self, transfer: RegisterTransfer) -> Result<(), WordRefusal>
-        ensures { GoesOn (spec.transferred transfer) self.old self.new result }
+        ensures { GoesOn (spec.after_transfer transfer) self.old self.new result }
     {
         let next = arrival(self.next_address())?;
         let (c, g, t) = (self.c, self.g, self.t);
@@ -244,7 +244,7 @@ impl Cpu {
 /// A register rotated right by so many digits.
 fn rotated(register: Reg, digits: usize) -> Reg
     requires { digits < 14 }
-    ensures { result ≡ spec.rotated register digits }
+    ensures { result ≡ spec.rotated_register register digits }
 {
     if digits == 0 {
         return register;

@@ -2,7 +2,7 @@
 
 ghost use Rattle.std.specs.Prelude.{◌≡◌, ◌≤◌, OnOk, OnErr};
 ghost use Rattle.h41_pages.specs.Addresses.{first_address};
-ghost use Rattle.h41_nut.specs.ProcessorSteps.{GoesOn};
+ghost use Rattle.h41_nut.specs.private.ProcessorSteps.{GoesOn};
 ghost use Rattle.h41_nut.specs.MemoryWords as spec;
 
 use crate::cpu::Cpu;

@@ -2,7 +2,7 @@
 
 ghost use Rattle.std.specs.Prelude.{◌≡◌, ◌≤◌, false, OnOk, OnErr};
 ghost use Rattle.h41_pages.specs.Addresses.{first_address};
-ghost use Rattle.h41_nut.specs.ProcessorSteps.{GoesOn, GoesOnUnless};
+ghost use Rattle.h41_nut.specs.private.ProcessorSteps.{GoesOn, GoesOnUnless};
 ghost use Rattle.h41_nut.specs.Unheld as spec;
 
 use crate::cpu::Cpu;

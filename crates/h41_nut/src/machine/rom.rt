@@ -5,7 +5,7 @@ ghost use Rattle.std.specs.Result.{result_err};
 ghost use Rattle.h41_pages.specs.Addresses.{first_address};
 ghost use Rattle.h41_nut.specs.PageWords.{fetched, system_refusal, word_or_zero};
 ghost use Rattle.h41_nut.specs.MemoryWords as spec;
-ghost use Rattle.h41_nut.specs.ProcessorSteps.{FetchesWord, WritesWord};
+ghost use Rattle.h41_nut.specs.private.ProcessorSteps.{FetchesWord, WritesWord};
 
 use crate::cpu::Cpu;
 use crate::refusal::WordRefusal;

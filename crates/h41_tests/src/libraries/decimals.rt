@@ -10,9 +10,9 @@ use std::process::Abort;
 use std::test::Fail;
 
 /// Two operands and an answer.
-type Row = (u64, u64, Result<u64, DecimalFault>);
+type DecimalRow = (u64, u64, Result<u64, DecimalFault>);
 
-static ADD: [Row; 60] = [
+static ADD: [DecimalRow; 60] = [
     (0x01234567890000, 0x05000000000990, Ok(0x01234567891000)),
     (0x01234567890000, 0x04999999999990, Ok(0x01234567890000)),
     (0x91234567890000, 0x95000000000990, Ok(0x91234567891000)),
@@ -75,7 +75,7 @@ static ADD: [Row; 60] = [
     (0x99397745117967, 0x91600000000060, Ok(0x91600000000060)),
 ];
 
-static SUB: [Row; 59] = [
+static SUB: [DecimalRow; 59] = [
     (0x01000000000000, 0x05000100000989, Ok(0x09999999999999)),
     (0x01000000000000, 0x05000000000989, Ok(0x01000000000000)),
     (0x01234567890000, 0x05000000000990, Ok(0x01234567890000)),
@@ -137,7 +137,7 @@ static SUB: [Row; 59] = [
     (0x03800000000906, 0x07421473910031, Ok(0x97421473910031)),
 ];
 
-static MUL: [Row; 30] = [
+static MUL: [DecimalRow; 30] = [
     (0x09999999999099, 0x01000000000001, Err(DecimalFault::Range)),
     (0x01000000000901, 0x01000000000901, Ok(0x00000000000000)),
     (0x01000000000099, 0x09999999999000, Ok(0x09999999999099)),
@@ -170,7 +170,7 @@ static MUL: [Row; 30] = [
     (0x02000000000064, 0x01403028285950, Ok(0x02806056570014)),
 ];
 
-static DIV: [Row; 27] = [
+static DIV: [DecimalRow; 27] = [
     (0x02000000000000, 0x03000000000000, Ok(0x06666666667999)),
     (0x01000000000000, 0x03000000000000, Ok(0x03333333333999)),
     (0x01000000000901, 0x01000000000099, Ok(0x00000000000000)),
@@ -200,7 +200,7 @@ static DIV: [Row; 27] = [
     (0x08224646188039, 0x96000000000089, Ok(0x91370774365950)),
 ];
 
-static PERCENT: [Row; 22] = [
+static PERCENT: [DecimalRow; 22] = [
     (0x01000000001000, 0x95000000000999, Ok(0x95000000005997)),
     (0x01000000003000, 0x95000000000999, Ok(0x95000000015997)),
     (0x03333333333000, 0x95000000000999, Ok(0x91666666667998)),
@@ -225,7 +225,7 @@ static PERCENT: [Row; 22] = [
     (0x98147781029082, 0x93000000000005, Ok(0x02444334309086)),
 ];
 
-static MODULO: [Row; 57] = [
+static MODULO: [DecimalRow; 57] = [
     (0x05000000000000, 0x00000000000000, Ok(0x05000000000000)),
     (0x00000000000000, 0x07000000000000, Ok(0x00000000000000)),
     (0x05000000000000, 0x03000000000000, Ok(0x02000000000000)),
@@ -334,7 +334,7 @@ fn answer(outcome: Result<Ten, DecimalFault>) -> Result<u64, DecimalFault> {
 
 /// An operation on two numbers.
 #[derive(Clone, Copy, Debug)]
-enum Operation {
+enum DecimalOperation {
     Add,
     Sub,
     Mul,
@@ -344,19 +344,19 @@ enum Operation {
 }
 
 /// Its answer.
-fn carry_out(operation: Operation, x: Ten, y: Ten) -> Result<Ten, DecimalFault> {
+fn carry_out(operation: DecimalOperation, x: Ten, y: Ten) -> Result<Ten, DecimalFault> {
     match operation {
-        Operation::Add => x.add(y),
-        Operation::Sub => x.sub(y),
-        Operation::Mul => x.mul(y),
-        Operation::Div => x.div(y),
-        Operation::Percent => x.percent(y),
-        Operation::Modulo => x.modulo(y),
+        DecimalOperation::Add => x.add(y),
+        DecimalOperation::Sub => x.sub(y),
+        DecimalOperation::Mul => x.mul(y),
+        DecimalOperation::Div => x.div(y),
+        DecimalOperation::Percent => x.percent(y),
+        DecimalOperation::Modulo => x.modulo(y),
     }
 }
 
 /// Each row of a table has its answer.
-fn answers(rt: &impl Abort, operation: Operation, rows: &[Row]) -> Result<(), Fail> {
+fn answers(rt: &impl Abort, operation: DecimalOperation, rows: &[DecimalRow]) -> Result<(), Fail> {
     for (x, y, expected) in rows {
         let found = answer(carry_out(operation, operand(*x)?, operand(*y)?));
         assert!(rt; found == *expected, "{operation:?} {x:014X} {y:014X}");
@@ -366,12 +366,12 @@ fn answers(rt: &impl Abort, operation: Operation, rows: &[Row]) -> Result<(), Fa
 
 #[test]
 fn operations(rt: HostRuntime) -> Result<(), Fail> {
-    answers(&rt, Operation::Add, &ADD)?;
-    answers(&rt, Operation::Sub, &SUB)?;
-    answers(&rt, Operation::Mul, &MUL)?;
-    answers(&rt, Operation::Div, &DIV)?;
-    answers(&rt, Operation::Percent, &PERCENT)?;
-    answers(&rt, Operation::Modulo, &MODULO)
+    answers(&rt, DecimalOperation::Add, &ADD)?;
+    answers(&rt, DecimalOperation::Sub, &SUB)?;
+    answers(&rt, DecimalOperation::Mul, &MUL)?;
+    answers(&rt, DecimalOperation::Div, &DIV)?;
+    answers(&rt, DecimalOperation::Percent, &PERCENT)?;
+    answers(&rt, DecimalOperation::Modulo, &MODULO)
 }
 
 #[test]

@@ -3,16 +3,16 @@
 use crate::judge::wants;
 use h41_decimal::Ten;
 use h41_digits::Reg;
-use h41_ram::Ram;
+use h41_ram::{Ram, flags};
 use h41_show::{Format, Notation, RadixMark, alpha_text, number_text, register_text};
 use std::process::Abort;
 use std::test::Fail;
 
 /// A register as a number, a display digit, and the text.
-type Row = (u64, u8, &'static str);
+type TextRow = (u64, u8, &'static str);
 
 /// FIX, with the point and with grouping.
-static FIXED: [Row; 28] = [
+static FIXED: [TextRow; 28] = [
     (0x00000000000000, 4, "0.0000"),
     (0x00000000000000, 0, "0."),
     (0x00000000000000, 9, "0.000000000"),
@@ -44,7 +44,7 @@ static FIXED: [Row; 28] = [
 ];
 
 /// SCI, with the point.
-static SCIENTIFIC: [Row; 12] = [
+static SCIENTIFIC: [TextRow; 12] = [
     (0x00000000000000, 4, "0.0000 00"),
     (0x00000000000000, 0, "0. 00"),
     (0x00000000000000, 9, "0.0000000 00"),
@@ -60,7 +60,7 @@ static SCIENTIFIC: [Row; 12] = [
 ];
 
 /// ENG, with the point.
-static ENGINEERING: [Row; 14] = [
+static ENGINEERING: [TextRow; 14] = [
     (0x00000000000000, 3, "0.000 00"),
     (0x01234560000004, 3, "12.35 03"),
     (0x01234560000004, 0, "10. 03"),
@@ -94,7 +94,7 @@ fn pointed(notation: Notation, digits: u8) -> Format {
 }
 
 /// Each row of a table has its text.
-fn texts(rt: &impl Abort, notation: Notation, rows: &[Row]) -> Result<(), Fail> {
+fn texts(rt: &impl Abort, notation: Notation, rows: &[TextRow]) -> Result<(), Fail> {
     for (register, digits, text) in rows {
         let shown = number_text(held(*register)?, pointed(notation, *digits));
         wants(rt, text, shown.as_str() == *text);
@@ -155,11 +155,17 @@ fn alpha_and_formats_by_flags(rt: HostRuntime) {
     wants(&rt, "an empty ALPHA", alpha_text(&ram).as_str() == "");
     ram.set_alpha(*b"\0\0\0\0\0\0\0\0\0\0\0\0\0\0\0\0\0\0\0HELLO");
     wants(&rt, "HELLO", alpha_text(&ram).as_str() == "HELLO");
-    for flag in [36, 37, 38, 39, 41] {
+    for flag in [
+        flags::DIGITS_8,
+        flags::DIGITS_4,
+        flags::DIGITS_2,
+        flags::DIGITS_1,
+        flags::ENGINEERING,
+    ] {
         ram.set_flag(flag, true);
     }
-    ram.set_flag(28, false);
-    ram.set_flag(29, false);
+    ram.set_flag(flags::DECIMAL_POINT, false);
+    ram.set_flag(flags::DIGIT_GROUPING, false);
     let fixed = Format {
         notation: Notation::Fixed,
         digits: 9,
@@ -167,10 +173,10 @@ fn alpha_and_formats_by_flags(rt: HostRuntime) {
         grouping: false,
     };
     wants(&rt, "FIX by flags", Format::from_flags(&ram) == fixed);
-    ram.set_flag(40, false);
+    ram.set_flag(flags::FIXED, false);
     let notation = Format::from_flags(&ram).notation;
     wants(&rt, "ENG by flags", notation == Notation::Engineering);
-    ram.set_flag(41, false);
+    ram.set_flag(flags::ENGINEERING, false);
     let notation = Format::from_flags(&ram).notation;
     wants(&rt, "SCI by flags", notation == Notation::Scientific);
 }

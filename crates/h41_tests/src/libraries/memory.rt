@@ -2,7 +2,7 @@
 
 use crate::judge::wants;
 use h41_digits::Reg;
-use h41_ram::Ram;
+use h41_ram::{Ram, StatusRegister, flags};
 use std::test::Fail;
 
 #[test]
@@ -11,10 +11,14 @@ fn memory_at_the_start(rt: HostRuntime) {
     let rows = [
         (
             "register c",
-            ram.status(0x00D).to_u64(),
+            ram.status_register(StatusRegister::C).to_u64(),
             0x1A_7001_6919_C19B,
         ),
-        ("register d", ram.status(0x00E).to_u64(), 0x2C04_8000),
+        (
+            "register d",
+            ram.status_register(StatusRegister::D).to_u64(),
+            0x2C04_8000,
+        ),
         (
             "the last register of programs",
             ram.read(0x19B).to_u64(),
@@ -31,7 +35,14 @@ fn memory_at_the_start(rt: HostRuntime) {
         wants(&rt, name, found == wanted);
     }
     for flag in 0..56 {
-        let is_set = [26, 28, 29, 37, 40].contains(&flag);
+        let is_set = [
+            flags::AUDIO_ENABLE,
+            flags::DECIMAL_POINT,
+            flags::DIGIT_GROUPING,
+            flags::DIGITS_4,
+            flags::FIXED,
+        ]
+        .contains(&flag);
         assert!(rt; ram.flag(flag) == is_set, "flag {flag}");
     }
     wants(&rt, "memory is sound", ram.is_sound());
@@ -43,7 +54,7 @@ fn small_memory_at_the_start(rt: HostRuntime) {
     let rows = [
         (
             "register c",
-            bare.status(0x00D).to_u64(),
+            bare.status_register(StatusRegister::C).to_u64(),
             0xFA_0016_90EF_0EE,
         ),
         (
@@ -89,23 +100,31 @@ fn registers_flags_and_alpha(rt: HostRuntime) -> Result<(), Fail> {
         assert!(rt; is_written == exists, "{address:03X}");
     }
     ram.set_flag(55, true);
-    ram.set_flag(26, false);
-    ram.write(0x008, register);
+    ram.set_flag(flags::AUDIO_ENABLE, false);
+    ram.set_status_register(StatusRegister::P, register);
     ram.set_alpha(*b"ABCDEFGHIJKLMNOPQRSTUVWX");
     let rows = [
-        ("register d", ram.status(0x00E).to_u64(), 0x0C04_8001),
+        (
+            "register d",
+            ram.status_register(StatusRegister::D).to_u64(),
+            0x0C04_8001,
+        ),
         (
             "the front of ALPHA",
-            ram.status(0x008).to_u64(),
+            ram.status_register(StatusRegister::P).to_u64(),
             0x12_3456_7841_4243,
         ),
-        ("its end", ram.status(0x005).to_u64(), 0x52_5354_5556_5758),
+        (
+            "its end",
+            ram.status_register(StatusRegister::M).to_u64(),
+            0x52_5354_5556_5758,
+        ),
     ];
     for (name, found, wanted) in rows {
         wants(&rt, name, found == wanted);
     }
     wants(&rt, "ALPHA", ram.alpha() == *b"ABCDEFGHIJKLMNOPQRSTUVWX");
-    ram.write(0x00D, Reg::zero());
+    ram.set_status_register(StatusRegister::C, Reg::zero());
     wants(&rt, "memory is not sound", !ram.is_sound());
     Ok(())
 }

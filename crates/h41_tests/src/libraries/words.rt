@@ -3,8 +3,8 @@
 use crate::judge::wants;
 use h41_fields::Field;
 use h41_words::{
-    BlockRegister, Condition, Digit, Displacement, LongJumpKind, Operation, Place, ReadRegister,
-    Row, SecondWord, StatusBit, Word, length, row, word,
+    BlockRegister, Condition, DigitPlace, Displacement, LoadedDigit, LongJumpKind, Operation,
+    ReadRegister, Row, SecondWord, StatusBit, Word, length, row, word,
 };
 use std::test::Fail;
 
@@ -30,9 +30,9 @@ fn rows_words_and_lengths(rt: HostRuntime) -> Result<(), Fail> {
             1,
         ),
         (0x388, Row::SetStatus(StatusBit::new(0)), 1),
-        (0x39C, Row::SetPointer(Place::new(0)), 1),
-        (0x03C, Row::RotateRight(Place::new(3)), 1),
-        (0x250, Row::LoadDigit(Digit::new(9)), 1),
+        (0x39C, Row::SetPointer(DigitPlace::new(0)), 1),
+        (0x03C, Row::RotateRight(DigitPlace::new(3)), 1),
+        (0x250, Row::LoadDigit(LoadedDigit::new(9)), 1),
         (0x028, Row::Write(BlockRegister::new(0)), 1),
         (0x078, Row::Read(ReadRegister::new(1)), 1),
         (0x038, Row::ReadData, 1),

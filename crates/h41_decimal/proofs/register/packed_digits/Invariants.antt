@@ -1,5 +1,5 @@
 use Rattle.std.proofs.Common.{◌≡◌, ◌+◌, ◌-◌, ◌*◌, ◌^◌, ◌<◌}
-use Rattle.h41_decimal.specs.PackedDigits.{packed}
+use Rattle.h41_decimal.specs.private.PackedDigits.{packed}
 use Rattle.h41_decimal.proofs.register.packed_digits.Given as goal
 
 -- the digits so far, and the number of those that are left

@@ -1,6 +1,6 @@
 -- What is rounded was cut from the exact difference.
 use Rattle.std.proofs.Common.{◌≡◌, ◌+◌, ◌-◌, ◌*◌, ◌^◌, ◌<◌, ◌≤◌, refl, subst, arith}
-use Rattle.h41_decimal.specs.Cut.{RoundsWhole}
+use Rattle.h41_decimal.specs.private.Cut.{RoundsWhole}
 use Rattle.h41_decimal.specs.declared.sign.Sign.{Sign}
 use Rattle.h41_decimal.proofs.Differences.{difference_above, difference_below, difference_none, difference_far}
 use Rattle.h41_decimal.proofs.sizes.subtract.Goals as goal

@@ -18,7 +18,7 @@ loop-i-preserved g c =
     let next = g.row.N - c.loop-i.i in
     let below : g.row.N - (c.loop-i.i + 1) ≡ place = omega arith in
     let above : text (drop next c.args.self.now) ++ c.glyph.result ∷ [] ≡ text (drop place c.args.self.now) =
-    ap (λ glyph. text (drop next c.args.self.now) ++ glyph ∷ []) c.glyph.ensures
+    ap (λ glyph. text (drop next c.args.self.now) ++ glyph ∷ []) c.glyph.ensures.value
     ∙ text-from g.row.N c.self.inside.word place next c.args.self.now c.self.view_is c.self.invariant.1 (omega arith) (omega arith) in (
       take_more_set c.loop-i.glyphs c.loop-i.i c.glyph.result (omega arith)
           ∙ ap (λ glyphs. glyphs ++ c.glyph.result ∷ []) c.loop-i.invariant.0

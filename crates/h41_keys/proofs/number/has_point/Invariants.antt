@@ -1,6 +1,6 @@
 use Rattle.std.proofs.Common.{◌≡◌, drop}
 use Rattle.std.specs.List.{list_any}
-use Rattle.h41_keys.specs.NumberTyping.{is_point}
+use Rattle.h41_codes.specs.NumberCharacters.{is_point}
 use Rattle.h41_keys.proofs.number.has_point.Given as goal
 
 -- the characters so far are no point

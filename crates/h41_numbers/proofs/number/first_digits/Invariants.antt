@@ -1,6 +1,6 @@
 use Rattle.std.proofs.Common.{◌≡◌, ◌<◌, ◌≤◌, ◌^◌, length, take, drop}
 use Rattle.h41_numbers.specs.NumberLines.{digits_in, number_from}
-use Rattle.h41_numbers.specs.NumberReading.{read_count, read_number}
+use Rattle.h41_numbers.specs.private.NumberReading.{read_count, read_number}
 use Rattle.h41_numbers.proofs.number.first_digits.Given as goal
 
 -- what is left of the text makes of the digits so far what the whole text makes of none

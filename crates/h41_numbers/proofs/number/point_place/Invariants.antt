@@ -1,6 +1,6 @@
 use Rattle.std.proofs.Common.{◌≡◌, ◌+◌, drop}
 use Rattle.std.specs.List.{position_or_len}
-use Rattle.h41_numbers.specs.NumberLines.{is_point}
+use Rattle.h41_codes.specs.NumberCharacters.{is_point}
 use Rattle.h41_numbers.proofs.number.point_place.Given as goal
 
 -- the characters so far are no mark

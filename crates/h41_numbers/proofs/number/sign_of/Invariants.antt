@@ -1,5 +1,5 @@
 use Rattle.std.proofs.Common.{◌≡◌, ◌+◌, ◌≤◌, length, drop, filter}
-use Rattle.h41_numbers.specs.NumberLines.{is_minus}
+use Rattle.h41_codes.specs.NumberCharacters.{is_minus}
 use Rattle.h41_numbers.proofs.number.sign_of.Given as goal
 
 -- the signs so far, and those that are left

@@ -4,7 +4,7 @@ use Rattle.h41_decimal.specs.NearestDecimal.{Nearest}
 use Rattle.h41_decimal.specs.Signs.{signed}
 use Rattle.h41_decimal.specs.Units.{one, size, units}
 use Rattle.h41_rows.specs.Counters.{fraction_of}
-use Rattle.h41_rows.specs.Counting.{count_in}
+use Rattle.h41_rows.specs.private.Counting.{count_in}
 use Rattle.h41_rows.proofs.Counts.{counts_ones, counts_whole, few_ones, fraction_size, rest_size}
 use Rattle.h41_rows.proofs.counters.counted.Goals as goal
 

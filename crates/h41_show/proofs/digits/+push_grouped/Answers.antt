@@ -1,7 +1,7 @@
 -- The groups before the last, and the last.
 use Rattle.std.proofs.Common.{◌+◌, ◌/◌, ◌%◌, ◌++◌, [], ◌∷◌, length, decimal, ap, sym, ◌∙◌, arith, length-append, append_assoc}
 use Rattle.std.proofs.lemmas.Fmt.{decimal_nonempty, length-decimal-le}
-use Rattle.h41_show.specs.Digits.{grouped}
+use Rattle.h41_show.specs.Digits.{grouped_digits}
 use Rattle.h41_show.proofs.DecimalTexts.{decimal_group, length-decimal_group, grouped_short, grouped-group}
 use Rattle.h41_show.proofs.digits.+push_grouped.Goals as goal
 
@@ -27,7 +27,7 @@ returns-then-number-ge1000-clause-bytes t c =
     let some = decimal_nonempty (c.args.number / 1000) (omega arith) in
     let last = c.args.number % 1000 in
     let parts =
-    ap (grouped c.args.mark) (decimal_group c.args.number c.if-number-ge1000.true (omega arith))
+    ap (grouped_digits c.args.mark) (decimal_group c.args.number c.if-number-ge1000.true (omega arith))
     ∙ grouped-group c.args.mark front (48 + last / 10 / 10 % 10) (48 + last / 10 % 10) (48 + last % 10) some in
     rw (c.push_digits.ensures.bytes, c.push_byte.ensures, c.push_grouped.ensures.bytes, parts) (simp append_assoc)
 

@@ -1,5 +1,5 @@
 use Rattle.std.proofs.Common.{◌≡◌, None, sym, ◌∙◌}
-use Rattle.h41_text.specs.TextParts.{characters_of}
+use Rattle.h41_text.specs.private.TextParts.{characters_of}
 use Rattle.h41_text.proofs.Finding.{characters_none, number_none}
 use Rattle.h41_text.proofs.reader.number.Goals as goal
 

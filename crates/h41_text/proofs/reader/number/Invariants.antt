@@ -1,6 +1,6 @@
 use Rattle.std.proofs.Common.{◌≡◌, ◌++◌, take, drop, length}
 use Rattle.std.specs.Option.{option_map}
-use Rattle.h41_text.specs.TextParts.{characters_of}
+use Rattle.h41_text.specs.private.TextParts.{characters_of}
 use Rattle.h41_text.proofs.reader.number.Given as goal
 
 abbrev pub invariant-loop-index : goal.invariant-loop-index

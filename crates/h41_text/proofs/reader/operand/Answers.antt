@@ -1,7 +1,7 @@
 use Rattle.std.proofs.Common.{sym, ap, ◌∙◌}
 use Rattle.std.specs.Option.{option_map}
 use Rattle.h41_codes.specs.declared.line.Operand.TheVariants.{Direct, Indirect}
-use Rattle.h41_text.specs.TextParts.{operand_from}
+use Rattle.h41_text.specs.private.TextParts.{operand_from}
 use Rattle.h41_text.proofs.Finding.{parameter_is, parameter_none}
 use Rattle.h41_text.proofs.reader.operand.Goals as goal
 

@@ -1,7 +1,7 @@
 use Rattle.std.proofs.Common.{ap, slice_index, ◌≡◌, ◌+◌, ◌<◌, ◌≢◌, length, arith, subst, ◌∙◌}
 use Rattle.std.proofs.lemmas.List.{get_or-set_other}
 use Rattle.h41_arith.specs.DigitRule.{carry_digit}
-use Rattle.h41_arith.specs.DigitOperations.{rule_of}
+use Rattle.h41_arith.specs.private.DigitOperations.{rule_of}
 use Rattle.h41_arith.proofs.Carries.{CarriedTo, carried_none, carried_more, carried_all, carry_le}
 use Rattle.h41_arith.proofs.sums.DigitOperation.over_places.Goals as goal
 

@@ -1,7 +1,7 @@
 use Rattle.std.proofs.Common.{◌≡◌, ℕ, ◌<◌, ◌≤◌, slice_index}
 use Rattle.h41_digits.specs.Register.{IsRegister}
 use Rattle.h41_arith.specs.DigitRule.{carry_digit, zeros}
-use Rattle.h41_arith.specs.DigitOperations.{rule_of}
+use Rattle.h41_arith.specs.private.DigitOperations.{rule_of}
 use Rattle.h41_arith.proofs.Carries.{CarriedTo}
 use Rattle.h41_arith.proofs.sums.DigitOperation.over_places.Given as goal
 

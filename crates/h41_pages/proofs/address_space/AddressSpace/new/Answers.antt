@@ -1,5 +1,5 @@
 use Rattle.std.proofs.Common.{◌∙◌}
-use Rattle.h41_pages.specs.AddressSpace.{address_count, nothing}
+use Rattle.h41_pages.specs.private.AddressSpace.{address_count, nothing}
 use Rattle.h41_pages.proofs.AddressSpaces.{filled}
 use Rattle.h41_pages.proofs.address_space.AddressSpace.new.Goals as goal
 

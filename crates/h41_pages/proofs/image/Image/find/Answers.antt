@@ -3,10 +3,10 @@ use Rattle.h41_pages.specs.FunctionTables.{found_in, function_in, numbers_of, is
 use Rattle.h41_pages.proofs.Ranges.{up_to, up_to-zero, map-step, map-none}
 use Rattle.h41_pages.proofs.Searches.{found_later, found_first}
 use Rattle.h41_pages.proofs.image.Image.find.Goals as goal
-use Rattle.h41_pages.specs.declared.functions.Function.{Function}
+use Rattle.h41_pages.specs.declared.functions.ModuleFunction.{ModuleFunction}
 
 -- the functions from an entry on
-abbrev rest_of : List ℕ → ℕ → List Function
+abbrev rest_of : List ℕ → ℕ → List ModuleFunction
 rest_of words entry = map (function_in words) (up_to entry (entry_count words))
 
 later : (words name : List ℕ) (entry : ℕ) → entry < entry_count words → is_named name (function_in words entry) ≡ false

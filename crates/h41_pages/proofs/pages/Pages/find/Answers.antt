@@ -5,10 +5,10 @@ use Rattle.h41_pages.specs.FunctionTables.{found_in, functions_at}
 use Rattle.h41_pages.proofs.Ranges.{up_to, pages_up_to, flat_map-step, flat_map-none}
 use Rattle.h41_pages.proofs.Searches.{found_behind, found_before}
 use Rattle.h41_pages.proofs.pages.Pages.find.Goals as goal
-use Rattle.h41_pages.specs.declared.functions.Function.{Function}
+use Rattle.h41_pages.specs.declared.functions.ModuleFunction.{ModuleFunction}
 
 -- the functions from a page on
-abbrev rest_of : PageMap → ℕ → List Function
+abbrev rest_of : PageMap → ℕ → List ModuleFunction
 rest_of pages page = flat_map (functions_at pages) (up_to page 16)
 
 later : (pages : PageMap) (name : List ℕ) (page : ℕ) → page < 16 → found_in name (functions_at pages page) ≡ None

@@ -1,6 +1,6 @@
 use Rattle.std.proofs.Common.{rules, ◌≡◌, replicate, subst, sym}
 use Rattle.h41_words.specs.declared.rows.Bank.TheVariants.{First}
-use Rattle.h41_pages.specs.AddressSpace.{IsPages, empty_space}
+use Rattle.h41_pages.specs.private.AddressSpace.{IsPages, empty_space}
 use Rattle.h41_pages.specs.PageMap.{no_banks}
 use Rattle.h41_pages.proofs.AddressSpaces.{pages_at_start}
 use Rattle.h41_pages.proofs.pages.Pages.new.Goals as goal

@@ -1,6 +1,6 @@
 use Rattle.std.proofs.Common.{rules, subst, sym, ap, ◌∙◌}
 use Rattle.h41_pages.specs.PageMap.{PageMap, bank_place}
-use Rattle.h41_pages.specs.AddressSpace.{IsPages, with_page}
+use Rattle.h41_pages.specs.private.AddressSpace.{IsPages, with_page}
 use Rattle.h41_pages.proofs.AddressSpaces.{pages_plugged}
 use Rattle.h41_pages.proofs.PageMaps.{plugged_as, row_is}
 use Rattle.h41_pages.proofs.pages.Pages.plug.Goals as goal

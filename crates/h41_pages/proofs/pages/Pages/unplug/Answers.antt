@@ -1,5 +1,5 @@
 use Rattle.std.proofs.Common.{rules, subst, sym}
-use Rattle.h41_pages.specs.AddressSpace.{IsPages}
+use Rattle.h41_pages.specs.private.AddressSpace.{IsPages}
 use Rattle.h41_pages.proofs.AddressSpaces.{pages_unplugged}
 use Rattle.h41_pages.proofs.pages.Pages.unplug.Goals as goal
 

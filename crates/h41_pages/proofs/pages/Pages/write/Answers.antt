@@ -1,8 +1,8 @@
 -- The image that is looked at is one that is held, and the word is written in it and at its address.
 use Rattle.std.proofs.Common.{rules, ◌≡◌, true, None, length, arith, ap, subst, sym, ◌∙◌}
 use Rattle.std.proofs.lemmas.List.{get_or_default}
-use Rattle.h41_pages.specs.AddressSpace.{IsPages}
-use Rattle.h41_pages.specs.PageMap.{PageMap, rewritten}
+use Rattle.h41_pages.specs.private.AddressSpace.{IsPages}
+use Rattle.h41_pages.specs.PageMap.{PageMap, with_word}
 use Rattle.h41_pages.proofs.AddressSpaces.{pages_written}
 use Rattle.h41_pages.proofs.PageMaps.{row_is, chosen_as, written_as, accepted_as}
 use Rattle.h41_pages.proofs.pages.Pages.write.Goals as goal
@@ -21,7 +21,7 @@ invariant_of-self c =
     let bank = c.bank_place-bank.ensures.place in
     let size : length row ≡ 4 = ap length read ∙ c.self.invariant.map.banks page c.page_of-page.ensures.bound in
     let found = get_or_default row place None _ (omega (arith, size, c.bank_place-bank.ensures.bound)) ∙ c.in-Some.is in
-    let new = c.write.ensures.one ∙ ap (λ offset. rewritten offset c.args.word image) c.offset_of.ensures.offset in
+    let new = c.write.ensures.one ∙ ap (λ offset. with_word offset c.args.word image) c.offset_of.ensures.offset in
     let writable : image.writable ≡ true = search rules in
     let same = written_as images chosen c.args.address c.args.word page place row image c.write.new.self at read bank found new in
     let accepted =

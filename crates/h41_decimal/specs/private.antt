@@ -1,0 +1,5 @@
+-- What the functions of this crate promise one another. No public contract and no law needs these
+-- files.
+pub mod Cut
+pub mod PackedDigits
+pub mod SameDigits

@@ -1,8 +1,0 @@
-use Rattle.std.proofs.Common.{◌≡◌, ◌+◌, drop}
-use Rattle.std.specs.List.{position_or_len}
-use Rattle.h41_numbers.specs.NumberLines.{is_exponent}
-use Rattle.h41_numbers.proofs.number.exponent_place.Given as goal
-
--- the characters so far are no mark
-abbrev pub invariant-loop-index : goal.invariant-loop-index
-invariant-loop-index l = position_or_len is_exponent l.text ≡ l.index + position_or_len is_exponent (drop l.index l.text)

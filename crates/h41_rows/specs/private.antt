@@ -1,0 +1,7 @@
+-- What the functions of this crate promise one another. No public contract and no law needs these
+-- files.
+pub mod Answers
+pub mod Comparisons
+pub mod Counting
+pub mod Readings
+pub mod Wholes

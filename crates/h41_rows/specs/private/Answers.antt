@@ -1,0 +1,100 @@
+-- What is answered for numbers, before a register is made of it.
+use Rattle.std.specs.Prelude.{◌≡◌, ℕ, ◌*◌, Option, Some, None, Result, Ok, Err, MatchBool, IsOkAnd}
+use Rattle.std.specs.Prelude.{List, ℤ, pos, neg_ℤ, ◌+ℤ◌, ◌-ℤ◌, ◌*ℤ◌, unsigned_abs}
+use Rattle.h41_decimal.specs.Holding.{holding_of, worth}
+use Rattle.h41_decimal.specs.NearestDecimal.{Nearest, NearestRoot}
+use Rattle.h41_decimal.specs.NumberEntry.{greatest}
+use Rattle.h41_decimal.specs.Operations.{NearestModulo, NearestQuotient, RoundsTo, step_of}
+use Rattle.h41_decimal.specs.Signs.{sign_of, signed}
+use Rattle.h41_decimal.specs.Units.{one, units}
+use Rattle.h41_decimal.specs.WholeParts.{IsFraction, IsIntegerPart}
+use Rattle.h41_decimal.specs.declared.fault.DecimalFault.{DecimalFault}
+use Rattle.h41_decimal.specs.declared.sign.Sign.{Sign}
+use Rattle.h41_decimal.specs.declared.sign.Sign.TheVariants.{Plus}
+use Rattle.h41_decimal.specs.declared.ten.Ten.{Ten}
+use Rattle.h41_ram.specs.NamedFlags.{range_ignore}
+use Rattle.h41_ram.specs.RegisterMap.{RegisterMap, flag_of, register_at}
+use Rattle.h41_show.specs.DisplayFormat.{format_of}
+use Rattle.h41_rows.specs.Computing.{IsAlways}
+use Rattle.h41_rows.specs.Counters.{Up, Down, number_after}
+use Rattle.h41_rows.specs.Values.{Given, IsRegisterOf, Kept, places_of, unit_of}
+use Rattle.h41_rows.specs.declared.fault.LineFault.{LineFault}
+use Rattle.h41_rows.specs.declared.fault.LineFault.TheVariants.{AlphaData, OutOfRange}
+use Rattle.h41_rows.specs.declared.values.OfOne.{OfOne}
+use Rattle.h41_rows.specs.declared.values.OfOne.TheVariants as ones
+use Rattle.h41_rows.specs.declared.values.OfTwo.{OfTwo}
+use Rattle.h41_rows.specs.declared.values.OfTwo.TheVariants as twos
+
+-- the number in the register at an address, or that it holds none
+abbrev pub worth_at : RegisterMap → ℕ → Option ℤ
+worth_at memory address = worth (holding_of (register_at memory address))
+
+abbrev pub IsNumberAt : RegisterMap → ℕ → Result Ten LineFault → Type 0
+IsNumberAt memory address (Ok number) = worth_at memory address ≡ Some (units number)
+IsNumberAt memory address (Err fault) = (worth_at memory address ≡ None) × (fault ≡ AlphaData)
+
+-- the answer for one number
+abbrev pub AnswersOne : OfOne → RegisterMap → Ten → Result Ten DecimalFault → Type 0
+AnswersOne ones.Root memory number answer = NearestRoot (units number) answer
+AnswersOne ones.Inverse memory number answer = NearestQuotient (pos one) (units number) answer
+AnswersOne ones.Negative memory number answer = Nearest (neg_ℤ (units number)) 1 answer
+AnswersOne ones.AbsoluteValue memory number answer =
+    Nearest (pos (unsigned_abs (units number))) 1 answer
+AnswersOne ones.IntegerPart memory number answer =
+    (part : ℤ) × IsIntegerPart (units number) part × Nearest part 1 answer
+AnswersOne ones.Fraction memory number answer =
+    (rest : ℤ) × IsFraction (units number) rest × Nearest rest 1 answer
+AnswersOne ones.Displayed memory number answer =
+    RoundsTo (step_of (places_of (format_of memory)) number) (units number) answer
+AnswersOne ones.Unit memory number answer = Nearest (unit_of (units number)) 1 answer
+AnswersOne ones.CountedUp memory number answer = Nearest (number_after Up (units number)) 1 answer
+AnswersOne ones.CountedDown memory number answer =
+    Nearest (number_after Down (units number)) 1 answer
+
+-- and its sign, where it can be out of range
+abbrev pub sign_of_one : OfOne → ℤ → Sign
+sign_of_one ones.Displayed number = sign_of number
+sign_of_one value number = Plus
+
+-- the answer for two numbers
+abbrev pub AnswersTwo : OfTwo → Ten → Ten → Result Ten DecimalFault → Type 0
+AnswersTwo twos.Sum x y answer = Nearest (units x +ℤ units y) 1 answer
+AnswersTwo twos.Difference x y answer = Nearest (units x -ℤ units y) 1 answer
+AnswersTwo twos.Product x y answer = Nearest (units x *ℤ units y) one answer
+AnswersTwo twos.Quotient x y answer = NearestQuotient (units x) (units y) answer
+AnswersTwo twos.Remainder x y answer = NearestModulo x y answer
+AnswersTwo twos.Percentage x y answer = Nearest (units x *ℤ units y) (100 * one) answer
+
+abbrev pub sign_of_two : OfTwo → ℤ → ℤ → Sign
+sign_of_two twos.Sum x y = sign_of (x +ℤ y)
+sign_of_two twos.Difference x y = sign_of (x -ℤ y)
+sign_of_two twos.Product x y = sign_of (x *ℤ y)
+sign_of_two twos.Quotient x y = sign_of (x *ℤ y)
+sign_of_two twos.Remainder x y = Plus
+sign_of_two twos.Percentage x y = sign_of (x *ℤ y)
+
+-- what stands for a result out of range
+abbrev pub KeptRange : RegisterMap → Sign → Result (List ℕ) LineFault → Type 0
+KeptRange memory sign result =
+    MatchBool (flag_of memory range_ignore)
+    (IsOkAnd result (IsRegisterOf (signed sign greatest))) (result ≡ Err OutOfRange)
+
+-- the register of an answer for one number, or for two
+pub record KeptOne (value : OfOne) (memory : RegisterMap)
+    (number : Ten) (result : Result (List ℕ) LineFault) : Type 0 where
+  pub answer : Result Ten DecimalFault
+  pub answers : AnswersOne value memory number answer
+  pub kept : Kept (sign_of_one value (units number)) (flag_of memory range_ignore) answer result
+
+pub record KeptTwo (value : OfTwo) (memory : RegisterMap)
+    (x y : Ten) (result : Result (List ℕ) LineFault) : Type 0 where
+  pub answer : Result Ten DecimalFault
+  pub answers : AnswersTwo value x y answer
+  pub kept :
+      Kept (sign_of_two value (units x) (units y)) (flag_of memory range_ignore) answer result
+
+-- what is computed where no number is: the unit is zero
+abbrev pub WithoutNumber : OfOne → LineFault → Result (List ℕ) LineFault → Type 0
+WithoutNumber ones.Unit fault result =
+    IsOkAnd result (λ register. IsAlways (Given (pos 0)) register)
+WithoutNumber value fault result = result ≡ Err fault

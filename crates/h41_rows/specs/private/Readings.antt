@@ -1,0 +1,36 @@
+-- What private functions promise one another, of what registers and operands hold.
+use Rattle.std.specs.Prelude.{◌≡◌, ℕ, ◌+ℤ◌, Result}
+use Rattle.std.specs.Result.{result_map_both}
+use Rattle.h41_decimal.specs.NearestDecimal.{Nearest}
+use Rattle.h41_decimal.specs.Signs.{signed}
+use Rattle.h41_decimal.specs.declared.fault.DecimalFault.{DecimalFault}
+use Rattle.h41_decimal.specs.declared.sign.Sign.{Sign}
+use Rattle.h41_decimal.specs.declared.ten.Ten.{Ten}
+use Rattle.h41_ram.specs.RegisterMap.{RegisterMap}
+use Rattle.h41_rows.specs.Computing.{meant_by}
+use Rattle.h41_rows.specs.private.Counting.{with_ones}
+use Rattle.h41_rows.specs.Operands.{Meant, data_register, parameter_register, then_find, whole_at}
+use Rattle.h41_rows.specs.private.Wholes.{told_number}
+use Rattle.h41_rows.specs.declared.fault.LineFault.{LineFault}
+use Rattle.h41_rows.specs.declared.operands.BranchTarget.{BranchTarget}
+
+-- a whole number that was found, as it is told, or its fault
+abbrev pub IsTold : Result ℕ LineFault → Result ℕ LineFault → Type 0
+IsTold found result = result ≡ result_map_both told_number (λ fault. fault) found
+
+-- the whole number in the register of a parameter, and the data register of that number
+abbrev pub number_found : RegisterMap → ℕ → Result ℕ LineFault
+number_found memory parameter = then_find (parameter_register memory parameter) (whole_at memory)
+
+abbrev pub register_found : RegisterMap → ℕ → Result ℕ LineFault
+register_found memory parameter = then_find (number_found memory parameter) (data_register memory)
+
+-- where a branch goes, as operands mean it
+abbrev pub LeadsTo : Result Meant LineFault → Result BranchTarget LineFault → Type 0
+LeadsTo target result = result_map_both meant_by (λ fault. fault) result ≡ target
+
+-- a counter of so many ones and a fraction, counted
+abbrev pub IsCounted : (sign : Sign) (ones : ℕ) (direction : Sign) (count fraction : ℕ)
+    → Result Ten DecimalFault → Type 0
+IsCounted sign ones direction count fraction result =
+    Nearest (with_ones (signed sign ones +ℤ signed direction count) fraction) 1 result

@@ -1,0 +1,26 @@
+-- The code's places of names, by their hashes. They only connect it with `with_text`.
+use Rattle.std.specs.Prelude.{◌≡◌, ℕ, ◌<◌, false, length, slice_index, slice_index_or, All, List}
+use Rattle.std.specs.Prelude.{Some, None}
+use Rattle.std.specs.Str.{bytes_eq}
+use Rattle.h41_lines.specs.Hashes.{word_hash}
+use Rattle.h41_text.specs.private.TextParts.{with_text}
+
+abbrev pub name_hash : List ℕ → ℕ
+name_hash name = word_hash 18352 6855 name
+
+abbrev pub place_count : ℕ
+place_count = 256
+
+-- what stands at the place of a name's hash
+abbrev pub at_place : {A : Type 0} → List A → List ℕ → List ℕ → A → A
+at_place items places name other = slice_index_or items (slice_index places (name_hash name)) other
+
+-- each item is found by its text, and a text that is not that of the item at its own hash is none's
+pub record IsPlaced {A : Type 0} (text_of : A → List ℕ)
+    (items : List A) (places : List ℕ) : Type 0 where
+  pub count : length places ≡ place_count
+  pub within : (k : ℕ) → k < length places → slice_index places k < length items
+  pub found : All (λ item. with_text text_of items (text_of item) ≡ Some item) items
+  pub missed : (name : List ℕ) (other : A)
+      → bytes_eq (text_of (at_place items places name other)) name ≡ false
+      → with_text text_of items name ≡ None

@@ -3,9 +3,9 @@ ghost use Rattle.std.specs.Prelude.{◌≡◌, ◌≤◌, length};
 ghost use Rattle.h41_text.specs.Places.{IsPlaced};
 ghost use Rattle.h41_text.specs.TextParts.{word_of, word_text, with_text};
 
-use crate::names::{branch_name, parameter_function_name, parameter_functions};
+use crate::names::{branch_name, name_function_name, parameter_function_name, parameter_functions};
 use crate::places::{WORD_PLACES, name_hash};
-use h41_codes::{Branch, ParameterFunction};
+use h41_codes::{Branch, NameFunction, ParameterFunction};
 
 /// The word in front of an operand.
 #[derive(Clone, Copy)]
@@ -51,7 +51,7 @@ impl Word {
         match self {
             Word::Function(function) => parameter_function_name(function),
             Word::Branch(branch) => branch_name(branch),
-            Word::Wordless => "W",
+            Word::Wordless => name_function_name(NameFunction::Wordless),
             Word::Module => "XROM",
         }
     }

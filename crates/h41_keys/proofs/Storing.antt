@@ -16,7 +16,7 @@ use Rattle.h41_keys.specs.Keyboard.{row_of, meaning_of}
 use Rattle.h41_keys.specs.KeyPress as press
 use Rattle.h41_keys.specs.NumberTyping.{with_digit, with_point, with_exponent, with_sign_turned, without_last, kept_within, value_of}
 use Rattle.h41_keys.specs.PromptKeys as keys
-use Rattle.h41_keys.specs.Prompts.{Lines, Parameter, Branching, prompt_row, wanted, takes_stack, line_with, line_naming, name_line}
+use Rattle.h41_keys.specs.Prompts.{prompt_row, wanted, takes_stack, line_with, line_naming, name_line}
 use Rattle.h41_keys.specs.Prompts.{is_local_letter, local_label, stack_register}
 use Rattle.h41_keys.specs.StoredLines.{is_storable, StoresLine}
 use Rattle.h41_keys.specs.declared.action.Action.{Action}
@@ -33,6 +33,8 @@ use Rattle.h41_keys.specs.declared.meaning.Meaning.{Meaning}
 use Rattle.h41_keys.specs.declared.meaning.Meaning.TheVariants as meanings
 use Rattle.h41_keys.specs.declared.prompt.Prompt.{Prompt}
 use Rattle.h41_keys.specs.declared.prompt.PromptFunction.{PromptFunction}
+use Rattle.h41_keys.specs.declared.prompt.PromptLines.{PromptLines}
+use Rattle.h41_keys.specs.declared.prompt.PromptLines.TheVariants.{Parameter, Branching}
 use Rattle.h41_keys.specs.declared.prompt.Typed.{Typed}
 use Rattle.h41_keys.specs.declared.prompt.Typed.TheVariants as typed
 use Rattle.h41_keys.specs.declared.prompt_step.PromptStep.{PromptStep}
@@ -57,13 +59,13 @@ branch_line : (branch : Branch) (label : ℕ) → Storable (shortest_branch bran
 branch_line GoTo label = chosen Storable (nat_lt label short_label_count) _ _ refl refl
 branch_line Execute label = refl
 
-with_parameter : (lines : Lines) (indirect : Bool) (parameter : ℕ) → Storable (line_with lines indirect parameter)
+with_parameter : (lines : PromptLines) (indirect : Bool) (parameter : ℕ) → Storable (line_with lines indirect parameter)
 with_parameter (Parameter function) false parameter = function_line function _
 with_parameter (Parameter function) true parameter = function_line function _
 with_parameter (Branching branch) false parameter = branch_line branch parameter
 with_parameter (Branching branch) true parameter = refl
 
-naming : (lines : Lines) (name : List ℕ) → Storable (line_naming lines name)
+naming : (lines : PromptLines) (name : List ℕ) → Storable (line_naming lines name)
 naming (Parameter function) name = refl
 naming (Branching GoTo) name = refl
 naming (Branching Execute) name = refl

@@ -11,36 +11,25 @@ use Rattle.h41_codes.specs.declared.functions.ParameterFunction.TheVariants as f
 use Rattle.h41_codes.specs.declared.line.Line.{Line}
 use Rattle.h41_codes.specs.declared.line.Line.TheVariants as lines
 use Rattle.h41_codes.specs.declared.line.Operand.TheVariants.{Direct, Indirect}
+use Rattle.h41_text.specs.Names.{parameter_function_name, branch_name}
 use Rattle.h41_keys.specs.NumberTyping.{value_of}
 use Rattle.h41_keys.specs.declared.prompt.Prompt.{Prompt}
 use Rattle.h41_keys.specs.declared.prompt.PromptFunction.{PromptFunction}
 use Rattle.h41_keys.specs.declared.prompt.PromptFunction.TheVariants as prompts
+use Rattle.h41_keys.specs.declared.prompt.PromptLines.{PromptLines}
+use Rattle.h41_keys.specs.declared.prompt.PromptLines.TheVariants.{Parameter, Branching}
+use Rattle.h41_keys.specs.declared.prompt.PromptRow.{PromptRow}
 use Rattle.h41_keys.specs.declared.prompt.Typed.{Typed}
 use Rattle.h41_keys.specs.declared.prompt.Typed.TheVariants as typed
 
--- the lines of a function: those with a parameter, or those that go to labels
-pub data Lines : Type 0 where
-  Parameter : ParameterFunction → Lines
-  Branching : Branch → Lines
-
--- what the table says of a function
-pub record PromptRow : Type 0 where
-  pub name : List ℕ
-  pub lines : Lines
-  -- how many digits it takes; after IND, all take two
-  pub digits : ℕ
-  -- whether IND can stand in front of the parameter
-  pub indirect : Bool
-  -- whether it works on registers, so that those of the stack can be named without IND
-  pub registers : Bool
-  -- whether it takes a name
-  pub named : Bool
+-- Rows of the table, by what a function works on: its lines, how many digits its parameter has
+-- (after IND, all have two), whether IND can stand in front of it, whether it works on registers,
+-- so that those of the stack can be named without IND, and whether it takes a name.
 
 -- on registers
-abbrev pub register : List ℕ → ParameterFunction → PromptRow
-register name function =
+abbrev pub register : ParameterFunction → PromptRow
+register function =
     record {
-      name = name;
       lines = Parameter function;
       digits = 2;
       indirect = true;
@@ -49,10 +38,9 @@ register name function =
     }
 
 -- on flags
-abbrev pub flag : List ℕ → ParameterFunction → PromptRow
-flag name function =
+abbrev pub flag : ParameterFunction → PromptRow
+flag function =
     record {
-      name = name;
       lines = Parameter function;
       digits = 2;
       indirect = true;
@@ -61,10 +49,9 @@ flag name function =
     }
 
 -- on a number of digits
-abbrev pub format : List ℕ → ParameterFunction → PromptRow
-format name function =
+abbrev pub format : ParameterFunction → PromptRow
+format function =
     record {
-      name = name;
       lines = Parameter function;
       digits = 1;
       indirect = true;
@@ -73,10 +60,9 @@ format name function =
     }
 
 -- to labels
-abbrev pub branching : List ℕ → Branch → PromptRow
-branching name branch =
+abbrev pub branching : Branch → PromptRow
+branching branch =
     record {
-      name = name;
       lines = Branching branch;
       digits = 2;
       indirect = true;
@@ -86,33 +72,40 @@ branching name branch =
 
 -- the table
 abbrev pub prompt_row : PromptFunction → PromptRow
-prompt_row prompts.Execute = branching (codes "XEQ") branches.Execute
-prompt_row prompts.GoTo = branching (codes "GTO") branches.GoTo
+prompt_row prompts.Execute = branching branches.Execute
+prompt_row prompts.GoTo = branching branches.GoTo
 prompt_row prompts.Label =
     record {
-      name = codes "LBL";
       lines = Parameter functions.Label;
       digits = 2;
       indirect = false;
       registers = false;
       named = true;
     }
-prompt_row prompts.Store = register (codes "STO") functions.Store
-prompt_row prompts.StoreAdd = register (codes "ST+") functions.StoreAdd
-prompt_row prompts.StoreSubtract = register (codes "ST-") functions.StoreSubtract
-prompt_row prompts.StoreMultiply = register (codes "ST*") functions.StoreMultiply
-prompt_row prompts.StoreDivide = register (codes "ST/") functions.StoreDivide
-prompt_row prompts.Recall = register (codes "RCL") functions.Recall
-prompt_row prompts.IncrementSkip = register (codes "ISG") functions.IncrementSkip
-prompt_row prompts.View = register (codes "VIEW") functions.View
-prompt_row prompts.StoreAlpha = register (codes "ASTO") functions.StoreAlpha
-prompt_row prompts.RecallAlpha = register (codes "ARCL") functions.RecallAlpha
-prompt_row prompts.SetFlag = flag (codes "SF") functions.SetFlag
-prompt_row prompts.ClearFlag = flag (codes "CF") functions.ClearFlag
-prompt_row prompts.TestSet = flag (codes "FS?") functions.TestSet
-prompt_row prompts.Fixed = format (codes "FIX") functions.Fixed
-prompt_row prompts.Scientific = format (codes "SCI") functions.Scientific
-prompt_row prompts.Engineering = format (codes "ENG") functions.Engineering
+prompt_row prompts.Store = register functions.Store
+prompt_row prompts.StoreAdd = register functions.StoreAdd
+prompt_row prompts.StoreSubtract = register functions.StoreSubtract
+prompt_row prompts.StoreMultiply = register functions.StoreMultiply
+prompt_row prompts.StoreDivide = register functions.StoreDivide
+prompt_row prompts.Recall = register functions.Recall
+prompt_row prompts.IncrementSkip = register functions.IncrementSkip
+prompt_row prompts.View = register functions.View
+prompt_row prompts.StoreAlpha = register functions.StoreAlpha
+prompt_row prompts.RecallAlpha = register functions.RecallAlpha
+prompt_row prompts.SetFlag = flag functions.SetFlag
+prompt_row prompts.ClearFlag = flag functions.ClearFlag
+prompt_row prompts.TestSet = flag functions.TestSet
+prompt_row prompts.Fixed = format functions.Fixed
+prompt_row prompts.Scientific = format functions.Scientific
+prompt_row prompts.Engineering = format functions.Engineering
+
+-- its name is that of its lines, as a listing has it
+abbrev pub lines_name : PromptLines → List ℕ
+lines_name (Parameter function) = parameter_function_name function
+lines_name (Branching branch) = branch_name branch
+
+abbrev pub prompt_name : PromptFunction → List ℕ
+prompt_name function = lines_name (prompt_row function).lines
 
 -- how many digits the parameter has
 abbrev pub wanted : PromptFunction → Bool → ℕ
@@ -125,7 +118,7 @@ takes_stack function true = true
 takes_stack function false = (prompt_row function).registers
 
 -- the line of a function and a parameter, in its shortest spelling
-abbrev pub line_with : Lines → Bool → ℕ → Line
+abbrev pub line_with : PromptLines → Bool → ℕ → Line
 line_with (Parameter function) false parameter =
     canonical (lines.WithOperand function (Direct parameter))
 line_with (Parameter function) true parameter =
@@ -145,7 +138,7 @@ abbrev pub local_label : ℕ → ℕ
 local_label letter = 102 + (letter - 0x41)
 
 -- other names stand in the line; of functions with a parameter LBL alone has one
-abbrev pub line_naming : Lines → List ℕ → Line
+abbrev pub line_naming : PromptLines → List ℕ → Line
 line_naming (Parameter function) name = lines.GlobalLabel 0 0 name
 line_naming (Branching branches.GoTo) name = lines.Named namings.GoToName name
 line_naming (Branching branches.Execute) name = lines.Named namings.ExecuteName name
@@ -179,6 +172,6 @@ typed_text function indirect (typed.Name name) = 0x20 ∷ 0x22 ∷ (name ++ 0x5F
 -- a prompt as the display shows it
 abbrev pub prompt_text : Prompt → List ℕ
 prompt_text prompt =
-    (prompt_row prompt.function).name
+    prompt_name prompt.function
     ++ (if prompt.indirect then codes " IND" else [])
     ++ typed_text prompt.function prompt.indirect prompt.typed

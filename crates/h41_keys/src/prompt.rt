@@ -8,6 +8,7 @@ use arrayvec::ArrayVec;
 use h41_codes::{
     Branch, Distance, Line, Link, NameFunction, Operand, Parameter, ParameterFunction, Text, canon,
 };
+use h41_text::{branch_name, parameter_function_name};
 
 /// The most characters of a name that is typed.
 pub const NAME_MOST: usize = 7;
@@ -61,6 +62,30 @@ pub enum PromptFunction {
     Engineering,
 }
 
+/// The lines that a prompt leads to.
+#[derive(Clone, Copy)]
+pub(crate) enum PromptLines {
+    /// Those of a function with a parameter.
+    Parameter(ParameterFunction),
+    /// Those that go to labels, or execute them.
+    Branching(Branch),
+}
+
+/// What the table of prompts says of a function.
+#[derive(Clone, Copy)]
+pub(crate) struct PromptRow {
+    /// Its lines, which have its name.
+    pub(crate) lines: PromptLines,
+    /// How many digits its parameter has; after IND, all have two.
+    pub(crate) digits: u8,
+    /// Whether IND can stand in front of its parameter.
+    pub(crate) indirect: bool,
+    /// Whether it works on registers, so that those of the stack can be named without IND.
+    pub(crate) registers: bool,
+    /// Whether it takes a name.
+    pub(crate) named: bool,
+}
+
 /// What is typed of a parameter.
 #[derive(Clone, Copy, Debug, PartialEq, Eq)]
 pub enum Typed {
@@ -88,82 +113,49 @@ pub struct Prompt {
 }
 
 impl PromptFunction {
-    ghost use Rattle.std.specs.Prelude.{◌≡◌, ◌<◌, ◌≤◌, ◌==◌, length};
+    ghost use Rattle.std.specs.Prelude.{◌≡◌, ◌<◌, ◌≤◌, length};
     ghost use Rattle.h41_codes.specs.Counts.{parameter_count};
-    ghost use Rattle.h41_keys.specs.Prompts.{line_naming, name_line, parameter_line, prompt_row};
+    ghost use Rattle.h41_keys.specs.Prompts.{name_line, parameter_line, prompt_name, prompt_row};
 
-    /// Its name, as the display shows it.
-    pub fn name(self) -> &'static str
-        ensures text { result.now ≡ (prompt_row self).name }
-        ensures bound { length result.now ≤ 4 }
+    /// Its row of the table of prompts.
+    pub(crate) fn row(self) -> PromptRow
+        ensures { result ≡ prompt_row self }
     {
         match self {
-            PromptFunction::Execute => "XEQ",
-            PromptFunction::Store => "STO",
-            PromptFunction::StoreAdd => "ST+",
-            PromptFunction::StoreSubtract => "ST-",
-            PromptFunction::StoreMultiply => "ST*",
-            PromptFunction::StoreDivide => "ST/",
-            PromptFunction::Recall => "RCL",
-            PromptFunction::Label => "LBL",
-            PromptFunction::GoTo => "GTO",
-            PromptFunction::IncrementSkip => "ISG",
-            PromptFunction::SetFlag => "SF",
-            PromptFunction::ClearFlag => "CF",
-            PromptFunction::TestSet => "FS?",
-            PromptFunction::View => "VIEW",
-            PromptFunction::StoreAlpha => "ASTO",
-            PromptFunction::RecallAlpha => "ARCL",
-            PromptFunction::Fixed => "FIX",
-            PromptFunction::Scientific => "SCI",
-            PromptFunction::Engineering => "ENG",
+            PromptFunction::Execute => PromptRow::branching(Branch::Execute),
+            PromptFunction::GoTo => PromptRow::branching(Branch::GoTo),
+            PromptFunction::Label => PromptRow {
+                lines: PromptLines::Parameter(ParameterFunction::Label),
+                digits: 2,
+                indirect: false,
+                registers: false,
+                named: true,
+            },
+            PromptFunction::Store => PromptRow::register(ParameterFunction::Store),
+            PromptFunction::StoreAdd => PromptRow::register(ParameterFunction::StoreAdd),
+            PromptFunction::StoreSubtract => PromptRow::register(ParameterFunction::StoreSubtract),
+            PromptFunction::StoreMultiply => PromptRow::register(ParameterFunction::StoreMultiply),
+            PromptFunction::StoreDivide => PromptRow::register(ParameterFunction::StoreDivide),
+            PromptFunction::Recall => PromptRow::register(ParameterFunction::Recall),
+            PromptFunction::IncrementSkip => PromptRow::register(ParameterFunction::IncrementSkip),
+            PromptFunction::View => PromptRow::register(ParameterFunction::View),
+            PromptFunction::StoreAlpha => PromptRow::register(ParameterFunction::StoreAlpha),
+            PromptFunction::RecallAlpha => PromptRow::register(ParameterFunction::RecallAlpha),
+            PromptFunction::SetFlag => PromptRow::flag(ParameterFunction::SetFlag),
+            PromptFunction::ClearFlag => PromptRow::flag(ParameterFunction::ClearFlag),
+            PromptFunction::TestSet => PromptRow::flag(ParameterFunction::TestSet),
+            PromptFunction::Fixed => PromptRow::format(ParameterFunction::Fixed),
+            PromptFunction::Scientific => PromptRow::format(ParameterFunction::Scientific),
+            PromptFunction::Engineering => PromptRow::format(ParameterFunction::Engineering),
         }
     }
 
-    /// Whether it takes one digit where IND is not given; all others take two.
-    pub(crate) fn takes_one_digit(self) -> bool
-        ensures { result ≡ ((prompt_row self).digits == 1) }
+    /// Its name, as the display shows it: that of its lines.
+    pub fn name(self) -> &'static str
+        ensures text { result.now ≡ prompt_name self }
+        ensures bound { length result.now ≤ 4 }
     {
-        matches!(
-            self,
-            PromptFunction::Fixed | PromptFunction::Scientific | PromptFunction::Engineering
-        )
-    }
-
-    /// Whether IND can stand in front of its parameter.
-    pub(crate) fn takes_indirect(self) -> bool
-        ensures { result ≡ (prompt_row self).indirect }
-    {
-        !matches!(self, PromptFunction::Label)
-    }
-
-    /// Whether it works on registers, so that those of the stack can be named.
-    pub(crate) fn takes_registers(self) -> bool
-        ensures { result ≡ (prompt_row self).registers }
-    {
-        matches!(
-            self,
-            PromptFunction::Store
-                | PromptFunction::StoreAdd
-                | PromptFunction::StoreSubtract
-                | PromptFunction::StoreMultiply
-                | PromptFunction::StoreDivide
-                | PromptFunction::Recall
-                | PromptFunction::IncrementSkip
-                | PromptFunction::View
-                | PromptFunction::StoreAlpha
-                | PromptFunction::RecallAlpha
-        )
-    }
-
-    /// Whether it takes a name.
-    pub(crate) fn takes_name(self) -> bool
-        ensures { result ≡ (prompt_row self).named }
-    {
-        matches!(
-            self,
-            PromptFunction::Execute | PromptFunction::GoTo | PromptFunction::Label
-        )
+        self.row().lines.name()
     }
 
     /// Its line with a parameter.
@@ -171,46 +163,9 @@ impl PromptFunction {
         requires { parameter < parameter_count }
         ensures { result ≡ parameter_line self indirect parameter }
     {
-        let parameter = Parameter::new(parameter);
-        match self {
-            PromptFunction::Execute => branch(Branch::Execute, indirect, parameter),
-            PromptFunction::GoTo => branch(Branch::GoTo, indirect, parameter),
-            PromptFunction::Label => function(ParameterFunction::Label, indirect, parameter),
-            PromptFunction::Store => function(ParameterFunction::Store, indirect, parameter),
-            PromptFunction::StoreAdd => function(ParameterFunction::StoreAdd, indirect, parameter),
-            PromptFunction::StoreSubtract => {
-                function(ParameterFunction::StoreSubtract, indirect, parameter)
-            }
-            PromptFunction::StoreMultiply => {
-                function(ParameterFunction::StoreMultiply, indirect, parameter)
-            }
-            PromptFunction::StoreDivide => {
-                function(ParameterFunction::StoreDivide, indirect, parameter)
-            }
-            PromptFunction::Recall => function(ParameterFunction::Recall, indirect, parameter),
-            PromptFunction::IncrementSkip => {
-                function(ParameterFunction::IncrementSkip, indirect, parameter)
-            }
-            PromptFunction::SetFlag => function(ParameterFunction::SetFlag, indirect, parameter),
-            PromptFunction::ClearFlag => {
-                function(ParameterFunction::ClearFlag, indirect, parameter)
-            }
-            PromptFunction::TestSet => function(ParameterFunction::TestSet, indirect, parameter),
-            PromptFunction::View => function(ParameterFunction::View, indirect, parameter),
-            PromptFunction::StoreAlpha => {
-                function(ParameterFunction::StoreAlpha, indirect, parameter)
-            }
-            PromptFunction::RecallAlpha => {
-                function(ParameterFunction::RecallAlpha, indirect, parameter)
-            }
-            PromptFunction::Fixed => function(ParameterFunction::Fixed, indirect, parameter),
-            PromptFunction::Scientific => {
-                function(ParameterFunction::Scientific, indirect, parameter)
-            }
-            PromptFunction::Engineering => {
-                function(ParameterFunction::Engineering, indirect, parameter)
-            }
-        }
+        self.row()
+            .lines
+            .with_parameter(indirect, Parameter::new(parameter))
     }
 
     /// Its line with a name.
@@ -223,22 +178,117 @@ impl PromptFunction {
                 if is_local_letter(*letter) {
                     self.parameter_line(false, FIRST_LETTER + (*letter - b'A'))
                 } else {
-                    self.global_line(name)
+                    self.row().lines.with_name(name)
                 }
             }
-            _ => self.global_line(name),
+            _ => self.row().lines.with_name(name),
+        }
+    }
+}
+
+impl PromptRow {
+    ghost use Rattle.std.specs.Prelude.{◌≡◌};
+    ghost use Rattle.h41_keys.specs.Prompts as spec;
+
+    /// The row of a function on registers.
+    fn register(function: ParameterFunction) -> Self
+        ensures { result ≡ spec.register function }
+    {
+        PromptRow {
+            lines: PromptLines::Parameter(function),
+            digits: 2,
+            indirect: true,
+            registers: true,
+            named: false,
         }
     }
 
-    /// Its line with a name that is no letter of a local label.
-    fn global_line(self, name: &[u8]) -> Line
-        requires { length name.now ≤ NAME_MOST }
-        ensures { result ≡ line_naming (prompt_row self).lines name.now }
+    /// The row of a function on flags.
+    fn flag(function: ParameterFunction) -> Self
+        ensures { result ≡ spec.flag function }
+    {
+        PromptRow {
+            lines: PromptLines::Parameter(function),
+            digits: 2,
+            indirect: true,
+            registers: false,
+            named: false,
+        }
+    }
+
+    /// The row of a function on a number of digits.
+    fn format(function: ParameterFunction) -> Self
+        ensures { result ≡ spec.format function }
+    {
+        PromptRow {
+            lines: PromptLines::Parameter(function),
+            digits: 1,
+            indirect: true,
+            registers: false,
+            named: false,
+        }
+    }
+
+    /// The row of going or executing.
+    fn branching(branch: Branch) -> Self
+        ensures { result ≡ spec.branching branch }
+    {
+        PromptRow {
+            lines: PromptLines::Branching(branch),
+            digits: 2,
+            indirect: true,
+            registers: false,
+            named: true,
+        }
+    }
+}
+
+impl PromptLines {
+    ghost use Rattle.std.specs.Prelude.{◌≡◌, ◌≤◌, length};
+    ghost use Rattle.h41_keys.specs.Prompts.{line_naming, line_with, lines_name};
+
+    /// The name that they begin with.
+    fn name(self) -> &'static str
+        ensures text { result.now ≡ lines_name self }
+        ensures bound { length result.now ≤ 4 }
     {
         match self {
-            PromptFunction::Execute => Line::Named(NameFunction::ExecuteName, text(name)),
-            PromptFunction::GoTo => Line::Named(NameFunction::GoToName, text(name)),
-            _ => Line::GlobalLabel(Link::new(0), 0, text(name)),
+            PromptLines::Parameter(function) => parameter_function_name(function),
+            PromptLines::Branching(branch) => branch_name(branch),
+        }
+    }
+
+    /// The line with a parameter, in its shortest spelling.
+    fn with_parameter(self, indirect: bool, parameter: Parameter) -> Line
+        ensures { result ≡ line_with self indirect parameter }
+    {
+        match (self, indirect) {
+            (PromptLines::Parameter(function), false) => {
+                canon(Line::WithOperand(function, Operand::Direct(parameter)))
+            }
+            (PromptLines::Parameter(function), true) => {
+                canon(Line::WithOperand(function, Operand::Indirect(parameter)))
+            }
+            (PromptLines::Branching(branch), false) => {
+                canon(Line::BranchTo(branch, Distance::new(0), false, parameter))
+            }
+            (PromptLines::Branching(branch), true) => Line::BranchIndirect(branch, parameter),
+        }
+    }
+
+    /// The line with a name that is no letter of a local label. Of functions with a parameter LBL alone has one.
+    fn with_name(self, name: &[u8]) -> Line
+        requires { length name.now ≤ NAME_MOST }
+        ensures { result ≡ line_naming self name.now }
+    {
+        match self {
+            PromptLines::Parameter(_) => Line::GlobalLabel(Link::new(0), 0, text(name)),
+            PromptLines::Branching(Branch::GoTo) => {
+                Line::Named(NameFunction::GoToName, text(name))
+            }
+            PromptLines::Branching(Branch::Execute) => {
+                Line::Named(NameFunction::ExecuteName, text(name))
+            }
         }
     }
 }
@@ -261,31 +311,20 @@ fn is_local_letter(letter: u8) -> bool
     b'A' <= letter && letter <= b'J'
 }
 
-/// The line of a function with a parameter.
-fn function(function: ParameterFunction, indirect: bool, parameter: Parameter) -> Line
-    ensures { result ≡ spec.line_with (spec.Parameter function) indirect parameter }
-{
-    if indirect {
-        canon(Line::WithOperand(function, Operand::Indirect(parameter)))
-    } else {
-        canon(Line::WithOperand(function, Operand::Direct(parameter)))
-    }
-}
-
-/// The line that goes to a label, or to that whose number a register holds.
-fn branch(branch: Branch, indirect: bool, parameter: Parameter) -> Line
-    ensures { result ≡ spec.line_with (spec.Branching branch) indirect parameter }
-{
-    if indirect {
-        Line::BranchIndirect(branch, parameter)
-    } else {
-        canon(Line::BranchTo(branch, Distance::new(0), false, parameter))
-    }
-}
-
 impl Prompt {
     ghost use Rattle.std.specs.Prelude.{◌≡◌};
-    ghost use Rattle.h41_keys.specs.Prompts.{prompt_text};
+    ghost use Rattle.h41_keys.specs.Prompts.{prompt_text, wanted};
+
+    /// How many digits the parameter has.
+    pub(crate) fn digits(&self) -> u8
+        ensures { result ≡ wanted self.now.function self.now.indirect }
+    {
+        if self.indirect {
+            2
+        } else {
+            self.function.row().digits
+        }
+    }
 
     /// Its text in the display, as `STO IND 1_`.
     pub fn text(&self) -> ArrayVec<u8, PROMPT_CAPACITY>
@@ -298,7 +337,7 @@ impl Prompt {
         }
         match &self.typed {
             Typed::Nothing => {
-                if !self.indirect && self.function.takes_one_digit() {
+                if self.digits() == 1 {
                     push(&mut text, b" _");
                 } else {
                     push(&mut text, b" __");

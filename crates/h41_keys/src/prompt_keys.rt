@@ -60,14 +60,14 @@ fn with_nothing(prompt: Prompt, meaning: Meaning) -> Option<PromptStep>
         Meaning::Point => first_point(prompt),
         Meaning::Function(function) => combined(prompt, combining(function)),
         Meaning::Shift => {
-            if prompt.function.takes_indirect() {
+            if prompt.function.row().indirect {
                 turns_indirect(prompt)
             } else {
                 None
             }
         }
         Meaning::Alpha => {
-            if prompt.function.takes_name() && !prompt.indirect {
+            if prompt.function.row().named && !prompt.indirect {
                 goes_on(prompt, Typed::Name(no_name()))
             } else {
                 None
@@ -92,7 +92,7 @@ fn no_name() -> Text<NAME_MOST>
 fn first_digit(prompt: Prompt, digit: Digit) -> Option<PromptStep>
     ensures { result ≡ spec.first_digit prompt digit }
 {
-    if !prompt.indirect && prompt.function.takes_one_digit() {
+    if prompt.digits() == 1 {
         ends_with(prompt, digit.value())
     } else {
         goes_on(prompt, Typed::Digit(digit))
@@ -103,7 +103,7 @@ fn first_digit(prompt: Prompt, digit: Digit) -> Option<PromptStep>
 fn first_point(prompt: Prompt) -> Option<PromptStep>
     ensures { result ≡ spec.first_point prompt }
 {
-    if prompt.indirect || prompt.function.takes_registers() {
+    if prompt.indirect || prompt.function.row().registers {
         goes_on(prompt, Typed::Stack)
     } else if matches!(prompt.function, PromptFunction::GoTo) {
         goes_on(prompt, Typed::Point)
@@ -148,7 +148,7 @@ fn with_digit_typed(prompt: Prompt, first: Digit, meaning: Meaning) -> Option<Pr
     match meaning {
         Meaning::Digit(digit) => ends_with(prompt, 10 * first.value() + digit.value()),
         Meaning::Shift => {
-            if prompt.function.takes_indirect() && !prompt.function.takes_one_digit() {
+            if prompt.function.row().indirect && prompt.function.row().digits == 2 {
                 turns_indirect(prompt)
             } else {
                 None
@@ -165,7 +165,7 @@ fn with_stack_typed(prompt: Prompt, key: Key) -> Option<PromptStep>
 {
     match plain(key) {
         Meaning::Shift => {
-            if prompt.function.takes_registers() {
+            if prompt.function.row().registers {
                 turns_indirect(prompt)
             } else {
                 None
@@ -246,7 +246,7 @@ fn name_ended(prompt: Prompt, name: &[u8]) -> Option<PromptStep>
     requires { length name.now ≤ NAME_MOST }
     ensures { result ≡ spec.name_ended prompt name.now }
 {
-    if !name.is_empty() && prompt.function.takes_name() {
+    if !name.is_empty() && prompt.function.row().named {
         Some(PromptStep::Types(prompt.function.name_line(name)))
     } else {
         None

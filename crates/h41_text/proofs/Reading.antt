@@ -28,7 +28,7 @@ use Rattle.h41_lines.specs.Characters.{two_digits, is_plain, escaped, character_
 use Rattle.h41_lines.proofs.HexadecimalDigits.{read_hexadecimal}
 use Rattle.h41_text.specs.declared.words.LeadingWord.{LeadingWord}
 use Rattle.h41_text.specs.declared.words.LeadingWord.TheVariants as word
-use Rattle.h41_text.specs.Names.{function_name, parameter_function_name, character_byte}
+use Rattle.h41_text.specs.Names.{function_name, parameter_function_name, name_function_name, branch_name, character_byte}
 use Rattle.h41_text.specs.LineText.{line_text, parameter_text, operand_text, number_line, character_quoted, quoted_text, text_line, ◌&◌}
 use Rattle.h41_text.specs.LineReading.{HasText}
 use Rattle.h41_text.specs.private.TextParts.{word_text, word_line, operand_of, operand_from, behind_ind, two_digits_of, module_line}
@@ -105,11 +105,11 @@ cut_again text minus none =
 
 -- a word and its operand
 worded_again : (word : LeadingWord) (operand : List ℕ) → candidate_line (word_text word & operand) ≡ word_line word operand
-worded_again (word.Function Recall) operand = cut_again (codes "RCL" & operand) refl refl
+worded_again (word.Function Recall) operand = cut_again (parameter_function_name Recall & operand) refl refl
 worded_again (word.Function function) operand = cut_again (parameter_function_name function & operand) refl refl
-worded_again (word.Branch GoTo) operand = cut_again (codes "GTO" & operand) refl refl
-worded_again (word.Branch Execute) operand = cut_again (codes "XEQ" & operand) refl refl
-worded_again word.Wordless operand = cut_again (codes "W" & operand) refl refl
+worded_again (word.Branch GoTo) operand = cut_again (branch_name GoTo & operand) refl refl
+worded_again (word.Branch Execute) operand = cut_again (branch_name Execute & operand) refl refl
+worded_again word.Wordless operand = cut_again (name_function_name Wordless & operand) refl refl
 worded_again word.Module operand = cut_again (codes "XROM" & operand) refl refl
 
 -- operands
@@ -247,7 +247,7 @@ longest_again : (line : Line) → HasText line → candidate_line (line_text lin
 unfolding longest
 longest_again Null has = absurd (has.shown refl)
 longest_again (LocalLabel label) has =
-    short_again (codes "LBL") label 15 _ (omega arith) has.valid (function_again Label (Direct label) (omega (arith, has.valid)))
+    short_again (parameter_function_name Label) label 15 _ (omega arith) has.valid (function_again Label (Direct label) (omega (arith, has.valid)))
 longest_again (Number characters) has = number_line_again characters has.valid.0 has.valid.1
 longest_again (Named GoToName name) has =
     name_again (word.Branch GoTo) (Named GoToName) 15 name (omega arith) has.valid.fits has.valid.bytes (λ text. refl)
@@ -256,16 +256,16 @@ longest_again (Named ExecuteName name) has =
 longest_again (Named Wordless name) has =
     name_again word.Wordless (Named Wordless) 15 name (omega arith) has.valid.fits has.valid.bytes (λ text. refl)
 longest_again (Register RecallRegister register) has =
-    short_again (codes "RCL") register 16 _ (omega arith) has.valid (function_again Recall (Direct register) (omega (arith, has.valid)))
+    short_again (parameter_function_name Recall) register 16 _ (omega arith) has.valid (function_again Recall (Direct register) (omega (arith, has.valid)))
 longest_again (Register StoreRegister register) has =
-    short_again (codes "STO") register 16 _ (omega arith) has.valid (function_again Store (Direct register) (omega (arith, has.valid)))
+    short_again (parameter_function_name Store) register 16 _ (omega arith) has.valid (function_again Store (Direct register) (omega (arith, has.valid)))
 longest_again (Plain function) has = plain_line_again function
 longest_again (WithOperand function operand) has = function_again function operand has.valid
 longest_again (Module number entry) has = module_again number entry has.valid.0 has.valid.1
 longest_again (BranchIndirect GoTo register) has = branch_again GoTo (Indirect register) has.valid
 longest_again (BranchIndirect Execute register) has = branch_again Execute (Indirect register) has.valid
 longest_again (ShortGoTo label distance) has =
-    short_again (codes "GTO") label 15 _ (omega arith) has.valid.0 (branch_again GoTo (Direct label) (omega (arith, has.valid)))
+    short_again (branch_name GoTo) label 15 _ (omega arith) has.valid.0 (branch_again GoTo (Direct label) (omega (arith, has.valid)))
 longest_again (GlobalLabel link key name) has =
     name_again (word.Function Label) (GlobalLabel 0 0) 14 name (omega arith) has.valid.2.fits has.valid.2.bytes (λ text. refl)
 longest_again (End link marks) has = refl

@@ -2,6 +2,8 @@
 use Rattle.std.specs.Prelude.{ℕ, ◌-◌, ◌==◌, nat_lt, List, [], ◌∷◌, ◌++◌, map, slice_index_or}
 use Rattle.std.specs.Prelude.{if◌then◌else◌, codes}
 use Rattle.std.specs.List.{flat_map}
+use Rattle.h41_codes.specs.declared.functions.Branch.TheVariants.{GoTo}
+use Rattle.h41_codes.specs.declared.functions.ParameterFunction.TheVariants.{Label}
 use Rattle.h41_codes.specs.declared.line.Operand.{Operand}
 use Rattle.h41_codes.specs.declared.line.Operand.TheVariants.{Direct, Indirect}
 use Rattle.h41_codes.specs.declared.line.Line.{Line}
@@ -64,7 +66,7 @@ name & operand = name ++ 0x20 ∷ operand
 -- the text of each line; two spellings of a line have one text, and the null has none
 abbrev pub line_text : Line → List ℕ
 line_text Null = []
-line_text (LocalLabel label) = codes "LBL" & two_digits label
+line_text (LocalLabel label) = parameter_function_name Label & two_digits label
 line_text (Number characters) = number_line characters
 line_text (Named function name) = name_function_name function & quoted_text name
 line_text (Register function register) = register_function_name function & two_digits register
@@ -72,8 +74,8 @@ line_text (Plain function) = function_name function
 line_text (WithOperand function operand) = parameter_function_name function & operand_text operand
 line_text (Module number entry) = codes "XROM" & (two_digits number ++ 0x2C ∷ two_digits entry)
 line_text (BranchIndirect branch register) = branch_name branch & operand_text (Indirect register)
-line_text (ShortGoTo label distance) = codes "GTO" & two_digits label
-line_text (GlobalLabel link key name) = codes "LBL" & quoted_text name
+line_text (ShortGoTo label distance) = branch_name GoTo & two_digits label
+line_text (GlobalLabel link key name) = parameter_function_name Label & quoted_text name
 line_text (End link marks) = codes "END"
 line_text (FinalEnd link marks) = codes ".END."
 line_text (BranchTo branch distance backwards label) = branch_name branch & parameter_text label

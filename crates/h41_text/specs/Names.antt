@@ -181,19 +181,19 @@ parameter_function_name Label = codes "LBL"
 
 -- RCL and STO of the registers 00 to 15
 abbrev pub register_function_name : RegisterFunction → List ℕ
-register_function_name RecallRegister = codes "RCL"
-register_function_name StoreRegister = codes "STO"
-
--- functions on a name
-abbrev pub name_function_name : NameFunction → List ℕ
-name_function_name GoToName = codes "GTO"
-name_function_name ExecuteName = codes "XEQ"
-name_function_name Wordless = codes "W"
+register_function_name RecallRegister = parameter_function_name Recall
+register_function_name StoreRegister = parameter_function_name Store
 
 -- going and executing
 abbrev pub branch_name : Branch → List ℕ
 branch_name GoTo = codes "GTO"
 branch_name Execute = codes "XEQ"
+
+-- functions on a name
+abbrev pub name_function_name : NameFunction → List ℕ
+name_function_name GoToName = branch_name GoTo
+name_function_name ExecuteName = branch_name Execute
+name_function_name Wordless = codes "W"
 
 -- the characters of numbers, in ASCII
 abbrev pub character_byte : Character → ℕ

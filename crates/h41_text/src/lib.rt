@@ -10,5 +10,6 @@ mod words;
 mod writer;
 
 pub use faults::BadText;
+pub use names::{branch_name, parameter_function_name};
 pub use reader::read_line;
 pub use writer::{TEXT_CAPACITY, write_line};

@@ -1,4 +1,5 @@
-//! The names of functions, as a listing shows them. Each stands once, in a list of which macros write the look-ups and tables.
+//! The names of functions, as a listing shows them. Each stands once; those without an operand and those with one stand in lists,
+//! of which macros write the look-ups and tables.
 ghost use Rattle.std.specs.Prelude.{◌≡◌, ◌+◌, ◌-◌, ◌<◌, ◌≤◌, length, slice_index_or, []};
 ghost use Rattle.h41_text.specs.LineText.{high_parameters};
 ghost use Rattle.h41_text.specs.Names as spec;
@@ -177,10 +178,10 @@ pub(crate) fn function_name(function: Function) -> &'static str
     functions!(text_beside(function))
 }
 
-/// The name of a function with a parameter, up to 6 characters.
-pub(crate) fn parameter_function_name(function: ParameterFunction) -> &'static str
+/// The name of a function with a parameter, up to 4 characters.
+pub fn parameter_function_name(function: ParameterFunction) -> &'static str
     ensures text { result.now ≡ spec.parameter_function_name function }
-    ensures bound { length result.now ≤ 6 }
+    ensures bound { length result.now ≤ 4 }
 {
     parameter_functions!(text_beside(function))
 }
@@ -191,8 +192,8 @@ pub(crate) fn register_function_name(function: RegisterFunction) -> &'static str
     ensures bound { length result.now ≤ 6 }
 {
     match function {
-        RegisterFunction::RecallRegister => "RCL",
-        RegisterFunction::StoreRegister => "STO",
+        RegisterFunction::RecallRegister => parameter_function_name(ParameterFunction::Recall),
+        RegisterFunction::StoreRegister => parameter_function_name(ParameterFunction::Store),
     }
 }
 
@@ -202,16 +203,16 @@ pub(crate) fn name_function_name(function: NameFunction) -> &'static str
     ensures bound { length result.now ≤ 3 }
 {
     match function {
-        NameFunction::GoToName => "GTO",
-        NameFunction::ExecuteName => "XEQ",
+        NameFunction::GoToName => branch_name(Branch::GoTo),
+        NameFunction::ExecuteName => branch_name(Branch::Execute),
         NameFunction::Wordless => "W",
     }
 }
 
 /// The name of going or executing.
-pub(crate) fn branch_name(branch: Branch) -> &'static str
+pub fn branch_name(branch: Branch) -> &'static str
     ensures text { result.now ≡ spec.branch_name branch }
-    ensures bound { length result.now ≤ 6 }
+    ensures bound { length result.now ≤ 3 }
 {
     match branch {
         Branch::GoTo => "GTO",

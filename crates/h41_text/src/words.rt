@@ -3,9 +3,9 @@ ghost use Rattle.std.specs.Prelude.{◌≡◌, ◌≤◌, length};
 ghost use Rattle.h41_text.specs.private.Places.{IsPlaced};
 ghost use Rattle.h41_text.specs.private.TextParts.{word_of, word_text, with_text};
 
-use crate::names::{branch_name, parameter_function_name, parameter_functions};
+use crate::names::{branch_name, name_function_name, parameter_function_name, parameter_functions};
 use crate::places::{WORD_PLACES, name_hash};
-use h41_codes::{Branch, ParameterFunction};
+use h41_codes::{Branch, NameFunction, ParameterFunction};
 
 /// The word in front of an operand.
 #[derive(Clone, Copy)]
@@ -51,7 +51,7 @@ impl LeadingWord {
         match self {
             LeadingWord::Function(function) => parameter_function_name(function),
             LeadingWord::Branch(branch) => branch_name(branch),
-            LeadingWord::Wordless => "W",
+            LeadingWord::Wordless => name_function_name(NameFunction::Wordless),
             LeadingWord::Module => "XROM",
         }
     }

@@ -12,7 +12,7 @@ use crate::names::{
     parameter_function_name, register_function_name,
 };
 use arrayvec::ArrayString;
-use h41_codes::{Character, EntryNumber, Line, ModuleNumber, Operand};
+use h41_codes::{Branch, Character, EntryNumber, Line, ModuleNumber, Operand, ParameterFunction};
 use h41_lines::characters::{character_text, escaped, two_digits};
 
 /// How many characters a text has room for. The longest needs 51: `GTO ""`, and within the quotes 15 characters of three each.
@@ -31,7 +31,10 @@ pub fn write_line(line: Line) -> ArrayString<TEXT_CAPACITY>
 {
     match line {
         Line::Null => LineText::new(),
-        Line::LocalLabel(label) => numbered("LBL", label.number()),
+        Line::LocalLabel(label) => numbered(
+            parameter_function_name(ParameterFunction::Label),
+            label.number(),
+        ),
         Line::Number(number) => number_line(number.characters()),
         Line::Named(function, name) => named(name_function_name(function), name.characters()),
         Line::Register(function, register) => {
@@ -46,8 +49,11 @@ pub fn write_line(line: Line) -> ArrayString<TEXT_CAPACITY>
         Line::BranchIndirect(branch, register) => {
             with_operand(branch_name(branch), Operand::Indirect(register))
         }
-        Line::ShortGoTo(label, _) => numbered("GTO", label.number()),
-        Line::GlobalLabel(_, _, name) => named("LBL", name.characters()),
+        Line::ShortGoTo(label, _) => numbered(branch_name(Branch::GoTo), label.number()),
+        Line::GlobalLabel(_, _, name) => named(
+            parameter_function_name(ParameterFunction::Label),
+            name.characters(),
+        ),
         Line::End(_, _) => alone("END"),
         Line::FinalEnd(_, _) => alone(".END."),
         Line::BranchTo(branch, _, _, label) => with_operand(

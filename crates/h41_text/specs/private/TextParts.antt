@@ -30,7 +30,7 @@ use Rattle.h41_lines.specs.Numbers.{hexadecimal}
 use Rattle.h41_text.specs.declared.words.LeadingWord.{LeadingWord}
 use Rattle.h41_text.specs.declared.words.LeadingWord.TheVariants as word
 use Rattle.h41_text.specs.Names.{function_name, parameter_function_name, branch_name}
-use Rattle.h41_text.specs.Names.{character_byte}
+use Rattle.h41_text.specs.Names.{name_function_name, character_byte}
 use Rattle.h41_text.specs.LineText.{parameter_text}
 
 -- the item of a list that has this text
@@ -47,7 +47,7 @@ function_of name = with_text function_name functions name
 abbrev pub word_text : LeadingWord → List ℕ
 word_text (word.Function function) = parameter_function_name function
 word_text (word.Branch branch) = branch_name branch
-word_text word.Wordless = codes "W"
+word_text word.Wordless = name_function_name Wordless
 word_text word.Module = codes "XROM"
 
 -- all words, and the one of a name

@@ -256,9 +256,11 @@ longest_again (Named ExecuteName name) has =
 longest_again (Named Wordless name) has =
     name_again word.Wordless (Named Wordless) 15 name (omega arith) has.valid.fits has.valid.bytes (λ text. refl)
 longest_again (Register RecallRegister register) has =
-    short_again (parameter_function_name Recall) register 16 _ (omega arith) has.valid (function_again Recall (Direct register) (omega (arith, has.valid)))
+    short_again (parameter_function_name Recall) register 16 _ (omega arith) has.valid
+    (function_again Recall (Direct register) (omega (arith, has.valid)))
 longest_again (Register StoreRegister register) has =
-    short_again (parameter_function_name Store) register 16 _ (omega arith) has.valid (function_again Store (Direct register) (omega (arith, has.valid)))
+    short_again (parameter_function_name Store) register 16 _ (omega arith) has.valid
+    (function_again Store (Direct register) (omega (arith, has.valid)))
 longest_again (Plain function) has = plain_line_again function
 longest_again (WithOperand function operand) has = function_again function operand has.valid
 longest_again (Module number entry) has = module_again number entry has.valid.0 has.valid.1

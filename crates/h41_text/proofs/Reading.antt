@@ -247,7 +247,8 @@ longest_again : (line : Line) → HasText line → candidate_line (line_text lin
 unfolding longest
 longest_again Null has = absurd (has.shown refl)
 longest_again (LocalLabel label) has =
-    short_again (parameter_function_name Label) label 15 _ (omega arith) has.valid (function_again Label (Direct label) (omega (arith, has.valid)))
+    short_again (parameter_function_name Label) label 15 _ (omega arith) has.valid
+    (function_again Label (Direct label) (omega (arith, has.valid)))
 longest_again (Number characters) has = number_line_again characters has.valid.0 has.valid.1
 longest_again (Named GoToName name) has =
     name_again (word.Branch GoTo) (Named GoToName) 15 name (omega arith) has.valid.fits has.valid.bytes (λ text. refl)

@@ -18,8 +18,8 @@ use Rattle.h41_focal.specs.declared.origin.Origin.{Origin}
 use Rattle.h41_focal.specs.declared.outcome.LineOutcome.{LineOutcome}
 use Rattle.h41_focal.specs.declared.outcome.LineOutcome.TheVariants as outcomes
 use Rattle.h41_focal.specs.declared.uses.RegisterUse.TheVariants as registers
-use Rattle.h41_rows.specs.declared.values.OfTwo.{OfTwo}
-use Rattle.h41_rows.specs.declared.values.OfTwo.TheVariants as twos
+use Rattle.h41_rows.specs.declared.values.ValueOfTwo.{ValueOfTwo}
+use Rattle.h41_rows.specs.declared.values.ValueOfTwo.TheVariants as twos
 use Rattle.h41_ram.specs.RegisterMap.{RegisterMap, zeros}
 
 -- with what it computes: by memory and what else lines work on, before and afterwards
@@ -40,7 +40,7 @@ row_done origin row named machine memory focal register outcome new after opened
 
 -- arithmetic in a register works on the numbers of its value alone
 pub works_in_register :
-    (value : OfTwo) (memory : RegisterMap) (named : ℕ) (result : Result (List ℕ) LineFault)
+    (value : ValueOfTwo) (memory : RegisterMap) (named : ℕ) (result : Result (List ℕ) LineFault)
     → WorksOn memory named (value_of_two value Named X) result
     → Works memory named (register_use_row (registers.Combine value)) result
 works_in_register twos.Sum memory named result works = works

@@ -10,7 +10,7 @@ use crate::machine::Machine;
 use crate::origin::Origin;
 use crate::outcome::LineOutcome;
 use h41_ram::StatusRegister;
-use h41_rows::{OfOne, OfTwo, compute_of_one, compute_of_two, drop_into, keep_last};
+use h41_rows::{ValueOfOne, ValueOfTwo, compute_of_one, compute_of_two, drop_into, keep_last};
 
 /// The address of X.
 const X: u16 = 3;
@@ -22,7 +22,7 @@ const Y: u16 = 2;
 pub fn of_y_and_x<const REGS: usize>(
     machine: &mut Machine<REGS>,
     origin: Origin,
-    value: OfTwo,
+    value: ValueOfTwo,
 ) -> LineOutcome
     requires { IsReady origin machine.old }
     ensures { DoesWork origin (OfYAndX value) machine.old machine.new result }
@@ -41,7 +41,7 @@ pub fn of_y_and_x<const REGS: usize>(
 pub fn of_x<const REGS: usize>(
     machine: &mut Machine<REGS>,
     origin: Origin,
-    value: OfOne,
+    value: ValueOfOne,
 ) -> LineOutcome
     requires { IsReady origin machine.old }
     ensures { DoesWork origin (OfX value) machine.old machine.new result }
@@ -61,7 +61,7 @@ pub fn square<const REGS: usize>(machine: &mut Machine<REGS>, origin: Origin) ->
     requires { IsReady origin machine.old }
     ensures { DoesWork origin Square machine.old machine.new result }
 {
-    match compute_of_two(&machine.ram, OfTwo::Product, X, X) {
+    match compute_of_two(&machine.ram, ValueOfTwo::Product, X, X) {
         Ok(register) => {
             keep_last(&mut machine.ram, register);
             go_on_lifting(&mut machine.focal, origin);
@@ -76,7 +76,7 @@ pub fn percent<const REGS: usize>(machine: &mut Machine<REGS>, origin: Origin) -
     requires { IsReady origin machine.old }
     ensures { DoesWork origin Percent machine.old machine.new result }
 {
-    match compute_of_two(&machine.ram, OfTwo::Percentage, Y, X) {
+    match compute_of_two(&machine.ram, ValueOfTwo::Percentage, Y, X) {
         Ok(register) => {
             keep_last(&mut machine.ram, register);
             go_on_lifting(&mut machine.focal, origin);
@@ -91,7 +91,7 @@ pub fn change_sign<const REGS: usize>(machine: &mut Machine<REGS>, origin: Origi
     requires { IsReady origin machine.old }
     ensures { DoesWork origin ChangeSign machine.old machine.new result }
 {
-    match compute_of_one(&machine.ram, OfOne::Negative, X) {
+    match compute_of_one(&machine.ram, ValueOfOne::Negative, X) {
         Ok(register) => {
             machine.ram.set_status_register(StatusRegister::X, register);
             go_on_lifting(&mut machine.focal, origin);

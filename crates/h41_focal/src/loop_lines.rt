@@ -10,7 +10,7 @@ use crate::origin::Origin;
 use crate::outcome::LineOutcome;
 use crate::questions::lead;
 use crate::refusal::FocalRefusal;
-use h41_rows::{OfOne, compute_of_one, goes_on_down, goes_on_up};
+use h41_rows::{ValueOfOne, compute_of_one, goes_on_down, goes_on_up};
 
 /// `ISG`: the register at an address counts up, and the program goes on with the next line while the loop goes on, else
 /// with the one behind it. `BrokenProgram`, with nothing changed, where the line that would be passed over is none.
@@ -23,7 +23,7 @@ pub fn count_up<const REGS: usize>(
     ensures carried { DoesUse origin CountUp address machine.old machine.new result }
     ensures unchanged { OnErr result (machine.new ≡ machine.old) }
 {
-    match compute_of_one(&machine.ram, OfOne::CountedUp, address) {
+    match compute_of_one(&machine.ram, ValueOfOne::CountedUp, address) {
         Ok(register) => {
             let lead = lead(&machine.ram, origin, goes_on_up(&machine.ram, address))?;
             machine.ram.write(address, register);
@@ -45,7 +45,7 @@ pub fn count_down<const REGS: usize>(
     ensures carried { DoesUse origin CountDown address machine.old machine.new result }
     ensures unchanged { OnErr result (machine.new ≡ machine.old) }
 {
-    match compute_of_one(&machine.ram, OfOne::CountedDown, address) {
+    match compute_of_one(&machine.ram, ValueOfOne::CountedDown, address) {
         Ok(register) => {
             let lead = lead(&machine.ram, origin, goes_on_down(&machine.ram, address))?;
             machine.ram.write(address, register);

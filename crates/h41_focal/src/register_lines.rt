@@ -10,7 +10,7 @@ use crate::machine::Machine;
 use crate::origin::Origin;
 use crate::outcome::LineOutcome;
 use h41_rows::{
-    OfTwo, append_register, bring_in_from, compute_of_two, exchange, first_six, store_x,
+    ValueOfTwo, append_register, bring_in_from, compute_of_two, exchange, first_six, store_x,
 };
 use h41_show::{Format, register_text};
 
@@ -49,7 +49,7 @@ pub fn store<const REGS: usize>(
 pub fn combine<const REGS: usize>(
     machine: &mut Machine<REGS>,
     origin: Origin,
-    value: OfTwo,
+    value: ValueOfTwo,
     address: u16,
 ) -> LineOutcome
     requires { IsReady origin machine.old }

@@ -5,7 +5,7 @@ ghost use Rattle.h41_focal.specs.private.Works.{IsUse, highest_of};
 ghost use Rattle.h41_codes.specs.declared.functions.ParameterFunction.TheVariants as functions;
 
 use h41_codes::ParameterFunction;
-use h41_rows::OfTwo;
+use h41_rows::ValueOfTwo;
 
 /// What is done with a register.
 #[derive(Clone, Copy, Debug, PartialEq, Eq)]
@@ -15,7 +15,7 @@ pub enum RegisterUse {
     /// `STO`.
     Store,
     /// `ST+` and its kin: a value of the register and X.
-    Combine(OfTwo),
+    Combine(ValueOfTwo),
     /// `ISG`.
     CountUp,
     /// `DSE`.
@@ -84,15 +84,15 @@ pub fn use_of(function: ParameterFunction) -> OperandUse
     match function {
         ParameterFunction::Recall => OperandUse::Register(RegisterUse::Recall),
         ParameterFunction::Store => OperandUse::Register(RegisterUse::Store),
-        ParameterFunction::StoreAdd => OperandUse::Register(RegisterUse::Combine(OfTwo::Sum)),
+        ParameterFunction::StoreAdd => OperandUse::Register(RegisterUse::Combine(ValueOfTwo::Sum)),
         ParameterFunction::StoreSubtract => OperandUse::Register(RegisterUse::Combine(
-            OfTwo::Difference,
+            ValueOfTwo::Difference,
         )),
         ParameterFunction::StoreMultiply => OperandUse::Register(RegisterUse::Combine(
-            OfTwo::Product,
+            ValueOfTwo::Product,
         )),
         ParameterFunction::StoreDivide => OperandUse::Register(RegisterUse::Combine(
-            OfTwo::Quotient,
+            ValueOfTwo::Quotient,
         )),
         ParameterFunction::IncrementSkip => OperandUse::Register(RegisterUse::CountUp),
         ParameterFunction::DecrementSkip => OperandUse::Register(RegisterUse::CountDown),

@@ -6,7 +6,7 @@ ghost use Rattle.h41_rows.specs.FunctionRows.{function_row};
 ghost use Rattle.h41_focal.specs.private.Works.{row_of_work};
 
 use h41_codes::Function;
-use h41_rows::{OfOne, OfTwo, Test};
+use h41_rows::{Test, ValueOfOne, ValueOfTwo};
 
 /// What moves in the stack.
 #[derive(Clone, Copy, Debug, PartialEq, Eq)]
@@ -59,9 +59,9 @@ pub enum DisplayWork {
 #[derive(Clone, Copy, Debug, PartialEq, Eq)]
 pub enum FunctionWork {
     /// A value of Y and X; the stack drops.
-    OfYAndX(OfTwo),
+    OfYAndX(ValueOfTwo),
     /// A value of X.
-    OfX(OfOne),
+    OfX(ValueOfOne),
     /// `X^2`.
     Square,
     /// `%`: Y stays.
@@ -91,21 +91,21 @@ pub fn work_of(function: Function) -> Option<FunctionWork>
     ensures { option_map row_of_work result ≡ function_row function }
 {
     Some(match function {
-        Function::Add => FunctionWork::OfYAndX(OfTwo::Sum),
-        Function::Subtract => FunctionWork::OfYAndX(OfTwo::Difference),
-        Function::Multiply => FunctionWork::OfYAndX(OfTwo::Product),
-        Function::Divide => FunctionWork::OfYAndX(OfTwo::Quotient),
-        Function::Modulo => FunctionWork::OfYAndX(OfTwo::Remainder),
+        Function::Add => FunctionWork::OfYAndX(ValueOfTwo::Sum),
+        Function::Subtract => FunctionWork::OfYAndX(ValueOfTwo::Difference),
+        Function::Multiply => FunctionWork::OfYAndX(ValueOfTwo::Product),
+        Function::Divide => FunctionWork::OfYAndX(ValueOfTwo::Quotient),
+        Function::Modulo => FunctionWork::OfYAndX(ValueOfTwo::Remainder),
         Function::Percent => FunctionWork::Percent,
         Function::Square => FunctionWork::Square,
-        Function::SquareRoot => FunctionWork::OfX(OfOne::Root),
+        Function::SquareRoot => FunctionWork::OfX(ValueOfOne::Root),
         Function::ChangeSign => FunctionWork::ChangeSign,
-        Function::Reciprocal => FunctionWork::OfX(OfOne::Inverse),
-        Function::AbsoluteValue => FunctionWork::OfX(OfOne::AbsoluteValue),
-        Function::IntegerPart => FunctionWork::OfX(OfOne::IntegerPart),
-        Function::FractionPart => FunctionWork::OfX(OfOne::Fraction),
-        Function::Round => FunctionWork::OfX(OfOne::Displayed),
-        Function::Signum => FunctionWork::OfX(OfOne::Unit),
+        Function::Reciprocal => FunctionWork::OfX(ValueOfOne::Inverse),
+        Function::AbsoluteValue => FunctionWork::OfX(ValueOfOne::AbsoluteValue),
+        Function::IntegerPart => FunctionWork::OfX(ValueOfOne::IntegerPart),
+        Function::FractionPart => FunctionWork::OfX(ValueOfOne::Fraction),
+        Function::Round => FunctionWork::OfX(ValueOfOne::Displayed),
+        Function::Signum => FunctionWork::OfX(ValueOfOne::Unit),
         Function::TestXLessThanY => FunctionWork::Ask(Test::XLessThanY),
         Function::TestXGreaterThanY => FunctionWork::Ask(Test::XGreaterThanY),
         Function::TestXAtMostY => FunctionWork::Ask(Test::XAtMostY),

@@ -21,10 +21,10 @@ use Rattle.h41_rows.specs.Values as values
 use Rattle.h41_rows.specs.Values.{Given, Computes, Kept, unit_of}
 use Rattle.h41_rows.specs.declared.fault.LineFault.{LineFault}
 use Rattle.h41_rows.specs.declared.fault.LineFault.TheVariants.{AlphaData}
-use Rattle.h41_rows.specs.declared.values.OfOne.{OfOne}
-use Rattle.h41_rows.specs.declared.values.OfOne.TheVariants as ones
-use Rattle.h41_rows.specs.declared.values.OfTwo.{OfTwo}
-use Rattle.h41_rows.specs.declared.values.OfTwo.TheVariants as twos
+use Rattle.h41_rows.specs.declared.values.ValueOfOne.{ValueOfOne}
+use Rattle.h41_rows.specs.declared.values.ValueOfOne.TheVariants as ones
+use Rattle.h41_rows.specs.declared.values.ValueOfTwo.{ValueOfTwo}
+use Rattle.h41_rows.specs.declared.values.ValueOfTwo.TheVariants as twos
 
 -- a test that holds, and one that fails
 pub where_true : (test : Bool) (A B : Type 0) → test ≡ true → A → MatchBool test A B
@@ -54,7 +54,8 @@ number_of memory named a address number e w =
     sym (worth_is_number (number_in (register_in memory named a)) (register_in memory named a)) ∙ (ap (λ k. worth_at memory k) e ∙ w)
 
 -- one place
-pub computes_one : (value : OfOne) (memory : RegisterMap) (named : ℕ) (a : RowPlace) (number : Ten) (result : Result (List ℕ) LineFault)
+pub computes_one : (value : ValueOfOne) (memory : RegisterMap) (named : ℕ) (a : RowPlace) (number : Ten)
+    (result : Result (List ℕ) LineFault)
     → units number ≡ amount_in memory named a → worth (holding_of (register_in memory named a)) ≡ Some (units number)
     → KeptOne value memory number result → Computes (value_of_one value a) memory named result
 computes_one ones.Root memory named a number result e w k =
@@ -94,7 +95,7 @@ computes_one ones.CountedUp memory named a number result e w k =
 computes_one ones.CountedDown memory named a number result e w k =
     record { answer = k.answer; nearest = subst (λ (t : ℤ). Nearest (number_after Down t) 1 k.answer) e k.answers; kept = k.kept }
 
-pub works_one : (value : OfOne) (memory : RegisterMap) (address : ℕ) (number : Ten) (result : Result (List ℕ) LineFault)
+pub works_one : (value : ValueOfOne) (memory : RegisterMap) (address : ℕ) (number : Ten) (result : Result (List ℕ) LineFault)
     → worth_at memory address ≡ Some (units number) → KeptOne value memory number result → WorksOnOne value memory address result
 works_one value memory address number result w k named a e =
     let amount = amount_of memory named a address (units number) e w in
@@ -103,7 +104,7 @@ works_one value memory address number result w k named a e =
     ap (λ (o : Option ℤ). is_some o && true) (number_of memory named a address (Some (units number)) e w) in
     worked value is_one (computes_one value memory named a number result amount there k)
   where
-    worked : (value : OfOne) → are_numbers memory named (a ∷ []) ≡ true → Computes (value_of_one value a) memory named result
+    worked : (value : ValueOfOne) → are_numbers memory named (a ∷ []) ≡ true → Computes (value_of_one value a) memory named result
         → WorksOn memory named (value_of_one value a) result
     worked ones.Root t computes = where_true _ _ _ t computes
     worked ones.Inverse t computes = where_true _ _ _ t computes
@@ -129,7 +130,7 @@ unit_of_none memory named a (Ok register) none always =
     }
 unit_of_none memory named a (Err fault) none always = absurd always
 
-pub works_without : (value : OfOne) (memory : RegisterMap) (address : ℕ) (fault : LineFault) (result : Result (List ℕ) LineFault)
+pub works_without : (value : ValueOfOne) (memory : RegisterMap) (address : ℕ) (fault : LineFault) (result : Result (List ℕ) LineFault)
     → worth_at memory address ≡ None → fault ≡ AlphaData → WithoutNumber value fault result → WorksOnOne value memory address result
 works_without value memory address fault result w f without named a e =
     let there : worth (holding_of (register_in memory named a)) ≡ None = ap (λ (n : ℕ). worth_at memory n) e ∙ w in
@@ -138,7 +139,7 @@ works_without value memory address fault result w f without named a e =
     let said : Err fault ≡ Err AlphaData = ap Err f in
     refused value is_none there said without
   where
-    refused : (value : OfOne) → are_numbers memory named (a ∷ []) ≡ false → worth (holding_of (register_in memory named a)) ≡ None
+    refused : (value : ValueOfOne) → are_numbers memory named (a ∷ []) ≡ false → worth (holding_of (register_in memory named a)) ≡ None
         → ◌≡◌ {A = Result (List ℕ) LineFault} (Err fault) (Err AlphaData) → WithoutNumber value fault result
         → WorksOn memory named (value_of_one value a) result
     refused ones.Root t none said without = where_false _ _ _ t (without ∙ said)
@@ -153,7 +154,7 @@ works_without value memory address fault result w f without named a e =
     refused ones.CountedDown t none said without = where_false _ _ _ t (without ∙ said)
 
 -- two places
-pub computes_two : (value : OfTwo) (memory : RegisterMap) (named : ℕ) (a b : RowPlace) (x y : Ten) (result : Result (List ℕ) LineFault)
+pub computes_two : (value : ValueOfTwo) (memory : RegisterMap) (named : ℕ) (a b : RowPlace) (x y : Ten) (result : Result (List ℕ) LineFault)
     → units x ≡ amount_in memory named a → units y ≡ amount_in memory named b
     → KeptTwo value memory x y result → Computes (value_of_two value a b) memory named result
 computes_two twos.Sum memory named a b x y result e f k =
@@ -209,7 +210,7 @@ second_without None p e = refl
 second_without (Some x) p e = ap (λ (t : Option ℤ). is_some t && true) e
 
 -- two places are asked for by each value of two numbers
-two_asked : (value : OfTwo) (memory : RegisterMap) (named : ℕ) (a b : RowPlace)
+two_asked : (value : ValueOfTwo) (memory : RegisterMap) (named : ℕ) (a b : RowPlace)
     → are_numbers memory named (places_in_value (value_of_two value a b)) ≡ are_numbers memory named (a ∷ b ∷ [])
 two_asked twos.Sum memory named a b = refl
 two_asked twos.Difference memory named a b = refl
@@ -236,7 +237,7 @@ number_elsewhere memory other named a address number e w =
     number_of other named a (place_address named a) number refl (held_elsewhere memory other named a address number e w)
 
 -- of memory flag 24 alone has a part in what is kept of an answer
-kept_elsewhere : (value : OfTwo) (memory other : RegisterMap) (x y : Ten) (result : Result (List ℕ) LineFault)
+kept_elsewhere : (value : ValueOfTwo) (memory other : RegisterMap) (x y : Ten) (result : Result (List ℕ) LineFault)
     → flag_of other range_ignore ≡ flag_of memory range_ignore → KeptTwo value memory x y result → KeptTwo value other x y result
 kept_elsewhere value memory other x y result same k =
     record {
@@ -245,7 +246,7 @@ kept_elsewhere value memory other x y result same k =
       kept = subst (λ (flag : Bool). Kept (sign_of_two value (units x) (units y)) flag k.answer result) (sym same) k.kept;
     }
 
-pub works_two : (value : OfTwo) (memory : RegisterMap) (first second : ℕ) (x y : Ten) (result : Result (List ℕ) LineFault)
+pub works_two : (value : ValueOfTwo) (memory : RegisterMap) (first second : ℕ) (x y : Ten) (result : Result (List ℕ) LineFault)
     → worth_at memory first ≡ Some (units x) → worth_at memory second ≡ Some (units y) → KeptTwo value memory x y result
     → WorksOnTwo value memory first second result
 works_two value memory first second x y result v w k other named a b e f flag =
@@ -257,13 +258,13 @@ works_two value memory first second x y result v w k other named a b e f flag =
     (amount_elsewhere memory other named a first (units x) e v) (amount_elsewhere memory other named b second (units y) f w)
     (kept_elsewhere value memory other x y result flag k))
 
-pub first_fails : (value : OfTwo) (memory : RegisterMap) (first second : ℕ) (fault : LineFault)
+pub first_fails : (value : ValueOfTwo) (memory : RegisterMap) (first second : ℕ) (fault : LineFault)
     → worth_at memory first ≡ None → fault ≡ AlphaData → WorksOnTwo value memory first second (Err fault)
 first_fails value memory first second fault w said other named a b e f flag =
     where_false _ _ _
     (two_asked value other named a b ∙ first_without _ _ (number_elsewhere memory other named a first None e w)) (ap Err said)
 
-pub second_fails : (value : OfTwo) (memory : RegisterMap) (first second : ℕ) (fault : LineFault)
+pub second_fails : (value : ValueOfTwo) (memory : RegisterMap) (first second : ℕ) (fault : LineFault)
     → worth_at memory second ≡ None → fault ≡ AlphaData → WorksOnTwo value memory first second (Err fault)
 second_fails value memory first second fault w said other named a b e f flag =
     where_false _ _ _

@@ -21,10 +21,10 @@ use Rattle.h41_rows.specs.declared.fault.LineFault.{LineFault}
 use Rattle.h41_rows.specs.declared.fault.LineFault.TheVariants.{AlphaData}
 use Rattle.h41_rows.specs.declared.operands.BranchTarget.{BranchTarget}
 use Rattle.h41_rows.specs.declared.operands.BranchTarget.TheVariants as targets
-use Rattle.h41_rows.specs.declared.values.OfOne.{OfOne}
-use Rattle.h41_rows.specs.declared.values.OfOne.TheVariants as ones
-use Rattle.h41_rows.specs.declared.values.OfTwo.{OfTwo}
-use Rattle.h41_rows.specs.declared.values.OfTwo.TheVariants as twos
+use Rattle.h41_rows.specs.declared.values.ValueOfOne.{ValueOfOne}
+use Rattle.h41_rows.specs.declared.values.ValueOfOne.TheVariants as ones
+use Rattle.h41_rows.specs.declared.values.ValueOfTwo.{ValueOfTwo}
+use Rattle.h41_rows.specs.declared.values.ValueOfTwo.TheVariants as twos
 
 -- a value is computed where its places hold numbers
 abbrev pub WorksOn : RegisterMap → ℕ → Value → Result (List ℕ) LineFault → Type 0
@@ -33,7 +33,7 @@ WorksOn memory named value result =
     (Computes value memory named result) (result ≡ Err AlphaData)
 
 -- a value of the number in one place
-abbrev pub value_of_one : OfOne → RowPlace → Value
+abbrev pub value_of_one : ValueOfOne → RowPlace → Value
 value_of_one ones.Root a = values.Root a
 value_of_one ones.Inverse a = values.Inverse a
 value_of_one ones.Negative a = values.Negative a
@@ -46,7 +46,7 @@ value_of_one ones.CountedUp a = values.Counted Up a
 value_of_one ones.CountedDown a = values.Counted Down a
 
 -- a value of the numbers in two
-abbrev pub value_of_two : OfTwo → RowPlace → RowPlace → Value
+abbrev pub value_of_two : ValueOfTwo → RowPlace → RowPlace → Value
 value_of_two twos.Sum a b = values.Sum a b
 value_of_two twos.Difference a b = values.Difference a b
 value_of_two twos.Product a b = values.Product a b
@@ -55,7 +55,7 @@ value_of_two twos.Remainder a b = values.Remainder a b
 value_of_two twos.Percentage a b = values.Percentage a b
 
 -- it is computed of the register at this address, whatever its place is called
-abbrev pub WorksOnOne : OfOne → RegisterMap → ℕ → Result (List ℕ) LineFault → Type 0
+abbrev pub WorksOnOne : ValueOfOne → RegisterMap → ℕ → Result (List ℕ) LineFault → Type 0
 WorksOnOne value memory address result =
     (named : ℕ) (a : RowPlace)
     → place_address named a ≡ address → WorksOn memory named (value_of_one value a) result
@@ -63,7 +63,7 @@ WorksOnOne value memory address result =
 -- It is computed of the registers at these two addresses, whatever memory they stand in and
 -- whatever their places are called: of all else flag 24 alone has a part in it. There is such a
 -- memory for any two registers.
-abbrev pub WorksOnTwo : OfTwo → RegisterMap → ℕ → ℕ → Result (List ℕ) LineFault → Type 0
+abbrev pub WorksOnTwo : ValueOfTwo → RegisterMap → ℕ → ℕ → Result (List ℕ) LineFault → Type 0
 WorksOnTwo value memory first second result =
     (other : RegisterMap) (named : ℕ) (a b : RowPlace)
     → register_in other named a ≡ register_at memory first

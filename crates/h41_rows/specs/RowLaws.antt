@@ -7,8 +7,8 @@ use Rattle.h41_rows.specs.Computing.{Tells, Took, WorksOnOne, WorksOnTwo}
 use Rattle.h41_rows.specs.Rows.{AlphaChange, Condition, Takes}
 use Rattle.h41_rows.specs.Values.{Computes, Value}
 use Rattle.h41_rows.specs.declared.fault.LineFault.{LineFault}
-use Rattle.h41_rows.specs.declared.values.OfOne.{OfOne}
-use Rattle.h41_rows.specs.declared.values.OfTwo.{OfTwo}
+use Rattle.h41_rows.specs.declared.values.ValueOfOne.{ValueOfOne}
+use Rattle.h41_rows.specs.declared.values.ValueOfTwo.{ValueOfTwo}
 
 -- a value has one register, or one fault
 abbrev pub ValuesAreDetermined : Type 0
@@ -21,13 +21,14 @@ ValuesAreDetermined =
 
 abbrev pub OneIsDetermined : Type 0
 OneIsDetermined =
-    (value : OfOne) (memory : RegisterMap) (address : ℕ) (result other : Result (List ℕ) LineFault)
+    (value : ValueOfOne) (memory : RegisterMap) (address : ℕ)
+    (result other : Result (List ℕ) LineFault)
     → WorksOnOne value memory address result → WorksOnOne value memory address other
     → result ≡ other
 
 abbrev pub TwoIsDetermined : Type 0
 TwoIsDetermined =
-    (value : OfTwo) (memory : RegisterMap) (first second : ℕ)
+    (value : ValueOfTwo) (memory : RegisterMap) (first second : ℕ)
     (result other : Result (List ℕ) LineFault)
     → WorksOnTwo value memory first second result → WorksOnTwo value memory first second other
     → result ≡ other

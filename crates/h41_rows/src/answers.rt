@@ -12,7 +12,7 @@ ghost use Rattle.h41_rows.specs.Values.{IsRegisterOf, places_of, unit_of};
 
 use crate::counters::{counted_down, counted_up};
 use crate::fault::LineFault;
-use crate::values::{OfOne, OfTwo};
+use crate::values::{ValueOfOne, ValueOfTwo};
 use h41_decimal::laws::decimal_is_its_nearest;
 use h41_decimal::{DecimalFault, Places, Sign, Ten};
 use h41_digits::Reg;
@@ -52,60 +52,60 @@ pub fn out_of_range<const REGS: usize>(ram: &Ram<REGS>, sign: Sign) -> Result<Re
 /// The answer for one number.
 pub fn answer_of_one<const REGS: usize>(
     ram: &Ram<REGS>,
-    value: OfOne,
+    value: ValueOfOne,
     number: Ten,
 ) -> Result<Ten, DecimalFault>
     ensures { AnswersOne value ram.now number result }
 {
     match value {
-        OfOne::Root => number.sqrt(),
-        OfOne::Inverse => inverse(number),
-        OfOne::Negative => negative(number),
-        OfOne::AbsoluteValue => absolute_value(number),
-        OfOne::IntegerPart => integer_part(number),
-        OfOne::Fraction => fraction(number),
-        OfOne::Displayed => number.round_to(display_places(ram)),
-        OfOne::Unit => unit(number),
-        OfOne::CountedUp => counted_up(number),
-        OfOne::CountedDown => counted_down(number),
+        ValueOfOne::Root => number.sqrt(),
+        ValueOfOne::Inverse => inverse(number),
+        ValueOfOne::Negative => negative(number),
+        ValueOfOne::AbsoluteValue => absolute_value(number),
+        ValueOfOne::IntegerPart => integer_part(number),
+        ValueOfOne::Fraction => fraction(number),
+        ValueOfOne::Displayed => number.round_to(display_places(ram)),
+        ValueOfOne::Unit => unit(number),
+        ValueOfOne::CountedUp => counted_up(number),
+        ValueOfOne::CountedDown => counted_down(number),
     }
 }
 
 /// The sign of an answer for one number, where it can be out of range.
-pub fn sign_of_one(value: OfOne, number: Ten) -> Sign
+pub fn sign_of_one(value: ValueOfOne, number: Ten) -> Sign
     ensures { result ≡ sign_of_one value (units number) }
 {
     match value {
-        OfOne::Displayed => number.sign(),
+        ValueOfOne::Displayed => number.sign(),
         _ => Sign::Plus,
     }
 }
 
 /// The answer for two numbers.
-pub fn answer_of_two(value: OfTwo, first: Ten, second: Ten) -> Result<Ten, DecimalFault>
+pub fn answer_of_two(value: ValueOfTwo, first: Ten, second: Ten) -> Result<Ten, DecimalFault>
     ensures { AnswersTwo value first second result }
 {
     match value {
-        OfTwo::Sum => first.add(second),
-        OfTwo::Difference => first.sub(second),
-        OfTwo::Product => first.mul(second),
-        OfTwo::Quotient => first.div(second),
-        OfTwo::Remainder => first.modulo(second),
-        OfTwo::Percentage => first.percent(second),
+        ValueOfTwo::Sum => first.add(second),
+        ValueOfTwo::Difference => first.sub(second),
+        ValueOfTwo::Product => first.mul(second),
+        ValueOfTwo::Quotient => first.div(second),
+        ValueOfTwo::Remainder => first.modulo(second),
+        ValueOfTwo::Percentage => first.percent(second),
     }
 }
 
 /// The sign of an answer for two numbers, where it can be out of range.
-pub fn sign_of_two(value: OfTwo, first: Ten, second: Ten) -> Sign
+pub fn sign_of_two(value: ValueOfTwo, first: Ten, second: Ten) -> Sign
     ensures { result ≡ sign_of_two value (units first) (units second) }
 {
     match value {
-        OfTwo::Sum => sign_of_sum(first, second),
-        OfTwo::Difference => sign_of_difference(first, second),
-        OfTwo::Product => sign_of_product(first, second),
-        OfTwo::Quotient => sign_of_product(first, second),
-        OfTwo::Remainder => Sign::Plus,
-        OfTwo::Percentage => sign_of_product(first, second),
+        ValueOfTwo::Sum => sign_of_sum(first, second),
+        ValueOfTwo::Difference => sign_of_difference(first, second),
+        ValueOfTwo::Product => sign_of_product(first, second),
+        ValueOfTwo::Quotient => sign_of_product(first, second),
+        ValueOfTwo::Remainder => Sign::Plus,
+        ValueOfTwo::Percentage => sign_of_product(first, second),
     }
 }
 

@@ -20,7 +20,7 @@ use h41_ram::Ram;
 
 /// A value of one number.
 #[derive(Clone, Copy, Debug, PartialEq, Eq)]
-pub enum OfOne {
+pub enum ValueOfOne {
     /// Its square root.
     Root,
     /// 1 divided by it.
@@ -45,7 +45,7 @@ pub enum OfOne {
 
 /// A value of two numbers.
 #[derive(Clone, Copy, Debug, PartialEq, Eq)]
-pub enum OfTwo {
+pub enum ValueOfTwo {
     /// Their sum.
     Sum,
     /// The first without the second.
@@ -65,7 +65,7 @@ pub enum OfTwo {
 /// greatest number with the sign instead.
 pub fn compute_of_one<const REGS: usize>(
     ram: &Ram<REGS>,
-    value: OfOne,
+    value: ValueOfOne,
     address: u16,
 ) -> Result<Reg, LineFault>
     ensures { WorksOnOne value ram.now address result }
@@ -80,7 +80,7 @@ pub fn compute_of_one<const REGS: usize>(
 /// zero; OutOfRange above exponent 99, unless flag 24 is set, which has the greatest number with the sign instead.
 pub fn compute_of_two<const REGS: usize>(
     ram: &Ram<REGS>,
-    value: OfTwo,
+    value: ValueOfTwo,
     first: u16,
     second: u16,
 ) -> Result<Reg, LineFault>
@@ -119,7 +119,7 @@ pub fn written(number: &Number) -> Reg
 /// The register of a value of one number.
 fn kept_of_one<const REGS: usize>(
     ram: &Ram<REGS>,
-    value: OfOne,
+    value: ValueOfOne,
     number: Ten,
 ) -> Result<Reg, LineFault>
     ensures { KeptOne value ram.now number result }
@@ -132,11 +132,11 @@ fn kept_of_one<const REGS: usize>(
 }
 
 /// What is computed of a register with no number: a fault, but for the unit, which is zero.
-fn without_number(value: OfOne, fault: LineFault) -> Result<Reg, LineFault>
+fn without_number(value: ValueOfOne, fault: LineFault) -> Result<Reg, LineFault>
     ensures { WithoutNumber value fault result }
 {
     match value {
-        OfOne::Unit => Ok(zero()),
+        ValueOfOne::Unit => Ok(zero()),
         _ => Err(fault),
     }
 }
@@ -144,7 +144,7 @@ fn without_number(value: OfOne, fault: LineFault) -> Result<Reg, LineFault>
 /// The register of a value of two numbers.
 fn kept_of_two<const REGS: usize>(
     ram: &Ram<REGS>,
-    value: OfTwo,
+    value: ValueOfTwo,
     first: Ten,
     second: Ten,
 ) -> Result<Reg, LineFault>

@@ -20,10 +20,10 @@ use Rattle.h41_rows.specs.Counters.{Up, Down, number_after}
 use Rattle.h41_rows.specs.Values.{Given, IsRegisterOf, Kept, places_of, unit_of}
 use Rattle.h41_rows.specs.declared.fault.LineFault.{LineFault}
 use Rattle.h41_rows.specs.declared.fault.LineFault.TheVariants.{AlphaData, OutOfRange}
-use Rattle.h41_rows.specs.declared.values.OfOne.{OfOne}
-use Rattle.h41_rows.specs.declared.values.OfOne.TheVariants as ones
-use Rattle.h41_rows.specs.declared.values.OfTwo.{OfTwo}
-use Rattle.h41_rows.specs.declared.values.OfTwo.TheVariants as twos
+use Rattle.h41_rows.specs.declared.values.ValueOfOne.{ValueOfOne}
+use Rattle.h41_rows.specs.declared.values.ValueOfOne.TheVariants as ones
+use Rattle.h41_rows.specs.declared.values.ValueOfTwo.{ValueOfTwo}
+use Rattle.h41_rows.specs.declared.values.ValueOfTwo.TheVariants as twos
 
 -- the number in the register at an address, or that it holds none
 abbrev pub worth_at : RegisterMap → ℕ → Option ℤ
@@ -34,7 +34,7 @@ IsNumberAt memory address (Ok number) = worth_at memory address ≡ Some (units 
 IsNumberAt memory address (Err fault) = (worth_at memory address ≡ None) × (fault ≡ AlphaData)
 
 -- the answer for one number
-abbrev pub AnswersOne : OfOne → RegisterMap → Ten → Result Ten DecimalFault → Type 0
+abbrev pub AnswersOne : ValueOfOne → RegisterMap → Ten → Result Ten DecimalFault → Type 0
 AnswersOne ones.Root memory number answer = NearestRoot (units number) answer
 AnswersOne ones.Inverse memory number answer = NearestQuotient (pos one) (units number) answer
 AnswersOne ones.Negative memory number answer = Nearest (neg_ℤ (units number)) 1 answer
@@ -52,12 +52,12 @@ AnswersOne ones.CountedDown memory number answer =
     Nearest (number_after Down (units number)) 1 answer
 
 -- and its sign, where it can be out of range
-abbrev pub sign_of_one : OfOne → ℤ → Sign
+abbrev pub sign_of_one : ValueOfOne → ℤ → Sign
 sign_of_one ones.Displayed number = sign_of number
 sign_of_one value number = Plus
 
 -- the answer for two numbers
-abbrev pub AnswersTwo : OfTwo → Ten → Ten → Result Ten DecimalFault → Type 0
+abbrev pub AnswersTwo : ValueOfTwo → Ten → Ten → Result Ten DecimalFault → Type 0
 AnswersTwo twos.Sum x y answer = Nearest (units x +ℤ units y) 1 answer
 AnswersTwo twos.Difference x y answer = Nearest (units x -ℤ units y) 1 answer
 AnswersTwo twos.Product x y answer = Nearest (units x *ℤ units y) one answer
@@ -65,7 +65,7 @@ AnswersTwo twos.Quotient x y answer = NearestQuotient (units x) (units y) answer
 AnswersTwo twos.Remainder x y answer = NearestModulo x y answer
 AnswersTwo twos.Percentage x y answer = Nearest (units x *ℤ units y) (100 * one) answer
 
-abbrev pub sign_of_two : OfTwo → ℤ → ℤ → Sign
+abbrev pub sign_of_two : ValueOfTwo → ℤ → ℤ → Sign
 sign_of_two twos.Sum x y = sign_of (x +ℤ y)
 sign_of_two twos.Difference x y = sign_of (x -ℤ y)
 sign_of_two twos.Product x y = sign_of (x *ℤ y)
@@ -80,13 +80,13 @@ KeptRange memory sign result =
     (IsOkAnd result (IsRegisterOf (signed sign greatest))) (result ≡ Err OutOfRange)
 
 -- the register of an answer for one number, or for two
-pub record KeptOne (value : OfOne) (memory : RegisterMap)
+pub record KeptOne (value : ValueOfOne) (memory : RegisterMap)
     (number : Ten) (result : Result (List ℕ) LineFault) : Type 0 where
   pub answer : Result Ten DecimalFault
   pub answers : AnswersOne value memory number answer
   pub kept : Kept (sign_of_one value (units number)) (flag_of memory range_ignore) answer result
 
-pub record KeptTwo (value : OfTwo) (memory : RegisterMap)
+pub record KeptTwo (value : ValueOfTwo) (memory : RegisterMap)
     (x y : Ten) (result : Result (List ℕ) LineFault) : Type 0 where
   pub answer : Result Ten DecimalFault
   pub answers : AnswersTwo value x y answer
@@ -94,7 +94,7 @@ pub record KeptTwo (value : OfTwo) (memory : RegisterMap)
       Kept (sign_of_two value (units x) (units y)) (flag_of memory range_ignore) answer result
 
 -- what is computed where no number is: the unit is zero
-abbrev pub WithoutNumber : OfOne → LineFault → Result (List ℕ) LineFault → Type 0
+abbrev pub WithoutNumber : ValueOfOne → LineFault → Result (List ℕ) LineFault → Type 0
 WithoutNumber ones.Unit fault result =
     IsOkAnd result (λ register. IsAlways (Given (pos 0)) register)
 WithoutNumber value fault result = result ≡ Err fault

@@ -15,7 +15,8 @@ pub use h41_commands::{
 };
 pub use h41_debug::{Bench, Stop};
 pub use h41_ends::{
-    FromRead, Input, InputFault, Sink, Source, ToWrite, WriteFault, flush, read_whole, write_whole,
+    FromRead, InputFault, ReadInput, Sink, Source, ToWrite, WriteFault, flush, read_whole,
+    write_whole,
 };
 pub use h41_xrom::{Calculator, CalculatorRefusal, Caller, Mode};
 pub use refusal::{Detail, Refusal};

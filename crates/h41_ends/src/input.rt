@@ -15,7 +15,7 @@ const BLOCK: usize = 4096;
 
 /// What was read of an input.
 #[derive(Debug, Drop)]
-pub struct Input {
+pub struct ReadInput {
     /// Its bytes, up to `MOST_BYTES` of them.
     pub bytes: Vec<u8>,
     /// Whether these are all.
@@ -27,7 +27,7 @@ pub struct Input {
 /// # Errors
 ///
 /// `ReadFault` (22) where a read fails, and `OutOfMemory` (21).
-pub fn read_whole<R: Source>(alloc: Global, reader: &mut R) -> Result<Input, InputFault>
+pub fn read_whole<R: Source>(alloc: Global, reader: &mut R) -> Result<ReadInput, InputFault>
     requires { R.failed reader.old ≡ false }
     ensures bytes { IfOk result (λ input. IsFront (R.remaining reader.old) input.bytes.items) }
     ensures whole { IfOk result (λ input. SaysWhole (R.remaining reader.old) input.is_whole) }
@@ -46,7 +46,7 @@ pub fn read_whole<R: Source>(alloc: Global, reader: &mut R) -> Result<Input, Inp
         bytes.extend_from_slice(&block[..count.min(room)])?;
         if count == 0 || count > room {
             let is_whole = count == 0;
-            return Ok(Input { bytes, is_whole });
+            return Ok(ReadInput { bytes, is_whole });
         }
     }
 }

@@ -8,7 +8,7 @@ mod sink;
 mod source;
 
 pub use fault::{InputFault, WriteFault};
-pub use input::{Input, MOST_BYTES, read_whole};
+pub use input::{MOST_BYTES, ReadInput, read_whole};
 pub use output::{flush, write_whole};
 pub use sink::{Sink, ToWrite};
 pub use source::{FromRead, Source};

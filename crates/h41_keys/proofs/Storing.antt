@@ -20,12 +20,12 @@ use Rattle.h41_keys.specs.Prompts.{prompt_row, wanted, takes_stack, line_with, l
 use Rattle.h41_keys.specs.Prompts.{is_local_letter, local_label, stack_register}
 use Rattle.h41_keys.specs.StoredLines.{is_storable, StoresLine}
 use Rattle.h41_keys.specs.declared.action.Action.{Action}
-use Rattle.h41_keys.specs.declared.input.Entry.{Entry}
-use Rattle.h41_keys.specs.declared.input.Entry.TheVariants as entries
+use Rattle.h41_keys.specs.declared.input.TypedEntry.{TypedEntry}
+use Rattle.h41_keys.specs.declared.input.TypedEntry.TheVariants as entries
 use Rattle.h41_keys.specs.declared.input.Flags.{Flags}
 use Rattle.h41_keys.specs.declared.input.Input.{Input}
-use Rattle.h41_keys.specs.declared.input.Mode.{Mode}
-use Rattle.h41_keys.specs.declared.input.Mode.TheVariants as modes
+use Rattle.h41_keys.specs.declared.input.Activity.{Activity}
+use Rattle.h41_keys.specs.declared.input.Activity.TheVariants as modes
 use Rattle.h41_keys.specs.declared.input.Pressed.{Pressed}
 use Rattle.h41_keys.specs.declared.key.Digit.{Digit}
 use Rattle.h41_keys.specs.declared.key.Key.{Key}
@@ -189,7 +189,7 @@ number_typed : (input : Input) (change : List Character → List Character) → 
 number_typed input change =
     number_becomes input (press.number_in input.entry) (kept_within (press.number_in input.entry) (change (press.number_in input.entry)))
 
-sign_pressed : (input : Input) (entry : Entry) → Stores (press.sign_pressed input entry)
+sign_pressed : (input : Input) (entry : TypedEntry) → Stores (press.sign_pressed input entry)
 sign_pressed input (entries.Number text) = number_typed input with_sign_turned
 sign_pressed input other = function_typed input _
 
@@ -197,12 +197,12 @@ press_of_clear : (input : Input) (program_mode : Bool) → Stores (press.press_o
 press_of_clear input true = tt
 press_of_clear input false = function_typed input _
 
-back_pressed : (input : Input) (entry : Entry) → Stores (press.back_pressed input entry)
+back_pressed : (input : Input) (entry : TypedEntry) → Stores (press.back_pressed input entry)
 back_pressed input (entries.Number text) = number_becomes input text (without_last text)
 back_pressed input other = press_of_clear input input.program_mode
 
 -- texts
-letter_typed : (input : Input) (program_mode : Bool) (entry : Entry) (letter : ℕ)
+letter_typed : (input : Input) (program_mode : Bool) (entry : TypedEntry) (letter : ℕ)
     → Stores (press.letter_typed input program_mode entry letter)
 letter_typed input false entries.Append letter = tt
 letter_typed input false entries.Letters letter = tt
@@ -211,13 +211,13 @@ letter_typed input true entries.Append letter = refl
 letter_typed input true (entries.TextLine text) letter = chosen Stores (nat_lt (length text) text_most) _ _ refl tt
 letter_typed input true other letter = refl
 
-letter_taken : (input : Input) (program_mode : Bool) (entry : Entry) → Stores (press.letter_taken input program_mode entry)
+letter_taken : (input : Input) (program_mode : Bool) (entry : TypedEntry) → Stores (press.letter_taken input program_mode entry)
 letter_taken input false entries.Letters = tt
 letter_taken input false other = tt
 letter_taken input true (entries.TextLine text) = chosen Stores (press.has_letter (without_last text)) _ _ refl tt
 letter_taken input true other = tt
 
-append_pressed : (input : Input) (program_mode : Bool) (entry : Entry) → Stores (press.append_pressed input program_mode entry)
+append_pressed : (input : Input) (program_mode : Bool) (entry : TypedEntry) → Stores (press.append_pressed input program_mode entry)
 append_pressed input false entries.Letters = tt
 append_pressed input program_mode other = tt
 
@@ -269,12 +269,12 @@ while_in_microcode : (input : Input) (meaning : Meaning) → IfPressed (press.wh
 while_in_microcode input meanings.Nothing = tt
 while_in_microcode input other = tt
 
-presses_store : (input : Input) (key : Key) (mode : Mode) (flags : Flags) → IfPressed (press.presses input key mode flags)
+presses_store : (input : Input) (key : Key) (mode : Activity) (flags : Flags) → IfPressed (press.presses input key mode flags)
 presses_store input key modes.Idle flags = idle input key flags
 presses_store input key modes.Run flags = while_running input (row_of key).plain
 presses_store input key modes.Micro flags = while_in_microcode input (row_of key).plain
 
 -- an accepted key's action stores such a line, or none
-pub accepted_stores : (before : Input) (key : Key) (mode : Mode) (flags : Flags) (action : Action) (after : Input)
+pub accepted_stores : (before : Input) (key : Key) (mode : Activity) (flags : Flags) (action : Action) (after : Input)
     → press.Accepts before key mode flags action after → StoresLine action
 accepted_stores before key mode flags action after accepted = subst IfPressed accepted (presses_store before key mode flags)

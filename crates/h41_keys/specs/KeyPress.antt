@@ -15,12 +15,12 @@ use Rattle.h41_keys.specs.NumberTyping.{without_last, kept_within}
 use Rattle.h41_keys.specs.PromptKeys.{prompt_step}
 use Rattle.h41_keys.specs.declared.action.Action.{Action}
 use Rattle.h41_keys.specs.declared.action.Action.TheVariants as actions
-use Rattle.h41_keys.specs.declared.input.Entry.{Entry}
-use Rattle.h41_keys.specs.declared.input.Entry.TheVariants as entries
+use Rattle.h41_keys.specs.declared.input.TypedEntry.{TypedEntry}
+use Rattle.h41_keys.specs.declared.input.TypedEntry.TheVariants as entries
 use Rattle.h41_keys.specs.declared.input.Flags.{Flags}
 use Rattle.h41_keys.specs.declared.input.Input.{Input}
-use Rattle.h41_keys.specs.declared.input.Mode.{Mode}
-use Rattle.h41_keys.specs.declared.input.Mode.TheVariants as modes
+use Rattle.h41_keys.specs.declared.input.Activity.{Activity}
+use Rattle.h41_keys.specs.declared.input.Activity.TheVariants as modes
 use Rattle.h41_keys.specs.declared.input.Pressed.{Pressed}
 use Rattle.h41_keys.specs.declared.key.Key.{Key}
 use Rattle.h41_keys.specs.declared.key.Key.TheVariants as keys
@@ -38,14 +38,14 @@ abbrev pub does : Action → Input → Pressed
 does action input = record { action = action; input = input }
 
 -- SHIFT holds for one key; what is being typed from then on, and where that is nothing
-abbrev pub typing : Input → Entry → Input
+abbrev pub typing : Input → TypedEntry → Input
 typing input entry = record input { shift = false; entry = entry }
 
 abbrev pub ended : Input → Input
 ended input = typing input entries.Nothing
 
 -- a number has ended, a text goes on
-abbrev pub without_number : Entry → Entry
+abbrev pub without_number : TypedEntry → TypedEntry
 without_number (entries.Number number) = entries.Nothing
 without_number other = other
 
@@ -67,7 +67,7 @@ abbrev pub opened_prompt : PromptFunction → Prompt
 opened_prompt function = record { function = function; indirect = false; typed = typed.Nothing }
 
 -- A NUMBER. What was typed of one; where none is being typed that is nothing
-abbrev pub number_in : Entry → List Character
+abbrev pub number_in : TypedEntry → List Character
 number_in (entries.Number text) = text
 number_in other = []
 
@@ -108,7 +108,7 @@ number_typed input change =
 
 -- CHS and BACK are functions where no number is being typed; in program mode BACK takes the shown
 -- line away
-abbrev pub sign_pressed : Input → Entry → Pressed
+abbrev pub sign_pressed : Input → TypedEntry → Pressed
 sign_pressed input (entries.Number text) = number_typed input with_sign_turned
 sign_pressed input other = function_typed input functions.ChangeSign
 
@@ -116,7 +116,7 @@ abbrev pub press_of_clear : Input → (program_mode : Bool) → Pressed
 press_of_clear input true = does actions.Delete (ended input)
 press_of_clear input false = function_typed input functions.ClearX
 
-abbrev pub back_pressed : Input → Entry → Pressed
+abbrev pub back_pressed : Input → TypedEntry → Pressed
 back_pressed input (entries.Number text) = number_becomes input text (without_last text)
 back_pressed input other = press_of_clear input input.program_mode
 
@@ -135,7 +135,7 @@ changed_line input text = text_line input replaces text
 
 -- a letter. The first clears ALPHA unless it is appended; in a line the append sign 7F stands in
 -- front
-abbrev pub letter_typed : Input → (program_mode : Bool) → Entry → ℕ → Pressed
+abbrev pub letter_typed : Input → (program_mode : Bool) → TypedEntry → ℕ → Pressed
 letter_typed input false entries.Append letter =
     does (actions.AddLetter letter) (typing input entries.Letters)
 letter_typed input false entries.Letters letter =
@@ -161,7 +161,7 @@ text_shortened input text =
 
 -- BACK: a letter goes. Where none was typed, ALPHA is cleared, or in program mode the shown line
 -- goes
-abbrev pub letter_taken : Input → (program_mode : Bool) → Entry → Pressed
+abbrev pub letter_taken : Input → (program_mode : Bool) → TypedEntry → Pressed
 letter_taken input false entries.Letters = does actions.TakeLetter (typing input entries.Letters)
 letter_taken input false other = does actions.ClearAlpha (ended input)
 letter_taken input true (entries.TextLine text) = text_shortened input (without_last text)
@@ -169,7 +169,7 @@ letter_taken input true other = does actions.Delete (ended input)
 
 -- SHIFT XEQ: the next letter is appended. In program mode it ends a line's text; else it changes
 -- nothing in a text
-abbrev pub append_pressed : Input → (program_mode : Bool) → Entry → Pressed
+abbrev pub append_pressed : Input → (program_mode : Bool) → TypedEntry → Pressed
 append_pressed input false entries.Letters = does actions.Nothing (typing input entries.Letters)
 append_pressed input program_mode other = does actions.Nothing (typing input entries.Append)
 
@@ -259,13 +259,13 @@ abbrev pub while_in_microcode : Input → Meaning → Option Pressed
 while_in_microcode input meanings.Nothing = None
 while_in_microcode input other = Some (does actions.Nothing input)
 
-abbrev pub presses : Input → Key → Mode → Flags → Option Pressed
+abbrev pub presses : Input → Key → Activity → Flags → Option Pressed
 presses input key modes.Idle flags = idle input key flags
 presses input key modes.Run flags = while_running input (row_of key).plain
 presses input key modes.Micro flags = while_in_microcode input (row_of key).plain
 
 -- a key is accepted with this action, and the keyboard keeps this
-abbrev pub Accepts : Input → Key → Mode → Flags → Action → Input → Type 0
+abbrev pub Accepts : Input → Key → Activity → Flags → Action → Input → Type 0
 Accepts before key mode flags action after =
     presses before key mode flags ≡ Some (does action after)
 

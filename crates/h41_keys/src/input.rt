@@ -5,7 +5,7 @@ use h41_codes::{Number, Text};
 
 /// A number or a text that is being typed.
 #[derive(Clone, Copy, Debug, PartialEq, Eq)]
-pub enum Entry {
+pub enum TypedEntry {
     /// None.
     Nothing,
     /// A number: its characters so far.
@@ -26,14 +26,14 @@ pub struct Input {
     /// Whether lines are stored in place of being carried out.
     pub program_mode: bool,
     /// The number or text that is being typed.
-    pub entry: Entry,
+    pub entry: TypedEntry,
     /// The function that waits for its parameter.
     pub prompt: Option<Prompt>,
 }
 
 /// What the calculator does.
 #[derive(Clone, Copy, Debug, PartialEq, Eq)]
-pub enum Mode {
+pub enum Activity {
     /// Nothing: it waits for keys.
     Idle,
     /// It runs a program.
@@ -71,7 +71,7 @@ impl Input {
         Input {
             shift: false,
             program_mode: false,
-            entry: Entry::Nothing,
+            entry: TypedEntry::Nothing,
             prompt: None,
         }
     }

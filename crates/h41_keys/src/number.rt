@@ -8,7 +8,7 @@ ghost use Rattle.h41_keys.specs.KeyPress as press;
 ghost use Rattle.h41_keys.specs.NumberTyping as spec;
 
 use crate::action::Action;
-use crate::input::{Entry, Input, Pressed};
+use crate::input::{Input, Pressed, TypedEntry};
 use crate::key::Digit;
 use crate::typing::{does, ended, typing};
 use h41_codes::{Character, Line, NUMBER_MOST, Number, exponent_place};
@@ -96,12 +96,12 @@ pub(crate) fn shortened(input: Input, number: &Number) -> Pressed
 }
 
 /// What was typed of a number.
-fn characters(entry: &Entry) -> &[Character]
+fn characters(entry: &TypedEntry) -> &[Character]
     ensures text { result.now ≡ press.number_in entry.now }
     ensures bound { length result.now ≤ number_most }
 {
     match entry {
-        Entry::Number(number) => number.characters(),
+        TypedEntry::Number(number) => number.characters(),
         _ => &[],
     }
 }
@@ -176,7 +176,7 @@ fn number_begun(input: Input, number: Number) -> Pressed
     } else {
         Action::BeginNumber(number)
     };
-    does(action, typing(input, Entry::Number(number)))
+    does(action, typing(input, TypedEntry::Number(number)))
 }
 
 /// A number changes.
@@ -188,7 +188,7 @@ fn number_changed(input: Input, number: Number) -> Pressed
     } else {
         Action::ChangeNumber(number)
     };
-    does(action, typing(input, Entry::Number(number)))
+    does(action, typing(input, TypedEntry::Number(number)))
 }
 
 /// A number's last character was taken back.

@@ -5,7 +5,7 @@ ghost use Rattle.h41_keys.specs.KeyPress as spec;
 ghost use Rattle.h41_keys.specs.StoredLines.{StoresLine};
 
 use crate::action::{Action, KeyNotHeld};
-use crate::input::{Entry, Flags, Input, Mode, Pressed};
+use crate::input::{Activity, Flags, Input, Pressed, TypedEntry};
 use crate::key::Key;
 use crate::meaning::{Meaning, meaning_of, plain};
 use crate::number::{digit_typed, exponent_typed, point_typed, shortened, sign_turned};
@@ -18,7 +18,12 @@ use h41_codes::{Function, Number};
 
 /// Presses a key: what the calculator has to do, or 18 where the key has no meaning. A key that is refused, here or later
 /// by the calculator, changes nothing: a caller that may still refuse it keeps the input from before.
-pub fn press(input: &mut Input, key: Key, mode: Mode, flags: Flags) -> Result<Action, KeyNotHeld>
+pub fn press(
+    input: &mut Input,
+    key: Key,
+    mode: Activity,
+    flags: Flags,
+) -> Result<Action, KeyNotHeld>
     ensures accepted { IfOk result (λ done. spec.Accepts input.old key mode flags done input.new) }
     ensures refused { OnErr result (spec.presses input.old key mode flags ≡ None) }
     ensures unchanged { OnErr result (input.new ≡ input.old) }
@@ -34,13 +39,13 @@ pub fn press(input: &mut Input, key: Key, mode: Mode, flags: Flags) -> Result<Ac
 }
 
 /// What a key leads to.
-fn pressed(input: Input, key: Key, mode: Mode, flags: Flags) -> Option<Pressed>
+fn pressed(input: Input, key: Key, mode: Activity, flags: Flags) -> Option<Pressed>
     ensures { result ≡ spec.presses input key mode flags }
 {
     match mode {
-        Mode::Idle => idle(input, key, flags),
-        Mode::Run => while_running(input, plain(key)),
-        Mode::Micro => while_in_microcode(input, plain(key)),
+        Activity::Idle => idle(input, key, flags),
+        Activity::Run => while_running(input, plain(key)),
+        Activity::Micro => while_in_microcode(input, plain(key)),
     }
 }
 
@@ -196,7 +201,7 @@ fn sign_pressed(input: Input) -> Pressed
     ensures { result ≡ spec.sign_pressed input input.entry }
 {
     match input.entry {
-        Entry::Number(_) => sign_turned(input),
+        TypedEntry::Number(_) => sign_turned(input),
         _ => function_typed(input, Function::ChangeSign),
     }
 }
@@ -207,7 +212,7 @@ fn back_pressed(input: Input) -> Pressed
 {
     let held = input;
     match &held.entry {
-        Entry::Number(number) => shortened(input, number),
+        TypedEntry::Number(number) => shortened(input, number),
         _ => clearing(input),
     }
 }

@@ -5,7 +5,7 @@ ghost use Rattle.h41_keys.specs.KeyPress as press;
 ghost use Rattle.h41_keys.specs.NumberTyping as typed;
 
 use crate::action::Action;
-use crate::input::{Entry, Input, Pressed};
+use crate::input::{Input, Pressed, TypedEntry};
 use crate::letters::{with_letter, without_last};
 use crate::typing::{does, ended, typing};
 use h41_codes::{Line, Text};
@@ -21,10 +21,10 @@ pub(crate) fn letter_typed(input: Input, letter: u8) -> Pressed
         letter_of_line(input, letter)
     } else {
         let action = match input.entry {
-            Entry::Append | Entry::Letters => Action::AddLetter(letter),
+            TypedEntry::Append | TypedEntry::Letters => Action::AddLetter(letter),
             _ => Action::BeginText(letter),
         };
-        does(action, typing(input, Entry::Letters))
+        does(action, typing(input, TypedEntry::Letters))
     }
 }
 
@@ -34,8 +34,8 @@ fn letter_of_line(input: Input, letter: u8) -> Pressed
 {
     let held = input;
     match &held.entry {
-        Entry::Append => line_begun(input, &[APPEND, letter]),
-        Entry::TextLine(text) => match with_letter(text.characters(), letter) {
+        TypedEntry::Append => line_begun(input, &[APPEND, letter]),
+        TypedEntry::TextLine(text) => match with_letter(text.characters(), letter) {
             Some(longer) => line_changed(input, longer),
             None => does(Action::Nothing, typing(input, input.entry)),
         },
@@ -51,7 +51,7 @@ fn line_begun(input: Input, letters: &[u8]) -> Pressed
     match Text::new(letters) {
         Some(text) => does(
             Action::Insert(Line::Text(text)),
-            typing(input, Entry::TextLine(text)),
+            typing(input, TypedEntry::TextLine(text)),
         ),
         None => unreachable!(),
     }
@@ -63,7 +63,7 @@ fn line_changed(input: Input, text: Text<15>) -> Pressed
 {
     does(
         Action::Replace(Line::Text(text)),
-        typing(input, Entry::TextLine(text)),
+        typing(input, TypedEntry::TextLine(text)),
     )
 }
 
@@ -73,8 +73,8 @@ pub(crate) fn letter_taken(input: Input) -> Pressed
 {
     if input.program_mode {
         letter_taken_of_line(input)
-    } else if matches!(input.entry, Entry::Letters) {
-        does(Action::TakeLetter, typing(input, Entry::Letters))
+    } else if matches!(input.entry, TypedEntry::Letters) {
+        does(Action::TakeLetter, typing(input, TypedEntry::Letters))
     } else {
         does(Action::ClearAlpha, ended(input))
     }
@@ -86,7 +86,7 @@ fn letter_taken_of_line(input: Input) -> Pressed
 {
     let held = input;
     match &held.entry {
-        Entry::TextLine(text) => shortened(input, text.characters()),
+        TypedEntry::TextLine(text) => shortened(input, text.characters()),
         _ => does(Action::Delete, ended(input)),
     }
 }
@@ -119,9 +119,9 @@ fn has_letter(text: &[u8]) -> bool
 pub(crate) fn append_pressed(input: Input) -> Pressed
     ensures { result ≡ press.append_pressed input input.program_mode input.entry }
 {
-    if !input.program_mode && matches!(input.entry, Entry::Letters) {
-        does(Action::Nothing, typing(input, Entry::Letters))
+    if !input.program_mode && matches!(input.entry, TypedEntry::Letters) {
+        does(Action::Nothing, typing(input, TypedEntry::Letters))
     } else {
-        does(Action::Nothing, typing(input, Entry::Append))
+        does(Action::Nothing, typing(input, TypedEntry::Append))
     }
 }

@@ -3,7 +3,7 @@ ghost use Rattle.std.specs.Prelude.{◌≡◌};
 ghost use Rattle.h41_keys.specs.KeyPress as press;
 
 use crate::action::Action;
-use crate::input::{Entry, Input, Pressed};
+use crate::input::{Input, Pressed, TypedEntry};
 use h41_codes::{Function, Line};
 
 /// An accepted key.
@@ -14,7 +14,7 @@ pub(crate) fn does(action: Action, input: Input) -> Pressed
 }
 
 /// SHIFT is used up, and this is being typed.
-pub(crate) fn typing(input: Input, entry: Entry) -> Input
+pub(crate) fn typing(input: Input, entry: TypedEntry) -> Input
     ensures { result ≡ press.typing input entry }
 {
     Input {
@@ -28,15 +28,15 @@ pub(crate) fn typing(input: Input, entry: Entry) -> Input
 pub(crate) fn ended(input: Input) -> Input
     ensures { result ≡ press.ended input }
 {
-    typing(input, Entry::Nothing)
+    typing(input, TypedEntry::Nothing)
 }
 
 /// What is being typed, but for a number.
-pub(crate) fn without_number(entry: Entry) -> Entry
+pub(crate) fn without_number(entry: TypedEntry) -> TypedEntry
     ensures { result ≡ press.without_number entry }
 {
     match entry {
-        Entry::Number(_) => Entry::Nothing,
+        TypedEntry::Number(_) => TypedEntry::Nothing,
         other => other,
     }
 }

@@ -3,14 +3,15 @@ use Rattle.std.proofs.Common.{◌≡◌, ℕ, Bool, true, false, List, [], Optio
 use Rattle.std.specs.Prelude.{◌++◌, MatchBool}
 use Rattle.h41_editor.specs.EditorLaws.{TextIsDetermined}
 use Rattle.h41_focal.specs.LineStep.{Machine}
-use Rattle.h41_keys.specs.declared.input.Entry.{Entry}
+use Rattle.h41_keys.specs.declared.input.TypedEntry.{TypedEntry}
 use Rattle.h41_keys.specs.declared.prompt.Prompt.{Prompt}
 use Rattle.h41_xrom.specs.Calculator.{CalculatorState, machine_of}
 use Rattle.h41_xrom.specs.CalculatorLaws.{DisplayIsDetermined}
 use Rattle.h41_xrom.specs.Display.{ShowsMessage, ShowsPrompt, ShowsShownLine, cursor_of, entry_text}
 
 module _ (same_program : TextIsDetermined) where
-  same_shown : (machine : Machine) (entry : Entry) (a b : List ℕ) → ShowsShownLine machine entry a → ShowsShownLine machine entry b → a ≡ b
+  same_shown : (machine : Machine) (entry : TypedEntry) (a b : List ℕ) → ShowsShownLine machine entry a
+      → ShowsShownLine machine entry b → a ≡ b
   same_shown machine entry a b (p, p_shows, p_is) (q, q_shows, q_is) =
       p_is ∙ ap (λ (of : List ℕ). of ++ cursor_of entry) (same_program machine p q p_shows q_shows) ∙ sym q_is
 

@@ -7,7 +7,7 @@ use Rattle.h41_keys.specs.declared.action.Action.{Action}
 use Rattle.h41_keys.specs.declared.action.Action.TheVariants as actions
 use Rattle.h41_keys.specs.declared.input.Flags.{Flags}
 use Rattle.h41_keys.specs.declared.input.Input.{Input}
-use Rattle.h41_keys.specs.declared.input.Mode as keyboard_mode
+use Rattle.h41_keys.specs.declared.input.Activity.{Activity}
 use Rattle.h41_keys.specs.declared.input.Pressed.{Pressed}
 use Rattle.h41_keys.specs.declared.key.Key.{Key}
 use Rattle.h41_keys.specs.declared.meaning.Meaning.{Meaning}
@@ -83,24 +83,24 @@ quiet modes.Run input key flags action after is = quiet_in_run (row_of key).plai
 quiet (modes.Micro caller) input key flags action after is = quiet_in_micro caller (row_of key).plain input action after is
 
 -- what the keyboard was asked
-asked : (from s : CalculatorState) (key : Key) (mode : keyboard_mode.Mode) (flags : Flags) → from ≡ s → mode ≡ waiting s.mode
+asked : (from s : CalculatorState) (key : Key) (mode : Activity) (flags : Flags) → from ≡ s → mode ≡ waiting s.mode
     → flags ≡ flags_of s → presses from.input key mode flags ≡ pressed s key
 asked from s key mode flags is waits held = λ i. presses (is i).input key (waits i) (held i)
 
 pub key_quiet : (input : Input) (s : CalculatorState) (key : Key)
-    (mode : keyboard_mode.Mode) (flags : Flags) (action : Action) (after : Input)
+    (mode : Activity) (flags : Flags) (action : Action) (after : Input)
     → mode ≡ waiting s.mode → keyboard.Accepts input key mode flags action after → IsQuiet s.mode action
 key_quiet input s key mode flags action after waits accepts =
-    quiet s.mode input key flags action after (ap (λ (of : keyboard_mode.Mode). presses input key of flags) (sym waits) ∙ accepts)
+    quiet s.mode input key flags action after (ap (λ (of : Activity). presses input key of flags) (sym waits) ∙ accepts)
 
 -- it has no meaning
-pub key_unknown : (from s : CalculatorState) (key : Key) (mode : keyboard_mode.Mode) (flags : Flags) (why : CalculatorRefusal) → from ≡ s
+pub key_unknown : (from s : CalculatorState) (key : Key) (mode : Activity) (flags : Flags) (why : CalculatorRefusal) → from ≡ s
     → mode ≡ waiting s.mode → flags ≡ flags_of s → presses from.input key mode flags ≡ None → why ≡ KeyNotHeld → Presses key s s (Some why)
 key_unknown from s key mode flags why is waits held none same =
     (Err KeyNotHeld, rw (sym (asked from s key mode flags is waits held) ∙ none) refl, (refl, ap Some same))
 
 -- it has one
-pub key_known : (from s t : CalculatorState) (key : Key) (mode : keyboard_mode.Mode)
+pub key_known : (from s t : CalculatorState) (key : Key) (mode : Activity)
     (flags : Flags) (action : Action) (after : Input) (refusal : Option CalculatorRefusal)
     → from ≡ s → mode ≡ waiting s.mode → flags ≡ flags_of s → keyboard.Accepts from.input key mode flags action after
     → Accepts key after action s t refusal → Presses key s t refusal

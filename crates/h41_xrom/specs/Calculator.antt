@@ -13,7 +13,7 @@ use Rattle.h41_focal.specs.Outcomes.{Answer}
 use Rattle.h41_focal.specs.Outcomes as answers
 use Rattle.h41_focal.specs.declared.refusal.FocalRefusal.{FocalRefusal}
 use Rattle.h41_keys.specs.KeyPress as keyboard
-use Rattle.h41_keys.specs.declared.input.Entry.TheVariants as entries
+use Rattle.h41_keys.specs.declared.input.TypedEntry.TheVariants as entries
 use Rattle.h41_keys.specs.declared.input.Input.{Input}
 use Rattle.h41_ram.specs.RegisterMap as ram
 use Rattle.h41_nut.specs.Processor.{initial, entered}

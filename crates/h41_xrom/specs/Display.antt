@@ -6,8 +6,8 @@ use Rattle.h41_codes.specs.declared.line.Line.TheVariants.{Number}
 use Rattle.h41_editor.specs.ProgramText.{ShowsProgram}
 use Rattle.h41_focal.specs.LineStep.{Machine}
 use Rattle.h41_keys.specs.Prompts.{prompt_text}
-use Rattle.h41_keys.specs.declared.input.Entry.{Entry}
-use Rattle.h41_keys.specs.declared.input.Entry.TheVariants as entries
+use Rattle.h41_keys.specs.declared.input.TypedEntry.{TypedEntry}
+use Rattle.h41_keys.specs.declared.input.TypedEntry.TheVariants as entries
 use Rattle.h41_keys.specs.declared.prompt.Prompt.{Prompt}
 use Rattle.h41_lines.specs.Characters.{characters_text}
 use Rattle.h41_ram.specs.RegisterMap.{RegisterMap, flag_of, register_at}
@@ -32,22 +32,22 @@ abbrev pub typed_number : List Character → List ℕ
 typed_number text = line_text (Number text) ++ cursor
 
 -- X in the display format, or that number
-abbrev pub x_text : RegisterMap → Entry → List ℕ
+abbrev pub x_text : RegisterMap → TypedEntry → List ℕ
 x_text memory (entries.Number text) = typed_number text
 x_text memory entry = register_text (format_of memory) (register_at memory x_address)
 
 -- ALPHA with flag 48, and else X
-abbrev pub entry_text : RegisterMap → Entry → List ℕ
+abbrev pub entry_text : RegisterMap → TypedEntry → List ℕ
 entry_text memory entry =
     if flag_of memory alpha_flag then alpha_text memory else x_text memory entry
 
 -- a line of a program that is being typed
-abbrev pub cursor_of : Entry → List ℕ
+abbrev pub cursor_of : TypedEntry → List ℕ
 cursor_of (entries.Number text) = cursor
 cursor_of (entries.TextLine text) = cursor
 cursor_of entry = []
 
-abbrev pub ShowsShownLine : Machine → Entry → List ℕ → Type 0
+abbrev pub ShowsShownLine : Machine → TypedEntry → List ℕ → Type 0
 ShowsShownLine machine entry text =
     (shown : List ℕ) × ShowsProgram machine shown × (text ≡ shown ++ cursor_of entry)
 

@@ -21,8 +21,8 @@ use Rattle.h41_keys.specs.declared.action.Action.{Action}
 use Rattle.h41_keys.specs.declared.action.Action.TheVariants as actions
 use Rattle.h41_keys.specs.declared.input.Flags.{Flags}
 use Rattle.h41_keys.specs.declared.input.Input.{Input}
-use Rattle.h41_keys.specs.declared.input.Mode as keyboard
-use Rattle.h41_keys.specs.declared.input.Mode.TheVariants as waits
+use Rattle.h41_keys.specs.declared.input.Activity as keyboard
+use Rattle.h41_keys.specs.declared.input.Activity.TheVariants as waits
 use Rattle.h41_keys.specs.declared.input.Pressed.{Pressed}
 use Rattle.h41_keys.specs.declared.key.Key.{Key}
 use Rattle.h41_nut.specs.RegisterWords.{with_display}
@@ -198,7 +198,7 @@ Acts pages program_mode actions.ClearAlpha machine effect =
     effect ≡ leaves_memory (with_text machine.memory []) machine
 
 -- A KEY. What of the calculator decides what it means, beside what the keyboard keeps
-abbrev pub waiting : Mode → keyboard.Mode
+abbrev pub waiting : Mode → keyboard.Activity
 waiting modes.Idle = waits.Idle
 waiting modes.Run = waits.Run
 waiting (modes.Micro caller) = waits.Micro

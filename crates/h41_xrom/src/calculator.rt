@@ -10,7 +10,7 @@ ghost use Rattle.h41_xrom.specs.Calculator.{mode_after, mode_behind_word, mode_o
 ghost use Rattle.h41_xrom.specs.Calculator.{restarted, start, with_page, with_shown, without_page};
 ghost use Rattle.h41_xrom.specs.KeyActions as keys;
 ghost use Rattle.h41_xrom.specs.private.PrivateCalls.{Accepts, IsAccepted, after_effect, after_end};
-ghost use Rattle.h41_keys.specs.declared.input.Entry.TheVariants as entries;
+ghost use Rattle.h41_keys.specs.declared.input.TypedEntry.TheVariants as entries;
 ghost use Rattle.h41_focal.specs.Outcomes.{answer_of};
 ghost use Rattle.h41_xrom.specs.declared.calculator.Mode.TheVariants.{Micro};
 ghost use Rattle.h41_xrom.specs.Programs.{Becomes, Loads, change_refusal, size_makes};
@@ -20,7 +20,7 @@ use crate::lines::{LineEnd, LineSource, carry_line};
 use crate::messages::{fault_text, test_text};
 use crate::refusal::CalculatorRefusal;
 use h41_focal::{DisplayText, Focal, LineOutcome, Machine};
-use h41_keys::{Action, Entry, Flags, Input, Key, press};
+use h41_keys::{Action, Flags, Input, Key, TypedEntry, press};
 use h41_nut::{Cpu, END_OF_FUNCTION, Keys, WordRefusal, step};
 use h41_pages::{FIRST_ADDRESS, Pages, PlugRefusal, UnplugRefusal};
 use h41_program::{Position, load, set_size};
@@ -209,7 +209,7 @@ impl Calculator {
     fn end_entry(&mut self)
         ensures { self.new ≡ not_typing self.old }
     {
-        self.input.entry = Entry::Nothing;
+        self.input.entry = TypedEntry::Nothing;
     }
 
     /// The function at an address runs.
@@ -336,13 +336,13 @@ impl Calculator {
     }
 
     /// What runs, as the keyboard needs to know it.
-    fn waits(&self) -> h41_keys::Mode
+    fn waits(&self) -> h41_keys::Activity
         ensures { result ≡ keys.waiting self.now.mode }
     {
         match self.mode {
-            Mode::Idle => h41_keys::Mode::Idle,
-            Mode::Run => h41_keys::Mode::Run,
-            Mode::Micro(_) => h41_keys::Mode::Micro,
+            Mode::Idle => h41_keys::Activity::Idle,
+            Mode::Run => h41_keys::Activity::Run,
+            Mode::Micro(_) => h41_keys::Activity::Micro,
         }
     }
 
@@ -417,7 +417,7 @@ impl Calculator {
         self.check_change()?;
         let start = load(&mut self.machine.ram, bytes)?;
         self.machine.focal.halt_at(Position::Memory(start));
-        self.input.entry = Entry::Nothing;
+        self.input.entry = TypedEntry::Nothing;
         Ok(())
     }
 

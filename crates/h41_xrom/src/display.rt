@@ -11,7 +11,7 @@ use arrayvec::ArrayString;
 use h41_codes::{Line, Number};
 use h41_editor::program_text;
 use h41_focal::Machine;
-use h41_keys::{Entry, Input, Prompt};
+use h41_keys::{Input, Prompt, TypedEntry};
 use h41_lines::characters::character_text;
 use h41_ram::{Ram, StatusRegister};
 use h41_show::{Format, TEXT_CAPACITY, alpha_text, register_text};
@@ -64,7 +64,7 @@ fn push_characters(text: &mut ArrayString<TEXT_CAPACITY>, characters: &[u8])
 /// In program mode the line, with what stands behind it while it is being typed.
 fn shown_line<const REGS: usize>(
     machine: &Machine<REGS>,
-    entry: Entry,
+    entry: TypedEntry,
 ) -> ArrayString<TEXT_CAPACITY>
     ensures { spec.ShowsShownLine machine.now entry result.bytes }
 {
@@ -75,25 +75,25 @@ fn shown_line<const REGS: usize>(
 }
 
 /// What stands behind a line of a program, by what is being typed.
-fn cursor_of(entry: Entry) -> &'static str
+fn cursor_of(entry: TypedEntry) -> &'static str
     ensures text { result.now ≡ spec.cursor_of entry }
     ensures fits { length result.now ≤ 1 }
 {
     match entry {
-        Entry::Number(_) | Entry::TextLine(_) => CURSOR,
-        Entry::Nothing | Entry::Append | Entry::Letters => "",
+        TypedEntry::Number(_) | TypedEntry::TextLine(_) => CURSOR,
+        TypedEntry::Nothing | TypedEntry::Append | TypedEntry::Letters => "",
     }
 }
 
 /// ALPHA with flag 48, the number that is being typed, and else X in the display format.
-fn entry_text<const REGS: usize>(ram: &Ram<REGS>, entry: Entry) -> ArrayString<TEXT_CAPACITY>
+fn entry_text<const REGS: usize>(ram: &Ram<REGS>, entry: TypedEntry) -> ArrayString<TEXT_CAPACITY>
     ensures { result.bytes ≡ spec.entry_text ram.now entry }
 {
     if ram.flag(ALPHA_FLAG) {
         return alpha_text(ram);
     }
     match entry {
-        Entry::Number(number) => typed_number(number),
+        TypedEntry::Number(number) => typed_number(number),
         _ => register_text(
             ram.status_register(StatusRegister::X),
             Format::from_flags(ram),

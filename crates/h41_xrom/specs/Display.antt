@@ -10,18 +10,14 @@ use Rattle.h41_keys.specs.declared.input.TypedEntry.{TypedEntry}
 use Rattle.h41_keys.specs.declared.input.TypedEntry.TheVariants as entries
 use Rattle.h41_keys.specs.declared.prompt.Prompt.{Prompt}
 use Rattle.h41_lines.specs.Characters.{characters_text}
-use Rattle.h41_ram.specs.RegisterMap.{RegisterMap, flag_of, register_at}
+use Rattle.h41_ram.specs.NamedFlags.{alpha_mode}
+use Rattle.h41_ram.specs.NamedRegisters.{status_of}
+use Rattle.h41_ram.specs.RegisterMap.{RegisterMap, flag_of}
+use Rattle.h41_ram.specs.declared.status.StatusRegister.TheVariants.{X}
 use Rattle.h41_show.specs.DisplayFormat.{format_of}
 use Rattle.h41_show.specs.RegisterText.{alpha_text, register_text}
 use Rattle.h41_text.specs.LineText.{line_text}
 use Rattle.h41_xrom.specs.Calculator.{CalculatorState, machine_of}
-
--- the flag that brings ALPHA into the display, and the address of X
-abbrev pub alpha_flag : ℕ
-alpha_flag = 48
-
-abbrev pub x_address : ℕ
-x_address = 3
 
 -- what stands behind a number or a line that is being typed
 abbrev pub cursor : List ℕ
@@ -34,12 +30,12 @@ typed_number text = line_text (Number text) ++ cursor
 -- X in the display format, or that number
 abbrev pub x_text : RegisterMap → TypedEntry → List ℕ
 x_text memory (entries.Number text) = typed_number text
-x_text memory entry = register_text (format_of memory) (register_at memory x_address)
+x_text memory entry = register_text (format_of memory) (status_of memory X)
 
 -- ALPHA with flag 48, and else X
 abbrev pub entry_text : RegisterMap → TypedEntry → List ℕ
 entry_text memory entry =
-    if flag_of memory alpha_flag then alpha_text memory else x_text memory entry
+    if flag_of memory alpha_mode then alpha_text memory else x_text memory entry
 
 -- a line of a program that is being typed
 abbrev pub cursor_of : TypedEntry → List ℕ

@@ -31,6 +31,7 @@ use Rattle.h41_pages.specs.PageMap.{PageMap}
 use Rattle.h41_program.specs.ProgramLines.{AnswersOf}
 use Rattle.h41_program.specs.Searches.{named_in, position_of}
 use Rattle.h41_program.specs.declared.refusal.ProgramRefusal.{ProgramRefusal}
+use Rattle.h41_ram.specs.NamedFlags.{alpha_entry, alpha_mode, number_entry}
 use Rattle.h41_ram.specs.RegisterMap.{RegisterMap, alpha_of, flag_of, is_sound, with_alpha}
 use Rattle.h41_ram.specs.RegisterMap.{with_flag}
 use Rattle.h41_rows.specs.Places.{X}
@@ -39,7 +40,6 @@ use Rattle.h41_rows.specs.Rows.{coming_in, compute}
 use Rattle.h41_rows.specs.Values.{Computes, Written}
 use Rattle.h41_xrom.specs.Calculator.{CalculatorState, after_line, is_idle, machine_of}
 use Rattle.h41_xrom.specs.Calculator.{with_machine}
-use Rattle.h41_xrom.specs.Display.{alpha_flag}
 use Rattle.h41_xrom.specs.Lines.{CarriesLine, Ended, IsNamed, of_line}
 use Rattle.h41_xrom.specs.Programs.{Becomes}
 use Rattle.h41_xrom.specs.declared.calculator.Mode.{Mode}
@@ -122,9 +122,6 @@ StoresLine pages line machine effect =
 -- A NUMBER that is typed is worth what a number line with these characters is. It comes into X as
 -- it begins: the stack is lifted where lift is on, which it is then, and flag 22 is set. Where its
 -- last character was taken X is zero, and the stack does not lift
-abbrev pub number_flag : ℕ
-number_flag = 22
-
 abbrev pub taken_in : RegisterMap → Bool → List ℕ → RegisterMap
 taken_in memory lift register =
     with_taken memory 0 register (takes_of (coming_in (compute X)) lift) memory
@@ -132,7 +129,7 @@ taken_in memory lift register =
 abbrev pub begun : Machine → List ℕ → Machine
 begun machine register =
     with_lift true (with_memory
-    (with_flag (taken_in machine.memory machine.focal.lift register) number_flag true) machine)
+    (with_flag (taken_in machine.memory machine.focal.lift register) number_entry true) machine)
 
 abbrev pub BeginsNumber : List Character → Machine → Result KeyOutcome CalculatorRefusal → Type 0
 BeginsNumber text machine effect =
@@ -150,18 +147,15 @@ ChangesNumber text machine effect =
     × (effect ≡ Ok (Leaves (changed machine register)))
 
 -- ALPHA: its 24 bytes end with what it holds, behind nulls
-abbrev pub text_flag : ℕ
-text_flag = 23
-
 abbrev pub with_text : RegisterMap → List ℕ → RegisterMap
 with_text memory characters = with_alpha memory (last_24 characters)
 
 abbrev pub with_letters : RegisterMap → List ℕ → RegisterMap
-with_letters memory characters = with_flag (with_text memory characters) text_flag true
+with_letters memory characters = with_flag (with_text memory characters) alpha_entry true
 
 -- flag 48 is the other way
 abbrev pub with_alpha_toggled : RegisterMap → RegisterMap
-with_alpha_toggled memory = with_flag memory alpha_flag (not (flag_of memory alpha_flag))
+with_alpha_toggled memory = with_flag memory alpha_mode (not (flag_of memory alpha_mode))
 
 -- EACH ACTION, where lines are stored in program mode
 abbrev pub Acts : PageMap → (program_mode : Bool) → Action → Machine
@@ -204,7 +198,7 @@ waiting modes.Run = waits.Run
 waiting (modes.Micro caller) = waits.Micro
 
 abbrev pub flags_of : CalculatorState → Flags
-flags_of s = record { alpha = flag_of s.nut.ram alpha_flag; message = is_some s.message }
+flags_of s = record { alpha = flag_of s.nut.ram alpha_mode; message = is_some s.message }
 
 abbrev pub pressed : CalculatorState → Key → Option Pressed
 pressed s key = presses s.input key (waiting s.mode) (flags_of s)

@@ -25,11 +25,9 @@ use h41_nut::{Cpu, END_OF_FUNCTION, Keys, WordRefusal, step};
 use h41_pages::{FIRST_ADDRESS, Pages, PlugRefusal, UnplugRefusal};
 use h41_program::{Position, load, set_size};
 use h41_ram::Ram;
+use h41_ram::flags::ALPHA_MODE;
 use std::alloc::{AllocError, Global};
 use std::marker::Model;
-
-/// The flag that brings ALPHA into the display.
-pub const ALPHA_FLAG: usize = 48;
 
 /// How many registers main memory has.
 pub const REGISTERS: usize = 320;
@@ -351,7 +349,7 @@ impl Calculator {
         ensures { result ≡ keys.flags_of self.now }
     {
         Flags {
-            alpha: self.machine.ram.flag(ALPHA_FLAG),
+            alpha: self.machine.ram.flag(ALPHA_MODE),
             message: self.message.is_some(),
         }
     }

@@ -1,18 +1,17 @@
 //! What the display shows.
 
-ghost use Rattle.std.specs.Prelude.{◌≡◌, ◌≤◌, ◌++◌, length};
-ghost use Rattle.arrayvec.specs.ArrayString.{array_string_len};
-ghost use Rattle.h41_lines.specs.Characters.{characters_text};
+ghost use Rattle.std.specs.Prelude.{◌≡◌, ◌≤◌, length};
 ghost use Rattle.h41_xrom.specs.Display as spec;
 ghost use Rattle.h41_xrom.specs.Display.{ShowsDisplay};
 
-use crate::calculator::{ALPHA_FLAG, Calculator};
+use crate::calculator::Calculator;
 use arrayvec::ArrayString;
 use h41_codes::{Line, Number};
 use h41_editor::program_text;
 use h41_focal::Machine;
 use h41_keys::{Input, Prompt, TypedEntry};
-use h41_lines::characters::character_text;
+use h41_lines::characters::push_characters;
+use h41_ram::flags::ALPHA_MODE;
 use h41_ram::{Ram, StatusRegister};
 use h41_show::{Format, TEXT_CAPACITY, alpha_text, register_text};
 use h41_text::write_line;
@@ -50,17 +49,6 @@ fn prompt_text(prompt: &Prompt) -> ArrayString<TEXT_CAPACITY>
     text
 }
 
-/// Appends characters, 18 at most.
-fn push_characters(text: &mut ArrayString<TEXT_CAPACITY>, characters: &[u8])
-    requires room { array_string_len text.old ≡ 0 }
-    requires few { length characters.now ≤ 18 }
-    ensures { text.new.bytes ≡ text.old.bytes ++ characters_text characters.now }
-{
-    for character in characters {
-        text.push_str(character_text(*character).as_str());
-    }
-}
-
 /// In program mode the line, with what stands behind it while it is being typed.
 fn shown_line<const REGS: usize>(
     machine: &Machine<REGS>,
@@ -89,7 +77,7 @@ fn cursor_of(entry: TypedEntry) -> &'static str
 fn entry_text<const REGS: usize>(ram: &Ram<REGS>, entry: TypedEntry) -> ArrayString<TEXT_CAPACITY>
     ensures { result.bytes ≡ spec.entry_text ram.now entry }
 {
-    if ram.flag(ALPHA_FLAG) {
+    if ram.flag(ALPHA_MODE) {
         return alpha_text(ram);
     }
     match entry {

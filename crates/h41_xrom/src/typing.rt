@@ -9,17 +9,9 @@ ghost use Rattle.h41_xrom.specs.declared.acting.KeyEffect.TheVariants.{Nothing};
 use crate::acting::KeyEffect;
 use h41_codes::Number;
 use h41_focal::Machine;
+use h41_ram::flags::{ALPHA_ENTRY, ALPHA_MODE, NUMBER_ENTRY};
 use h41_ram::{ALPHA_LENGTH, Ram};
 use h41_rows::{append_text, bring_in, replace_text, written};
-
-/// The flag that a number sets which is typed.
-const NUMBER_FLAG: usize = 22;
-
-/// The flag that letters set which are typed.
-const TEXT_FLAG: usize = 23;
-
-/// The flag that brings ALPHA into the display.
-const ALPHA_FLAG: usize = 48;
 
 /// A number comes into X as it begins; the stack is lifted first where lift is on, which it is then.
 pub fn begin_number<const REGS: usize>(machine: &mut Machine<REGS>, number: &Number) -> KeyEffect
@@ -28,7 +20,7 @@ pub fn begin_number<const REGS: usize>(machine: &mut Machine<REGS>, number: &Num
 {
     let focal = &mut machine.focal;
     bring_in(&mut machine.ram, written(number), focal.lift);
-    machine.ram.set_flag(NUMBER_FLAG, true);
+    machine.ram.set_flag(NUMBER_ENTRY, true);
     focal.lift = true;
     KeyEffect::Nothing
 }
@@ -47,8 +39,8 @@ pub fn toggle_alpha<const REGS: usize>(ram: &mut Ram<REGS>) -> KeyEffect
     ensures memory { ram.new ≡ with_alpha_toggled ram.old }
     ensures effect { result ≡ Nothing }
 {
-    let on = !ram.flag(ALPHA_FLAG);
-    ram.set_flag(ALPHA_FLAG, on);
+    let on = !ram.flag(ALPHA_MODE);
+    ram.set_flag(ALPHA_MODE, on);
     KeyEffect::Nothing
 }
 
@@ -58,7 +50,7 @@ pub fn begin_text<const REGS: usize>(ram: &mut Ram<REGS>, letter: u8) -> KeyEffe
     ensures effect { result ≡ Nothing }
 {
     replace_text(ram, &[letter]);
-    ram.set_flag(TEXT_FLAG, true);
+    ram.set_flag(ALPHA_ENTRY, true);
     KeyEffect::Nothing
 }
 
@@ -68,7 +60,7 @@ pub fn add_letter<const REGS: usize>(ram: &mut Ram<REGS>, letter: u8) -> KeyEffe
     ensures effect { result ≡ Nothing }
 {
     append_text(ram, &[letter]);
-    ram.set_flag(TEXT_FLAG, true);
+    ram.set_flag(ALPHA_ENTRY, true);
     KeyEffect::Nothing
 }
 

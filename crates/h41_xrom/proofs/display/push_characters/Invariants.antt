@@ -1,9 +1,0 @@
-use Rattle.std.proofs.Common.{◌≡◌, ◌*◌, ◌≤◌, ◌++◌, take, length}
-use Rattle.h41_lines.specs.Characters.{characters_text}
-use Rattle.h41_xrom.proofs.display.push_characters.Given as goal
-
-abbrev pub invariant-loop-character : goal.invariant-loop-character
-invariant-loop-character l = record {
-  text : l.text.bytes ≡ l.initial.text.bytes ++ characters_text (take l.character-index l.characters);
-  most : length l.text.bytes ≤ 3 * l.character-index;
-}

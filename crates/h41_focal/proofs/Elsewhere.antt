@@ -24,7 +24,7 @@ use Rattle.h41_rows.specs.Rows as rows
 use Rattle.h41_rows.specs.declared.fault.LineFault.{LineFault}
 
 -- what a row answers is done here
-own_answer : (memory : RegisterMap) (named : ℕ) (shows : rows.Showing) (ends : rows.Ending)
+own_answer : (memory : RegisterMap) (named : ℕ) (shows : rows.Showing) (ends : rows.RowEnding)
     → is_elsewhere (answered memory named shows ends) ≡ false
 own_answer memory named rows.AsBefore rows.GoesOn = refl
 own_answer memory named rows.AsBefore rows.Stops = refl

@@ -57,17 +57,17 @@ here : (left other : Left) → left ≡ other → is_elsewhere other.answer ≡ 
 here left other is found = subst (λ (of : Left). is_elsewhere of.answer ≡ false) (sym is) found
 
 -- a row's own answer is none of those
-shown_here : (text : List ℕ) (ending : rows.Ending) → is_elsewhere (shown_text text ending) ≡ false
+shown_here : (text : List ℕ) (ending : rows.RowEnding) → is_elsewhere (shown_text text ending) ≡ false
 shown_here text rows.GoesOn = refl
 shown_here text rows.Stops = refl
 shown_here text rows.TurnsOff = refl
 
-ended_here : (ending : rows.Ending) → is_elsewhere (ended ending) ≡ false
+ended_here : (ending : rows.RowEnding) → is_elsewhere (ended ending) ≡ false
 ended_here rows.GoesOn = refl
 ended_here rows.Stops = refl
 ended_here rows.TurnsOff = refl
 
-answered_here : (memory : RegisterMap) (named : ℕ) (showing : rows.Showing) (ending : rows.Ending)
+answered_here : (memory : RegisterMap) (named : ℕ) (showing : rows.Showing) (ending : rows.RowEnding)
     → is_elsewhere (answered memory named showing ending) ≡ false
 answered_here memory named rows.AsBefore ending = ended_here ending
 answered_here memory named rows.NoText ending = refl

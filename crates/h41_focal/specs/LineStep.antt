@@ -72,16 +72,16 @@ Works memory named row result =
     (ComputesIn memory named row.value result) (result ≡ Err AlphaData)
 
 -- what stands in the display, and whether the program goes on
-abbrev pub shown_text : List ℕ → rows.Ending → Answer
+abbrev pub shown_text : List ℕ → rows.RowEnding → Answer
 shown_text text rows.GoesOn = answers.Viewed text
 shown_text text ending = answers.Prompted text
 
-abbrev pub ended : rows.Ending → Answer
+abbrev pub ended : rows.RowEnding → Answer
 ended rows.GoesOn = answers.Done
 ended rows.Stops = answers.Stopped
 ended rows.TurnsOff = answers.TurnedOff
 
-abbrev pub answered : RegisterMap → ℕ → rows.Showing → rows.Ending → Answer
+abbrev pub answered : RegisterMap → ℕ → rows.Showing → rows.RowEnding → Answer
 answered memory named rows.AsBefore ending = ended ending
 answered memory named rows.NoText ending = answers.Cleared
 answered memory named rows.NamedText ending =

@@ -35,7 +35,7 @@ pub fn key_is_determined()
     line_is_determined();
     line_text_round_trip();
     moves_are_determined();
-    edits_are_determined();
+    changes_are_determined();
     searches_are_determined();
     values_are_determined();
 }

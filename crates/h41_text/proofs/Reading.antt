@@ -245,7 +245,8 @@ longest_again : (line : Line) → HasText line → candidate_line (line_text lin
 unfolding longest
 longest_again Null has = absurd (has.shown refl)
 longest_again (LocalLabel label) has =
-    short_again (parameter_function_name Label) label 15 _ (omega arith) has.valid (function_again Label (Direct label) (omega (arith, has.valid)))
+    short_again (parameter_function_name Label) label 15 _ (omega arith) has.valid
+    (function_again Label (Direct label) (omega (arith, has.valid)))
 longest_again (Number characters) has = number_line_again characters has.valid.0 has.valid.1
 longest_again (Named GoToName name) has =
     name_again (word.Branch GoTo) (Named GoToName) 15 name (omega arith) has.valid.fits has.valid.bytes (λ text. refl)
@@ -254,9 +255,11 @@ longest_again (Named ExecuteName name) has =
 longest_again (Named Wordless name) has =
     name_again word.Wordless (Named Wordless) 15 name (omega arith) has.valid.fits has.valid.bytes (λ text. refl)
 longest_again (Register RecallRegister register) has =
-    short_again (parameter_function_name Recall) register 16 _ (omega arith) has.valid (function_again Recall (Direct register) (omega (arith, has.valid)))
+    short_again (parameter_function_name Recall) register 16 _ (omega arith) has.valid
+    (function_again Recall (Direct register) (omega (arith, has.valid)))
 longest_again (Register StoreRegister register) has =
-    short_again (parameter_function_name Store) register 16 _ (omega arith) has.valid (function_again Store (Direct register) (omega (arith, has.valid)))
+    short_again (parameter_function_name Store) register 16 _ (omega arith) has.valid
+    (function_again Store (Direct register) (omega (arith, has.valid)))
 longest_again (Plain function) has = plain_line_again function
 longest_again (WithOperand function operand) has = function_again function operand has.valid
 longest_again (Module number entry) has = module_again number entry has.valid.0 has.valid.1

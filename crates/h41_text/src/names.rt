@@ -1,5 +1,5 @@
-//! The names of functions, as a listing shows them. Each stands once; those without an operand and those with one stand in lists,
-//! of which macros write the look-ups and tables.
+//! The names of functions, as a listing shows them, and prompts too. Each stands once: those of functions without and with a
+//! parameter in two lists, of which macros write the look-ups and tables.
 ghost use Rattle.std.specs.Prelude.{◌≡◌, ◌+◌, ◌-◌, ◌<◌, ◌≤◌, length, slice_index_or, []};
 ghost use Rattle.h41_text.specs.LineText.{high_parameters};
 ghost use Rattle.h41_text.specs.Names as spec;

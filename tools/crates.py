@@ -12,10 +12,11 @@ PARTS, ENDINGS = ("src", "specs", "proofs"), (".rt", ".antt")
 
 
 class Crate:
-    """A crate of the repository. `below` are all crates that it stands on, each behind those that it stands on itself."""
+    """A crate of the repository. `below` are all crates that it stands on, each behind those that it stands on itself, and `row` is
+    its line in crates.txt."""
 
-    def __init__(self, name, below):
-        self.name, self.below, self.folder = name, below, f"{TOP}/crates/{name}"
+    def __init__(self, name, below, row):
+        self.name, self.below, self.row, self.folder = name, below, row, f"{TOP}/crates/{name}"
         self.lines = sum(text.count(b"\n") for path, text in self.texts() if path.endswith(".rt"))
         # The seconds of one core that its proof is likely to take, by its lines and those that are loaded for it.
         self.work = 14 + 0.094 * self.lines + 0.004 * sum(crate.lines for crate in below)
@@ -63,16 +64,17 @@ def crates_of_program():
     rows, crates = {}, {}
     with open(f"{TOP}/crates.txt", encoding="utf-8") as file:
         for line in file:
-            name, colon, below = line.partition("#")[0].partition(":")
-            if colon:
-                rows[name.strip()] = below.split()
+            row = line.partition("#")[0].strip()
+            if ":" in row:
+                rows[row.split(":")[0].split()[0]] = row
 
     def add(name):
         if name in rows and name not in crates:
-            for other in rows[name]:
+            others = rows[name].partition(":")[2].split()
+            for other in others:
                 add(other)
-            below = [crate for other in rows[name] if other in crates for crate in [*crates[other].below, crates[other]]]
-            crates[name] = Crate(name, list(dict.fromkeys(below)))
+            below = [crate for other in others if other in crates for crate in [*crates[other].below, crates[other]]]
+            crates[name] = Crate(name, list(dict.fromkeys(below)), rows[name])
 
     add(NAME)
     for crate in reversed(crates.values()):

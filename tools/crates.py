@@ -44,7 +44,7 @@ class Crate:
         proves what is not."""
         try:
             with open(f"{self.folder}/out/proved", encoding="utf-8") as file:
-                return os.path.isdir(f"{self.folder}/out/rlib") and file.read() == self.stamp()
+                return os.path.isfile(f"{self.folder}/out/rlib/stamp") and file.read() == self.stamp()
         except OSError:
             return False
 

@@ -1,5 +1,6 @@
 """Answers of the program that nothing has proved: `rt try` compiles it with checks and runs it. What they say is the program's
 own; only how long it may run and how much it may read and write is bounded here."""
+import contextlib
 import os
 import re
 import secrets
@@ -32,6 +33,15 @@ class NoAnswer(Exception):
     """Why rt try gives no answer."""
 
 
+@contextlib.contextmanager
+def no_answer_without_room():
+    """Turns faults of this machine's, such as a full disk, into why there is no answer."""
+    try:
+        yield
+    except OSError as error:
+        raise NoAnswer(f"{error.filename or 'a file of its own'}: {error.strerror}") from error
+
+
 def place_of_file(words):
     """Where the name of the program's input stands among its words; nothing where they name none."""
     at = None
@@ -53,16 +63,21 @@ def copied(name, to):
     if name == "-" and sys.stdin is None:
         return False
     try:
-        source = os.dup(0) if name == "-" else os.open(name, os.O_RDONLY)
-        with os.fdopen(source, "rb", 0) as file:
-            while part := file.read(1 << 20):
-                to.write(part)
-                size += len(part)
-                if size > LONGEST_INPUT:
-                    raise NoAnswer(f"its input has more than {LONGEST_INPUT:,} bytes")
-    except (OSError, ValueError):
-        # (a name with a byte 0 is a wrong value)
+        source = os.fdopen(os.dup(0) if name == "-" else os.open(name, os.O_RDONLY), "rb", 0)
+    except OSError:
         return False
+    with source:
+        while True:
+            try:
+                part = source.read(1 << 20)
+            except OSError:
+                return False
+            if not part:
+                break
+            to.write(part)
+            size += len(part)
+            if size > LONGEST_INPUT:
+                raise NoAnswer(f"its input has more than {LONGEST_INPUT:,} bytes")
     to.seek(0)
     return True
 
@@ -94,6 +109,7 @@ def reason_of(told):
     return "rt try failed, and told:\n" + told.decode(errors="replace").rstrip()
 
 
+@no_answer_without_room()
 def answer(words):
     """What the program answers to the words of a command line: its status, and what it writes to its two ends."""
     words = list(words)
@@ -108,6 +124,7 @@ def answer(words):
     return int(ended[1]), output, told[:ended.start()]
 
 
+@no_answer_without_room()
 def answers(decks):
     """What the program answers to each of some decks, which are files: its status and what it writes; nothing where a file can't
     be read or there is no answer. It is compiled once for all."""

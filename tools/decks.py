@@ -14,8 +14,8 @@ OPENERS = {b"words", b"image", b"asm", b"load", b"program"}
 LONGEST_LINE = 200
 LONGEST_DECK = 67_108_864
 
-# The launcher's status where the program could not be built.
-NOT_BUILT = 70
+# The launcher's status where it has no answer.
+NO_ANSWER = 70
 
 # What stands before each command, and what it prints. No command prints these two lines in a row.
 MARK = b"?\nstep ?\n"
@@ -111,8 +111,8 @@ def run(deck):
     if len(deck) > LONGEST_DECK:
         raise Failure(f"the deck has {len(deck)} bytes with what is added to it, and {LONGEST_DECK} is the most", 3)
     ran = subprocess.run([BENCH, "run", "-"], input=deck, stdout=subprocess.PIPE)
-    if ran.returncode == NOT_BUILT:
-        raise Failure("the program could not be built", NOT_BUILT)
+    if ran.returncode == NO_ANSWER:
+        raise Failure("the bench gave no answer", NO_ANSWER)
     return ran.returncode, ran.stdout
 
 

@@ -1,0 +1,123 @@
+"""The crates that the program stands on, by crates.txt: their sources, and what their proofs take."""
+import functools
+import hashlib
+import os
+import subprocess
+
+TOP = os.path.realpath(os.path.join(os.path.dirname(os.path.realpath(__file__)), ".."))
+NAME = "h41_bench"
+
+# The folders and files of a crate that rt reads.
+PARTS, ENDINGS = ("src", "specs", "proofs"), (".rt", ".antt")
+
+
+class Crate:
+    """A crate of the repository. `below` are all crates that it stands on, each behind those that it stands on itself, and `row` is
+    its line in crates.txt."""
+
+    def __init__(self, name, below, row):
+        self.name, self.below, self.row, self.folder = name, below, row, f"{TOP}/crates/{name}"
+        self.lines = sum(text.count(b"\n") for path, text in self.texts() if path.endswith(".rt"))
+        # The seconds of one core that its proof is likely to take, by its lines and those that are loaded for it.
+        self.work = 14 + 0.094 * self.lines + 0.004 * sum(crate.lines for crate in below)
+        # The work of the longest chain of crates from it up to the program.
+        self.chain = self.work
+
+    def texts(self):
+        """Its sources, by their paths from the top. An editor's files beside them are none."""
+        paths = [f"{at}/{name}" for part in PARTS for at, _, names in os.walk(f"{self.folder}/{part}")
+                 for name in names if name.endswith(ENDINGS) and not name.startswith(".")]
+        for path in sorted(paths):
+            with open(path, "rb") as file:
+                yield os.path.relpath(path, TOP), file.read()
+
+    def sums(self):
+        """The checksums of its sources, by their paths."""
+        return {path: hashlib.sha256(text).hexdigest() for path, text in self.texts()}
+
+    def stamp(self):
+        """A sum of all that its proof rests on."""
+        return hashlib.sha256(repr([kit(), *(crate.sums() for crate in [*self.below, self])]).encode()).hexdigest()
+
+    def is_proved(self):
+        """Whether ./bench prove has proved it as it stands. This saves time and decides nothing: before rt builds the program it
+        proves what is not."""
+        try:
+            with open(f"{self.folder}/out/proved", encoding="utf-8") as file:
+                return os.path.isfile(f"{self.folder}/out/rlib/stamp") and file.read() == self.stamp()
+        except OSError:
+            return False
+
+    def has_been_proved(self, stamp):
+        with open(f"{self.folder}/out/proved", "w", encoding="utf-8") as file:
+            file.write(stamp)
+
+
+@functools.lru_cache(maxsize=None)
+def kit():
+    """The kit's line."""
+    return subprocess.run(["rt", "version"], stdin=subprocess.DEVNULL, stdout=subprocess.PIPE).stdout
+
+
+def crates_of_program():
+    """The crates that the program stands on, each behind those that it stands on itself, and its own the last."""
+    rows, crates = {}, {}
+    with open(f"{TOP}/crates.txt", encoding="utf-8") as file:
+        for line in file:
+            row = line.partition("#")[0].strip()
+            if ":" in row:
+                rows[row.split(":")[0].split()[0]] = row
+
+    def add(name):
+        if name in rows and name not in crates:
+            others = rows[name].partition(":")[2].split()
+            for other in others:
+                add(other)
+            below = [crate for other in others if other in crates for crate in [*crates[other].below, crates[other]]]
+            crates[name] = Crate(name, list(dict.fromkeys(below)), rows[name])
+
+    add(NAME)
+    for crate in reversed(crates.values()):
+        for other in crate.below:
+            other.chain = max(other.chain, other.work + crate.chain)
+    return list(crates.values())
+
+
+def commit():
+    """The commit that is checked out, and whether its sources have changed; nothing where git does not tell."""
+    def git(*words):
+        ran = subprocess.run(["git", "-C", TOP, *words], stdin=subprocess.DEVNULL, stdout=subprocess.PIPE, stderr=subprocess.DEVNULL)
+        return ran.stdout.decode().strip() if ran.returncode == 0 else ""
+
+    try:
+        if not os.path.exists(f"{TOP}/.git"):
+            return None
+        found, changes = git("rev-parse", "HEAD"), git("status", "--porcelain", "--", "crates", "crates.txt")
+    except OSError:
+        return None
+    return f"{found}{' and changes of its sources' if changes else ''}" if found else None
+
+
+class Record:
+    """What a program was built of: a line with the commit, and the checksums of the program and its sources, as sha256sum writes
+    them. The launcher compares them with what stands."""
+
+    PATH = f"{TOP}/crates/{NAME}/out/sources"
+
+    def __init__(self, crates):
+        self.commit, self.sums = commit(), {}
+        with open(f"{TOP}/crates.txt", "rb") as file:
+            self.sums["crates.txt"] = hashlib.sha256(file.read()).hexdigest()
+        for crate in crates:
+            self.sums.update(crate.sums())
+
+    def write(self, program):
+        """Writes it for a program, which stands beside it."""
+        with open(program, "rb") as file:
+            sums = {**self.sums, os.path.relpath(program, TOP): hashlib.sha256(file.read()).hexdigest()}
+        new = f"{self.PATH}.{os.getpid()}"
+        with open(new, "w", encoding="utf-8") as file:
+            if self.commit:
+                print(f"# proved and built of commit {self.commit}", file=file)
+            print(*(f"{found}  {path}" for path, found in sorted(sums.items())), sep="\n", file=file)
+        os.replace(new, self.PATH)

@@ -1,0 +1,145 @@
+"""Answers of the program that nothing has proved: `rt try` compiles it with checks and runs it. What they say is the program's
+own; only how long it may run and how much it may read and write is bounded here."""
+import contextlib
+import os
+import re
+import secrets
+import signal
+import subprocess
+import sys
+import tempfile
+
+TOP = os.path.realpath(os.path.join(os.path.dirname(os.path.realpath(__file__)), ".."))
+CRATE = f"{TOP}/crates/h41_bench"
+
+# The most bytes of input that rt hands on, and the seconds that the program may take, so that an answer comes within two minutes.
+LONGEST_INPUT = 67_108_864
+SECONDS = 30
+
+# A word that names no file, in the place of one that can't be read: the program then says so itself.
+NO_FILE = "/dev/null/no-such-file"
+
+# The last lines of rt where the program has ended, and why it has not.
+ENDED = re.compile(rb"^checked: ended .*\n(?:.*\n)*?run=ended status=(\d+) .*proved=no\n\Z", re.M)
+NO_ANSWER = re.compile(rb"^checked: no-answer: (.*)", re.M)
+REASONS = {
+    b"wrote more than": "it writes more than 1,048,576 bytes",
+    b"did not end within": f"it runs for more than {SECONDS} seconds in this slow build",
+}
+CASE = re.compile(rb"^case=(\S+) run=ended status=(\d+) .*\n", re.M)
+
+
+class NoAnswer(Exception):
+    """Why rt try gives no answer."""
+
+
+@contextlib.contextmanager
+def no_answer_without_room():
+    """Turns faults of this machine's, such as a full disk, into why there is no answer."""
+    try:
+        yield
+    except OSError as error:
+        raise NoAnswer(f"{error.filename or 'a file of its own'}: {error.strerror}") from error
+
+
+def place_of_file(words):
+    """Where the name of the program's input stands among its words; nothing where they name none."""
+    at = None
+    if words[:1] and words[0] in ("run", "asm", "dis"):
+        hyphens_end, skipped = False, False
+        for place, word in enumerate(words[1:], 1):
+            if skipped or not hyphens_end and word == "--":
+                hyphens_end, skipped = hyphens_end or not skipped, False
+            elif not hyphens_end and word == "--origin":
+                skipped = True
+            elif hyphens_end or word == "-" or not word.startswith("-"):
+                at = place
+    return at
+
+
+def copied(name, to):
+    """Copies the input to a file, all of it: rt waits two seconds for a pipe and no longer. Whether it could be read."""
+    size = 0
+    if name == "-" and sys.stdin is None:
+        return False
+    try:
+        source = os.fdopen(os.dup(0) if name == "-" else os.open(name, os.O_RDONLY), "rb", 0)
+    except OSError:
+        return False
+    with source:
+        while True:
+            try:
+                part = source.read(1 << 20)
+            except OSError:
+                return False
+            if not part:
+                break
+            to.write(part)
+            size += len(part)
+            if size > LONGEST_INPUT:
+                raise NoAnswer(f"its input has more than {LONGEST_INPUT:,} bytes")
+    to.seek(0)
+    return True
+
+
+def rt_try(words, given):
+    """Runs rt try: what it writes to its two ends. It ends where this process is told to."""
+    with tempfile.TemporaryFile() as output, tempfile.TemporaryFile() as told:
+        rt = subprocess.Popen(["rt", "try", "--seconds", str(SECONDS), *words], cwd=CRATE, stdin=given, stdout=output, stderr=told)
+
+        def end(number, _):
+            rt.terminate()
+            rt.wait()
+            os._exit(128 + number)
+
+        before = {number: signal.signal(number, end) for number in (signal.SIGINT, signal.SIGTERM, signal.SIGHUP)}
+        rt.wait()
+        for number, was in before.items():
+            signal.signal(number, was)
+        output.seek(0)
+        told.seek(0)
+        return output.read(), told.read()
+
+
+def reason_of(told):
+    """Why the program has not ended, by what rt says."""
+    why = NO_ANSWER.search(told)
+    if why:
+        return next((ours for theirs, ours in REASONS.items() if theirs in why[1]), why[1].decode(errors="replace"))
+    return "rt try failed, and told:\n" + told.decode(errors="replace").rstrip()
+
+
+@no_answer_without_room()
+def answer(words):
+    """What the program answers to the words of a command line: its status, and what it writes to its two ends."""
+    words = list(words)
+    at = place_of_file(words)
+    with tempfile.TemporaryFile() as given:
+        if at is not None:
+            words[at] = "-" if copied(words[at], given) else NO_FILE
+        output, told = rt_try(["--", *words], given)
+    ended = ENDED.search(told)
+    if not ended:
+        raise NoAnswer(reason_of(told))
+    return int(ended[1]), output, told[:ended.start()]
+
+
+@no_answer_without_room()
+def answers(decks):
+    """What the program answers to each of some decks, which are files: its status and what it writes; nothing where a file can't
+    be read or there is no answer. It is compiled once for all."""
+    mark = secrets.token_hex(16)
+    with tempfile.TemporaryDirectory() as room:
+        names = [f"{mark}-{number}" for number in range(len(decks))]
+        for name, deck in zip(names, decks):
+            with open(f"{room}/{name}", "wb") as file:
+                is_whole = copied(deck, file)
+            if not is_whole:
+                os.remove(f"{room}/{name}")
+        output, told = rt_try(["--cases", room, "--", "run", "-"], subprocess.DEVNULL)
+    statuses = {name.decode(): int(status) for name, status in CASE.findall(told)}
+    if not statuses:
+        raise NoAnswer(reason_of(told))
+    parts = re.split(rb"^== (%s-\d+)\n" % mark.encode(), output, flags=re.M)
+    written = dict(zip((name.decode() for name in parts[1::2]), parts[2::2]))
+    return [(statuses[name], written.get(name, b"")) if name in statuses else None for name in names]

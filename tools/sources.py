@@ -1,0 +1,384 @@
+"""Sources for the assembler: their faults, and the addresses and words that the bench gives their lines and labels."""
+import argparse
+import re
+import subprocess
+import sys
+from bisect import bisect
+from difflib import SequenceMatcher
+from itertools import product
+from string import ascii_letters
+
+from decks import BENCH, LONGEST_LINE, NOT_BUILT, Failure, block, bytes_of, lines_of, refused, shown, text_of, words_of
+from documents import codes_of, section_of, tables_of
+
+BLANKS = b" \t"
+MARK_OF_UTF8 = b"\xef\xbb\xbf"
+PAGES = "456789ABCDEF"
+PAGE_SIZE = 4096
+
+# Where sources are assembled for their places, which are the same at each origin: there is room for what is put behind them.
+ORIGIN = 0x4000
+
+NAME = rb"[A-Za-z][0-9A-Za-z_]{0,11}"
+LABEL = re.compile(rb"(" + NAME + rb"):(?:[ \t]+|\Z)")
+REFERENCE = re.compile(rb":(" + NAME + rb")\Z")
+LOOKS_LIKE_LABEL = re.compile(rb"[ \t]*(" + NAME + rb")(?![0-9A-Za-z_])")
+CODE = re.compile(rb'(?:[^;"]|"[^"]*"|"[^"]*\Z)*')
+
+# A line of the bench that ends in an address: where a function runs, or a refusal.
+OF_AN_ADDRESS = re.compile(r"(?:Micro|! \d\d \w+) ([4-9A-F][0-9A-F]{3})")
+
+# Faults that a line has by itself.
+OF_THE_LINE = ("! 30 BadLine", "! 31 BadOperand")
+
+
+class Faulty(Failure):
+    """A source has faults: its text has a line for each, and what is known of it."""
+
+
+def source_lines(data):
+    """The lines of a source without their ends, and without a mark at its front."""
+    return [text_of(line) for line in lines_of(data.removeprefix(MARK_OF_UTF8))]
+
+
+def assemble(lines, origin=ORIGIN):
+    """The words of a source by its lines, and its first fault: the line, counted from 0, and the refusal without its number."""
+    ran = subprocess.run([BENCH, "asm", "--origin", f"{origin:04X}", "-"], input=b"".join(line + b"\n" for line in lines),
+                         stdout=subprocess.PIPE)
+    if ran.returncode == NOT_BUILT:
+        raise Failure("the program could not be built", NOT_BUILT)
+    if ran.returncode == 1:
+        refusal, number = ran.stdout.decode().rsplit(" ", 1)
+        return None, (int(number) - 1, refusal)
+    if ran.returncode:
+        raise Failure("the bench could not assemble the source", 3)
+    return [int(word, 16) for word in ran.stdout.split()], None
+
+
+class Line:
+    """A line of a source: its label, what stands behind that, the label that it refers to, and its comment; each empty or none
+    where there is none. In a line with a fault they are what they look like."""
+
+    def __init__(self, text):
+        self.text = text
+        code = CODE.match(text)[0]
+        self.comment = text[len(code):].decode(errors="replace")
+        code = code.strip(BLANKS)
+        label = LABEL.match(code)
+        self.label = label[1].decode() if label else None
+        self.code = code[label.end():] if label else code
+        words = words_of(self.code)
+        reference = REFERENCE.match(words[-1]) if words[1:] and b'"' not in self.code else None
+        self.reference = reference[1].decode() if reference else None
+
+    def instruction(self):
+        """The instruction or directive with its operand, a blank between two words."""
+        return b" ".join(words_of(self.code)).decode(errors="replace")
+
+    def referring_to(self, name):
+        """The line with a reference for its last word."""
+        label = self.label.encode() + b": " if self.label else b" "
+        return label + self.code.removesuffix(words_of(self.code)[-1]) + b":" + name
+
+
+class Fault:
+    """A fault of a source: the line, counted from 0, its text, the refusal, and what is known of it."""
+
+    def __init__(self, at, text, refusal):
+        self.at, self.text, self.refusal, self.told = at, text, refusal, []
+
+    def __str__(self):
+        text = shown(self.text.strip(BLANKS))
+        return "\n".join([f"{self.refusal}: {text}", *(f"  {one}" for one in self.told)])
+
+
+class Source:
+    """A source: its lines, and either its faults, or the places of its lines and labels in the page, and how many words it has."""
+
+    def __init__(self, data):
+        self.faults, self.labels, self.size = [], {}, 0
+        self.texts = source_lines(data)
+        # A line that begins with # is a comment, as in a deck.
+        self.lines = [Line(b"" if text.startswith(b"#") else text) for text in self.texts]
+        letters = next(name for name in map("".join, product(ascii_letters, repeat=2)) if f"{name}_".encode() not in data)
+        self.marks = [f"{letters}_{at}".encode() for at in range(len(self.lines) + 1)]
+        for at, text in enumerate(self.texts):
+            if len(text) > LONGEST_LINE:
+                self.fault(at, f"a line has at most {LONGEST_LINE} bytes, and this one {len(text)}")
+            elif words_of(text) == [b"end"]:
+                self.fault(at, "`end` alone on its line ends the block")
+        self.find_places()
+        self.faults.sort(key=lambda fault: fault.at)
+
+    def fault(self, at, refusal):
+        self.faults.append(Fault(at, self.texts[at], refusal))
+
+    def find_places(self):
+        """The places and the faults. Each line has a label of its own put before it, and behind the source stands a
+        long jump for each label: the words of these have the addresses."""
+        texts = [b"" if at in self.faulty() else line.text for at, line in enumerate(self.lines)]
+        while True:
+            names = list(dict.fromkeys([*self.marks, *(line.label.encode() for line in map(Line, texts) if line.label)]))
+            lines = [part for mark, text in zip(self.marks, texts) for part in (mark + b":", text)]
+            words, fault = assemble([*lines, self.marks[-1] + b":", *(b"?NC GO :" + name for name in names)])
+            if not fault:
+                break
+            at, refusal = fault[0] // 2, fault[1]
+            if refusal in OF_THE_LINE and at < len(texts):
+                for at in self.faults_of_lines():
+                    texts[at] = self.kept_of(at)
+            elif at < len(texts) and refusal != "! 35 TooLong":
+                if at not in self.faulty():
+                    self.fault(at, refusal)
+                line = Line(texts[at])
+                texts[at] = b" " + line.code if refusal == "! 32 LabelTwice" else line.referring_to(self.marks[at])
+            else:
+                self.fault(min(at, len(texts) - 1), refusal)
+                self.places = [0 for _ in self.marks]
+                return
+        jumps = words[len(words) - 2 * len(names):]
+        places = {name.decode(): (low >> 2 | high >> 2 << 8) - ORIGIN
+                  for name, low, high in zip(names, jumps[::2], jumps[1::2])}
+        self.places = [places[mark.decode()] for mark in self.marks]
+        self.size = self.places[-1]
+        self.labels = {line.label: places[line.label] for line in self.lines if line.label in places}
+        for one in self.faults:
+            one.told = self.known_of(one, places)
+        tell_causes(self.faults)
+
+    def faulty(self):
+        return {fault.at for fault in self.faults}
+
+    def faults_of_lines(self):
+        """Finds the faults that lines have by themselves; these lines. Each line is asked of the bench alone, for page 3: where
+        it has no such fault, that page is refused."""
+        faulty = self.faulty()
+        asked = [at for at, line in enumerate(self.lines) if at not in faulty and line.text.strip(BLANKS)]
+        _, found = refused(b"".join(block(b"asm 3", [self.lines[at].text]) for at in asked))
+        wrong = [(asked[first // 3], refusal.rsplit(" ", 1)[0]) for first, _, refusal in found]
+        wrong = [(at, refusal) for at, refusal in wrong if refusal in OF_THE_LINE]
+        for at, refusal in wrong:
+            self.fault(at, refusal)
+        return [at for at, _ in wrong]
+
+    def kept_of(self, at):
+        """What is kept of a line with a fault: its label, or what may have been meant as one, so that what refers to it is no
+        fault too."""
+        line = self.lines[at]
+        name = line.label.encode() if line.label else None
+        if not name and next(fault for fault in self.faults if fault.at == at).refusal == OF_THE_LINE[0]:
+            found = LOOKS_LIKE_LABEL.match(line.text)
+            name = found[1] if found else None
+        return name + b":" if name else b""
+
+    def known_of(self, fault, places):
+        """What is known of a fault of a label or a reference."""
+        line = self.lines[fault.at]
+        if fault.refusal == "! 32 LabelTwice":
+            return [f"{line.label} stands in line {self.line_of(line.label) + 1}"]
+        if fault.refusal == "! 33 NoLabel":
+            other = next((name for name in self.labels if name.lower() == line.reference.lower()), None)
+            return [f"no line has the label {line.reference}"
+                    + (f"; line {self.line_of(other) + 1} has {other}" if other else "")]
+        if fault.refusal == "! 34 TooFar" and line.reference:
+            distance = places[line.reference] - self.places[fault.at]
+            least = "at least " if any(other.refusal in OF_THE_LINE for other in self.faults) else ""
+            return [f"{line.reference} is {least}{abs(distance)} words {'back' if distance < 0 else 'ahead'}"]
+        return []
+
+    # What is asked of a source without faults.
+
+    def line_of(self, label):
+        """The first line with a label, counted from 0."""
+        return next(at for at, line in enumerate(self.lines) if line.label == label)
+
+    def uses_of(self, label):
+        """The lines that refer to a label, counted from 0."""
+        return [at for at, line in enumerate(self.lines) if line.reference == label]
+
+
+class Assembled(Source):
+    """A source without faults at a page, with its words. One with faults is refused, with all of them."""
+
+    def __init__(self, path, page):
+        super().__init__(bytes_of(path))
+        self.path, self.page = path, page
+        if self.faults:
+            raise Faulty("\n".join(f"{path}:{fault.at + 1}: {fault}" for fault in self.faults))
+        if self.size > PAGE_SIZE:
+            raise Faulty(f"{path}: ! 04 BadImage: it has {self.size:,} words, and a page {PAGE_SIZE:,}")
+        self.words, fault = assemble([line.text for line in self.lines], int(page, 16) << 12)
+        if fault:
+            raise Faulty(f"{path}:{fault[0] + 1}: {Fault(fault[0], self.texts[fault[0]], fault[1])}")
+
+    def address(self, place):
+        """The address of a place in the page."""
+        return f"{self.page}{place:03X}"
+
+    def words_of_line(self, at):
+        """The words that a line gives."""
+        return self.words[self.places[at]:self.places[at + 1]]
+
+
+def run_tool(name, usage, tell):
+    """Runs a tool that takes a source and a page: what it tells of the source has its status."""
+    words = sys.argv[1:]
+    if words in (["-h"], ["--help"]):
+        print(usage.strip())
+        sys.exit(0)
+    parser = argparse.ArgumentParser(prog=name, add_help=False, allow_abbrev=False, usage=f"tools/{name} [--page P] FILE.asm")
+    parser.add_argument("--page", default="8", type=str.upper)
+    parser.add_argument("file", metavar="FILE.asm")
+    options = parser.parse_args(words)
+    if len(options.page) != 1 or options.page not in PAGES:
+        parser.error(f"a page is one of 4 to F, and not {options.page}")
+    sys.stdout.reconfigure(errors="backslashreplace")
+    sys.stderr.reconfigure(errors="backslashreplace")
+    try:
+        sys.exit(tell(Assembled(options.file, options.page)))
+    except Failure as why:
+        print(why if isinstance(why, Faulty) else f"{name}: {why}", file=sys.stderr)
+        sys.exit(why.status)
+
+
+class Labels:
+    """The labels of the sources that a deck plugs, by which addresses are told."""
+
+    def __init__(self, lines=()):
+        self.pages = {}
+        labels = [line.label for line in map(Line, lines) if line.label]
+        # Room for the longest label, a sign and a count.
+        self.width = max(map(len, labels)) + 4 if labels else 0
+
+    def follow(self, lines):
+        """Takes the labels of a block that the bench has accepted, or forgets those of a page that is plugged or taken out
+        otherwise."""
+        words = words_of(lines[0])
+        if words[0] == b"asm":
+            source = Source(b"".join(lines[1:-1]))
+            self.pages[words[1].upper()] = sorted((place, name) for name, place in source.labels.items())
+        elif words[0] in (b"words", b"image", b"unplug"):
+            self.pages[words[1].upper()] = []
+
+    def of(self, address):
+        """The label at an address or before it in the page, and how many words lie between; empty where there is none."""
+        labels, place = self.pages.get(address[:1].encode(), []), int(address[1:], 16)
+        at = bisect(labels, (place, "~"))
+        if not at:
+            return ""
+        before, name = labels[at - 1]
+        return name + (f"+{place - before:X}" if place > before else "")
+
+    def behind(self, line):
+        """What is told behind a line that ends in an address: its label."""
+        found = OF_AN_ADDRESS.fullmatch(line)
+        label = self.of(found[1]) if found else ""
+        return f" {label}" if label else ""
+
+
+# The usual causes of faults.
+
+# What an instruction may take: its class is what of these it does.
+OPERANDS = (b"", b"ALL", b"8010", b":A", b"+00", b"8", b"15", b"000", b'"A"')
+
+DIRECTIVES_OF_OTHERS = re.compile(rb"\.?(?:ORG|END|EQU|SET|FILLTO|BSS|DEFR4K|DEFR8K|TITLE|INCLUDE)\Z", re.I)
+
+
+def classes_of(instructions):
+    """The class of each of these, empty where it is no instruction: the operands that the bench takes behind it."""
+    asked = [(one, operand) for one in sorted(instructions) for operand in OPERANDS]
+    _, found = refused(b"".join(block(b"asm 3", [b"A: " + one + b" " + operand]) for one, operand in asked))
+    taken = {one: set() for one in instructions}
+    for first, _, refusal in found:
+        one, operand = asked[first // 3]
+        if refusal == "! 01 NoSuchPage":
+            taken[one].add(operand)
+    return {one: frozenset(operands) for one, operands in taken.items()}
+
+
+def instructions_of(code):
+    """What may be the instruction of a line: its first word, or its first two."""
+    words = [word for word in words_of(code) if re.fullmatch(rb"[!-~]+", word) and b";" not in word and b'"' not in word]
+    return [words[0], b" ".join(words[:2])] if words[1:] else words
+
+
+class Asked:
+    """A faulty line of which the usual cause is asked, or one of the document that has it."""
+
+    def __init__(self, text, refusal):
+        self.line, self.refusal = Line(text), refusal
+        self.first = (words_of(self.line.code) or [b""])[0]
+        self.behind = self.line.code[len(self.first):]
+        self.shape = re.sub("[a-z]", "a", re.sub("[A-Z]", "A", re.sub("[0-9]", "0", self.line.code.decode(errors="replace"))))
+
+    def names(self):
+        """What may be its instruction, as texts."""
+        return [name.decode() for name in instructions_of(self.line.code)]
+
+    def instructions(self):
+        """All that may be an instruction in the line."""
+        names = instructions_of(self.line.code)
+        if self.refusal == "! 30 BadLine":
+            names = [*(name.upper() for name in names), *instructions_of(self.behind)]
+        return names
+
+    def kind(self, classes, others):
+        """What kind of line it is: one with a fault in its operand is of the class of its instruction."""
+        if self.refusal != "! 30 BadLine":
+            return next((classes[name] for name in instructions_of(self.line.code) if classes[name]), None)
+        if self.first in others:
+            return "another dialect"
+        if any(classes[name.upper()] for name in instructions_of(self.line.code)):
+            return "lower case"
+        if re.match(NAME + rb":.", self.first):
+            return "a label that touches"
+        if self.first.endswith(b":"):
+            return "a label with other signs"
+        if DIRECTIVES_OF_OTHERS.match(self.first):
+            return "a directive of others"
+        if any(classes[name] for name in instructions_of(self.behind)):
+            return "a label without its colon"
+        return "a comment" if re.match(rb"[*/.#!]", self.first) else None
+
+
+def other_names():
+    """The names of another dialect that docs/ASSEMBLER.md has, and what stands here in their place."""
+    return {other.encode(): name for here, there in tables_of(section_of("ASSEMBLER.md", "Another dialect"))[0]
+            for name, other in zip(codes_of(here), codes_of(there)) if name != other}
+
+
+def operands():
+    """What stands behind instructions, as docs/ASSEMBLER.md has it."""
+    return {name: plain(behind) for instructions, behind in tables_of(section_of("ASSEMBLER.md", "Instructions"))[0]
+            for name in codes_of(instructions)}
+
+
+def plain(text):
+    """A text of a document without its links."""
+    return re.sub(r"\[([^]]*)\]\([^)]*\)", r"\1", text)
+
+
+def tell_causes(faults):
+    """Adds the usual cause to what is known of each fault, as docs/ASSEMBLER.md has it: of the rows with its refusal and of its
+    kind that with the line most like it."""
+    asked = [(Asked(fault.text, fault.refusal), fault) for fault in faults if fault.refusal in (*OF_THE_LINE, "! 34 TooFar")]
+    if not asked:
+        return
+    rows, others, takes = [], other_names(), operands()
+    for deck, refusal, why in tables_of(section_of("ASSEMBLER.md", "If you see…"))[0]:
+        lines = codes_of(deck)[0].split(" / ")
+        name, number = codes_of(refusal)[0].rsplit(" ", 1)
+        rows.append((Asked(lines[int(number)].encode(), name), plain(why)))
+    classes = classes_of({name for one, _ in rows + asked for name in one.instructions()})
+    for one, fault in asked:
+        kind = one.kind(classes, others)
+        like = [(SequenceMatcher(None, row.shape, one.shape).ratio(), why) for row, why in rows if row.refusal == one.refusal
+                and (kind and row.kind(classes, others) == kind or row.first == one.first)]
+        if kind == "another dialect":
+            fault.told.append(f"{one.first.decode()} is a name of another dialect: `{others[one.first]}`")
+        elif like:
+            fault.told.append(max(like)[1])
+        elif one.refusal == OF_THE_LINE[0]:
+            fault.told.append("no such label, mnemonic or directive can be read")
+        else:
+            fault.told += [f"`{name}` takes {takes[name]}" for name in one.names() if name in takes]

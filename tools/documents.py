@@ -28,6 +28,11 @@ def tables_of(section):
     return [[cells_of(row) for row in table.splitlines()[2:]] for table in found]
 
 
+def plain(text):
+    """A text of a document without its links."""
+    return re.sub(r"\[([^]]*)\]\([^)]*\)", r"\1", text)
+
+
 def codes_of(cell):
     """The texts between back quotes in a cell."""
     return re.findall(r"`([^`]*)`", cell)

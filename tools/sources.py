@@ -8,11 +8,11 @@ from difflib import SequenceMatcher
 from itertools import product
 from string import ascii_letters
 
-from decks import BENCH, LONGEST_LINE, NOT_BUILT, Failure, block, bytes_of, lines_of, refused, shown, text_of, words_of
-from documents import codes_of, section_of, tables_of
+from decks import (BENCH, LONGEST_LINE, MARK_OF_UTF8, NOT_BUILT, Failure, block, bytes_of, items_of, lines_of, refused, shown,
+                   text_of, words_of)
+from documents import codes_of, plain, section_of, tables_of
 
 BLANKS = b" \t"
-MARK_OF_UTF8 = b"\xef\xbb\xbf"
 PAGES = "456789ABCDEF"
 PAGE_SIZE = 4096
 
@@ -276,6 +276,17 @@ class Labels:
         return f" {label}" if label else ""
 
 
+def tell_labels(lines, found):
+    """Puts the labels of their addresses behind the refusals that a deck with these lines has."""
+    items, refusals = items_of(lines), {one.first: one for one in found}
+    labels = Labels(line for first, last in items if words_of(lines[first])[:1] == [b"asm"] for line in lines[first:last])
+    for first, last in items:
+        if first in refusals:
+            refusals[first].refusal += labels.behind(refusals[first].refusal)
+        elif labels.width and words_of(lines[first]):
+            labels.follow(lines[first:last + 1])
+
+
 # The usual causes of faults.
 
 # What an instruction may take: its class is what of these it does.
@@ -351,11 +362,6 @@ def operands():
     """What stands behind instructions, as docs/ASSEMBLER.md has it."""
     return {name: plain(behind) for instructions, behind in tables_of(section_of("ASSEMBLER.md", "Instructions"))[0]
             for name in codes_of(instructions)}
-
-
-def plain(text):
-    """A text of a document without its links."""
-    return re.sub(r"\[([^]]*)\]\([^)]*\)", r"\1", text)
 
 
 def tell_causes(faults):

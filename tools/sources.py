@@ -28,6 +28,17 @@ CODE = re.compile(rb'(?:[^;"]|"[^"]*"|"[^"]*\Z)*')
 # A line of the bench that ends in an address: where a function runs, or a refusal.
 OF_AN_ADDRESS = re.compile(r"(?:Micro|! \d\d \w+) ([4-9A-F][0-9A-F]{3})")
 
+# Instructions by what they do with the carry. Sums, differences and tests set it to what comes out; all others clear it, so it
+# is clear wherever a jump or return arrives.
+ASKS = re.compile(r"(?:JC|JNC|\?N?C (?:XQ|GO)) \S+|\?N?C RTN")
+ASKS_FOR_SET = re.compile(r"(?:JC|\?C (?:XQ|GO)) \S+|\?C RTN")
+TEST = re.compile(r"\?(?!N?C (?:XQ|GO|RTN)\b).*")
+SUM = re.compile(r"[AC]=\S*[+-]\S* \S+")
+
+# Instructions that do not go on to the next: the first where the carry is clear.
+GOES = re.compile(r"(?:JNC|\?NC GO) \S+|\?NC RTN")
+ENDS = re.compile(r"RTN|GOTO ADR|GOTO KEY")
+
 # Faults that a line has by itself.
 OF_THE_LINE = ("! 30 BadLine", "! 31 BadOperand")
 

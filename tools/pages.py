@@ -1,0 +1,172 @@
+"""Pages of words as sources that can be read: the module's table, names, labels and data."""
+import re
+
+from sources import ASKS_FOR_SET, ENDS, GOES, SUM, TEST
+
+PAGE_SIZE = 4096
+
+# The column of instructions, and that of comments.
+INDENT, COMMENT = 8, 24
+
+# The longest name of a function and of a label.
+LONGEST_NAME, LONGEST_LABEL = 11, 12
+
+# An instruction that goes or calls, and where.
+SHORT = re.compile(r"(JN?C) ([+-])([0-9A-F]{2})")
+LONG = re.compile(r"(\?N?C (?:XQ|GO)) ([0-9A-F])([0-9A-F]{3})")
+
+
+class Page:
+    """The words of a page, and the lines that they become."""
+
+    def __init__(self, page, words, list_words):
+        """`list_words` lists a count of words from an address on: the lines that the bench prints for them."""
+        self.page, self.words = page, words
+        self.end = max((place + 1 for place, word in enumerate(words) if word), default=1)
+        self.instructions = self.read(list_words)
+        # What begins at a place: a line of data with its count of words.
+        self.data, self.labels = {}, {}
+        self.entries = self.table()
+        self.reached = self.follow() if self.entries else self.sweep()
+        self.label_targets()
+
+    def read(self, list_words):
+        """The instruction at each place, as if one began there, and its count of words."""
+        wanted = [(place, min(2, PAGE_SIZE - place)) for place in range(self.end)]
+        found = {}
+        for line in list_words([(f"{self.page}{place:03X}", count) for place, count in wanted]):
+            # The first line of each listing counts: the place of a second one is the next listing's, which comes later.
+            found[int(line[1:4], 16)] = (len(line[6:13].split()), line[15:])
+        return found
+
+    # The table.
+
+    def table(self):
+        """Reads the table of a module: the places of its functions in microcode. Its lines become data."""
+        number, count = self.words[:2]
+        if not (1 <= number <= 31 and 1 <= count <= 64):
+            return []
+        self.data[0], self.data[1] = (1, f"CON {number:03X}"), (1, f"CON {count:03X}")
+        behind, entries = 2 + 2 * count, []
+        first = next(at for at in range(behind, behind + 3) if at == behind + 2 or self.words[at])
+        for at in range(2, behind, 2):
+            high, low = self.words[at:at + 2]
+            place = (high & 0xF) << 8 | low
+            directive = {0x000: "ENTRY", 0x200: "FOCAL"}.get(high & ~0xF)
+            if directive and low <= 0xFF and behind <= place < self.end:
+                self.name_function(place, at // 2 - 1, first)
+                self.data[at] = (2, f"{directive} :{self.labels[place]}")
+                entries += [place] if directive == "ENTRY" else []
+            else:
+                self.data[at], self.data[at + 1] = (1, f"CON {high:03X}"), (1, f"CON {low:03X}")
+        self.data.update((at, (1, "CON 000")) for at in range(behind, first))
+        for at, (words, _) in list(self.data.items()):
+            if any(at < place < at + words for place in self.labels):
+                self.data.update((place, (1, f"CON {self.words[place]:03X}")) for place in range(at, at + words))
+        return entries
+
+    def name_function(self, place, number, first):
+        """Gives a function its label, that of its name where that may be one, and finds the words of the name."""
+        name = self.name_before(place, first)
+        if name:
+            self.data[place - len(name)] = (len(name), f'NAME "{name}"')
+        if place not in self.labels:
+            self.labels[place] = self.unused(name if name and re.fullmatch(r"[A-Z][0-9A-Z]*", name) else f"F{number:02}")
+
+    def name_before(self, place, first):
+        """The name whose words end at a place, and begin at this first one or behind it; none where they are no such words."""
+        name = ""
+        for at in range(place - 1, max(first, place - LONGEST_NAME) - 1, -1):
+            word = self.words[at]
+            name += chr(word & 0x3F | (0 if word & 0x20 else 0x40))
+            if word & ~0xBF or name[-1] == '"':
+                return None
+            if word & 0x80:
+                return name
+        return None
+
+    def unused(self, name):
+        """A label that is not yet one."""
+        return next(one for one in (name, f"{name[:LONGEST_LABEL - 1]}_", *(f"X{at}_" for at in range(PAGE_SIZE)))
+                    if one not in self.labels.values())
+
+    # What is carried out.
+
+    def is_data(self, place):
+        return any(at <= place < at + count for at, (count, _) in self.data.items() if place - LONGEST_NAME <= at <= place)
+
+    def target(self, place):
+        """Where the instruction at a place goes or calls; none where it does not, or leaves the page."""
+        text = self.instructions[place][1]
+        short, long = SHORT.fullmatch(text), LONG.fullmatch(text)
+        if short:
+            distance = int(short[3], 16)
+            return place + (distance if short[2] == "+" else -distance)
+        return int(long[3], 16) if long and long[2] == self.page else None
+
+    def follow(self):
+        """The places of instructions that the functions of the table lead to."""
+        reached, left = set(), [(place, False) for place in self.entries]
+        while left:
+            place, may_be_set = left.pop()
+            if (place, may_be_set) in reached or not 0 <= place < self.end or self.is_data(place):
+                continue
+            reached.add((place, may_be_set))
+            count, text = self.instructions[place]
+            if may_be_set or not ASKS_FOR_SET.fullmatch(text):
+                target = self.target(place)
+                left += [(target, False)] if target is not None else []
+            if may_be_set or not GOES.fullmatch(text):
+                if not ENDS.fullmatch(text):
+                    left.append((place + count, bool(TEST.fullmatch(text) or SUM.fullmatch(text))))
+        return {place for place, _ in reached}
+
+    def sweep(self):
+        """The places of instructions one behind the other."""
+        places, place = set(), 0
+        while place < self.end:
+            places.add(place)
+            place += self.instructions[place][0]
+        return places
+
+    # The lines.
+
+    def begins(self, place):
+        """Whether a line has to begin at a place."""
+        return place in self.reached or place in self.data or place in self.labels
+
+    def parts(self):
+        """The places where lines begin, each with its count of words and its text; data are told with what they may be."""
+        place = 0
+        while place < self.end:
+            count, text = self.instructions[place]
+            word = f"CON {self.words[place]:03X}"
+            if place in self.data:
+                count, text = self.data[place]
+            elif place not in self.reached:
+                text, count = (word, 1) if text in ("NOP", word) or count > 1 else (f"{word:<{COMMENT - INDENT}}; {text}", 1)
+            elif count > 1 and (place + 1 >= self.end or self.begins(place + 1)):
+                count, text = 1, word
+            yield place, count, text
+            place += count
+
+    def label_targets(self):
+        """Gives a label to each place of a line to which an instruction goes."""
+        lines = {place: text for place, _, text in self.parts()}
+        for place, text in lines.items():
+            target = self.target(place) if text == self.instructions[place][1] else None
+            if target in lines and target not in self.labels:
+                self.labels[target] = self.unused(f"L{target:03X}")
+
+    def text(self):
+        """The source."""
+        lines = []
+        for place, _, text in self.parts():
+            label = self.labels.get(place)
+            target = self.target(place) if text == self.instructions[place][1] else None
+            if target in self.labels:
+                text = f"{(SHORT.fullmatch(text) or LONG.fullmatch(text))[1]} :{self.labels[target]}"
+            if text.startswith("NAME "):
+                lines.append("")
+            lines.append(f"{label + ':' if label else '':<{INDENT - 1}} {text}")
+        return "".join(f"{line}\n" for line in lines)

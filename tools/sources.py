@@ -26,7 +26,7 @@ LOOKS_LIKE_LABEL = re.compile(rb"[ \t]*(" + NAME + rb")(?![0-9A-Za-z_])")
 CODE = re.compile(rb'(?:[^;"]|"[^"]*"|"[^"]*\Z)*')
 
 # A line of the bench that ends in an address: where a function runs, or a refusal.
-OF_AN_ADDRESS = re.compile(r"(?:Micro|! \d\d \w+) ([4-9A-F][0-9A-F]{3})")
+OF_AN_ADDRESS = re.compile(r"(?:Micro|! (?:0[6-9]|1[0-2]) \w+) ([4-9A-F][0-9A-F]{3})")
 
 # Instructions by what they do with the carry. Sums, differences and tests set it to what comes out; all others clear it, so it
 # is clear wherever a jump or return arrives.
@@ -136,7 +136,10 @@ class Source:
                 break
             at, refusal = fault[0] // 2, fault[1]
             if refusal in OF_THE_LINE and at < len(texts):
-                for at in self.faults_of_lines():
+                wrong = self.faults_of_lines()
+                if at not in wrong:
+                    self.fault(at, refusal)
+                for at in {at, *wrong}:
                     texts[at] = self.kept_of(at)
             elif at < len(texts) and refusal != "! 35 TooLong":
                 if at not in self.faulty():
@@ -187,7 +190,7 @@ class Source:
         line = self.lines[fault.at]
         if fault.refusal == "! 32 LabelTwice":
             return [f"{line.label} stands in line {self.line_of(line.label) + 1}"]
-        if fault.refusal == "! 33 NoLabel":
+        if fault.refusal == "! 33 NoLabel" and line.reference:
             other = next((name for name in self.labels if name.lower() == line.reference.lower()), None)
             return [f"no line has the label {line.reference}"
                     + (f"; line {self.line_of(other) + 1} has {other}" if other else "")]

@@ -8,7 +8,7 @@ from difflib import SequenceMatcher
 from itertools import product
 from string import ascii_letters
 
-from decks import (BENCH, LONGEST_LINE, MARK_OF_UTF8, NOT_BUILT, Failure, block, bytes_of, items_of, lines_of, refused, shown,
+from decks import (BENCH, LONGEST_LINE, MARK_OF_UTF8, NO_ANSWER, Failure, block, bytes_of, items_of, lines_of, refused, shown,
                    text_of, words_of)
 from documents import codes_of, plain, section_of, tables_of
 
@@ -56,8 +56,8 @@ def assemble(lines, origin=ORIGIN):
     """The words of a source by its lines, and its first fault: the line, counted from 0, and the refusal without its number."""
     ran = subprocess.run([BENCH, "asm", "--origin", f"{origin:04X}", "-"], input=b"".join(line + b"\n" for line in lines),
                          stdout=subprocess.PIPE)
-    if ran.returncode == NOT_BUILT:
-        raise Failure("the program could not be built", NOT_BUILT)
+    if ran.returncode == NO_ANSWER:
+        raise Failure("the bench gave no answer", NO_ANSWER)
     if ran.returncode == 1:
         refusal, number = ran.stdout.decode().rsplit(" ", 1)
         return None, (int(number) - 1, refusal)

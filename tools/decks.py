@@ -11,6 +11,10 @@ BENCH = os.path.join(TOP, "bench")
 # A line with one of these as its first word opens a block, up to its `end`.
 OPENERS = {b"words", b"image", b"asm", b"load", b"program"}
 
+# What a text that is saved in UTF-8 or UTF-16 may begin with.
+MARK_OF_UTF8 = b"\xef\xbb\xbf"
+MARKS_OF_UTF16 = (b"\xff\xfe", b"\xfe\xff")
+
 LONGEST_LINE = 200
 LONGEST_DECK = 67_108_864
 

@@ -159,6 +159,19 @@ def refused(deck):
     return (status if status > 1 else int(bool(found))), found
 
 
+def refused_key(lines, at):
+    """Which key of the key line at a place, counted from 0, is refused: its number among the line's keys, from 1, and its name;
+    none where the line has one key alone, or is no key line. The deck is run up to there with its keys a line each."""
+    names = [name.decode("latin-1") for name in words_of(with_keys(lines[at]))[1:]]
+    if words_of(lines[at])[:1] != [b"key"] or len(names) < 2:
+        return None
+    keys = "".join(f"key {name}\n" for name in names).encode("latin-1")
+    _, answers = answered(b"".join(lines[:at]) + keys)
+    refusals = (number for number, (_, _, answer) in enumerate(answers[-len(names):], 1) if answer)
+    number = next(refusals, None)
+    return number and (number, names[number - 1])
+
+
 def hexadecimal(data):
     """Bytes as lines of a block."""
     return [data[at:at + 32].hex().upper().encode() for at in range(0, len(data), 32)]

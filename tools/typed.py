@@ -1,4 +1,5 @@
-"""Keys of names, texts and numbers, by the letters of the table in keyboard.py.
+"""Keys of names, texts, numbers and lines of programs, by the table in keyboard.py. Whether keys type a line is asked of the
+bench where it matters.
 
 Where words name keys, a text in quotes stands for ALPHA, the keys of its letters and ALPHA, and a number for its keys:
 `XEQ "QUAD"`, `-1.5E-3 ENTER`."""
@@ -11,6 +12,18 @@ LONGEST_NAME = 7
 # The key of each letter, and the keys that write their own names behind SHIFT.
 LETTERS = {key.letter: key.name for key in KEYS.values() if key.letter}
 OWN = set("0123456789+-*/.")
+
+# The names of functions that keys have other names for.
+OTHERWISE = {"SIGMA+": "S+", "ENTER": "ENTER^"}
+# Functions that keys have with ALPHA on, or that follow STO.
+WITH_ALPHA = {"ASTO": ["SHIFT", "STO"], "ARCL": ["SHIFT", "RCL"], "AVIEW": ["SHIFT", "R/S"], "CLA": ["SHIFT", "BACK"]}
+BEHIND_STO = {f"ST{sign}": ["STO", sign] for sign in "+-*/"}
+OF_ONE_DIGIT = ("FIX", "SCI", "ENG")
+NO_FUNCTIONS = {"ON", "USER", "PRGM", "ALPHA", "SHIFT", "SST", "BST", "EEX", "BACK", "R/S", "."}
+
+OPERATED = re.compile(r"(\S+) (IND )?([0-9]{2}|[A-Z])")
+LABELLED = re.compile(r'(XEQ|GTO|LBL) "(.*)"')
+LOCAL = re.compile(r"(XEQ|GTO|LBL) ([A-J])")
 
 NUMBER = re.compile(r"(-?)([0-9]*\.?[0-9]*)(?:E(-?)([0-9]{1,2}))?")
 WORD = re.compile(r'"[^"]*"?|[^ \t"]+')
@@ -81,3 +94,47 @@ def keys_of(text):
 def is_spelled(word):
     """Whether a word is no key's name, but a number or the begin of a text."""
     return word not in KEYS and (word.startswith('"') or is_number(word))
+
+
+# Lines.
+
+def function_keys(name):
+    """The keys of a function: those that have it, and else XEQ and its name in letters."""
+    for key in KEYS.values():
+        if OTHERWISE.get(key.name, key.name) == name and not key.name.isdecimal() and key.name not in NO_FUNCTIONS:
+            return [key.name]
+        if key.shifted == name and name not in NO_FUNCTIONS:
+            return ["SHIFT", key.name]
+    return BEHIND_STO.get(name) or ["XEQ", *text_keys(name)]
+
+
+def operand_keys(name, indirect, operand):
+    """The keys of an operand."""
+    if not operand.isdecimal():
+        operand = [".", LETTERS[operand]] if operand in "TZYXL" else None
+    elif name in OF_ONE_DIGIT and not indirect:
+        operand = operand[1:] if operand[0] == "0" else None
+    if operand is None:
+        raise NoKeys("no key is its operand")
+    return ["SHIFT"] * bool(indirect) + list(operand)
+
+
+def line_keys(text):
+    """The keys of a line, by its text."""
+    if is_number(text):
+        return number_keys(text)
+    if text.startswith('>"'):
+        alpha, *letters = text_keys(text[2:-1])
+        return [alpha, "SHIFT", "XEQ", *letters]
+    if text.startswith('"'):
+        return text_keys(text[1:-1])
+    labelled = LABELLED.fullmatch(text) or LOCAL.fullmatch(text)
+    if labelled:
+        return [*function_keys(labelled[1]), *text_keys(labelled[2])]
+    operated = OPERATED.fullmatch(text)
+    name = operated[1] if operated else text
+    front = WITH_ALPHA.get(name) or function_keys(name)
+    if operated and front[0] == "XEQ" and name != "XEQ":
+        raise NoKeys(f"no key has {name}")
+    keys = front + (operand_keys(*operated.groups()) if operated else [])
+    return ["ALPHA", *keys, "ALPHA"] if name in WITH_ALPHA else keys

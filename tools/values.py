@@ -5,19 +5,19 @@ NUMBER = re.compile("([09])([1-9][0-9]{9})([09][0-9]{2})")
 TEXT = re.compile("1[0-9A-F]([0-9A-F]{12})")
 ZERO = "0" * 14
 
-# Numbers with a point up to so many digits before it or zeros behind it; others have an E.
-MOST_PLACES = 10
+# The digits that a number line takes, zeros in front and behind the point too. What has more is written with an E.
+MOST_DIGITS = 10
 
 
 def number_of(sign, digits, exponent):
     """A number by its digits and its exponent."""
     digits = digits.rstrip("0")
     sign = "-" if sign == "9" else ""
-    if 0 <= exponent < MOST_PLACES:
+    if 0 <= exponent < MOST_DIGITS:
         digits = digits.ljust(exponent + 1, "0")
         rest = digits[exponent + 1:]
         return f"{sign}{digits[:exponent + 1]}{'.' + rest if rest else ''}"
-    if -3 <= exponent < 0:
+    if -3 <= exponent < 0 and len(digits) - exponent <= MOST_DIGITS:
         return f"{sign}0.{'0' * (-exponent - 1)}{digits}"
     return f"{sign}{digits[0]}{'.' + digits[1:] if digits[1:] else ''}E{exponent}"
 

@@ -43,14 +43,15 @@ def is_comment(line):
 
 
 class Listing:
-    """The lines of a listing: each with its number in the file, its text for the bench, and what is to be told of it."""
+    """The lines of a listing, which may have numbers in front: each with its number in the file, its text for the bench, and what
+    is to be told of it."""
 
-    def __init__(self, lines):
+    def __init__(self, lines, has_numbers=True):
         self.notes, self.told, self.bad, self.texts = [], [], [], []
         # The lines whose numbers in front are taken off, and those whose numbers stay, counted from 0.
         self.off, self.on, self.unread = set(), set(), 0
         stripped = [line.strip() for line in lines]
-        self.lines = self.without_numbers(stripped)
+        self.lines = self.without_numbers(stripped) if has_numbers else stripped
         self.read()
 
     def without_numbers(self, lines):

@@ -5,6 +5,8 @@ import re
 from decks import Failure, answered, block, hexadecimal, refused, run
 from typed import LONGEST_NAME, why_no_name
 
+LEFT_OUT = "left out here, so a step there is refused: "
+
 # The most places that are told of a line.
 MOST_PLACES = 4
 
@@ -80,7 +82,7 @@ def left_out_of(lines, labels, front):
     left_out, nowhere = fates(asked, front)
     calls = [line for program in parted(lines) for line in program if is_lost(line[1], program) or line[1] in nowhere]
     if left_out:
-        yield "left out here, so a step there is refused: " + told(line for line in lines if line[1] in left_out)
+        yield LEFT_OUT + told(line for line in lines if line[1] in left_out)
     if calls:
         yield "called, and standing nowhere: " + told(calls)
     names = [(place, LABEL.fullmatch(text)[1]) for place, text in lines if LABEL.fullmatch(text)]

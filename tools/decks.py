@@ -108,6 +108,14 @@ def answers_of(output):
     return answers
 
 
+def names_in(line):
+    """The names of keys that stand for what a key line has behind its `key`, where that has texts or numbers in it."""
+    words = [word.decode("latin-1") for word in words_of(line)]
+    if words[:1] != ["key"] or not any(map(is_spelled, words)):
+        return words[1:]
+    return keys_of(text_of(line).decode("latin-1").strip(" \t")[len("key"):])
+
+
 def with_keys(deck):
     """The deck with the names of keys in place of the texts and numbers that its key lines have. No line is added or taken
     away; one whose text no keys write stays, and is refused."""
@@ -115,14 +123,13 @@ def with_keys(deck):
         return deck
     lines = lines_of(deck)
     for first, last in items_of(lines):
-        words = [word.decode("latin-1") for word in words_of(lines[first])]
-        if first == last and words[:1] == ["key"] and any(map(is_spelled, words)):
-            text = text_of(lines[first])
+        words = words_of(lines[first])
+        if first == last and words[:1] == [b"key"] and any(is_spelled(word.decode("latin-1")) for word in words):
             try:
-                names = keys_of(text.decode("latin-1").strip(" \t")[len("key"):])
+                names = " ".join(["key", *names_in(lines[first])]).encode("latin-1")
             except NoKeys:
                 continue
-            lines[first] = " ".join(["key", *names]).encode("latin-1") + lines[first][len(text):]
+            lines[first] = names + lines[first][len(text_of(lines[first])):]
     return b"".join(lines)
 
 
@@ -160,16 +167,18 @@ def refused(deck):
 
 
 def refused_key(lines, at):
-    """Which key of the key line at a place, counted from 0, is refused: its number among the line's keys, from 1, and its name;
-    none where the line has one key alone, or is no key line. The deck is run up to there with its keys a line each."""
-    names = [name.decode("latin-1") for name in words_of(with_keys(lines[at]))[1:]]
-    if words_of(lines[at])[:1] != [b"key"] or len(names) < 2:
-        return None
+    """Which key of the key line at a place, counted from 0, is refused, or why its text has no keys; nothing where it is no key
+    line, or has one key alone. The deck is run up to there with its keys a line each."""
+    if words_of(lines[at])[:1] != [b"key"]:
+        return ""
+    try:
+        names = names_in(lines[at])
+    except NoKeys as why:
+        return str(why)
     keys = "".join(f"key {name}\n" for name in names).encode("latin-1")
     _, answers = answered(b"".join(lines[:at]) + keys)
-    refusals = (number for number, (_, _, answer) in enumerate(answers[-len(names):], 1) if answer)
-    number = next(refusals, None)
-    return number and (number, names[number - 1])
+    refusals = [number for number, (_, _, answer) in enumerate(answers[-len(names):], 1) if answer]
+    return f"its key {refusals[0]}: {names[refusals[0] - 1]}" if refusals and names[1:] else ""
 
 
 def hexadecimal(data):

@@ -145,8 +145,8 @@ def run(deck):
 
 
 def answered(deck):
-    """The status of a deck, and its commands and blocks: of each the first line and the last, counted from 0, and the lines that
-    it has printed."""
+    """The status of a deck, and its commands and blocks: of each the first line and the last, counted from 0, and the lines
+    that it has printed."""
     lines = lines_of(deck)
     items = items_of(lines)
     status, output = run(marked(lines, items))

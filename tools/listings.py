@@ -43,8 +43,8 @@ def is_comment(line):
 
 
 class Listing:
-    """The lines of a listing, which may have numbers in front: each with its number in the file, its text for the bench, and what
-    is to be told of it."""
+    """The lines of a listing, which may have numbers in front: each with its number in the file, its text for the bench, and
+    what is to be told of it."""
 
     def __init__(self, lines, has_numbers=True):
         self.notes, self.told, self.bad, self.texts = [], [], [], []
@@ -67,7 +67,8 @@ class Listing:
         wrong = [at for at in places if at not in rising]
         if len(wrong) * FEW > len(places):
             missing = next((at for at in places if not found[at]), None)
-            falls = [at for last, at in zip(numbered, numbered[1:]) if at not in begins and int(found[at][1]) <= int(found[last][1])]
+            falls = [at for last, at in zip(numbered, numbered[1:])
+                     if at not in begins and int(found[at][1]) <= int(found[last][1])]
             why = (f"line {missing + 1} has no number in front" if missing is not None else
                    f"the number before line {falls[0] + 1} does not ascend")
             self.notes.append(f"{why}, so the numbers before other lines stay: "
@@ -82,7 +83,8 @@ class Listing:
         gaps = [(last, number) for last, number in zip(numbers, numbers[1:]) if number > last + 1] if not wrong else []
         missing = f"; behind {gaps[0][0]} stands {gaps[0][1]}" if gaps else ""
         missing += f", and there are {len(gaps)} such gaps" if gaps[1:] else ""
-        self.notes.append(f"each line has a number in front, {found[numbered[0]][1]} to {found[numbered[-1]][1]}: they are "
+        but = f", but for {len(wrong)}" if wrong else ""
+        self.notes.append(f"each line has a number in front{but}, {found[numbered[0]][1]} to {found[numbered[-1]][1]}: they are "
                           f"taken off{missing}")
         for at in wrong:
             self.told.append((at + 1, f"{shown(lines[at])} (its number does not ascend, and is taken off too)" if found[at] else
@@ -138,7 +140,8 @@ class Listing:
         causes = {line: list(self.causes(number, line, speller, others[line])) for number, line in self.bad
                   if (number, line) not in kept[1:]}
         good = readable([text for found in causes.values() for text, _ in found if text])
-        reasons = {line: next((why for text, why in found if text is None or text in good), "") for line, found in causes.items()}
+        reasons = {line: next((why for text, why in found if text is None or text in good), "")
+                   for line, found in causes.items()}
         if kept:
             more = f", as {len(kept) - 1} more that are none" if kept[1:] else ""
             reasons[kept[0][1]] = f"it has a number in front{more}"

@@ -109,8 +109,8 @@ def loadable(prefixes):
 
 
 def whole_lines(data):
-    """How many of the bytes are whole lines, from the first one on. Among the lengths up to one that is good there is a good one
-    at least every 18 bytes, as no line is longer."""
+    """How many of the bytes are whole lines, from the first one on. Among the lengths up to one that is good there is a good
+    one at least every 18 bytes, as no line is longer."""
     low, high = 0, len(data)
     while high - low > LONGEST_LINE_BYTES:
         middle = (low + high + LONGEST_LINE_BYTES) // 2

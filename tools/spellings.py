@@ -21,7 +21,8 @@ LABELLED = re.compile(r"""(LBL|GTO|XEQ|W)(?:\s*"(.*)"|\s*'(.*)'|\s*ᵀ(.*)|\^T\s
 NAME = re.compile(r"(?!IND\Z|\.).*[^\W\d_].*", re.I)
 ONE_LETTER = re.compile(r"(?:LBL|GTO|XEQ) ([A-Za-z])")
 
-OPERATED = re.compile(r"(.+?)(?:\s+|(?<=[-+*/×÷])(?=IND))(?:(IND)\s*)?(?:ST\s+)?([0-9]{1,3}|[A-Za-z]|[\[\\\]↑^_]|[├⊢]|\|-|APPEND)", re.I)
+OPERATED = re.compile(r"(.+?)(?:\s+|(?<=[-+*/×÷])(?=IND))(?:(IND)\s*)?(?:ST\s+)?"
+                      r"([0-9]{1,3}|[A-Za-z]|[\[\\\]↑^_]|[├⊢]|\|-|APPEND)", re.I)
 
 # How the calculator itself shows the registers M to Q in a line.
 SHOWN_REGISTERS = {"[": "M", "\\": "N", "]": "O", "↑": "P", "^": "P", "_": "Q"}

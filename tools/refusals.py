@@ -1,8 +1,8 @@
 """The refusals of a deck: of each its place, and the line that is meant."""
 import re
 
-from decks import (LONGEST_LINE, MARK_OF_UTF8, MARKS_OF_UTF16, Failure, block, is_skipped, lines_of, refused, shown, text_of,
-                   words_of)
+from decks import (LONGEST_LINE, MARK_OF_UTF8, MARKS_OF_UTF16, Failure, block, is_skipped, lines_of, refused, refused_key, shown,
+                   text_of, words_of)
 
 BLANKS = b" \t"
 
@@ -86,6 +86,11 @@ class Refused:
         told = self.told + ([sign[0]] if sign else [])
         behind = f" ({', '.join(told)})" if told else ""
         return (shown(line.strip(BLANKS)) + behind).lstrip(" ")
+
+    def key(self):
+        """Which key of a line with several is refused, on a line of its own."""
+        found = refused_key(self.lines, self.first)
+        return f"\n  {found}" if found else ""
 
 
 def refusals_of(deck):

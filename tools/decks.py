@@ -5,6 +5,8 @@ import signal
 import subprocess
 import sys
 
+from typed import NoKeys, is_spelled, keys_of
+
 TOP = os.path.join(os.path.dirname(os.path.realpath(__file__)), "..")
 BENCH = os.path.join(TOP, "bench")
 
@@ -110,8 +112,34 @@ def answers_of(output):
     return answers
 
 
+def names_in(line):
+    """The names of keys that stand for what a key line has behind its `key`, where that has texts or numbers in it."""
+    words = [word.decode("latin-1") for word in words_of(line)]
+    if words[:1] != ["key"] or not any(map(is_spelled, words)):
+        return words[1:]
+    return keys_of(text_of(line).decode("latin-1").strip(" \t")[len("key"):])
+
+
+def with_keys(deck):
+    """The deck with the names of keys in place of the texts and numbers that its key lines have. No line is added or taken
+    away; one whose text no keys write stays, and is refused."""
+    if b"key" not in deck:
+        return deck
+    lines = lines_of(deck)
+    for first, last in items_of(lines):
+        words = words_of(lines[first])
+        if first == last and words[:1] == [b"key"] and any(is_spelled(word.decode("latin-1")) for word in words):
+            try:
+                names = " ".join(["key", *names_in(lines[first])]).encode("latin-1")
+            except NoKeys:
+                continue
+            lines[first] = names + lines[first][len(text_of(lines[first])):]
+    return b"".join(lines)
+
+
 def run(deck):
     """Runs a deck: the status and what it writes. The program's own faults and the launcher's go to standard error."""
+    deck = with_keys(deck)
     if len(deck) > LONGEST_DECK:
         raise Failure(f"the deck has {len(deck)} bytes with what is added to it, and {LONGEST_DECK} is the most", 3)
     ran = subprocess.run([BENCH, "run", "-"], input=deck, stdout=subprocess.PIPE)
@@ -120,18 +148,41 @@ def run(deck):
     return ran.returncode, ran.stdout
 
 
-def refused(deck):
-    """The status of a deck, 0 where it has no refusal, and the refused commands and blocks: of each the first line and the
-    last, counted from 0, and the refusal."""
+def answered(deck):
+    """The status of a deck, and its commands and blocks: of each the first line and the last, counted from 0, and the lines
+    that it has printed."""
     lines = lines_of(deck)
     items = items_of(lines)
     status, output = run(marked(lines, items))
     answers = answers_of(output)
     if status in (0, 1) and items and len(answers) != len(items):
         raise Failure(f"the bench answered {len(answers)} commands of {len(items)}", 3)
-    found = [(first, last, answer[-1].decode()) for (first, last), answer in zip(items, answers)
+    return status, [(first, last, answer) for (first, last), answer in zip(items, answers)]
+
+
+def refused(deck):
+    """The status of a deck, 0 where it has no refusal, and the refused commands and blocks: of each the first line and the
+    last, counted from 0, and the refusal."""
+    lines = lines_of(deck)
+    status, answers = answered(deck)
+    found = [(first, last, answer[-1].decode()) for first, last, answer in answers
              if answer and answer[-1].startswith(b"! ") and words_of(lines[first]) not in NEVER_REFUSED]
     return (status if status > 1 else int(bool(found))), found
+
+
+def refused_key(lines, at):
+    """Which key of the key line at a place, counted from 0, is refused, or why its text has no keys; nothing where it is no key
+    line, or has one key alone. The deck is run up to there with its keys a line each."""
+    if words_of(lines[at])[:1] != [b"key"]:
+        return ""
+    try:
+        names = names_in(lines[at])
+    except NoKeys as why:
+        return str(why)
+    keys = "".join(f"key {name}\n" for name in names).encode("latin-1")
+    _, answers = answered(b"".join(lines[:at]) + keys)
+    refusals = [number for number, (_, _, answer) in enumerate(answers[-len(names):], 1) if answer]
+    return f"its key {refusals[0]}: {names[refusals[0] - 1]}" if refusals and names[1:] else ""
 
 
 def hexadecimal(data):

@@ -29,8 +29,8 @@ def tables_of(section):
 
 
 def plain(text):
-    """A text of a document without its links."""
-    return re.sub(r"\[([^]]*)\]\([^)]*\)", r"\1", text)
+    """A text of a document without its links and marks."""
+    return re.sub(r"\[([^]]*)\]\([^)]*\)", r"\1", text).replace("**", "")
 
 
 def codes_of(cell):

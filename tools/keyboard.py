@@ -68,6 +68,18 @@ def picture():
     return "\n".join(parts)
 
 
+# How many letters stand on a line of the list.
+LETTERS_ON_A_LINE = 8
+
+
+def letters():
+    """The keys by their letters, as docs/KEYBOARD.md shows them."""
+    found = sorted((not key.letter.isalpha(), letter_text(key), key.name) for key in KEYS.values() if key.letter)
+    pairs = [f"{letter} {name}" for _, letter, name in found]
+    lines = [pairs[at:at + LETTERS_ON_A_LINE] for at in range(0, len(pairs), LETTERS_ON_A_LINE)]
+    return "".join("".join(f"{pair:<11}" for pair in line).rstrip() + "\n" for line in lines)
+
+
 # What docs/keyboard.svg is drawn with: its scale, and the width of a column and the height of a row.
 MARGIN, COLUMN, ROW, TOP = 24, 120, 96, 52
 KEY_WIDTH, KEY_HEIGHT = 92, 36

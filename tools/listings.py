@@ -1,12 +1,23 @@
-"""Listings of programs: the texts of their lines, as the bench reads them."""
+"""Listings of programs: the texts of their lines, as the bench reads them, and why a line is none."""
 import re
+from bisect import bisect_left
 
 from decks import LONGEST_LINE, Failure, block, refused, shown, words_of
-from spellings import Speller, read_tables, remark_on
+from documents import codes_of, section_of, tables_of
+from spellings import DOCUMENT, Speller, read_tables, remark_on
 
 # A number in front of a line, and what stands behind it.
 NUMBERED = re.compile(r"([0-9]{1,4})(?:[.:)]?\s+|(?=[*♦◆▸▶►•●>]\s*LBL\b))(\S.*)", re.I)
 QUOTED = re.compile(r"""["'“‘ᵀ]""")
+# Of so many lines one may have a wrong number in front, or none, and the numbers go all the same.
+FEW = 8
+
+# Parts of a line that is none.
+IN_QUOTES = re.compile(r'(>?|[A-Z]+ )"(.*)"')
+CHARACTER = re.compile(r"\\[0-9A-F]{2}|.")
+TOUCHING = re.compile(r"([^\s0-9]+)([0-9]{1,2})")
+WITH_NUMBER = re.compile(r"(.+ )([0-9]{2,3})")
+
 ENDED = re.compile(r"(?:[0-9]+\S*\s+)?\.?END\.?(?:\s.*)?", re.I)
 
 
@@ -32,53 +43,70 @@ def is_comment(line):
 
 
 class Listing:
-    """The lines of a listing: each with its number in the file, its text for the bench, and what is to be told of it."""
+    """The lines of a listing, which may have numbers in front: each with its number in the file, its text for the bench, and
+    what is to be told of it."""
 
-    def __init__(self, lines):
+    def __init__(self, lines, has_numbers=True):
         self.notes, self.told, self.bad, self.texts = [], [], [], []
+        # The lines whose numbers in front are taken off, and those whose numbers stay, counted from 0.
+        self.off, self.on, self.unread = set(), set(), 0
         stripped = [line.strip() for line in lines]
-        self.lines = self.without_numbers(stripped)
+        self.lines = self.without_numbers(stripped) if has_numbers else stripped
         self.read()
 
     def without_numbers(self, lines):
-        """The lines without the numbers in front, where each has one."""
+        """The lines without the numbers in front, where each has one, but for a few that are told."""
         places = [at for at, line in enumerate(lines) if not is_comment(line) and not line.startswith(";")]
         found = {at: NUMBERED.fullmatch(lines[at]) for at in places}
-        wrong = [at for at in places if not found[at]]
-        if not places or 2 * len(wrong) >= len(places):
+        numbered = [at for at in places if found[at]]
+        if not places or 2 * len(numbered) <= len(places):
             return lines
-        if wrong:
-            self.notes.append(f"line {wrong[0] + 1} has no number in front, so the numbers before other lines stay: "
-                              f"{shown(lines[wrong[0]])}")
+        follows = [False] + [ENDED.fullmatch(lines[at]) is not None for at in places[:-1]]
+        begins = {at for at, ended in zip(places, follows) if ended and found[at] and int(found[at][1]) <= 1}
+        rising = ascending([(int(found[at][1]), at) for at in numbered], begins)
+        wrong = [at for at in places if at not in rising]
+        if len(wrong) * FEW > len(places):
+            missing = next((at for at in places if not found[at]), None)
+            falls = [at for last, at in zip(numbered, numbered[1:])
+                     if at not in begins and int(found[at][1]) <= int(found[last][1])]
+            why = (f"line {missing + 1} has no number in front" if missing is not None else
+                   f"the number before line {falls[0] + 1} does not ascend")
+            self.notes.append(f"{why}, so the numbers before other lines stay: "
+                              f"{shown(lines[falls[0] if missing is None else missing])}")
+            self.on = set(numbered)
             return lines
-        numbers = [int(found[at][1]) for at in places]
-        follows = [ENDED.fullmatch(lines[at]) is not None for at in places]
-        for at, last, number, ended in zip(places[1:], numbers, numbers[1:], follows):
-            if number <= last and not (ended and number <= 1):
-                self.notes.append(f"the number before line {at + 1} does not ascend, so those before all lines stay: "
-                                  f"{shown(lines[at])}")
-                return lines
         speller = Speller(read_tables(), [])
         if all(speller.number(speller.plain(lines[at])) for at in places):
             self.notes.append("each line is a number as it stands, so none has a number in front taken off")
             return lines
-        gaps = [(last, number) for last, number in zip(numbers, numbers[1:]) if number > last + 1]
+        numbers = [int(found[at][1]) for at in numbered if at in rising]
+        gaps = [(last, number) for last, number in zip(numbers, numbers[1:]) if number > last + 1] if not wrong else []
         missing = f"; behind {gaps[0][0]} stands {gaps[0][1]}" if gaps else ""
         missing += f", and there are {len(gaps)} such gaps" if gaps[1:] else ""
-        self.notes.append(f"each line has a number in front, {found[places[0]][1]} to {found[places[-1]][1]}: they are "
+        but = f", but for {len(wrong)}" if wrong else ""
+        self.notes.append(f"each line has a number in front{but}, {found[numbered[0]][1]} to {found[numbered[-1]][1]}: they are "
                           f"taken off{missing}")
-        return [found[at][2] if at in found else line for at, line in enumerate(lines)]
+        for at in wrong:
+            self.told.append((at + 1, f"{shown(lines[at])} (its number does not ascend, and is taken off too)" if found[at] else
+                              f"{shown(lines[at])} (it has no number in front, and stays as it is)"))
+        self.off = set(numbered)
+        return [found[at][2] if at in self.off else line for at, line in enumerate(lines)]
+
+    def is_comment(self, number, line):
+        """Whether a line is a comment of the block: behind a number in front `#` begins none."""
+        return is_comment(line) and number - 1 not in self.off
 
     def read(self):
         """Reads the lines: those that the bench reads as they are, and then the spellings of the others."""
         tables = read_tables()
         speller = Speller(tables, self.lines)
         good = readable(self.lines)
-        others = {line: speller.spellings(line) for line in self.lines if line not in good and not is_comment(line)}
+        others = {line: speller.spellings(line) for number, line in enumerate(self.lines, 1)
+                  if line not in good and not self.is_comment(number, line)}
         tried = [text for found in others.values() for text, _ in found or []]
         good |= readable(tried + [function for function in map(speller.function_called, tried) if function])
         for number, line in enumerate(self.lines, 1):
-            if is_comment(line):
+            if self.is_comment(number, line):
                 self.texts.append(line)
             elif line in others:
                 self.texts.append(self.spelled(number, line, others[line], good))
@@ -89,6 +117,8 @@ class Listing:
                 self.texts.append(line)
                 if remark_on(line):
                     self.told.append((number, f"{line} ({remark_on(line)})"))
+        self.told.sort(key=lambda told: told[0])
+        self.give_reasons(speller, others)
 
     def spelled(self, number, line, spellings, good):
         """The text of a line by its first spelling that is good."""
@@ -102,3 +132,84 @@ class Listing:
         remark = remark or remark_on(text)
         self.told.append((number, f"{shown(line)} -> {text}{f' ({remark})' if remark else ''}"))
         return text
+
+    def give_reasons(self, speller, others):
+        """Puts behind each line that is none why that is so. Those that only have numbers in front are one."""
+        self.unread = len(self.bad)
+        kept = [(number, line) for number, line in self.bad if number - 1 in self.on]
+        causes = {line: list(self.causes(number, line, speller, others[line])) for number, line in self.bad
+                  if (number, line) not in kept[1:]}
+        good = readable([text for found in causes.values() for text, _ in found if text])
+        reasons = {line: next((why for text, why in found if text is None or text in good), "")
+                   for line, found in causes.items()}
+        if kept:
+            more = f", as {len(kept) - 1} more that are none" if kept[1:] else ""
+            reasons[kept[0][1]] = f"it has a number in front{more}"
+        self.bad = [(number, line, reasons[line]) for number, line in self.bad if (number, line) not in kept[1:]]
+
+    def causes(self, number, line, speller, spellings):
+        """Why a line may be none, the likeliest first: each with a text that the bench reads if it is so, none where that is
+        plain."""
+        if line.startswith("#"):
+            yield None, "behind a number # begins no comment"
+        text = speller.plain(line)
+        for quoted in filter(None, (IN_QUOTES.fullmatch(found) for found, _ in spellings)):
+            characters = CHARACTER.findall(quoted[2])
+            for most in (15, 14):
+                if len(characters) > most:
+                    cut = f'{quoted[1]}"{"".join(characters[:most])}"'
+                    yield cut, f"at most {most} characters stand there, and these are {len(characters)}"
+            yield from ((f'{quoted[1]}"{quoted[2].replace(sign, "")}"', f"within quotes {sign} is written {code}")
+                        for sign, code in (('"', "\\22"), ("\\", "\\5C")) if sign in quoted[2])
+            if not quoted[2].isascii():
+                kept = re.sub(r"[^ -~]", "", quoted[2])
+                signs = " ".join(dict.fromkeys(re.findall(r"[^ -~]", quoted[2])))
+                yield f'{quoted[1]}"{kept}"', f"{signs} is in none of the tables; \\ and two digits write any character"
+        if text.count('"') % 2:
+            for whole in (f'{text}"', re.sub(r"\A((?:LBL|GTO|XEQ) )?", r'\1"', text, flags=re.I)):
+                yield from ((found, "a quote is missing") for found, _ in speller.spellings(whole) or [])
+        command = re.match(r"[A-Z]+", text.upper())
+        if command and command[0] in commands():
+            yield None, f"a command, and no line of a program{commands()[command[0]]}"
+        touching = TOUCHING.fullmatch(text)
+        if touching:
+            apart = f"{speller.tables.name(touching[1])} {int(touching[2]):02}"
+            yield apart, f"a blank stands between a name and its operand: {apart}"
+        steps = text.split()
+        if len(steps) > 1:
+            yield " ".join(steps).replace(" ", ""), "a number has no blanks in it"
+        name = speller.tables.name(text)
+        yield f"{name} 00", "its operand is missing"
+        for found, _ in spellings:
+            operated = WITH_NUMBER.fullmatch(found)
+            if operated:
+                yield f"{operated[1]}00", f"{operated[2]} is no operand there"
+        if re.fullmatch(r"[A-Z][A-Z0-9<>=#?+*/^-]*", name) and len(name) <= 7:
+            yield None, ("no function of the calculator; one of a module is written by its numbers, as XROM 25,47, and a label "
+                         f'is called by XEQ "{name}"')
+
+
+def ascending(numbers, begins):
+    """Of these numbers, each with its place, the places of a longest part that ascends from each begin on."""
+    runs, found = [], set()
+    for number, at in numbers:
+        if at in begins or not runs:
+            runs.append([])
+        runs[-1].append((number, at))
+    for run in runs:
+        lasts, ends, before = [], [], {}
+        for number, at in run:
+            place = bisect_left(lasts, number)
+            lasts[place:place + 1], ends[place:place + 1] = [number], [at]
+            before[at] = ends[place - 1] if place else None
+        at = ends[-1]
+        while at is not None:
+            found.add(at)
+            at = before[at]
+    return found
+
+
+def commands():
+    """The commands that no program has, and what stands in their place, as the document's table has them."""
+    return {name: f"; here {here}" if here else "" for names, here in tables_of(section_of(DOCUMENT, "Commands"))[0]
+            for name in codes_of(names)}

@@ -48,8 +48,10 @@ class Faulty(Failure):
 
 
 def source_lines(data):
-    """The lines of a source without their ends, and without a mark at its front."""
-    return [text_of(line) for line in lines_of(data.removeprefix(MARK_OF_UTF8))]
+    """The lines of a source without their ends, and without a mark at its front. As for `bench asm`, a comment may be long: it is
+    cut."""
+    lines = [text_of(line) for line in lines_of(data.removeprefix(MARK_OF_UTF8))]
+    return [line[:LONGEST_LINE] if len(CODE.match(line)[0]) < LONGEST_LINE else line for line in lines]
 
 
 def assemble(lines, origin=ORIGIN):

@@ -17,18 +17,23 @@ APPENDED = re.compile(r"""(?:(?:[├⊢]|\|-|-[├⊢]|>(?=\s*["'])|APPEND(?=[\s
 APPENDED_WITHIN = re.compile(r'"(?:[├⊢]|-[├⊢]|\\7F)(.*)"')
 TEXT = re.compile(r'"(.*)"|\'(.*)\'|ᵀ(.+)')
 
-LABELLED = re.compile(r"""(LBL|GTO|XEQ|W)(?:\s*"(.*)"|\s*'(.*)'|\s*ᵀ(.*)|\s+([^\s"']+))""", re.I)
+LABELLED = re.compile(r"""(LBL|GTO|XEQ|W)(?:\s*"(.*)"|\s*'(.*)'|\s*ᵀ(.*)|\^T\s*([^\s"']+)|\s+([^\s"']+))""", re.I)
 NAME = re.compile(r"(?!IND\Z|\.).*[^\W\d_].*", re.I)
 ONE_LETTER = re.compile(r"(?:LBL|GTO|XEQ) ([A-Za-z])")
 
-OPERATED = re.compile(r"(.+?)\s+(?:(IND)\s*)?(?:ST\s+)?([0-9]{1,3}|[A-Za-z]|[├⊢]|\|-|APPEND)", re.I)
-STACK = "TZYXLMNOPQ"
+OPERATED = re.compile(r"(.+?)(?:\s+|(?<=[-+*/×÷])(?=IND))(?:(IND)\s*)?(?:ST\s+)?"
+                      r"([0-9]{1,3}|[A-Za-z]|[\[\\\]↑^_]|[├⊢]|\|-|APPEND)", re.I)
+
+# How the calculator itself shows the registers M to Q in a line.
+SHOWN_REGISTERS = {"[": "M", "\\": "N", "]": "O", "↑": "P", "^": "P", "_": "Q"}
 
 MODULE = re.compile(r"XROM\s*([0-9]{1,2})\s*[,/:.]\s*([0-9]{1,2})", re.I)
 LAST = re.compile(r"\.END\.\s+REG\s+[0-9]+", re.I)
+END = re.compile(r"END\.", re.I)
+TEST = re.compile(r"X[^?]+", re.I)
 HEAD = re.compile(r"\{.*\}")
 
-NUMBER = re.compile(r"([+-]?)([0-9.,]*)(?:\s*[Ee]\s*([+-]?)\s*([0-9]*))?")
+NUMBER = re.compile(r"([+-]?)([0-9.,]*)(?:\s*[Eeᴇ]\s*([+-]?)\s*([0-9]*))?")
 GROUPS = re.compile(r"[1-9][0-9]{0,2}(?:,[0-9]{3})+(?:\.[0-9]*)?")
 GROUPS_OF_POINTS = re.compile(r"[1-9][0-9]{0,2}(?:\.[0-9]{3})+,[0-9]*")
 DECIMAL_COMMA = re.compile(r"[0-9]*,[0-9]*")
@@ -186,6 +191,8 @@ class Speller:
         """An operand: two digits, a letter, or the append register."""
         if text.isdecimal():
             return f"{int(text):02}"
+        if text in SHOWN_REGISTERS:
+            return SHOWN_REGISTERS[text]
         if len(text) == 1 and text.isascii():
             return text if text in "abcde" else text.upper()
         return "append"
@@ -196,7 +203,7 @@ class Speller:
         if not found:
             return []
         name = next(part for part in found.groups()[1:] if part is not None)
-        if found[5] and not NAME.fullmatch(name):
+        if (found[5] or found[6]) and not NAME.fullmatch(name):
             return []
         return [(f'{found[1].upper()} "{self.characters(name)}"', "")]
 
@@ -209,10 +216,13 @@ class Speller:
         """A function without an operand."""
         if LAST.fullmatch(line):
             return [(".END.", "")]
+        if END.fullmatch(line):
+            return [("END", "")]
         has_letter = not line.isascii() or re.search(r"[A-Za-z]", line)
         if '"' in line or not has_letter and self.tables.key(line) not in self.tables.names:
             return []
-        return [(self.tables.name(line), "")]
+        found = [(self.tables.name(line), "")]
+        return found + [(self.tables.name(f"{line}?"), "a test without its mark")] if TEST.fullmatch(line) else found
 
 
 def remark_on(line):

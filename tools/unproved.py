@@ -9,6 +9,8 @@ import subprocess
 import sys
 import tempfile
 
+from decks import with_keys
+
 TOP = os.path.realpath(os.path.join(os.path.dirname(os.path.realpath(__file__)), ".."))
 CRATE = f"{TOP}/crates/h41_bench"
 
@@ -132,8 +134,13 @@ def answers(decks):
     with tempfile.TemporaryDirectory() as room:
         names = [f"{mark}-{number}" for number in range(len(decks))]
         for name, deck in zip(names, decks):
-            with open(f"{room}/{name}", "wb") as file:
+            with open(f"{room}/{name}", "w+b") as file:
                 is_whole = copied(deck, file)
+                # Of texts and numbers in key lines the bench gets the names of keys.
+                named = with_keys(file.read())
+                file.seek(0)
+                file.truncate()
+                file.write(named)
             if not is_whole:
                 os.remove(f"{room}/{name}")
         output, told = rt_try(["--cases", room, "--", "run", "-"], subprocess.DEVNULL)

@@ -1,0 +1,51 @@
+"""Files that the tools write: a new one takes the place of an older one, which stays as it is where anything is wrong."""
+import os
+import sys
+import tempfile
+
+from decks import Failure, end_with_reader
+
+
+def check_out(out, sources):
+    """Wants that OUT can be written, and is no other thing than a file of its own. `-` is standard output."""
+    if out == "-":
+        return
+    if os.path.exists(out):
+        if not os.path.isfile(out):
+            raise Failure(f"{out}: it is no file")
+        for what, path in sources:
+            if path != "-" and os.path.exists(path) and os.path.samefile(path, out):
+                raise Failure(f"{out}: it is {what}")
+    if not os.path.isdir(os.path.dirname(os.path.realpath(out))):
+        raise Failure(f"{out}: its folder is not there")
+
+
+def put(data, out):
+    """Writes a new file beside OUT, and renames it to OUT."""
+    if out == "-":
+        end_with_reader()
+        sys.stdout.buffer.write(data)
+        return sys.stdout.buffer.flush()
+    path = os.path.realpath(out)
+    new = None
+    try:
+        handle, new = tempfile.mkstemp(prefix=f".{os.path.basename(path)[:100]}.", dir=os.path.dirname(path))
+        with open(handle, "wb") as file:
+            file.write(data)
+            file.flush()
+            os.fsync(file.fileno())
+        os.chmod(new, os.stat(path).st_mode & 0o777 if os.path.exists(path) else 0o666 & ~mask())
+        os.replace(new, path)
+        new = None
+    except OSError as error:
+        raise Failure(f"{out}: it cannot be written: {error.strerror}") from error
+    finally:
+        if new and os.path.exists(new):
+            os.unlink(new)
+
+
+def mask():
+    """The bits that a new file does not get."""
+    bits = os.umask(0)
+    os.umask(bits)
+    return bits

@@ -1,0 +1,161 @@
+"""What is told of programs before they run: which lines are left out, which calls lead nowhere, which names no keys type, where
+bytes are no line, and how many registers leave room. Whether it is so is asked of the bench."""
+import re
+
+from decks import Failure, answered, block, hexadecimal, refused, run
+from typed import LONGEST_NAME, why_no_name
+
+LEFT_OUT = "left out here, so a step there is refused: "
+
+# The most places that are told of a line.
+MOST_PLACES = 4
+
+LOCAL = re.compile(r"(?:GTO|XEQ) ([0-9]{2,3}|[A-Za-z]|append)")
+NAMED = re.compile(r'(?:GTO|XEQ) (".*")')
+LABEL = re.compile(r'LBL "(.*)"')
+# What is asked whether it leads nowhere: other lines can say so for registers and flags alone.
+CALL = re.compile(r'(?:GTO|XEQ) ".*"|XROM .*')
+
+MOST_REGISTERS = 319
+LONGEST_LINE_BYTES = 18
+
+
+def listed(data):
+    """The texts of the lines that bytes of a program are, with `.END.`; none where the bench refuses them."""
+    status, output = run(b"size 0\n" + block(b"load", hexadecimal(data)) + b"show lines\n")
+    return [line[5:] for line in output.decode().splitlines()] if status == 0 else None
+
+
+# Lines.
+
+def parted(lines):
+    """The programs that lines are, by their ENDs. A line is a place and a text."""
+    program, programs = [], []
+    for place, text in lines:
+        if text in ("END", ".END."):
+            programs.append(program)
+            program = []
+        else:
+            program.append((place, text))
+    return [program for program in [*programs, program] if program]
+
+
+def fates(texts, front):
+    """Of these lines the ones that are left out, and the calls that lead nowhere, each carried out alone behind the deck that
+    plugs the pages."""
+    asked = sorted(set(texts))
+    deck = front + b"".join(b"reset\n" + block(b"program", [text.encode()]) + b"step\nshow display\n" for text in asked)
+    status, answers = answered(deck)
+    if status > 1:
+        raise Failure("the bench could not carry out the lines")
+    steps = [answer for _, _, answer in answers[len(answers) - 4 * len(asked):]]
+    left_out = {text for at, text in enumerate(asked) if steps[4 * at + 2] == [b"! 13 NotInProfile"]}
+    nowhere = {text for at, text in enumerate(asked) if CALL.fullmatch(text) and steps[4 * at + 3] == [b"NONEXISTENT"]}
+    return left_out, nowhere
+
+
+def told(found):
+    """Lines with their places, each once."""
+    places = {}
+    for place, text in found:
+        places.setdefault(text, []).append(place)
+    return ", ".join(f"{text} ({placed(of)})" for text, of in places.items())
+
+
+def placed(places):
+    """The places of a line, in words."""
+    names = [str(place) for place in places]
+    if len(names) > MOST_PLACES:
+        names[MOST_PLACES - 1:] = [f"{len(names) - MOST_PLACES + 1} more"]
+    return f"line{'s' if len(names) > 1 else ''} {', '.join(names[:-1])}{' and ' if len(names) > 1 else ''}{names[-1]}"
+
+
+def names_in(lines):
+    """The names of labels in lines."""
+    return {found[0].partition(" ")[2] for found in map(LABEL.fullmatch, (text for _, text in lines)) if found}
+
+
+def left_out_of(lines, labels, front):
+    """What is to be told of the lines of a file, where these are all the labels with names that memory will have."""
+    asked = [text for _, text in lines if not text.startswith(('"', '>"', "LBL")) and not LOCAL.fullmatch(text)
+             and (not NAMED.fullmatch(text) or NAMED.fullmatch(text)[1] not in labels)]
+    left_out, nowhere = fates(asked, front)
+    calls = [line for program in parted(lines) for line in program if is_lost(line[1], program) or line[1] in nowhere]
+    if left_out:
+        yield LEFT_OUT + told(line for line in lines if line[1] in left_out)
+    if calls:
+        yield "called, and standing nowhere: " + told(calls)
+    names = [(place, LABEL.fullmatch(text)[1]) for place, text in lines if LABEL.fullmatch(text)]
+    names = [(place, f'"{name}", {why_no_name(name)}') for place, name in names if why_no_name(name)]
+    if names:
+        yield f"labels that no keys find (a name has at most {LONGEST_NAME} letters there): {told(names)}"
+
+
+def is_lost(text, program):
+    """Whether a line calls a label in digits or of one letter that its program has not."""
+    found = LOCAL.fullmatch(text)
+    return found is not None and f"LBL {found[1]}" not in (other for _, other in program)
+
+
+# Bytes.
+
+def loadable(prefixes):
+    """Which of these rows of bytes are whole lines."""
+    deck = b"".join(b"reset\n" + block(b"load", hexadecimal(data)) for data in prefixes)
+    status, answers = answered(deck)
+    if status > 1:
+        raise Failure("the bench could not load the bytes")
+    return [answer != [b"! 14 BrokenProgram"] for _, _, answer in answers[1::2]]
+
+
+def whole_lines(data):
+    """How many of the bytes are whole lines, from the first one on. Among the lengths up to one that is good there is a good
+    one at least every 18 bytes, as no line is longer."""
+    low, high = 0, len(data)
+    while high - low > LONGEST_LINE_BYTES:
+        middle = (low + high + LONGEST_LINE_BYTES) // 2
+        ends = [middle - at for at in range(LONGEST_LINE_BYTES) if middle - at > low]
+        good = [end for end, is_good in zip(ends, loadable([data[:end] for end in ends])) if is_good]
+        low, high = (good[0], high) if good else (low, max(low, ends[-1] - 1))
+    ends = list(range(low + 1, high + 1))
+    good = [end for end, is_good in zip(ends, loadable([data[:end] for end in ends])) if is_good]
+    return good[-1] if good else low
+
+
+def broken(data):
+    """Where bytes that the bench refuses are no line, and the last line before."""
+    at = whole_lines(data)
+    texts = listed(data[:at] + b"\x85")
+    if texts is None:
+        return f"an .END. stands before the end, up to byte {at} of {len(data)}: between programs stands END, C0 00 0D"
+    before = [(number, text) for number, text in enumerate(texts[:-2], 1)]
+    line = numbered(before)[-1] if before else None
+    behind = f"the last line before it is {line[0]}, {line[1]}" if line else "no line stands before it"
+    rest = data[at:]
+    cut = len(rest) < LONGEST_LINE_BYTES and any(loadable([rest + b"A" * more for more in range(1, LONGEST_LINE_BYTES)]))
+    what = "begins a line that is cut off" if cut else "begins no line"
+    return f"byte {rest[0]:02X} at offset {at} {what}; {behind}"
+
+
+def numbered(lines):
+    """Lines with their numbers in their programs, and from the second program on that of the program."""
+    program, number, found = 1, 0, []
+    for _, text in lines:
+        number += 1
+        found.append((str(number) if program == 1 else f"{number} of program {program}", text))
+        if text == "END":
+            program, number = program + 1, 0
+    return found
+
+
+# Room.
+
+def greatest_size(deck):
+    """The most data registers that leave room for all programs of a deck; none where there is room with none of them."""
+    sizes = range(MOST_REGISTERS, -1, -1)
+    front = b"size 0\n" + deck
+    status, found = refused(front + b"".join(f"size {size}\n".encode() for size in sizes))
+    first = front.count(b"\n")
+    if status > 1 or any(at < first for at, _, _ in found):
+        return None
+    return next(size for size in sizes if first + MOST_REGISTERS - size not in {at for at, _, _ in found})

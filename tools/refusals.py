@@ -1,0 +1,155 @@
+"""The refusals of a deck: of each its place, and the line that is meant."""
+import re
+
+from decks import (LONGEST_LINE, MARK_OF_UTF8, MARKS_OF_UTF16, Failure, block, is_skipped, lines_of, refused, refused_key, shown,
+                   text_of, words_of)
+
+BLANKS = b" \t"
+
+# A refusal that names a line of its block.
+OF_A_LINE = re.compile(r"! (?:3[0-5]|41) \w+ ([0-9]+)")
+
+# Blocks whose refusals name no line, with such an opener, and the refusals that are looked for in their lines.
+OF_DIGITS = {b"words": b"words 8", b"image": b"image 8", b"load": b"load"}
+BAD_NUMBER, BAD_IMAGE, LINE_TOO_LONG = "! 51 BadNumber", "! 04 BadImage", "! 53 LineTooLong"
+
+MOST_WORDS = 4096
+IMAGE_SIZE = 2 * MOST_WORDS
+
+# Characters that look like blanks and are none.
+BLANKS_THAT_ARE_NONE = re.compile("[\u00a0\u2000-\u200b\u202f\u205f\u3000]")
+
+
+class Refused:
+    """A command or block of a deck that is refused: its lines, counted from 0, and the refusal. `inner` is the line of the
+    block that is meant, where it is known, and `told` what else is told of it."""
+
+    def __init__(self, lines, first, last, refusal):
+        self.lines, self.first, self.last, self.refusal = lines, first, last, refusal
+        numbered = OF_A_LINE.fullmatch(refusal)
+        self.inner = first + int(numbered[1]) if numbered else None
+        self.told = []
+        if refusal == LINE_TOO_LONG and first != last:
+            self.inner = next(at for at in range(first, last + 1) if len(text_of(lines[at])) > LONGEST_LINE)
+        if self.inner is not None and self.line() != self.line().rstrip(BLANKS):
+            self.told.append("with blanks at its end")
+
+    def place(self):
+        return f"line {self.first + 1}" if self.first == self.last else f"lines {self.first + 1}-{self.last + 1}"
+
+    def name(self):
+        """The refusal without its detail."""
+        return " ".join(self.refusal.split()[:3])
+
+    def at(self):
+        """The refused line: that of the block where it is known, and else the first one."""
+        return self.first if self.inner is None else self.inner
+
+    def inside(self):
+        """The lines of the block that are not skipped."""
+        return [at for at in range(self.first + 1, self.last) if not is_skipped(self.lines[at])]
+
+    def line(self):
+        return text_of(self.lines[self.at()])
+
+    def opener(self):
+        """The first word of the command or block."""
+        return (words_of(self.lines[self.first]) or [b""])[0]
+
+    def words(self):
+        """The words of the refused line, behind a label where the line is one of a source."""
+        words = words_of(self.line())
+        return words[1:] if self.inner is not None and words and words[0].endswith(b":") else words
+
+    def word(self):
+        """The first of them."""
+        return (self.words() or [b""])[0]
+
+    def sign(self):
+        """What its line has that a reader may not see, and how docs/DECK.md calls it; none where it has no such thing."""
+        line = self.line()
+        if self.lines[0].startswith(MARKS_OF_UTF16):
+            return "in UTF-16", "A byte order mark"
+        if self.at() == 0 and line.startswith(MARK_OF_UTF8):
+            return "behind a byte order mark", "A byte order mark"
+        if b"\r" in line:
+            return "with CR", "CR alone as the line end"
+        if BLANKS_THAT_ARE_NONE.search(line.decode(errors="replace")):
+            return "with a blank that is none", "Blanks that are none"
+        return None
+
+    def shown(self):
+        """The refused line as it is told, and behind it what else is told of it."""
+        line, sign = self.line(), self.sign()
+        if sign and sign[0] == "in UTF-16":
+            line = line.replace(b"\0", b"")
+        told = self.told + ([sign[0]] if sign else [])
+        behind = f" ({', '.join(told)})" if told else ""
+        return (shown(line.strip(BLANKS)) + behind).lstrip(" ")
+
+    def key(self):
+        """Which key of a line with several is refused, on a line of its own."""
+        found = refused_key(self.lines, self.first)
+        return f"\n  {found}" if found else ""
+
+
+def refusals_of(deck):
+    """The status of a deck, and its refusals. Of a block of words or bytes the faulty line is found."""
+    lines = lines_of(deck)
+    status, found = refused(deck)
+    found = [Refused(lines, *one) for one in found]
+    look_into_blocks(found)
+    return status, found
+
+
+def look_into_blocks(found):
+    """Finds the faulty lines of blocks of words or bytes. The bench is asked for each of their lines in a block of its own, and
+    first for their openers, by a block without lines."""
+    deck, places = [], {}
+
+    def ask(one, at, opener, lines):
+        places[len(deck)] = (one, at)
+        deck.extend(lines_of(block(opener, lines)))
+
+    looked = [one for one in found if one.opener() in OF_DIGITS and one.refusal in (BAD_NUMBER, BAD_IMAGE)]
+    for one in looked:
+        ask(one, one.first, text_of(one.lines[one.first]), [])
+        for at in one.inside():
+            ask(one, at, OF_DIGITS[one.opener()], [text_of(one.lines[at])])
+    if not looked:
+        return
+    try:
+        answers = {places[first]: refusal for first, _, refusal in refused(b"".join(deck))[1]}
+    except Failure:
+        return
+    for one in looked:
+        if answers.get((one, one.first)) != BAD_NUMBER:
+            look_into(one, {at: answers.get((one, at)) for at in one.inside()})
+
+
+def look_into(one, answers):
+    """Finds the faulty line of a block by the answers to each of its lines alone."""
+    counts = {at: len(words_of(one.lines[at])) for at in answers}
+    if one.refusal == BAD_IMAGE and one.opener() == b"image":
+        # An image's lines are too short alone.
+        parts = {at: bytes.fromhex(text_of(one.lines[at]).decode()) for at in answers}
+        data = b"".join(parts.values())
+        if len(data) == IMAGE_SIZE:
+            wide = next(at for at in range(0, IMAGE_SIZE, 2) if data[at] > 3)
+            one.inner = line_of(wide, {at: len(part) for at, part in parts.items()})
+        else:
+            one.told.append(f"its block has {len(data):,} bytes, and an image {IMAGE_SIZE:,}")
+    elif one.refusal in answers.values():
+        one.inner = next(at for at, answer in answers.items() if answer == one.refusal)
+    elif one.refusal == BAD_IMAGE:
+        one.inner = line_of(MOST_WORDS, counts)
+        one.told.append(f"a page has {MOST_WORDS:,} words, and the block {sum(counts.values()):,}")
+
+
+def line_of(number, counts):
+    """The line that has the thing of this number, counted from 0, where lines have so many of them."""
+    for at, count in counts.items():
+        if number < count:
+            return at
+        number -= count
+    return None

@@ -1,0 +1,140 @@
+"""Keys of names, texts, numbers and lines of programs, by the table in keyboard.py. Whether keys type a line is asked of the
+bench where it matters.
+
+Where words name keys, a text in quotes stands for ALPHA, the keys of its letters and ALPHA, and a number for its keys:
+`XEQ "QUAD"`, `-1.5E-3 ENTER`."""
+import re
+
+from keyboard import KEYS
+
+LONGEST_NAME = 7
+
+# The key of each letter, and the keys that write their own names behind SHIFT.
+LETTERS = {key.letter: key.name for key in KEYS.values() if key.letter}
+OWN = set("0123456789+-*/.")
+
+# The names of functions that keys have other names for.
+OTHERWISE = {"SIGMA+": "S+", "ENTER": "ENTER^"}
+# Functions that keys have with ALPHA on, or that follow STO.
+WITH_ALPHA = {"ASTO": ["SHIFT", "STO"], "ARCL": ["SHIFT", "RCL"], "AVIEW": ["SHIFT", "R/S"], "CLA": ["SHIFT", "BACK"]}
+BEHIND_STO = {f"ST{sign}": ["STO", sign] for sign in "+-*/"}
+OF_ONE_DIGIT = ("FIX", "SCI", "ENG")
+NO_FUNCTIONS = {"ON", "USER", "PRGM", "ALPHA", "SHIFT", "SST", "BST", "EEX", "BACK", "R/S", "."}
+
+OPERATED = re.compile(r"(\S+) (IND )?([0-9]{2}|[A-Z])")
+LABELLED = re.compile(r'(XEQ|GTO|LBL) "(.*)"')
+LOCAL = re.compile(r"(XEQ|GTO|LBL) ([A-J])")
+
+NUMBER = re.compile(r"(-?)([0-9]*\.?[0-9]*)(?:E(-?)([0-9]{1,2}))?")
+WORD = re.compile(r'"[^"]*"?|[^ \t"]+')
+
+
+class NoKeys(Exception):
+    """Why there are no keys."""
+
+
+def letter_keys(letter):
+    """The keys that write a letter with ALPHA on; none where no key does."""
+    if letter in LETTERS:
+        return [LETTERS[letter]]
+    return ["SHIFT", letter] if letter in OWN else []
+
+
+def untyped(text):
+    """The characters of a text that no key writes."""
+    return "".join(dict.fromkeys(letter for letter in text if not letter_keys(letter)))
+
+
+def text_keys(text):
+    """The keys of a text, between two ALPHA."""
+    if untyped(text):
+        raise NoKeys(f"no key writes {' '.join(untyped(text))}")
+    return ["ALPHA", *(key for letter in text for key in letter_keys(letter)), "ALPHA"]
+
+
+def why_no_name(name):
+    """Why no keys write this name of a label; nothing where some do."""
+    if len(name) > LONGEST_NAME:
+        return f"{len(name)} characters"
+    if untyped(name):
+        return f"no key writes {' '.join(untyped(name))}"
+    return "keys find the label of one letter" if re.fullmatch("[A-J]", name) else ""
+
+
+def number_keys(number):
+    """The keys of a number: signs are CHS behind the first digit, and behind EEX."""
+    sign, mantissa, exponent_sign, exponent = NUMBER.fullmatch(number).groups()
+    keys = list(mantissa) + ["CHS"] * (sign == "-")
+    if exponent is not None:
+        keys += ["EEX", *["CHS"] * (exponent_sign == "-"), *exponent]
+    return keys
+
+
+def is_number(word):
+    """Whether a word is a number that keys type: it has a digit in its mantissa."""
+    found = NUMBER.fullmatch(word)
+    return found is not None and re.search("[0-9]", found[2]) is not None
+
+
+def keys_of(text):
+    """The names of the keys that words stand for. A word that is neither a text nor a number stays."""
+    keys = []
+    for word in WORD.findall(text):
+        if word.startswith('"'):
+            if len(word) < 2 or not word.endswith('"'):
+                raise NoKeys(f"a quote is missing: {word}")
+            keys += text_keys(word[1:-1])
+        elif word not in KEYS and is_number(word):
+            keys += number_keys(word)
+        else:
+            keys.append(word)
+    return keys
+
+
+def is_spelled(word):
+    """Whether a word is no key's name, but a number or the begin of a text."""
+    return word not in KEYS and (word.startswith('"') or is_number(word))
+
+
+# Lines.
+
+def function_keys(name):
+    """The keys of a function: those that have it, and else XEQ and its name in letters."""
+    for key in KEYS.values():
+        if OTHERWISE.get(key.name, key.name) == name and not key.name.isdecimal() and key.name not in NO_FUNCTIONS:
+            return [key.name]
+        if key.shifted == name and name not in NO_FUNCTIONS:
+            return ["SHIFT", key.name]
+    return BEHIND_STO.get(name) or ["XEQ", *text_keys(name)]
+
+
+def operand_keys(name, indirect, operand):
+    """The keys of an operand."""
+    if not operand.isdecimal():
+        operand = [".", LETTERS[operand]] if operand in "TZYXL" else None
+    elif name in OF_ONE_DIGIT and not indirect:
+        operand = operand[1:] if operand[0] == "0" else None
+    if operand is None:
+        raise NoKeys("no key is its operand")
+    return ["SHIFT"] * bool(indirect) + list(operand)
+
+
+def line_keys(text):
+    """The keys of a line, by its text."""
+    if is_number(text):
+        return number_keys(text)
+    if text.startswith('>"'):
+        alpha, *letters = text_keys(text[2:-1])
+        return [alpha, "SHIFT", "XEQ", *letters]
+    if text.startswith('"'):
+        return text_keys(text[1:-1])
+    labelled = LABELLED.fullmatch(text) or LOCAL.fullmatch(text)
+    if labelled:
+        return [*function_keys(labelled[1]), *text_keys(labelled[2])]
+    operated = OPERATED.fullmatch(text)
+    name = operated[1] if operated else text
+    front = WITH_ALPHA.get(name) or function_keys(name)
+    if operated and front[0] == "XEQ" and name != "XEQ":
+        raise NoKeys(f"no key has {name}")
+    keys = front + (operand_keys(*operated.groups()) if operated else [])
+    return ["ALPHA", *keys, "ALPHA"] if name in WITH_ALPHA else keys

@@ -1,0 +1,41 @@
+"""Registers as people read them: numbers, texts, and else their digits."""
+import re
+
+NUMBER = re.compile("([09])([1-9][0-9]{9})([09][0-9]{2})")
+TEXT = re.compile("1[0-9A-F]([0-9A-F]{12})")
+ZERO = "0" * 14
+
+# The digits that a number line takes, zeros in front and behind the point too. What has more is written with an E.
+MOST_DIGITS = 10
+
+
+def number_of(sign, digits, exponent):
+    """A number by its digits and its exponent."""
+    digits = digits.rstrip("0")
+    sign = "-" if sign == "9" else ""
+    if 0 <= exponent < MOST_DIGITS:
+        digits = digits.ljust(exponent + 1, "0")
+        rest = digits[exponent + 1:]
+        return f"{sign}{digits[:exponent + 1]}{'.' + rest if rest else ''}"
+    if -3 <= exponent < 0 and len(digits) - exponent <= MOST_DIGITS:
+        return f"{sign}0.{'0' * (-exponent - 1)}{digits}"
+    return f"{sign}{digits[0]}{'.' + digits[1:] if digits[1:] else ''}E{exponent}"
+
+
+def text_of(digits):
+    """What a register holds, by its 14 digits: a number, a text in quotes, or `=` and the digits."""
+    found = NUMBER.fullmatch(digits)
+    if found:
+        sign, mantissa, exponent = found.groups()
+        exponent = int(exponent) - 1000 if exponent[0] == "9" else int(exponent)
+        return number_of(sign, mantissa, exponent)
+    found = TEXT.fullmatch(digits)
+    if found and digits[1] == "0":
+        data = bytes.fromhex(found[1]).lstrip(b"\0")
+        return '"' + "".join(map(character, data)) + '"'
+    return "0" if digits == ZERO else f"={digits}"
+
+
+def character(code):
+    """A character as texts of lines have it."""
+    return chr(code) if 0x20 <= code <= 0x7E and chr(code) not in '"\\' else f"\\{code:02X}"

@@ -2,3 +2,4 @@ pub mod RegisterMap
 pub mod NamedRegisters
 pub mod NamedFlags
 pub mod RegisterMapLaws
+pub mod private

@@ -4,6 +4,7 @@
 mod alpha;
 pub mod flags;
 pub mod laws;
+mod parts;
 mod ram;
 mod start;
 mod status;

@@ -1,10 +1,12 @@
 //! The registers, and what the calculator reads in its status registers: flags, ALPHA, the parts of memory.
 
-ghost use Rattle.std.specs.Prelude.{◌≡◌, ◌<◌, ◌≤◌};
+ghost use Rattle.std.specs.Prelude.{◌≡◌, ◌<◌, ◌≤◌, slice_set};
 ghost use Rattle.h41_ram.specs.RegisterMap as spec;
 ghost use Rattle.h41_ram.specs.NamedRegisters as named;
+ghost use Rattle.h41_ram.specs.private.KeptParts as kept;
 
 use crate::alpha::{self, ALPHA_LENGTH};
+use crate::parts::Parts;
 use crate::start::{empty_program, start_c, start_d};
 use crate::status::StatusRegister;
 use h41_digits::Reg;
@@ -32,25 +34,25 @@ const D: usize = StatusRegister::D as usize;
 /// The number of the flag that is the lowest bit of register d.
 const LAST_FLAG: usize = 55;
 
-/// The constant in register c by which memory is known to be sound.
-const SOUND: u16 = 0x169;
-
 /// The memory of the calculator, with `REGS` registers, 64 to 320, in main memory.
 #[derive(Debug, Drop)]
 pub struct Ram<const REGS: usize> {
     status: [Reg; STATUS_REGISTERS],
     main: [Reg; REGS],
+    /// What register c and the register of .END. say, kept from one write to them to the next.
+    parts: Parts,
 }
 
 impl<const REGS: usize> Model for Ram<REGS> {
-    ghost use Rattle.std.specs.Prelude.{◌≤◌};
-    ghost use Rattle.h41_ram.specs.RegisterMap.{RegisterMap};
+    ghost use Rattle.h41_ram.specs.RegisterMap.{RegisterMap, IsMemory};
+    ghost use Rattle.h41_ram.specs.private.KeptParts.{AreKept};
 
     ghost Value = { RegisterMap };
 
     ghost view = { λ ram. record { status = ram.status; main = ram.main } };
 
-    ghost invariant = { λ ram. (64 ≤ REGS) × (REGS ≤ 320) };
+    ghost invariant = { λ ram. IsMemory REGS (record { status = ram.status; main = ram.main })
+        × AreKept (record { status = ram.status; main = ram.main }) ram.parts };
 }
 
 impl<const REGS: usize> Ram<REGS> {
@@ -69,7 +71,22 @@ impl<const REGS: usize> Ram<REGS> {
         status[D] = start_d();
         let mut main = [Reg::zero(); REGS];
         main[end - MAIN_START] = empty_program();
-        Ram { status, main }
+        Ram::holding(&status, &main)
+    }
+
+    /// The memory with these registers.
+    fn holding(status: &[Reg; STATUS_REGISTERS], main: &[Reg; REGS]) -> Self
+        requires at_least { 64 ≤ REGS }
+        requires at_most { REGS ≤ 320 }
+        ensures { result ≡ record { status = status.now; main = main.now } }
+    {
+        let parts = Parts::of(status[C], MAIN_START + REGS);
+        let parts = parts.ended_by(main_register(main, parts.end));
+        Ram {
+            status: *status,
+            main: *main,
+            parts,
+        }
     }
 
     /// The memory; the one at the start is left in its place.
@@ -81,6 +98,7 @@ impl<const REGS: usize> Ram<REGS> {
         let taken = Ram {
             status: self.status,
             main: self.main,
+            parts: self.parts,
         };
         *self = Ram::new();
         taken
@@ -91,25 +109,50 @@ impl<const REGS: usize> Ram<REGS> {
     pub fn read(&self, address: u16) -> Reg
         ensures { result ≡ spec.register_at self.now address }
     {
-        let address = usize::from(address);
-        if address < STATUS_REGISTERS {
-            self.status[address]
-        } else if address >= MAIN_START && address - MAIN_START < REGS {
-            self.main[address - MAIN_START]
+        let index = usize::from(address);
+        if index < STATUS_REGISTERS {
+            self.status[index]
         } else {
-            Reg::zero()
+            main_register(&self.main, address)
         }
     }
 
     /// Writes the register at an address. An address that does not exist takes no write (this project's choice).
+    #[inline(always)]
     pub fn write(&mut self, address: u16, register: Reg)
         ensures { self.new ≡ spec.with_register self.old address register }
     {
         let address = usize::from(address);
-        if address < STATUS_REGISTERS {
+        if address == C {
+            self.write_c(register);
+        } else if address < STATUS_REGISTERS {
             self.status[address] = register;
-        } else if address >= MAIN_START && address - MAIN_START < REGS {
-            self.main[address - MAIN_START] = register;
+        } else if address >= MAIN_START {
+            self.write_main(address - MAIN_START, register);
+        }
+    }
+
+    /// Writes register c, and with it the parts of memory.
+    #[inline(never)]
+    fn write_c(&mut self, c: Reg)
+        ensures { self.new ≡ spec.with_register self.old spec.c_address c }
+    {
+        let parts = Parts::of(c, MAIN_START + REGS);
+        self.parts = parts.ended_by(main_register(&self.main, parts.end));
+        self.status[C] = c;
+    }
+
+    /// Writes a register of main memory, by its place there, if there is one; that at the end tells whether memory is sound.
+    #[inline(always)]
+    fn write_main(&mut self, index: usize, register: Reg)
+        requires { index < 65536 }
+        ensures { self.new ≡ record self.old { main = slice_set self.old.main index register } }
+    {
+        if index < REGS {
+            if MAIN_START + index == usize::from(self.parts.end) {
+                self.parts = self.parts.ended_by(register);
+            }
+            self.main[index] = register;
         }
     }
 
@@ -213,7 +256,7 @@ impl<const REGS: usize> Ram<REGS> {
         ensures main { self.new ≡ record self.old { main = main.entry } }
         ensures memory { spec.IsMemory REGS self.new }
     {
-        self.main = main;
+        *self = Ram::holding(&self.status, &main);
     }
 
     /// The curtain: the address of data register R00, 000 to FFF, from register c.
@@ -222,7 +265,8 @@ impl<const REGS: usize> Ram<REGS> {
         ensures value { result ≡ spec.curtain_of self.now }
         ensures memory { spec.IsMemory REGS self.now }
     {
-        three_digits(self.status[C], 3)
+        let parts = &self.parts;
+        parts.curtain
     }
 
     /// The address of the register that holds .END., 000 to FFF, from register c.
@@ -230,7 +274,8 @@ impl<const REGS: usize> Ram<REGS> {
     pub fn end_register(&self) -> u16
         ensures { result ≡ spec.end_of self.now }
     {
-        three_digits(self.status[C], 0)
+        let parts = &self.parts;
+        parts.end
     }
 
     /// Whether memory is sound (this project's choice): c holds the constant 169, 0C0 ≤ end < curtain ≤ top, and the last
@@ -238,26 +283,26 @@ impl<const REGS: usize> Ram<REGS> {
     pub fn is_sound(&self) -> bool
         ensures { result ≡ spec.is_sound self.now }
     {
-        let end = self.end_register();
-        let curtain = self.curtain();
-        three_digits(self.status[C], 6) == SOUND
-            && (usize::from(end) >= MAIN_START
-                && end < curtain
-                && usize::from(curtain) <= MAIN_START + REGS)
-            && is_final_end(self.read(end))
+        let parts = &self.parts;
+        parts.sound
     }
 }
 
-/// The number of three digits, from a place up.
-fn three_digits(register: Reg, place: usize) -> u16
-    requires { place < 12 }
-    ensures { result ≡ spec.three_digits register place }
+/// The register of main memory at an address; where it has none, zero.
+#[inline(always)]
+fn main_register<const REGS: usize>(main: &[Reg; REGS], address: u16) -> Reg
+    ensures { result ≡ kept.main_register main.now address }
 {
-    register.number(place, place + 2) as u16
+    let address = usize::from(address);
+    if address >= MAIN_START && address - MAIN_START < REGS {
+        main[address - MAIN_START]
+    } else {
+        Reg::zero()
+    }
 }
 
 /// One bit of a register, 0 to 55 from the right.
-fn bit(register: Reg, bit: usize) -> bool
+pub fn bit(register: Reg, bit: usize) -> bool
     requires { bit < 56 }
     ensures { result ≡ spec.bit_of register bit }
 {
@@ -271,11 +316,4 @@ fn with_bit(register: Reg, bit: usize, on: bool) -> Reg
 {
     let others = register.to_u64() & !(1 << bit);
     Reg::holding(others | u64::from(on) << bit)
-}
-
-/// Whether a register's last three bytes are an END with the mark .END. .
-fn is_final_end(register: Reg) -> bool
-    ensures { result ≡ spec.is_final_end register }
-{
-    (0xC0..=0xCD).contains(&register.byte(2)) && register.byte(0) < 0xF0 && bit(register, 5)
 }

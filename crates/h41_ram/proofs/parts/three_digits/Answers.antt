@@ -1,6 +1,6 @@
 use Rattle.std.proofs.Common.{refl, arith, ◌+◌, ◌<◌, ◌∙◌}
 use Rattle.h41_ram.proofs.ThreeDigits.{three_digits_read, three_digits_fit}
-use Rattle.h41_ram.proofs.ram.three_digits.Goals as goal
+use Rattle.h41_ram.proofs.parts.three_digits.Goals as goal
 
 pub overflow_cast-result : goal.overflow_cast-result
 overflow_cast-result c =

@@ -115,7 +115,7 @@ impl Cpu {
     pub(crate) fn return_to_newest(&mut self) -> Result<(), WordRefusal>
         ensures { GoesTo spec.newest_return spec.with_return_popped self.old self.new result }
     {
-        let next = arrival(self.newest_return())?;
+        let next = arrival(self.returns[0])?;
         self.pop();
         self.arrive(next, false);
         Ok(())
@@ -157,7 +157,7 @@ impl Cpu {
         ensures { GoesOn with_address_popped self.old self.new result }
     {
         let next = arrival(self.next_address())?;
-        let address = self.newest_return();
+        let address = self.returns[0];
         self.c = self.c.with_number(3, 6, u64::from(address));
         self.pop();
         self.arrive(next, false);
@@ -169,13 +169,6 @@ impl Cpu {
         ensures { GoesTo (spec.key_target key) (λ s. s) self.old self.new result }
     {
         self.go_to(self.next_address() / 256 * 256 + u16::from(key))
-    }
-
-    /// The newest return address, 0000 where there is none.
-    fn newest_return(&self) -> u16
-        ensures { result ≡ spec.newest_return self.now }
-    {
-        self.returns[0]
     }
 
     /// Takes the newest return address off; the oldest is 0000 then.

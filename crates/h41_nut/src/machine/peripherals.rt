@@ -40,16 +40,9 @@ pub fn constant_refusal(word: UnassignedWord, address: u16) -> WordRefusal
     let number = word.word().number();
     if number == 0x3FC {
         WordRefusal::WordNotInProfile(address)
-    } else if is_peripheral(number) {
+    } else if matches!(number % 64, 0x24 | 0x2C) || (number % 64 == 0 && number >= 0x200) {
         WordRefusal::PeripheralNotHeld(address)
     } else {
         WordRefusal::UndefinedWord(address)
     }
-}
-
-/// Whether a word is one of a peripheral.
-fn is_peripheral(word: u16) -> bool
-    ensures { result ≡ spec.is_peripheral word }
-{
-    matches!(word % 64, 0x24 | 0x2C) || (word % 64 == 0 && word >= 0x200)
 }

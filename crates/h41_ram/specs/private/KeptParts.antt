@@ -10,7 +10,8 @@ abbrev pub main_register : List (List ℕ) → ℕ → List ℕ
 main_register main address =
     if nat_lt address main_start then zeros else slice_index_or main (address - main_start) zeros
 
--- whether a register c holds the constant and the parts in their order, in a memory up to an address
+-- whether a register c holds the constant and the parts in their order, in a memory up to an
+-- address
 abbrev pub is_ordered : List ℕ → ℕ → Bool
 is_ordered c top =
     three_digits c 6 == sound_constant

@@ -4,6 +4,7 @@ ghost use Rattle.std.specs.Prelude.{◌≤◌};
 ghost use Rattle.h41_pages.specs.Addresses.{first_address};
 ghost use Rattle.h41_nut.specs.private.RowStep.{Ran};
 ghost use Rattle.h41_nut.specs.WordStep.{Stepped};
+ghost use Rattle.h41_ram.specs.RamState.{KeepsMark};
 
 use crate::base::Base;
 use crate::cpu::Cpu;
@@ -31,7 +32,8 @@ pub fn step<const REGS: usize>(
     pages: &mut Pages,
     keys: &mut Keys,
 ) -> Result<(), WordRefusal>
-    ensures { Stepped result cpu.old ram.old pages.old keys.old cpu.new ram.new pages.new keys.new }
+    ensures change { Stepped result cpu.old ram.old.registers pages.old keys.old cpu.new ram.new.registers pages.new keys.new }
+    ensures mark { KeepsMark ram.old ram.new }
 {
     let word = fetch(pages, cpu.pc())?;
     execute_row(row(word), cpu, ram, pages, keys)
@@ -47,7 +49,8 @@ fn execute_row<const REGS: usize>(
     keys: &mut Keys,
 ) -> Result<(), WordRefusal>
     requires { first_address ≤ cpu.old.pc }
-    ensures { Ran row result cpu.old ram.old pages.old keys.old cpu.new ram.new pages.new keys.new }
+    ensures change { Ran row result cpu.old ram.old.registers pages.old keys.old cpu.new ram.new.registers pages.new keys.new }
+    ensures mark { KeepsMark ram.old ram.new }
 {
     match row {
         Row::Arithmetic(operation, field) => cpu.arithmetic(operation, field),

@@ -1,6 +1,7 @@
 //! Laws of memory: each is the contract of a function with nothing to do.
 
 ghost use Rattle.std.specs.Prelude.{◌≡◌};
+ghost use Rattle.h41_ram.specs.MarkLaws.{MarkIsKeptInTurn, MarkStays};
 ghost use Rattle.h41_ram.specs.NamedFlags as named;
 ghost use Rattle.h41_ram.specs.RegisterMapLaws.{ReadsWhatWasWritten, KeepsOtherAddresses};
 ghost use Rattle.h41_ram.specs.RegisterMapLaws.{FlagIsRead, OtherFlagsStay, AlphaIsRead};
@@ -81,4 +82,10 @@ pub fn data_are_read()
 /// The start state is sound, for every size of memory.
 pub fn start_is_sound()
     ensures { StartIsSound }
+{}
+
+/// A memory that is left as it was keeps its mark, and so do calls in turn that keep it.
+pub fn mark_is_kept()
+    ensures stays { MarkStays }
+    ensures turn { MarkIsKeptInTurn }
 {}

@@ -1,6 +1,6 @@
 //! What register c and the register of .END. say of memory, kept so that no line reads them anew.
 
-ghost use Rattle.std.specs.Prelude.{◌≡◌, ◌<◌, ◌&&◌};
+ghost use Rattle.std.specs.Prelude.{◌≡◌, ◌<◌, ◌&&◌, false, true, nat_le, nat_lt};
 ghost use Rattle.h41_ram.specs.RegisterMap as spec;
 ghost use Rattle.h41_ram.specs.private.KeptParts as kept;
 
@@ -21,14 +21,17 @@ pub struct Parts {
     pub ordered: bool,
     /// Whether memory is sound: .END. stands at the end too.
     pub sound: bool,
+    /// Whether a register of the program was written since the mark was cleared.
+    pub touched: bool,
 }
 
 impl Parts {
-    /// As a register c has them, where main memory ends before an address; not sound as yet.
+    /// As a register c has them that was written, where main memory ends before an address; not sound as yet.
     pub fn of(c: Reg, top: usize) -> Self
         ensures curtain { result.curtain ≡ spec.three_digits c 3 }
         ensures end { result.end ≡ spec.three_digits c 0 }
         ensures ordered { result.ordered ≡ kept.is_ordered c top }
+        ensures touched { result.touched ≡ true }
     {
         let curtain = three_digits(c, 3);
         let end = three_digits(c, 0);
@@ -39,7 +42,38 @@ impl Parts {
             end,
             ordered: three_digits(c, 6) == SOUND && in_order,
             sound: false,
+            touched: true,
         }
+    }
+
+    /// Sets the mark where an address is from the end to below the curtain.
+    #[inline(always)]
+    pub fn touch(&mut self, address: u16)
+        ensures { self.new ≡ kept.with_touched self.old
+            (nat_le self.old.end address && nat_lt address self.old.curtain) }
+    {
+        if self.end <= address && address < self.curtain {
+            self.touched = true;
+        }
+    }
+
+    /// Sets the mark where a register of main memory, which ends before an address, is from the end to below the curtain.
+    pub fn touch_main(&mut self, top: usize)
+        ensures { self.new ≡ kept.with_touched self.old
+            (nat_lt self.old.end self.old.curtain && nat_lt self.old.end top
+            && nat_lt spec.main_start self.old.curtain) }
+    {
+        let begins = self.end < self.curtain && usize::from(self.end) < top;
+        if begins && MAIN_START < usize::from(self.curtain) {
+            self.touched = true;
+        }
+    }
+
+    /// Clears the mark.
+    pub fn clear_mark(&mut self)
+        ensures { self.new ≡ record self.old { touched = false } }
+    {
+        self.touched = false;
     }
 
     /// The same where this register stands at the end.

@@ -1,7 +1,10 @@
 //! The registers, and what the calculator reads in its status registers: flags, ALPHA, the parts of memory.
 
-ghost use Rattle.std.specs.Prelude.{◌≡◌, ◌<◌, ◌≤◌, slice_set};
+ghost use Rattle.std.specs.Prelude.{◌≡◌, ◌<◌, ◌≤◌, ◌&&◌, ◌||◌, false, true, length, nat_le, nat_lt};
+ghost use Rattle.std.specs.Prelude.{slice_set};
 ghost use Rattle.h41_ram.specs.RegisterMap as spec;
+ghost use Rattle.h41_ram.specs.RamState.{KeepsMark};
+ghost use Rattle.h41_ram.specs.RamState as state;
 ghost use Rattle.h41_ram.specs.NamedRegisters as named;
 ghost use Rattle.h41_ram.specs.private.KeptParts as kept;
 
@@ -39,17 +42,21 @@ const LAST_FLAG: usize = 55;
 pub struct Ram<const REGS: usize> {
     status: [Reg; STATUS_REGISTERS],
     main: [Reg; REGS],
-    /// What register c and the register of .END. say, kept from one write to them to the next.
+    /// What register c and the register of .END. say, kept from one write to them to the next, and the mark of the program.
     parts: Parts,
 }
 
 impl<const REGS: usize> Model for Ram<REGS> {
-    ghost use Rattle.h41_ram.specs.RegisterMap.{RegisterMap, IsMemory};
+    ghost use Rattle.h41_ram.specs.RamState.{RamState};
+    ghost use Rattle.h41_ram.specs.RegisterMap.{IsMemory};
     ghost use Rattle.h41_ram.specs.private.KeptParts.{AreKept};
 
-    ghost Value = { RegisterMap };
+    ghost Value = { RamState };
 
-    ghost view = { λ ram. record { status = ram.status; main = ram.main } };
+    ghost view = { λ ram. record {
+      registers = record { status = ram.status; main = ram.main };
+      touched = ram.parts.touched;
+    } };
 
     ghost invariant = { λ ram. IsMemory REGS (record { status = ram.status; main = ram.main })
         × AreKept (record { status = ram.status; main = ram.main }) ram.parts };
@@ -61,7 +68,7 @@ impl<const REGS: usize> Ram<REGS> {
     pub fn new() -> Self
         requires at_least { 64 ≤ REGS }
         requires at_most { REGS ≤ 320 }
-        ensures { result ≡ spec.start REGS }
+        ensures { result ≡ state.start_state REGS }
     {
         let size = if REGS < 101 { 17 } else { 100 };
         let curtain = MAIN_START + REGS - size;
@@ -74,11 +81,12 @@ impl<const REGS: usize> Ram<REGS> {
         Ram::holding(&status, &main)
     }
 
-    /// The memory with these registers.
+    /// The memory with these registers; the mark is set.
     fn holding(status: &[Reg; STATUS_REGISTERS], main: &[Reg; REGS]) -> Self
         requires at_least { 64 ≤ REGS }
         requires at_most { REGS ≤ 320 }
-        ensures { result ≡ record { status = status.now; main = main.now } }
+        ensures registers { result.registers ≡ record { status = status.now; main = main.now } }
+        ensures mark { result.touched ≡ true }
     {
         let parts = Parts::of(status[C], MAIN_START + REGS);
         let parts = parts.ended_by(main_register(main, parts.end));
@@ -92,7 +100,7 @@ impl<const REGS: usize> Ram<REGS> {
     /// The memory; the one at the start is left in its place.
     pub fn take(&mut self) -> Self
         ensures taken { result ≡ self.old }
-        ensures left { self.new ≡ spec.start REGS }
+        ensures left { self.new ≡ state.start_state REGS }
         ensures at_most { REGS ≤ 320 }
     {
         let taken = Ram {
@@ -107,7 +115,7 @@ impl<const REGS: usize> Ram<REGS> {
     /// The register at an address. An address that does not exist reads zero (this project's choice).
     #[inline(always)]
     pub fn read(&self, address: u16) -> Reg
-        ensures { result ≡ spec.register_at self.now address }
+        ensures { result ≡ spec.register_at self.now.registers address }
     {
         let index = usize::from(address);
         if index < STATUS_REGISTERS {
@@ -120,33 +128,51 @@ impl<const REGS: usize> Ram<REGS> {
     /// Writes the register at an address. An address that does not exist takes no write (this project's choice).
     #[inline(always)]
     pub fn write(&mut self, address: u16, register: Reg)
-        ensures { self.new ≡ spec.with_register self.old address register }
+        ensures written { self.new ≡ state.with_written self.old address register }
+        ensures mark { KeepsMark self.old self.new }
     {
-        let address = usize::from(address);
-        if address == C {
+        let index = usize::from(address);
+        if index == C {
             self.write_c(register);
-        } else if address < STATUS_REGISTERS {
-            self.status[address] = register;
-        } else if address >= MAIN_START {
-            self.write_main(address - MAIN_START, register);
+        } else if index < STATUS_REGISTERS {
+            self.parts.touch(address);
+            self.status[index] = register;
+        } else if index >= MAIN_START {
+            self.write_main(address, register);
         }
     }
 
     /// Writes register c, and with it the parts of memory.
     #[inline(never)]
     fn write_c(&mut self, c: Reg)
-        ensures { self.new ≡ spec.with_register self.old spec.c_address c }
+        ensures { self.new ≡ state.with_written self.old spec.c_address c }
     {
         let parts = Parts::of(c, MAIN_START + REGS);
         self.parts = parts.ended_by(main_register(&self.main, parts.end));
         self.status[C] = c;
     }
 
-    /// Writes a register of main memory, by its place there, if there is one; that at the end tells whether memory is sound.
+    /// Writes the register of main memory at an address, if there is one; that at the end tells whether memory is sound.
     #[inline(always)]
-    fn write_main(&mut self, index: usize, register: Reg)
+    fn write_main(&mut self, address: u16, register: Reg)
+        requires { spec.main_start ≤ address }
+        ensures { self.new ≡ state.with_written self.old address register }
+    {
+        let index = usize::from(address) - MAIN_START;
+        if index < REGS {
+            self.parts.touch(address);
+        }
+        self.put_main(index, register);
+    }
+
+    /// Puts a register into main memory, by its place there, if there is one; that at the end tells whether memory is sound.
+    #[inline(always)]
+    fn put_main(&mut self, index: usize, register: Reg)
         requires { index < 65536 }
-        ensures { self.new ≡ record self.old { main = slice_set self.old.main index register } }
+        ensures registers { self.new.registers
+            ≡ record self.old.registers { main = slice_set self.old.registers.main index register } }
+        ensures mark { self.new.touched ≡ self.old.touched }
+        ensures size { length self.old.registers.main ≡ REGS }
     {
         if index < REGS {
             if MAIN_START + index == usize::from(self.parts.end) {
@@ -156,31 +182,49 @@ impl<const REGS: usize> Ram<REGS> {
         }
     }
 
+    /// Whether a register of the program may have changed since `clear_touched`: register c, or one from that of .END. to below
+    /// the curtain (this project's own).
+    #[inline(always)]
+    pub fn program_touched(&self) -> bool
+        ensures { result ≡ self.now.touched }
+    {
+        let parts = &self.parts;
+        parts.touched
+    }
+
+    /// Clears the mark of `program_touched`.
+    pub fn clear_touched(&mut self)
+        ensures { self.new ≡ record self.old { touched = false } }
+    {
+        self.parts.clear_mark();
+    }
+
     /// The status register at an address from 0 to 15.
     pub fn status(&self, n: usize) -> Reg
         requires { n < 16 }
-        ensures { result ≡ spec.register_at self.now n }
+        ensures { result ≡ spec.register_at self.now.registers n }
     {
         self.status[n]
     }
 
     /// A status register, by its name.
     pub fn status_register(&self, name: StatusRegister) -> Reg
-        ensures { result ≡ named.status_of self.now name }
+        ensures { result ≡ named.status_of self.now.registers name }
     {
         self.read(name.address())
     }
 
     /// Writes a status register, by its name.
     pub fn set_status_register(&mut self, name: StatusRegister, register: Reg)
-        ensures { self.new ≡ named.with_status self.old name register }
+        ensures written { self.new ≡ state.with_written self.old (spec.address_of name) register }
+        ensures mark { KeepsMark self.old self.new }
     {
         self.write(name.address(), register);
     }
 
     /// How many data registers there are: those from the curtain up to the top of memory.
     pub fn size(&self) -> u16
-        ensures value { result ≡ named.size_of self.now }
+        ensures value { result ≡ named.size_of self.now.registers }
         ensures bound { result ≤ 512 }
     {
         (MAIN_START + REGS).saturating_sub(usize::from(self.curtain())) as u16
@@ -188,7 +232,7 @@ impl<const REGS: usize> Ram<REGS> {
 
     /// The data register with a number, from R00 at the curtain on, or nothing where there is none.
     pub fn data(&self, n: u16) -> Option<Reg>
-        ensures { result ≡ named.data_of self.now n }
+        ensures { result ≡ named.data_of self.now.registers n }
     {
         if n < self.size() {
             Some(self.read(self.curtain() + n))
@@ -199,8 +243,10 @@ impl<const REGS: usize> Ram<REGS> {
 
     /// Writes the data register with a number, below `size`.
     pub fn set_data(&mut self, n: u16, register: Reg)
-        requires { n < named.size_of self.old }
-        ensures { self.new ≡ named.with_data self.old n register }
+        requires { n < named.size_of self.old.registers }
+        ensures written { self.new
+            ≡ state.with_written self.old (named.data_address self.old.registers n) register }
+        ensures mark { KeepsMark self.old self.new }
     {
         self.write(self.curtain() + n, register);
     }
@@ -208,7 +254,7 @@ impl<const REGS: usize> Ram<REGS> {
     /// A flag, 0 to 55: bit 55 - `flag` of register d.
     pub fn flag(&self, flag: usize) -> bool
         requires { flag < 56 }
-        ensures { result ≡ spec.flag_of self.now flag }
+        ensures { result ≡ spec.flag_of self.now.registers flag }
     {
         bit(self.status[D], LAST_FLAG - flag)
     }
@@ -216,14 +262,16 @@ impl<const REGS: usize> Ram<REGS> {
     /// Sets or clears a flag, 0 to 55; all else stays.
     pub fn set_flag(&mut self, flag: usize, on: bool)
         requires { flag < 56 }
-        ensures { self.new ≡ spec.with_flag self.old flag on }
+        ensures written { self.new ≡ state.with_flag_written self.old flag on }
+        ensures mark { KeepsMark self.old self.new }
     {
+        self.parts.touch(D as u16);
         self.status[D] = with_bit(self.status[D], LAST_FLAG - flag, on);
     }
 
     /// ALPHA's 24 bytes, the leftmost first; leading ones that are 0 are not shown.
     pub fn alpha(&self) -> [u8; ALPHA_LENGTH]
-        ensures { result ≡ spec.alpha_of self.now }
+        ensures { result ≡ spec.alpha_of self.now.registers }
     {
         alpha::text(
             self.status[P],
@@ -235,8 +283,13 @@ impl<const REGS: usize> Ram<REGS> {
 
     /// Writes ALPHA's 24 bytes, the leftmost first; the left four bytes of P stay.
     pub fn set_alpha(&mut self, text: [u8; ALPHA_LENGTH])
-        ensures { self.new ≡ spec.with_alpha self.old text }
+        ensures written { self.new ≡ state.with_alpha_written self.old text }
+        ensures mark { KeepsMark self.old self.new }
     {
+        self.parts.touch(M as u16);
+        self.parts.touch(N as u16);
+        self.parts.touch(O as u16);
+        self.parts.touch(P as u16);
         let p = self.status[P];
         self.status[M] = alpha::seven_bytes(text, 17);
         self.status[N] = alpha::seven_bytes(text, 10);
@@ -246,24 +299,28 @@ impl<const REGS: usize> Ram<REGS> {
 
     /// The registers of main memory, in the order of their addresses.
     pub fn main_memory(&self) -> [Reg; REGS]
-        ensures { result ≡ self.now.main }
+        ensures { result ≡ self.now.registers.main }
     {
         self.main
     }
 
     /// Writes all registers of main memory, in the order of their addresses.
     pub fn set_main_memory(&mut self, main: [Reg; REGS])
-        ensures main { self.new ≡ record self.old { main = main.entry } }
-        ensures memory { spec.IsMemory REGS self.new }
+        ensures main { self.new ≡ state.with_main_written self.old main.entry }
+        ensures mark { KeepsMark self.old self.new }
+        ensures memory { spec.IsMemory REGS self.new.registers }
     {
-        *self = Ram::holding(&self.status, &main);
+        self.parts.touch_main(MAIN_START + REGS);
+        let end = main_register(&main, self.parts.end);
+        self.parts = self.parts.ended_by(end);
+        self.main = main;
     }
 
     /// The curtain: the address of data register R00, 000 to FFF, from register c.
     #[inline(always)]
     pub fn curtain(&self) -> u16
-        ensures value { result ≡ spec.curtain_of self.now }
-        ensures memory { spec.IsMemory REGS self.now }
+        ensures value { result ≡ spec.curtain_of self.now.registers }
+        ensures memory { spec.IsMemory REGS self.now.registers }
     {
         let parts = &self.parts;
         parts.curtain
@@ -272,7 +329,7 @@ impl<const REGS: usize> Ram<REGS> {
     /// The address of the register that holds .END., 000 to FFF, from register c.
     #[inline(always)]
     pub fn end_register(&self) -> u16
-        ensures { result ≡ spec.end_of self.now }
+        ensures { result ≡ spec.end_of self.now.registers }
     {
         let parts = &self.parts;
         parts.end
@@ -281,7 +338,7 @@ impl<const REGS: usize> Ram<REGS> {
     /// Whether memory is sound (this project's choice): c holds the constant 169, 0C0 ≤ end < curtain ≤ top, and the last
     /// three bytes of the end's register are .END. .
     pub fn is_sound(&self) -> bool
-        ensures { result ≡ spec.is_sound self.now }
+        ensures { result ≡ spec.is_sound self.now.registers }
     {
         let parts = &self.parts;
         parts.sound

@@ -6,6 +6,7 @@ ghost use Rattle.h41_ram.specs.RegisterMap.{digits_from};
 ghost use Rattle.h41_rows.specs.RowEffects.{last_24, six_characters, text_register};
 ghost use Rattle.h41_rows.specs.RowEffects.{with_alpha_change};
 ghost use Rattle.h41_rows.specs.Rows.{Appends, AppendsNamed, Becomes, LosesSix};
+ghost use Rattle.h41_ram.specs.RamState.{KeepsMark};
 
 use h41_digits::Reg;
 use h41_ram::{ALPHA_LENGTH, Ram};
@@ -14,14 +15,16 @@ use h41_show::{Format, register_text};
 
 /// ALPHA holds a text alone: its last 24 characters.
 pub fn replace_text<const REGS: usize>(ram: &mut Ram<REGS>, text: &[u8])
-    ensures { ChangesAlpha ram.old ram.new (Becomes text.now) }
+    ensures change { ChangesAlpha ram.old.registers ram.new.registers (Becomes text.now) }
+    ensures mark { KeepsMark ram.old ram.new }
 {
     ram.set_alpha(put_behind([0; ALPHA_LENGTH], text));
 }
 
 /// A text comes behind what ALPHA holds, of which the last 24 characters stay.
 pub fn append_text<const REGS: usize>(ram: &mut Ram<REGS>, text: &[u8])
-    ensures { ChangesAlpha ram.old ram.new (Appends text.now) }
+    ensures change { ChangesAlpha ram.old.registers ram.new.registers (Appends text.now) }
+    ensures mark { KeepsMark ram.old ram.new }
 {
     ram.set_alpha(put_behind(ram.alpha(), text));
 }
@@ -29,7 +32,8 @@ pub fn append_text<const REGS: usize>(ram: &mut Ram<REGS>, text: &[u8])
 /// The register at an address comes behind what ALPHA holds, as a text: a number as the display shows it, ALPHA data as its
 /// characters, what is neither as its digits in hexadecimal.
 pub fn append_register<const REGS: usize>(ram: &mut Ram<REGS>, address: u16)
-    ensures { ram.new ≡ with_alpha_change ram.old address (Some AppendsNamed) ram.old }
+    ensures change { ram.new.registers ≡ with_alpha_change ram.old.registers address (Some AppendsNamed) ram.old.registers }
+    ensures mark { KeepsMark ram.old ram.new }
 {
     let register = ram.read(address);
     if register.get(KIND_PLACE) == ALPHA_DATA {
@@ -42,7 +46,8 @@ pub fn append_register<const REGS: usize>(ram: &mut Ram<REGS>, address: u16)
 
 /// ALPHA's first six characters go.
 pub fn shift_six<const REGS: usize>(ram: &mut Ram<REGS>)
-    ensures { ChangesAlpha ram.old ram.new LosesSix }
+    ensures change { ChangesAlpha ram.old.registers ram.new.registers LosesSix }
+    ensures mark { KeepsMark ram.old ram.new }
 {
     let alpha = ram.alpha();
     let shown = after_nulls(&alpha);
@@ -51,7 +56,7 @@ pub fn shift_six<const REGS: usize>(ram: &mut Ram<REGS>)
 
 /// ALPHA's first six characters, as a register holds them.
 pub fn first_six<const REGS: usize>(ram: &Ram<REGS>) -> Reg
-    ensures { result ≡ text_register (six_characters ram.now) }
+    ensures { result ≡ text_register (six_characters ram.now.registers) }
 {
     let alpha = ram.alpha();
     holding_bytes(first_at_right(after_nulls(&alpha)))

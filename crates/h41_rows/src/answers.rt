@@ -23,7 +23,7 @@ use h41_show::{Format, Notation};
 
 /// The number in the register at an address, or that it holds none.
 pub fn number_at<const REGS: usize>(ram: &Ram<REGS>, address: u16) -> Result<Ten, LineFault>
-    ensures { IsNumberAt ram.now address result }
+    ensures { IsNumberAt ram.now.registers address result }
 {
     match Ten::from_reg(ram.read(address)) {
         Some(number) => Ok(number),
@@ -40,7 +40,7 @@ pub fn register(number: Ten) -> Reg
 
 /// What stands for a result out of range with a sign: the greatest number where flag 24 is set.
 pub fn out_of_range<const REGS: usize>(ram: &Ram<REGS>, sign: Sign) -> Result<Reg, LineFault>
-    ensures { KeptRange ram.now sign result }
+    ensures { KeptRange ram.now.registers sign result }
 {
     if ram.flag(RANGE_IGNORE) {
         Ok(register(Ten::greatest(sign)))
@@ -55,7 +55,7 @@ pub fn answer_of_one<const REGS: usize>(
     value: ValueOfOne,
     number: Ten,
 ) -> Result<Ten, DecimalFault>
-    ensures { AnswersOne value ram.now number result }
+    ensures { AnswersOne value ram.now.registers number result }
 {
     match value {
         ValueOfOne::Root => number.sqrt(),
@@ -163,7 +163,7 @@ fn unit(number: Ten) -> Result<Ten, DecimalFault>
 /// To how many decimals or digits the display format rounds.
 #[tactic(auto, unfolding(h41_show::specs::DisplayFormat::format_of))]
 fn display_places<const REGS: usize>(ram: &Ram<REGS>) -> Places
-    ensures { result ≡ places_of (format_of ram.now) }
+    ensures { result ≡ places_of (format_of ram.now.registers) }
 {
     let format = Format::from_flags(ram);
     match format.notation {

@@ -2,13 +2,15 @@
 
 ghost use Rattle.std.specs.Prelude.{◌≡◌};
 ghost use Rattle.h41_rows.specs.RowEffects.{with_cleared_data};
+ghost use Rattle.h41_ram.specs.RamState.{KeepsMark};
 
 use h41_digits::Reg;
 use h41_ram::{MAIN_START, Ram};
 
 /// All data registers become zero.
 pub fn clear_data<const REGS: usize>(ram: &mut Ram<REGS>)
-    ensures { ram.new ≡ with_cleared_data ram.old }
+    ensures change { ram.new.registers ≡ with_cleared_data ram.old.registers }
+    ensures mark { KeepsMark ram.old ram.new }
 {
     let first = usize::from(ram.curtain())
         .saturating_sub(MAIN_START)

@@ -43,7 +43,7 @@ pub enum Test {
 
 /// Whether a test holds, or that it needs numbers.
 pub fn asks<const REGS: usize>(ram: &Ram<REGS>, test: Test) -> Result<bool, LineFault>
-    ensures { Tells ram.now (condition_of test) result }
+    ensures { Tells ram.now.registers (condition_of test) result }
 {
     match test {
         Test::XEqualsY => Ok(x_is_y(ram)),
@@ -61,28 +61,28 @@ pub fn asks<const REGS: usize>(ram: &Ram<REGS>, test: Test) -> Result<bool, Line
 
 /// Whether X and Y hold the same digits.
 fn x_is_y<const REGS: usize>(ram: &Ram<REGS>) -> bool
-    ensures { result ≡ bytes_eq (status_of ram.now names.X) (status_of ram.now names.Y) }
+    ensures { result ≡ bytes_eq (status_of ram.now.registers names.X) (status_of ram.now.registers names.Y) }
 {
     ram.status_register(StatusRegister::X) == ram.status_register(StatusRegister::Y)
 }
 
 /// Whether X holds zero alone.
 fn x_is_nought<const REGS: usize>(ram: &Ram<REGS>) -> bool
-    ensures { result ≡ bytes_eq (status_of ram.now names.X) zeros }
+    ensures { result ≡ bytes_eq (status_of ram.now.registers names.X) zeros }
 {
     ram.status_register(StatusRegister::X) == Reg::zero()
 }
 
 /// The number in X, or nothing where it holds none.
 fn number_in_x<const REGS: usize>(ram: &Ram<REGS>) -> Option<Ten>
-    ensures { option_map units result ≡ worth (holding_of (status_of ram.now names.X)) }
+    ensures { option_map units result ≡ worth (holding_of (status_of ram.now.registers names.X)) }
 {
     Ten::from_reg(ram.status_register(StatusRegister::X))
 }
 
 /// The number in Y, or nothing where it holds none.
 fn number_in_y<const REGS: usize>(ram: &Ram<REGS>) -> Option<Ten>
-    ensures { option_map units result ≡ worth (holding_of (status_of ram.now names.Y)) }
+    ensures { option_map units result ≡ worth (holding_of (status_of ram.now.registers names.Y)) }
 {
     Ten::from_reg(ram.status_register(StatusRegister::Y))
 }

@@ -16,14 +16,14 @@ use h41_ram::Ram;
 
 /// Whether a loop goes on that counts up by the register at an address.
 pub fn goes_on_up<const REGS: usize>(ram: &Ram<REGS>, address: u16) -> bool
-    ensures { result ≡ goes_on Up (amount_at ram.now address) }
+    ensures { result ≡ goes_on Up (amount_at ram.now.registers address) }
 {
     goes_on(ram, address, Sign::Plus)
 }
 
 /// Whether a loop goes on that counts down by the register at an address.
 pub fn goes_on_down<const REGS: usize>(ram: &Ram<REGS>, address: u16) -> bool
-    ensures { result ≡ goes_on Down (amount_at ram.now address) }
+    ensures { result ≡ goes_on Down (amount_at ram.now.registers address) }
 {
     goes_on(ram, address, Sign::Minus)
 }
@@ -44,7 +44,7 @@ pub fn counted_down(number: Ten) -> Result<Ten, DecimalFault>
 
 /// Whether a loop goes on by the register at an address, counted up for plus and down for minus.
 fn goes_on<const REGS: usize>(ram: &Ram<REGS>, address: u16, direction: Sign) -> bool
-    ensures { result ≡ goes_on (way_of direction) (amount_at ram.now address) }
+    ensures { result ≡ goes_on (way_of direction) (amount_at ram.now.registers address) }
 {
     let counter = counter_at(ram, address);
     let decimals = five_decimals(counter);
@@ -59,7 +59,7 @@ fn goes_on<const REGS: usize>(ram: &Ram<REGS>, address: u16, direction: Sign) ->
 
 /// The number in the register at an address; zero where it holds none.
 fn counter_at<const REGS: usize>(ram: &Ram<REGS>, address: u16) -> Ten
-    ensures { units result ≡ amount_at ram.now address }
+    ensures { units result ≡ amount_at ram.now.registers address }
 {
     match Ten::from_reg(ram.read(address)) {
         Some(number) => number,

@@ -4,6 +4,7 @@ ghost use Rattle.std.specs.Prelude.{◌≡◌, ◌<◌, [], ◌∷◌};
 ghost use Rattle.h41_ram.specs.NamedFlags as named;
 ghost use Rattle.h41_rows.specs.LineRows.{change, format};
 ghost use Rattle.h41_rows.specs.RowEffects.{with_flags};
+ghost use Rattle.h41_ram.specs.RamState.{KeepsMark};
 
 use h41_ram::{Ram, flags};
 
@@ -15,7 +16,8 @@ pub fn set_format<const REGS: usize>(
     engineering: bool,
 )
     requires { digits < 10 }
-    ensures { ram.new ≡ with_flags (format digits fixed engineering).flags ram.old }
+    ensures change { ram.new.registers ≡ with_flags (format digits fixed engineering).flags ram.old.registers }
+    ensures mark { KeepsMark ram.old ram.new }
 {
     ram.set_flag(flags::DIGITS_8, digits / 8 % 2 == 1);
     ram.set_flag(flags::DIGITS_4, digits / 4 % 2 == 1);
@@ -27,8 +29,9 @@ pub fn set_format<const REGS: usize>(
 
 /// The unit of angles: flag 42 for GRAD, 43 for RAD.
 pub fn set_angles<const REGS: usize>(ram: &mut Ram<REGS>, grads: bool, radians: bool)
-    ensures { ram.new
-        ≡ with_flags (change named.grads grads ∷ change named.radians radians ∷ []) ram.old }
+    ensures change { ram.new.registers
+        ≡ with_flags (change named.grads grads ∷ change named.radians radians ∷ []) ram.old.registers }
+    ensures mark { KeepsMark ram.old ram.new }
 {
     ram.set_flag(flags::GRADS, grads);
     ram.set_flag(flags::RADIANS, radians);

@@ -24,7 +24,7 @@ pub enum BranchTarget {
 
 /// Where data register `n` stands.
 pub fn data_address<const REGS: usize>(ram: &Ram<REGS>, n: u16) -> Result<u16, LineFault>
-    ensures { result ≡ data_register ram.now n }
+    ensures { result ≡ data_register ram.now.registers n }
 {
     readings::numbered_register(ram, n)
 }
@@ -32,7 +32,7 @@ pub fn data_address<const REGS: usize>(ram: &Ram<REGS>, n: u16) -> Result<u16, L
 /// Where the register of an operand stands.
 pub fn register_of<const REGS: usize>(ram: &Ram<REGS>, operand: &Operand) -> Result<u16, LineFault>
     requires { is_operand_left_out operand.now ≡ false }
-    ensures { result_map Address result ≡ meant_as RegisterKind ram.now operand.now }
+    ensures { result_map Address result ≡ meant_as RegisterKind ram.now.registers operand.now }
 {
     readings::operand_register(ram, operand)
 }
@@ -40,7 +40,7 @@ pub fn register_of<const REGS: usize>(ram: &Ram<REGS>, operand: &Operand) -> Res
 /// The number of digits that an operand tells, 0 to 9.
 pub fn digit_of<const REGS: usize>(ram: &Ram<REGS>, operand: &Operand) -> Result<u8, LineFault>
     requires { is_operand_left_out operand.now ≡ false }
-    ensures meant { result_map Count result ≡ meant_as DigitKind ram.now operand.now }
+    ensures meant { result_map Count result ≡ meant_as DigitKind ram.now.registers operand.now }
     ensures bound { IfOk result (λ n. n < 10) }
 {
     let number = readings::operand_number(ram, operand)?;
@@ -58,7 +58,7 @@ pub fn flag_of<const REGS: usize>(
     highest: u8,
 ) -> Result<u8, LineFault>
     requires { is_operand_left_out operand.now ≡ false }
-    ensures meant { result_map Count result ≡ meant_as (FlagKind highest) ram.now operand.now }
+    ensures meant { result_map Count result ≡ meant_as (FlagKind highest) ram.now.registers operand.now }
     ensures bound { IfOk result (λ n. n < highest + 1) }
 {
     let number = readings::operand_number(ram, operand)?;
@@ -76,7 +76,7 @@ pub fn branch_target<const REGS: usize>(
     register: Parameter,
 ) -> Result<BranchTarget, LineFault>
     requires { is_parameter_left_out register ≡ false }
-    ensures { result_map meant_by result ≡ meant_of ram.now (BranchIndirect branch register) }
+    ensures { result_map meant_by result ≡ meant_of ram.now.registers (BranchIndirect branch register) }
 {
     let address = readings::parameter_register(ram, register)?;
     targets::target_in(ram.read(address))

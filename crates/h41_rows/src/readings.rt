@@ -26,8 +26,8 @@ pub(crate) fn numbered_register<const REGS: usize>(
     ram: &Ram<REGS>,
     n: u16,
 ) -> Result<u16, LineFault>
-    ensures value { result ≡ spec.data_register ram.now n }
-    ensures few { size_of ram.now ≤ 512 }
+    ensures value { result ≡ spec.data_register ram.now.registers n }
+    ensures few { size_of ram.now.registers ≤ 512 }
 {
     if n < ram.size() {
         Ok(ram.curtain() + n)
@@ -42,7 +42,7 @@ pub(crate) fn parameter_register<const REGS: usize>(
     parameter: Parameter,
 ) -> Result<u16, LineFault>
     requires { is_parameter_left_out parameter ≡ false }
-    ensures { result ≡ spec.parameter_register ram.now parameter }
+    ensures { result ≡ spec.parameter_register ram.now.registers parameter }
 {
     let number = u16::from(parameter.number());
     if number < 100 {
@@ -58,7 +58,7 @@ pub(crate) fn operand_number<const REGS: usize>(
     operand: &Operand,
 ) -> Result<u16, LineFault>
     requires { is_operand_left_out operand.now ≡ false }
-    ensures { IsTold (spec.number_of ram.now operand.now) result }
+    ensures { IsTold (spec.number_of ram.now.registers operand.now) result }
 {
     match operand {
         Operand::Direct(parameter) => Ok(u16::from(parameter.number())),
@@ -72,7 +72,7 @@ fn parameter_number<const REGS: usize>(
     parameter: Parameter,
 ) -> Result<u16, LineFault>
     requires { is_parameter_left_out parameter ≡ false }
-    ensures { IsTold (number_found ram.now parameter) result }
+    ensures { IsTold (number_found ram.now.registers parameter) result }
 {
     let address = parameter_register(ram, parameter)?;
     whole_in(ram.read(address))
@@ -84,7 +84,7 @@ pub(crate) fn operand_register<const REGS: usize>(
     operand: &Operand,
 ) -> Result<u16, LineFault>
     requires { is_operand_left_out operand.now ≡ false }
-    ensures { result ≡ spec.address_of ram.now operand.now }
+    ensures { result ≡ spec.address_of ram.now.registers operand.now }
 {
     match operand {
         Operand::Direct(parameter) => parameter_register(ram, *parameter),
@@ -98,7 +98,7 @@ fn indirect_register<const REGS: usize>(
     parameter: Parameter,
 ) -> Result<u16, LineFault>
     requires { is_parameter_left_out parameter ≡ false }
-    ensures { result ≡ register_found ram.now parameter }
+    ensures { result ≡ register_found ram.now.registers parameter }
 {
     let number = parameter_number(ram, parameter)?;
     numbered_register(ram, number)

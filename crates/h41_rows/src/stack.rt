@@ -6,13 +6,15 @@ ghost use Rattle.h41_rows.specs.Computing.{whole_stack};
 ghost use Rattle.h41_rows.specs.Places.{LastX, T, X, Y, Z};
 ghost use Rattle.h41_rows.specs.RowEffects.{takes_of};
 ghost use Rattle.h41_rows.specs.Rows.{coming_in, compute, copy};
+ghost use Rattle.h41_ram.specs.RamState.{KeepsMark};
 
 use h41_digits::Reg;
 use h41_ram::{Ram, StatusRegister};
 
 /// X takes a register; the stack is lifted first where lift is on.
 pub fn bring_in<const REGS: usize>(ram: &mut Ram<REGS>, register: Reg, lift: bool)
-    ensures { Took ram.old ram.new register (takes_of (coming_in (compute X)) lift) }
+    ensures change { Took ram.old.registers ram.new.registers register (takes_of (coming_in (compute X)) lift) }
+    ensures mark { KeepsMark ram.old ram.new }
 {
     if lift {
         enter(ram);
@@ -22,7 +24,8 @@ pub fn bring_in<const REGS: usize>(ram: &mut Ram<REGS>, register: Reg, lift: boo
 
 /// X takes the register at an address, as it was before the lift.
 pub fn bring_in_from<const REGS: usize>(ram: &mut Ram<REGS>, address: u16, lift: bool)
-    ensures { BringsIn ram.old ram.new address lift }
+    ensures change { BringsIn ram.old.registers ram.new.registers address lift }
+    ensures mark { KeepsMark ram.old ram.new }
 {
     let register = ram.read(address);
     bring_in(ram, register, lift);
@@ -30,7 +33,8 @@ pub fn bring_in_from<const REGS: usize>(ram: &mut Ram<REGS>, address: u16, lift:
 
 /// X takes a register, and LAST X what X held.
 pub fn keep_last<const REGS: usize>(ram: &mut Ram<REGS>, register: Reg)
-    ensures { Took ram.old ram.new register (compute X ∷ copy LastX X ∷ []) }
+    ensures change { Took ram.old.registers ram.new.registers register (compute X ∷ copy LastX X ∷ []) }
+    ensures mark { KeepsMark ram.old ram.new }
 {
     let x = ram.status_register(StatusRegister::X);
     ram.set_status_register(StatusRegister::X, register);
@@ -39,7 +43,8 @@ pub fn keep_last<const REGS: usize>(ram: &mut Ram<REGS>, register: Reg)
 
 /// X takes a register, LAST X what X held, and the stack drops: T stays.
 pub fn drop_into<const REGS: usize>(ram: &mut Ram<REGS>, register: Reg)
-    ensures { Took ram.old ram.new register drop_takes }
+    ensures change { Took ram.old.registers ram.new.registers register drop_takes }
+    ensures mark { KeepsMark ram.old ram.new }
 {
     let t = ram.status_register(StatusRegister::T);
     let z = ram.status_register(StatusRegister::Z);
@@ -52,7 +57,8 @@ pub fn drop_into<const REGS: usize>(ram: &mut Ram<REGS>, register: Reg)
 
 /// X and the register at an address change places.
 pub fn exchange<const REGS: usize>(ram: &mut Ram<REGS>, address: u16)
-    ensures { Exchanges ram.old ram.new address }
+    ensures change { Exchanges ram.old.registers ram.new.registers address }
+    ensures mark { KeepsMark ram.old ram.new }
 {
     let x = ram.status_register(StatusRegister::X);
     let other = ram.read(address);
@@ -62,7 +68,8 @@ pub fn exchange<const REGS: usize>(ram: &mut Ram<REGS>, address: u16)
 
 /// The register at an address takes X.
 pub fn store_x<const REGS: usize>(ram: &mut Ram<REGS>, address: u16)
-    ensures { Stores ram.old ram.new address }
+    ensures change { Stores ram.old.registers ram.new.registers address }
+    ensures mark { KeepsMark ram.old ram.new }
 {
     let x = ram.status_register(StatusRegister::X);
     ram.write(address, x);
@@ -70,7 +77,8 @@ pub fn store_x<const REGS: usize>(ram: &mut Ram<REGS>, address: u16)
 
 /// X comes from T, and the others go up.
 pub fn roll_up<const REGS: usize>(ram: &mut Ram<REGS>)
-    ensures { Moved ram.old ram.new (copy X T ∷ copy Y X ∷ copy Z Y ∷ copy T Z ∷ []) }
+    ensures change { Moved ram.old.registers ram.new.registers (copy X T ∷ copy Y X ∷ copy Z Y ∷ copy T Z ∷ []) }
+    ensures mark { KeepsMark ram.old ram.new }
 {
     let t = ram.status_register(StatusRegister::T);
     let z = ram.status_register(StatusRegister::Z);
@@ -84,7 +92,8 @@ pub fn roll_up<const REGS: usize>(ram: &mut Ram<REGS>)
 
 /// X goes to T, and the others come down.
 pub fn roll_down<const REGS: usize>(ram: &mut Ram<REGS>)
-    ensures { Moved ram.old ram.new (copy X Y ∷ copy Y Z ∷ copy Z T ∷ copy T X ∷ []) }
+    ensures change { Moved ram.old.registers ram.new.registers (copy X Y ∷ copy Y Z ∷ copy Z T ∷ copy T X ∷ []) }
+    ensures mark { KeepsMark ram.old ram.new }
 {
     let t = ram.status_register(StatusRegister::T);
     let z = ram.status_register(StatusRegister::Z);
@@ -98,7 +107,8 @@ pub fn roll_down<const REGS: usize>(ram: &mut Ram<REGS>)
 
 /// The stack is lifted, and X stays.
 pub fn enter<const REGS: usize>(ram: &mut Ram<REGS>)
-    ensures { Moved ram.old ram.new (copy T Z ∷ copy Z Y ∷ copy Y X ∷ []) }
+    ensures change { Moved ram.old.registers ram.new.registers (copy T Z ∷ copy Z Y ∷ copy Y X ∷ []) }
+    ensures mark { KeepsMark ram.old ram.new }
 {
     let z = ram.status_register(StatusRegister::Z);
     let y = ram.status_register(StatusRegister::Y);
@@ -110,7 +120,8 @@ pub fn enter<const REGS: usize>(ram: &mut Ram<REGS>)
 
 /// The whole stack takes a register.
 pub fn clear_stack<const REGS: usize>(ram: &mut Ram<REGS>, register: Reg)
-    ensures { Took ram.old ram.new register whole_stack }
+    ensures change { Took ram.old.registers ram.new.registers register whole_stack }
+    ensures mark { KeepsMark ram.old ram.new }
 {
     ram.set_status_register(StatusRegister::T, register);
     ram.set_status_register(StatusRegister::Z, register);

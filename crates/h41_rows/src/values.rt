@@ -68,7 +68,7 @@ pub fn compute_of_one<const REGS: usize>(
     value: ValueOfOne,
     address: u16,
 ) -> Result<Reg, LineFault>
-    ensures { WorksOnOne value ram.now address result }
+    ensures { WorksOnOne value ram.now.registers address result }
 {
     match number_at(ram, address) {
         Ok(number) => kept_of_one(ram, value, number),
@@ -84,7 +84,7 @@ pub fn compute_of_two<const REGS: usize>(
     first: u16,
     second: u16,
 ) -> Result<Reg, LineFault>
-    ensures { WorksOnTwo value ram.now first second result }
+    ensures { WorksOnTwo value ram.now.registers first second result }
 {
     let x = number_at(ram, first)?;
     let y = number_at(ram, second)?;
@@ -122,7 +122,7 @@ fn kept_of_one<const REGS: usize>(
     value: ValueOfOne,
     number: Ten,
 ) -> Result<Reg, LineFault>
-    ensures { KeptOne value ram.now number result }
+    ensures { KeptOne value ram.now.registers number result }
 {
     match answer_of_one(ram, value, number) {
         Ok(answer) => Ok(register(answer)),
@@ -148,7 +148,7 @@ fn kept_of_two<const REGS: usize>(
     first: Ten,
     second: Ten,
 ) -> Result<Reg, LineFault>
-    ensures { KeptTwo value ram.now first second result }
+    ensures { KeptTwo value ram.now.registers first second result }
 {
     match answer_of_two(value, first, second) {
         Ok(answer) => Ok(register(answer)),

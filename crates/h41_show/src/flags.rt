@@ -10,7 +10,7 @@ use h41_ram::{Ram, flags};
 
 /// The notation: FIX where flag 40 is set, else ENG where flag 41 is set, else SCI.
 pub(crate) fn notation<const REGS: usize>(ram: &Ram<REGS>) -> Notation
-    ensures { result ≡ spec.notation_of (flag_of ram.now fixed) (flag_of ram.now engineering) }
+    ensures { result ≡ spec.notation_of (flag_of ram.now.registers fixed) (flag_of ram.now.registers engineering) }
 {
     if ram.flag(flags::FIXED) {
         Notation::Fixed
@@ -23,7 +23,7 @@ pub(crate) fn notation<const REGS: usize>(ram: &Ram<REGS>) -> Notation
 
 /// The number in flags 36 to 39: 0 to 15.
 pub(crate) fn display_digit<const REGS: usize>(ram: &Ram<REGS>) -> u8
-    ensures { result ≡ spec.display_digit ram.now }
+    ensures { result ≡ spec.display_digit ram.now.registers }
 {
     weight(ram.flag(flags::DIGITS_8), 8)
         + weight(ram.flag(flags::DIGITS_4), 4)
@@ -42,7 +42,7 @@ fn weight(flag: bool, amount: u8) -> u8
 
 /// The radix mark: the point where flag 28 is set, else the comma.
 pub(crate) fn radix<const REGS: usize>(ram: &Ram<REGS>) -> RadixMark
-    ensures { result ≡ spec.radix_of (flag_of ram.now decimal_point) }
+    ensures { result ≡ spec.radix_of (flag_of ram.now.registers decimal_point) }
 {
     if ram.flag(flags::DECIMAL_POINT) {
         RadixMark::Point

@@ -46,7 +46,7 @@ impl Format {
     /// both set and digits above 9, which are this project's own choice.
     #[tactic(auto, unfolding(crate::specs::DisplayFormat::format_of))]
     pub fn from_flags<const REGS: usize>(ram: &Ram<REGS>) -> Self
-        ensures { result ≡ format_of ram.now }
+        ensures { result ≡ format_of ram.now.registers }
     {
         Format {
             notation: notation(ram),

@@ -45,7 +45,7 @@ pub fn register_text_fits(register: Reg, format: Format) -> usize
 
 /// How many bytes the text of ALPHA has: at most 80.
 pub fn alpha_text_fits<const REGS: usize>(ram: &Ram<REGS>) -> usize
-    ensures size { result ≡ length (registers.alpha_text ram.now) }
+    ensures size { result ≡ length (registers.alpha_text ram.now.registers) }
     ensures fits { result ≤ 80 }
 {
     alpha_text(ram).len()

@@ -35,7 +35,7 @@ pub fn register_text(register: Reg, format: Format) -> ArrayString<TEXT_CAPACITY
 
 /// The text of ALPHA: its bytes but for leading nulls, as those of ALPHA data in a register.
 pub fn alpha_text<const REGS: usize>(ram: &Ram<REGS>) -> ArrayString<TEXT_CAPACITY>
-    ensures { result.bytes ≡ spec.alpha_text ram.now }
+    ensures { result.bytes ≡ spec.alpha_text ram.now.registers }
 {
     let mut text = DisplayText::new();
     push_characters(&mut text, after_nulls(&ram.alpha()));

@@ -4,6 +4,7 @@ ghost use Rattle.std.specs.Prelude.{◌≡◌, ◌≤◌, OnOk, OnErr};
 ghost use Rattle.h41_pages.specs.Addresses.{first_address};
 ghost use Rattle.h41_nut.specs.private.ProcessorSteps.{GoesOn};
 ghost use Rattle.h41_nut.specs.MemoryWords as spec;
+ghost use Rattle.h41_ram.specs.RamState.{KeepsMark};
 
 use crate::cpu::Cpu;
 use crate::refusal::WordRefusal;
@@ -17,8 +18,9 @@ pub fn write_register<const REGS: usize>(
     register: BlockRegister,
 ) -> Result<(), WordRefusal>
     ensures processor { GoesOn (spec.selecting_in_block register) cpu.old cpu.new result }
-    ensures written { OnOk result (ram.new ≡ spec.with_c_in_block ram.old register cpu.old) }
-    ensures unchanged { OnErr result (ram.new ≡ ram.old) }
+    ensures written { OnOk result (ram.new.registers ≡ spec.with_c_in_block ram.old.registers register cpu.old) }
+    ensures unchanged { OnErr result (ram.new.registers ≡ ram.old.registers) }
+    ensures mark { KeepsMark ram.old ram.new }
 {
     let address = cpu.block_address(register.number());
     cpu.select(address)?;
@@ -32,7 +34,7 @@ pub fn read_register<const REGS: usize>(
     ram: &Ram<REGS>,
     register: ReadRegister,
 ) -> Result<(), WordRefusal>
-    ensures { GoesOn (spec.with_register_in_c ram.now register) cpu.old cpu.new result }
+    ensures { GoesOn (spec.with_register_in_c ram.now.registers register) cpu.old cpu.new result }
 {
     let address = cpu.block_address(register.number());
     cpu.select_and_load(address, ram.read(address))
@@ -42,8 +44,9 @@ pub fn read_register<const REGS: usize>(
 pub fn write_data<const REGS: usize>(cpu: &mut Cpu, ram: &mut Ram<REGS>) -> Result<(), WordRefusal>
     requires { first_address ≤ cpu.old.pc }
     ensures processor { GoesOn (λ s. s) cpu.old cpu.new result }
-    ensures written { OnOk result (ram.new ≡ spec.with_c_at ram.old cpu.old.selected cpu.old) }
-    ensures unchanged { OnErr result (ram.new ≡ ram.old) }
+    ensures written { OnOk result (ram.new.registers ≡ spec.with_c_at ram.old.registers cpu.old.selected cpu.old) }
+    ensures unchanged { OnErr result (ram.new.registers ≡ ram.old.registers) }
+    ensures mark { KeepsMark ram.old ram.new }
 {
     cpu.go_on()?;
     ram.write(cpu.selected(), cpu.c());

@@ -1,5 +1,5 @@
 -- What a memory keeps of its register c and of the register of .END. .
-use Rattle.std.specs.Prelude.{◌≡◌, ℕ, ◌-◌, Bool, ◌&&◌, List, slice_index_or, nat_lt, nat_le}
+use Rattle.std.specs.Prelude.{◌≡◌, ℕ, ◌-◌, Bool, ◌&&◌, ◌||◌, List, slice_index_or, nat_lt, nat_le}
 use Rattle.std.specs.Prelude.{◌==◌, if◌then◌else◌}
 use Rattle.h41_ram.specs.RegisterMap.{RegisterMap, zeros, main_start, top_of, c_of, curtain_of}
 use Rattle.h41_ram.specs.RegisterMap.{end_of, three_digits, is_final_end, sound_constant}
@@ -26,3 +26,7 @@ pub record AreKept (memory : RegisterMap) (parts : Parts) : Type 0 where
   pub ordered : parts.ordered ≡ is_ordered (c_of memory) (top_of memory)
   pub sound : parts.sound
       ≡ (parts.ordered && is_final_end (main_register memory.main (end_of memory)))
+
+-- the mark is set too where this holds
+abbrev pub with_touched : Parts → Bool → Parts
+with_touched parts sets = record parts { touched = parts.touched || sets }

@@ -10,7 +10,7 @@ use Rattle.h41_rows.proofs.alpha.append_register.Goals as goal
 
 pub returns-then-get-eq-ALPHA_DATA : goal.returns-then-get-eq-ALPHA_DATA
 returns-then-get-eq-ALPHA_DATA g c =
-    let memory = c.args.ram.now in
+    let memory = c.args.ram.now.registers in
     let register = register_at memory c.args.address in
     let place : slice_index register 13 ≡ 1 =
     ap (λ (r : List ℕ). slice_index r 13) (sym c.read-register.ensures) ∙ sym c.get.ensures.digit ∙ c.if-get-eq-ALPHA_DATA.true in
@@ -21,7 +21,7 @@ returns-then-get-eq-ALPHA_DATA g c =
 
 pub returns-else-get-eq-ALPHA_DATA : goal.returns-else-get-eq-ALPHA_DATA
 returns-else-get-eq-ALPHA_DATA g c =
-    let memory = c.args.ram.now in
+    let memory = c.args.ram.now.registers in
     let register = register_at memory c.args.address in
     let place : slice_index register 13 ≢ 1 =
     λ same. c.if-get-eq-ALPHA_DATA.false (c.get.ensures.digit ∙ ap (λ (r : List ℕ). slice_index r 13) c.read-register.ensures ∙ same) in

@@ -4,4 +4,4 @@ use Rattle.h41_rows.proofs.AlphaTexts.{over_nulls}
 use Rattle.h41_rows.proofs.alpha.replace_text.Goals as goal
 
 pub returns : goal.returns
-returns g c named = c.set_alpha.ensures ∙ ap (with_alpha c.args.ram.now) (c.put_behind.ensures ∙ over_nulls c.args.text.now)
+returns g c named = c.set_alpha.ensures ∙ ap (with_alpha c.args.ram.now.registers) (c.put_behind.ensures ∙ over_nulls c.args.text.now)

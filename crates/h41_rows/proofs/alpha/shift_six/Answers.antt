@@ -8,6 +8,6 @@ use Rattle.h41_rows.proofs.alpha.shift_six.Goals as goal
 pub returns : goal.returns
 returns g c named =
     c.replace_text.ensures named
-    ∙ ap (λ (text : List ℕ). with_alpha c.args.ram.now (last_24 text))
+    ∙ ap (λ (text : List ℕ). with_alpha c.args.ram.now.registers (last_24 text))
     (past_six c.after_nulls-shown.result.now c.min.result c.min.ensures
     ∙ ap (drop 6) (c.after_nulls-shown.ensures.bytes ∙ ap after_nulls c.alpha-alpha.ensures))

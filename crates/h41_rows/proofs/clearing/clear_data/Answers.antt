@@ -4,19 +4,19 @@ use Rattle.h41_rows.proofs.ClearedData.{cleared_all, cleared_more, cleared_none,
 use Rattle.h41_rows.proofs.clearing.clear_data.Goals as goal
 
 pub loop-place-init : goal.loop-place-init
-loop-place-init g c = record { memory = cleared_none c.args.ram.now c.min-first.result }
+loop-place-init g c = record { memory = cleared_none c.args.ram.now.registers c.min-first.result }
 
 pub loop-place-preserved : goal.loop-place-preserved
 loop-place-preserved g c = record {
   memory =
-      cleared_more c.args.ram.now c.loop-place.ram c.write.new.self
+      cleared_more c.args.ram.now.registers c.loop-place.ram c.write.new.self
       c.min-first.result c.loop-place.place c.zero.result c.loop-place.auto.place
       (omega (arith, c.loop-place-test.true, c.curtain.ensures.memory.main)) c.loop-place.invariant.memory c.zero.ensures c.write.ensures;
 }
 
 pub returns : goal.returns
 returns g c =
-    let memory = c.args.ram.now in
+    let memory = c.args.ram.now.registers in
     let first : c.min-first.result ≡ min (curtain_of memory - 192) (length memory.main) =
     omega (arith, c.min-first.ensures, c.saturating_sub.ensures, c.from.ensures, c.curtain.ensures.value, c.curtain.ensures.memory.main) in
     let last : c.loop-place.place ≡ length memory.main =

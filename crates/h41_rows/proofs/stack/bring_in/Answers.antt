@@ -8,7 +8,7 @@ returns g c named =
     c.set_status_register.ensures
     ∙ (elim c.if-lift.branch [
       | then-lift w ↦
-          in_lifted c.args.ram.now c.if-lift.ram named c.args.register c.args.lift
+          in_lifted c.args.ram.now.registers c.if-lift.ram named c.args.register c.args.lift
           w.if-lift.true (w.ram-is ∙ w.enter.ensures c.args.register named)
-      | else-lift w ↦ in_x c.args.ram.now c.if-lift.ram named c.args.register c.args.lift w.if-lift.false w.ram-is
+      | else-lift w ↦ in_x c.args.ram.now.registers c.if-lift.ram named c.args.register c.args.lift w.if-lift.false w.ram-is
     ])

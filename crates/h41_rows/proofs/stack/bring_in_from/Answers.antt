@@ -6,5 +6,5 @@ use Rattle.h41_rows.proofs.stack.bring_in_from.Goals as goal
 pub returns : goal.returns
 returns g c named place register same =
     c.bring_in.ensures named
-    ∙ ap (λ r. with_coming c.args.ram.now named r c.args.lift) (c.read-register.ensures ∙ ap (register_at c.args.ram.now) (sym same))
-    ∙ from_place c.args.ram.now named place register c.args.lift
+    ∙ ap (λ r. with_coming c.args.ram.now.registers named r c.args.lift) (c.read-register.ensures ∙ ap (register_at c.args.ram.now.registers) (sym same))
+    ∙ from_place c.args.ram.now.registers named place register c.args.lift

@@ -3,9 +3,9 @@ use Rattle.h41_rows.proofs.values.compute_of_one.Goals as goal
 
 pub returns-in-Ok : goal.returns-in-Ok
 returns-in-Ok g c =
-    works_one c.args.value c.args.ram.now c.args.address c.in-Ok.number c.kept_of_one.result c.in-Ok.ensures c.kept_of_one.ensures
+    works_one c.args.value c.args.ram.now.registers c.args.address c.in-Ok.number c.kept_of_one.result c.in-Ok.ensures c.kept_of_one.ensures
 
 pub returns-in-Err : goal.returns-in-Err
 returns-in-Err g c =
-    works_without c.args.value c.args.ram.now c.args.address c.in-Err.fault
+    works_without c.args.value c.args.ram.now.registers c.args.address c.in-Err.fault
     c.without_number.result c.in-Err.ensures.0 c.in-Err.ensures.1 c.without_number.ensures

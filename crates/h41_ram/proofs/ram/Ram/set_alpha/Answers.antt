@@ -1,6 +1,7 @@
-use Rattle.std.proofs.Common.{◌≡◌, ℕ, ◌<◌, List, [], ◌∷◌, ◌++◌, set, drop, length, get_or, arith, refl}
+use Rattle.std.proofs.Common.{◌≡◌, ℕ, ◌<◌, List, [], ◌∷◌, ◌++◌, set, drop, length, get_or, arith, refl, ap, rules}
 use Rattle.std.proofs.lemmas.List.{get_or_default}
 use Rattle.h41_ram.specs.RegisterMap.{RegisterMap, zeros, with_alpha, digits_from, seven_from}
+use Rattle.h41_ram.specs.RamState.{RamState}
 use Rattle.h41_ram.proofs.ram.Ram.set_alpha.Goals as goal
 
 -- M, N, O and P with the text's bytes
@@ -12,8 +13,9 @@ alpha_set : (memory : RegisterMap) (status main : List (List ℕ)) (text m n o p
 alpha_set memory status main text m n o p spare seen inside is_m is_n is_o is_p =
     rw (← seen, is_m, is_n, is_o, is_p, get_or_default status 8 spare zeros inside) refl
 
-pub returns : goal.returns
-returns g c =
-    alpha_set c.args.self.now c.self.inside.status c.self.inside.main c.args.text c.seven_bytes.result
+pub returns-clause-written : goal.returns-clause-written
+returns-clause-written g c =
+    let registers = alpha_set c.args.self.now.registers c.self.inside.status c.self.inside.main c.args.text c.seven_bytes.result
     c.seven_bytes-2.result c.seven_bytes-3.result c.first_bytes.result c.index-self-8.result
-    c.self.view_is (omega arith) c.seven_bytes.ensures c.seven_bytes-2.ensures c.seven_bytes-3.ensures c.first_bytes.ensures
+    (ap (λ (ram : RamState). ram.registers) c.self.view_is) (omega arith) c.seven_bytes.ensures c.seven_bytes-2.ensures c.seven_bytes-3.ensures c.first_bytes.ensures in
+    search rules

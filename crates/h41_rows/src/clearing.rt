@@ -5,6 +5,7 @@ ghost use Rattle.h41_rows.specs.RowEffects.{with_cleared_data};
 ghost use Rattle.h41_ram.specs.RamState.{KeepsMark};
 
 use h41_digits::Reg;
+use h41_ram::laws::mark_is_kept;
 use h41_ram::{MAIN_START, Ram};
 
 /// All data registers become zero.
@@ -12,6 +13,7 @@ pub fn clear_data<const REGS: usize>(ram: &mut Ram<REGS>)
     ensures change { ram.new.registers ≡ with_cleared_data ram.old.registers }
     ensures mark { KeepsMark ram.old ram.new }
 {
+    mark_is_kept();
     let first = usize::from(ram.curtain())
         .saturating_sub(MAIN_START)
         .min(REGS);

@@ -1,9 +1,10 @@
 use Rattle.std.proofs.Common.{◌++◌, ap, ◌∙◌, List, ℕ}
+use Rattle.h41_ram.specs.RamState.{RamState}
 use Rattle.h41_ram.specs.RegisterMap.{with_alpha}
 use Rattle.h41_rows.specs.RowEffects.{last_24}
 use Rattle.h41_rows.proofs.alpha.append_text.Goals as goal
 
-pub returns : goal.returns
-returns g c named =
-    c.set_alpha.ensures
+pub returns-clause-change : goal.returns-clause-change
+returns-clause-change g c named =
+    ap (λ (ram : RamState). ram.registers) c.set_alpha.ensures.written
     ∙ ap (with_alpha c.args.ram.now.registers) (c.put_behind.ensures ∙ ap (λ (old : List ℕ). last_24 (old ++ c.args.text.now)) c.alpha.ensures)

@@ -8,7 +8,7 @@ use Rattle.h41_focal.specs.MachineCalls.{left_of}
 use Rattle.h41_focal.specs.Outcomes.{answer_of}
 use Rattle.h41_focal.specs.Destinations as destinations
 use Rattle.h41_rows.specs.LineRows as lines
-use Rattle.h41_focal.specs.LineStep.{Fails, Machine, halted}
+use Rattle.h41_focal.specs.LineStep.{Fails, Machine, at_halt}
 use Rattle.h41_focal.specs.private.Works.{row_of_work}
 use Rattle.h41_rows.specs.declared.fault.LineFault.TheVariants.{Nonexistent}
 use Rattle.h41_focal.specs.declared.origin.Origin.{Origin}
@@ -40,7 +40,7 @@ label_found (Program next) Execute label named machine position outcome knows fo
   Ok zeros,
   refl,
   (
-    destinations.Arrives position (destinations.pushed machine.focal.returns next),
+    destinations.Arrives position (destinations.with_return machine.focal.returns next),
     (next, knows, (Some position, found, refl)),
     rw answer refl,
   ),
@@ -75,7 +75,7 @@ name_found (Program next) Execute name named machine byte outcome knows found an
   Ok zeros,
   refl,
   (
-    destinations.Arrives (Memory byte) (destinations.pushed machine.focal.returns next),
+    destinations.Arrives (Memory byte) (destinations.with_return machine.focal.returns next),
     (next, knows, (Some byte, found, refl)),
     rw answer refl,
   ),
@@ -126,5 +126,5 @@ goes_back old new outcome next named knows back = back_from (reverse old.focal.r
 
 pub goes_to_line_00 : (machine : Machine) (start : Position) (named : ℕ)
     → StartOf machine.memory machine.focal.position start
-    → Leaves Typed (row_of_work works.Return) named machine (halted start machine) outcomes.Done
+    → Leaves Typed (row_of_work works.Return) named machine (at_halt start machine) outcomes.Done
 goes_to_line_00 machine start named found = (Ok zeros, refl, (destinations.Halts start, (start, found, refl), refl))

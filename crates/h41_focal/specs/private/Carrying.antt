@@ -58,10 +58,10 @@ pub record IsReady (origin : Origin) (machine : Machine) : Type 0 where
   pub next : KnowsNext origin machine
 
 -- on to the next line; a typed line stays
-abbrev pub advanced : Origin → Lift → FocalState → FocalState
-advanced (Program next) lift focal =
+abbrev pub on_to_next : Origin → Lift → FocalState → FocalState
+on_to_next (Program next) lift focal =
     record (at_position next focal) { lift = lift_after lift focal.lift }
-advanced Typed lift focal = record focal { lift = lift_after lift focal.lift }
+on_to_next Typed lift focal = record focal { lift = lift_after lift focal.lift }
 
 -- a row was applied to a machine
 abbrev pub Leaves : Origin → Row → ℕ → (old new : Machine) → LineOutcome → Type 0
@@ -88,9 +88,9 @@ Leads (Program next) memory holds (Err refusal) =
 Leads Typed memory holds lead = lead ≡ Ok Typed
 
 -- what a test answers: where it was typed, whether it holds
-abbrev pub told : Origin → Bool → Answer
-told (Program next) holds = answers.Done
-told Typed holds = answers.Answered holds
+abbrev pub test_answer : Origin → Bool → Answer
+test_answer (Program next) holds = answers.Done
+test_answer Typed holds = answers.Answered holds
 
 -- a line was taken, or refused
 abbrev pub TakesAs : Origin → Line → (old new : Machine) → Result LineOutcome FocalRefusal → Type 0

@@ -20,6 +20,7 @@ pub mod Mains
 pub mod Memory
 pub mod NewLines
 pub mod Numbers
+pub mod Onward
 pub mod Outcomes
 pub mod Packings
 pub mod PositionsFound

@@ -1,10 +1,10 @@
 -- Each position is read, and what is found from it is determined; a line has a next one.
-use Rattle.std.proofs.Common.{◌≡◌, ℕ, List, [], ◌∷◌, Option, Result, Ok, Err, refl, sym, ap, ◌∙◌}
+use Rattle.std.proofs.Common.{◌≡◌, ℕ, List, [], ◌∷◌, Result, Ok, Err, refl, sym, ap, ◌∙◌}
 use Rattle.std.specs.Option.{option_map}
 use Rattle.h41_codes.specs.ByteLaws.{OneLine}
 use Rattle.h41_program.specs.Numbering.{before_in, number_in}
 use Rattle.h41_program.specs.PositionLaws.{EachIsRead, HasOneAnswer, HasOneAnswerEach, IsReadOnce, LinesHaveNext}
-use Rattle.h41_program.specs.Positions.{EndOf, FindsInProgram, LineAt, LineBefore, LocalFrom, NextAt, NumberAt, StartOf, found_as}
+use Rattle.h41_program.specs.Positions.{EndOf, LineAt, LineBefore, LocalFrom, NextAt, NumberAt, StartOf, found_as}
 use Rattle.h41_program.specs.Positions.{in_memory}
 use Rattle.h41_program.specs.ProgramBytes.{final_position, program_bytes}
 use Rattle.h41_program.specs.ProgramLaws.{OneList}

@@ -5,7 +5,6 @@ use borrow.Enum.Total.{values_d}
 use Rattle.h41_program.specs.Lines.{is_final_end}
 use Rattle.h41_program.specs.Numbering.{number_in}
 use Rattle.h41_program.specs.Positions.{LineAndNext, NumberAt, in_memory}
-use Rattle.h41_program.specs.ProgramBytes.{final_position, program_bytes}
 use Rattle.h41_program.specs.ProgramLines.{HasFirst, HasNoLine, PositionFrom}
 use Rattle.h41_program.specs.Searches.{AnswersProgram}
 use Rattle.h41_program.specs.contracts.position.Position as contract

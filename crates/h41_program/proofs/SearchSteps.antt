@@ -1,6 +1,9 @@
 -- Searches, line after line.
-use Rattle.std.proofs.Common.{◌≡◌, ℕ, Bool, true, false, List, [], ◌∷◌, ◌++◌, refl, sym, ◌∙◌, ap, Option, Some, None}
-use Rattle.std.specs.Prelude.{◌&&◌, not, nat_lt, reverse, find, if◌then◌else◌}
+use Rattle.std.proofs.Common.{◌≡◌, ℕ, ◌≤◌, Bool, true, false, List, [], ◌∷◌, ◌++◌, refl, sym, ◌∙◌, ap, Option, Some, None, arith, inl, inr}
+use Rattle.std.proofs.Common.{append_assoc}
+use Rattle.std.proofs.Math.Bool.{and-false}
+use Rattle.std.proofs.lemmas.Bool.{cases_Bool}
+use Rattle.std.specs.Prelude.{◌&&◌, not, nat_lt, reverse, find, if◌then◌else◌, MatchBool}
 use Rattle.std.specs.List.{take_while}
 use Rattle.std.specs.Option.{option_map_or, option_or}
 use Rattle.std.proofs.lemmas.List.{reverse-append}
@@ -9,7 +12,9 @@ use Rattle.h41_codes.specs.declared.line.Line.{Line}
 use Rattle.h41_codes.specs.declared.line.Line.TheVariants.{End, FinalEnd}
 use Rattle.h41_program.specs.declared.listed_line.ListedLine.{ListedLine}
 use Rattle.h41_program.specs.Lines.{is_end, is_final_end, is_label, is_named}
-use Rattle.h41_program.specs.ProgramLines.{behind}
+use Rattle.h41_program.specs.ProgramLines.{behind, Reads}
+use Rattle.h41_program.proofs.Cases.{above_test, not_empty}
+use Rattle.h41_program.proofs.Walks.{last_rest, more_rest}
 use Rattle.h41_program.specs.Searches.{start_in, label_in, named_in, position_of}
 use Rattle.std.proofs.lemmas.Option.{none-some}
 
@@ -55,6 +60,30 @@ start_in-more at before listed =
 pub start_in-final : (at : ℕ) (before : List ListedLine) (listed : ListedLine) → is_final_end listed.line ≡ true
     → start_in at (before ++ listed ∷ []) ≡ start_in at before
 start_in-final at before listed final = start_in-more at before listed ∙ (rw (final_no_end listed.line final) refl)
+
+-- a line at or behind a position tells nothing of what is before it, and neither do those behind the line
+start_in-at : (at : ℕ) (before : List ListedLine) (listed : ListedLine) → at ≤ listed.position
+    → start_in at (before ++ listed ∷ []) ≡ start_in at before
+start_in-at at before listed above =
+    let late = above_test listed.position at above in
+    let test : is_end listed.line && nat_lt listed.position at ≡ false =
+    ap (λ b. is_end listed.line && b) late ∙ and-false (is_end listed.line) in
+    start_in-more at before listed ∙ (rw test refl)
+
+pub start_in-behind : (at : ℕ) (bytes : List ℕ) (final next : ℕ) (before : List ListedLine)
+    (listed : ListedLine) (rest : List ListedLine) → at ≤ listed.position → next ≡ behind listed
+    → MatchBool (is_final_end listed.line) (rest ≡ []) (Reads bytes final next rest)
+    → start_in at (before ++ listed ∷ rest) ≡ start_in at before
+start_in-behind at bytes final next before listed [] above is reads = start_in-at at before listed above
+start_in-behind at bytes final next before listed (second ∷ rest) above is reads =
+    let onward : Reads bytes final next (second ∷ rest) = elim (cases_Bool (is_final_end listed.line)) [
+      | inl last ↦ absurd (not_empty second rest (last_rest bytes final next (is_final_end listed.line) (second ∷ rest) last reads))
+      | inr running ↦ more_rest bytes final next (is_final_end listed.line) (second ∷ rest) running reads
+    ] in
+    let low = onward.0.from in
+    ap (start_in at) (sym (append_assoc before (listed ∷ []) (second ∷ rest)))
+    ∙ start_in-behind at bytes final (behind second) (before ++ listed ∷ []) second rest (omega (arith, above, is, low)) refl onward.1
+    ∙ start_in-at at before listed above
 
 pub named_in-more : (name : List ℕ) (before : List ListedLine) (listed : ListedLine)
     → position_of (named_in name (before ++ listed ∷ []))

@@ -6,7 +6,7 @@ ghost use Rattle.h41_ram.specs.RegisterMap.{is_sound};
 ghost use Rattle.h41_program.specs.ProgramBytes.{byte_count, final_position, program_byte};
 ghost use Rattle.h41_program.specs.ProgramBytes as spec;
 ghost use Rattle.h41_program.specs.ProgramLines.{AnswersFirst, AnswersNext, HasFirst, HasNoLine};
-ghost use Rattle.h41_program.specs.ProgramLines.{HasPlace};
+ghost use Rattle.h41_program.specs.ProgramLines.{HasPlace, PositionFrom};
 ghost use Rattle.h41_program.specs.private.Reading.{bytes_seen, register_holding, BeginsNoNumber};
 ghost use Rattle.h41_program.specs.private.Reading.{EndsNothing, FoundBehind, HasThere};
 ghost use Rattle.h41_codes.specs.ByteGrammar.{AnswersLine};
@@ -15,7 +15,7 @@ use crate::kinds::{is_end, is_final_end};
 use crate::listed_line::ListedLine;
 use crate::refusal::ProgramRefusal;
 use arrayvec::ArrayVec;
-use h41_codes::laws::{byte_round_trip, first_bytes};
+use h41_codes::laws::{byte_round_trip, first_bytes, line_or_none};
 use h41_codes::{BrokenProgram, Line, decode, is_one_byte, one_byte_line, two_byte_line};
 use h41_digits::Reg;
 use h41_ram::Ram;
@@ -354,8 +354,26 @@ pub fn position_behind<const REGS: usize>(ram: &Ram<REGS>, first: Found) -> u16
     if is_final_end(listed.line) {
         return listed.position;
     }
-    match place_from(ram, behind) {
-        Some(second) => second.position,
-        None => behind,
+    position_from(ram, behind)
+}
+
+/// The position of the first line from a position on, or that position where no line follows. Nulls alone stand before a line,
+/// so where the byte is none it need not be looked for.
+#[inline(always)]
+fn position_from<const REGS: usize>(ram: &Ram<REGS>, at: u16) -> u16
+    requires { IsTrue (is_sound ram.now) }
+    ensures { PositionFrom ram.now at result }
+{
+    byte_round_trip();
+    line_or_none();
+    if at >= final_position(ram) {
+        return at;
+    }
+    if byte_at(ram, at) != 0 {
+        return at;
+    }
+    match place_from(ram, at) {
+        Some(first) => first.position,
+        None => at,
     }
 }

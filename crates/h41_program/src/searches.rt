@@ -1,5 +1,5 @@
 //! Where programs begin and end, and labels stand.
-ghost use Rattle.std.specs.Prelude.{◌≡◌, ◌&&◌, nat_lt, IsTrue};
+ghost use Rattle.std.specs.Prelude.{IsTrue};
 ghost use Rattle.h41_ram.specs.RegisterMap.{is_sound};
 ghost use Rattle.h41_program.specs.ProgramLines.{AnswersOf};
 ghost use Rattle.h41_program.specs.private.Reading.{AnswersFrom};
@@ -8,7 +8,7 @@ ghost use Rattle.h41_program.specs.Searches.{named_in, position_of, start_in, up
 
 use crate::kinds::{is_end, is_final_end, is_label, is_named};
 use crate::laws::one_list;
-use crate::reading::{Found, LinePlace, first_from, place_from};
+use crate::reading::{Found, first_from, place_from};
 use h41_codes::Parameter;
 use h41_codes::laws::byte_round_trip;
 use h41_ram::Ram;
@@ -18,25 +18,23 @@ pub fn start_of<const REGS: usize>(ram: &Ram<REGS>, at: u16) -> u16
     requires { IsTrue (is_sound ram.now) }
     ensures { AnswersOf (start_in at) ram.now 0 result }
 {
+    byte_round_trip();
+    one_list();
     let mut start = 0;
     let mut position = 0;
     while let Some(place) = place_from(ram, position) {
         if place.ends_memory {
             return start;
         }
-        if ends_before(&place, at) {
+        if place.position >= at {
+            return start;
+        }
+        if place.ends_program {
             start = place.behind;
         }
         position = place.behind;
     }
     start
-}
-
-/// Whether a line is an END before a position.
-fn ends_before(place: &LinePlace, at: u16) -> bool
-    ensures { result ≡ (place.now.ends_program && nat_lt place.now.position at) }
-{
-    place.ends_program && place.position < at
 }
 
 /// Where the program of a byte of memory ends, as `positions::end_of` answers it.

@@ -23,7 +23,7 @@ pub fn step_line<const REGS: usize>(
     ensures unchanged { OnErr result (machine_with ram.new focal.new
         ≡ machine_with ram.old focal.old) }
     ensures elsewhere { KeepsElsewhere (machine_with ram.old focal.old)
-        (joined ram.new focal.new) result }
+        (machine_with ram.new focal.new) result }
 {
     let mut machine = Machine {
         ram: ram.take(),
@@ -41,7 +41,7 @@ pub fn step_as<const REGS: usize>(
     function: Function,
 ) -> Result<LineOutcome, FocalRefusal>
     ensures line { Steps (Some function) (machine_with ram.old focal.old)
-        (joined ram.new focal.new) result }
+        (machine_with ram.new focal.new) result }
     ensures unchanged { OnErr result (machine_with ram.new focal.new
         ≡ machine_with ram.old focal.old) }
 {
@@ -65,7 +65,7 @@ pub fn key_line<const REGS: usize>(
     ensures unchanged { OnErr result (machine_with ram.new focal.new
         ≡ machine_with ram.old focal.old) }
     ensures elsewhere { KeepsElsewhere (machine_with ram.old focal.old)
-        (joined ram.new focal.new) result }
+        (machine_with ram.new focal.new) result }
 {
     let mut machine = Machine {
         ram: ram.take(),

@@ -85,7 +85,7 @@ impl SourceText {
 
 /// The numbers of words for a page. Refused as 4 where there are more than it has. 21 where memory is refused.
 fn page_numbers(alloc: Global, words: &[Word]) -> Result<Result<Vec<u16>, LineRefusal>, AllocError>
-    ensures words_of_page { IfOk result (λ made. values_in made ≡ words_of_page words.now) }
+    ensures fitting { IfOk result (λ made. values_in made ≡ words_of_page words.now) }
     ensures bound { IfOk result (λ made. IfOk made (λ words. vec_len words ≤ page_size)) }
 {
     if words.len() > PAGE_WORDS {

@@ -6,7 +6,8 @@ use Rattle.std.proofs.lemmas.List.FromFn.{get_or-map-range_with_len, length-map-
 use Rattle.h41_digits.specs.Register.{byte_at}
 use Rattle.h41_ram.specs.RegisterMap.{RegisterMap, register_at, curtain_of, end_of, constant_of, is_sound, is_final_end, three_digits}
 use Rattle.h41_program.specs.declared.listed_line.ListedLine.{ListedLine}
-use Rattle.h41_program.specs.Dependence.{AgreeOnProgram, AnswersDepend, SoundnessDepends, ListsDepend, FirstsDepend, NonesDepend}
+use Rattle.h41_ram.specs.RamState.{SameProgram}
+use Rattle.h41_program.specs.Dependence.{AnswersDepend, SoundnessDepends, ListsDepend, FirstsDepend, NonesDepend}
 use Rattle.h41_program.specs.Dependence.{LineDepends, NextDepends, LocalDepends, ProgramDepends}
 use Rattle.h41_program.specs.Lines.{is_final_end as ends_list}
 use Rattle.h41_program.specs.ProgramBytes.{byte_count, program_byte, program_bytes, final_position}
@@ -15,7 +16,7 @@ use Rattle.h41_program.specs.Searches.{start_in}
 use Rattle.h41_program.proofs.Addresses.{sound_by}
 use Rattle.h41_program.proofs.Sound.{bounds, constant, ends}
 
-module _ (memory other : RegisterMap) (agree : AgreeOnProgram memory other) where
+module _ (memory other : RegisterMap) (agree : SameProgram memory other) where
   same_end : end_of memory ≡ end_of other
   same_end = ap (λ (c : List ℕ). three_digits c 0) agree.c
 
@@ -25,7 +26,7 @@ module _ (memory other : RegisterMap) (agree : AgreeOnProgram memory other) wher
   same_constant : constant_of memory ≡ constant_of other
   same_constant = ap (λ (c : List ℕ). three_digits c 6) agree.c
 
-  pub agrees_back : AgreeOnProgram other memory
+  pub agrees_back : SameProgram other memory
   agrees_back = record {
     size = sym agree.size;
     c = sym agree.c;

@@ -1,7 +1,8 @@
 -- What lists of lines and searches depend on: register c and the registers from .END. to below the
 -- curtain, and no others.
-use Rattle.std.specs.Prelude.{◌≡◌, ℕ, ◌<◌, ◌≤◌, List, length, Option, Result}
-use Rattle.h41_ram.specs.RegisterMap.{RegisterMap, register_at, c_of, curtain_of, end_of, is_sound}
+use Rattle.std.specs.Prelude.{◌≡◌, ℕ, List, Option, Result}
+use Rattle.h41_ram.specs.RamState.{SameProgram}
+use Rattle.h41_ram.specs.RegisterMap.{RegisterMap, is_sound}
 use Rattle.h41_program.specs.declared.listed_line.ListedLine.{ListedLine}
 use Rattle.h41_program.specs.declared.reading.Found.{Found}
 use Rattle.h41_program.specs.declared.refusal.ProgramRefusal.{ProgramRefusal}
@@ -9,46 +10,39 @@ use Rattle.h41_program.specs.ProgramLines.{AnswersFirst, AnswersNext, AnswersOf,
 use Rattle.h41_program.specs.ProgramLines.{HasNoLine, LinesFrom}
 use Rattle.h41_program.specs.Searches.{AnswersLocal, AnswersProgram}
 
--- two memories of one size agree in register c, and from the register of .END. to below the curtain
-pub record AgreeOnProgram (memory other : RegisterMap) : Type 0 where
-  pub size : length memory.main ≡ length other.main
-  pub c : c_of memory ≡ c_of other
-  pub program : (address : ℕ) → end_of memory ≤ address → address < curtain_of memory
-      → register_at memory address ≡ register_at other address
-
--- such memories are both sound, or neither is
+-- memories with the same program are both sound, or neither is
 abbrev pub SoundnessDepends : Type 0
 SoundnessDepends =
-    (memory other : RegisterMap) → AgreeOnProgram memory other → is_sound memory ≡ is_sound other
+    (memory other : RegisterMap) → SameProgram memory other → is_sound memory ≡ is_sound other
 
 -- they have the same lists
 abbrev pub ListsDepend : Type 0
 ListsDepend =
-    (memory other : RegisterMap) (at : ℕ) (lines : List ListedLine) → AgreeOnProgram memory other
+    (memory other : RegisterMap) (at : ℕ) (lines : List ListedLine) → SameProgram memory other
     → LinesFrom memory at lines → LinesFrom other at lines
 
 -- the same first lines, and none in the same places
 abbrev pub FirstsDepend : Type 0
 FirstsDepend =
-    (memory other : RegisterMap) (at : ℕ) (found : Found) → AgreeOnProgram memory other
+    (memory other : RegisterMap) (at : ℕ) (found : Found) → SameProgram memory other
     → HasFirst memory at found → HasFirst other at found
 
 abbrev pub NonesDepend : Type 0
 NonesDepend =
-    (memory other : RegisterMap) (at : ℕ) → AgreeOnProgram memory other → HasNoLine memory at
+    (memory other : RegisterMap) (at : ℕ) → SameProgram memory other → HasNoLine memory at
     → HasNoLine other at
 
 -- the same answers of the line at a position, and of the next
 abbrev pub LineDepends : Type 0
 LineDepends =
     (memory other : RegisterMap) (at : ℕ) (result : Result ListedLine ProgramRefusal)
-    → AgreeOnProgram memory other
+    → SameProgram memory other
     → AnswersFirst memory at result → AnswersFirst other at result
 
 abbrev pub NextDepends : Type 0
 NextDepends =
     (memory other : RegisterMap) (at : ℕ) (result : Result ℕ ProgramRefusal)
-    → AgreeOnProgram memory other
+    → SameProgram memory other
     → AnswersNext memory at result → AnswersNext other at result
 
 -- the same answers by the list, of any type: where programs begin and names stand, whether the last
@@ -56,18 +50,18 @@ NextDepends =
 abbrev pub AnswersDepend : Type 0 → Type 0
 AnswersDepend A =
     (memory other : RegisterMap) (answer : List ListedLine → A) (at : ℕ) (result : A)
-    → AgreeOnProgram memory other
+    → SameProgram memory other
     → AnswersOf answer memory at result → AnswersOf answer other at result
 
 -- by the program of a position: the numbers of its lines
 abbrev pub ProgramDepends : Type 0 → Type 0
 ProgramDepends A =
     (memory other : RegisterMap) (answer : List ListedLine → A) (at : ℕ) (result : A)
-    → AgreeOnProgram memory other
+    → SameProgram memory other
     → AnswersProgram answer memory at result → AnswersProgram answer other at result
 
 -- and of searches for local labels
 abbrev pub LocalDepends : Type 0
 LocalDepends =
-    (memory other : RegisterMap) (at n : ℕ) (result : Option ℕ) → AgreeOnProgram memory other
+    (memory other : RegisterMap) (at n : ℕ) (result : Option ℕ) → SameProgram memory other
     → AnswersLocal memory at n result → AnswersLocal other at n result

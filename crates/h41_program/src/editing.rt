@@ -15,6 +15,7 @@ ghost use Rattle.h41_program.specs.private.Packers.{Puts, line_if};
 ghost use Rattle.h41_program.specs.ProgramLines.{behind};
 ghost use Rattle.h41_program.specs.private.Reading.{AnswersFrom};
 ghost use Rattle.h41_program.specs.declared.editing.Change.TheVariants.{Put};
+ghost use Rattle.h41_ram.specs.RamState.{KeepsMark};
 
 use crate::kinds::{is_end, is_final_end};
 use crate::packer::Packer;
@@ -60,13 +61,14 @@ pub fn insert<const REGS: usize>(
     before: u16,
     line: Line,
 ) -> Result<u16, ProgramRefusal>
-    requires sound { IsTrue (is_sound ram.old) }
+    requires sound { IsTrue (is_sound ram.old.registers) }
     requires inner { IsTrue (is_inner line) }
-    ensures lines { Edits ram.old ram.new (with_inserted line) before (without_answer result) }
-    ensures sound { IsTrue (is_sound ram.new) }
-    ensures read { OnOk result (LeavesChanged ram.old (with_inserted line) before ram.new) }
-    ensures answer { IfOk result (StandsNew ram.old before ram.new) }
-    ensures stands { IfOk result (Stands ram.new line) }
+    ensures lines { Edits ram.old.registers ram.new.registers (with_inserted line) before (without_answer result) }
+    ensures sound { IsTrue (is_sound ram.new.registers) }
+    ensures read { OnOk result (LeavesChanged ram.old.registers (with_inserted line) before ram.new.registers) }
+    ensures answer { IfOk result (StandsNew ram.old.registers before ram.new.registers) }
+    ensures stands { IfOk result (Stands ram.new.registers line) }
+    ensures mark { KeepsMark ram.old ram.new }
 {
     put(ram, before, line, Placement::Before)
 }
@@ -75,11 +77,12 @@ pub fn insert<const REGS: usize>(
 /// deleted line was the first of its program, where that program then begins. 14 where the list has no such line or does not
 /// reach `.END.`, 16 where the program would pass below main memory.
 pub fn delete<const REGS: usize>(ram: &mut Ram<REGS>, at: u16) -> Result<InFront, ProgramRefusal>
-    requires { IsTrue (is_sound ram.old) }
-    ensures lines { Edits ram.old ram.new without_deleted at (without_answer result) }
-    ensures sound { IsTrue (is_sound ram.new) }
-    ensures read { OnOk result (LeavesChanged ram.old without_deleted at ram.new) }
-    ensures answer { IfOk result (StandsBefore ram.old at ram.new) }
+    requires { IsTrue (is_sound ram.old.registers) }
+    ensures lines { Edits ram.old.registers ram.new.registers without_deleted at (without_answer result) }
+    ensures sound { IsTrue (is_sound ram.new.registers) }
+    ensures read { OnOk result (LeavesChanged ram.old.registers without_deleted at ram.new.registers) }
+    ensures answer { IfOk result (StandsBefore ram.old.registers at ram.new.registers) }
+    ensures mark { KeepsMark ram.old ram.new }
 {
     byte_round_trip();
     let count = change_at(ram, at, Change::Delete)?;
@@ -94,13 +97,14 @@ pub fn replace<const REGS: usize>(
     at: u16,
     line: Line,
 ) -> Result<u16, ProgramRefusal>
-    requires sound { IsTrue (is_sound ram.old) }
+    requires sound { IsTrue (is_sound ram.old.registers) }
     requires inner { IsTrue (is_inner line) }
-    ensures lines { Edits ram.old ram.new (with_replaced line) at (without_answer result) }
-    ensures sound { IsTrue (is_sound ram.new) }
-    ensures read { OnOk result (LeavesChanged ram.old (with_replaced line) at ram.new) }
-    ensures answer { IfOk result (StandsNew ram.old at ram.new) }
-    ensures stands { IfOk result (Stands ram.new line) }
+    ensures lines { Edits ram.old.registers ram.new.registers (with_replaced line) at (without_answer result) }
+    ensures sound { IsTrue (is_sound ram.new.registers) }
+    ensures read { OnOk result (LeavesChanged ram.old.registers (with_replaced line) at ram.new.registers) }
+    ensures answer { IfOk result (StandsNew ram.old.registers at ram.new.registers) }
+    ensures stands { IfOk result (Stands ram.new.registers line) }
+    ensures mark { KeepsMark ram.old ram.new }
 {
     put(ram, at, line, Placement::Instead)
 }
@@ -112,15 +116,16 @@ fn put<const REGS: usize>(
     line: Line,
     placement: Placement,
 ) -> Result<u16, ProgramRefusal>
-    requires sound { IsTrue (is_sound ram.old) }
+    requires sound { IsTrue (is_sound ram.old.registers) }
     requires inner { IsTrue (is_inner line) }
-    ensures lines { Edits ram.old ram.new (lines_of_change (Put line placement)) at
+    ensures lines { Edits ram.old.registers ram.new.registers (lines_of_change (Put line placement)) at
         (without_answer result) }
-    ensures sound { IsTrue (is_sound ram.new) }
-    ensures read { OnOk result (LeavesChanged ram.old (lines_of_change (Put line placement)) at
-        ram.new) }
-    ensures answer { IfOk result (StandsNew ram.old at ram.new) }
-    ensures stands { IfOk result (Stands ram.new line) }
+    ensures sound { IsTrue (is_sound ram.new.registers) }
+    ensures read { OnOk result (LeavesChanged ram.old.registers (lines_of_change (Put line placement)) at
+        ram.new.registers) }
+    ensures answer { IfOk result (StandsNew ram.old.registers at ram.new.registers) }
+    ensures stands { IfOk result (Stands ram.new.registers line) }
+    ensures mark { KeepsMark ram.old ram.new }
 {
     byte_round_trip();
     know_ranges(&line);
@@ -135,11 +140,12 @@ fn change_at<const REGS: usize>(
     at: u16,
     change: Change,
 ) -> Result<u16, ProgramRefusal>
-    requires sound { IsTrue (is_sound ram.old) }
+    requires sound { IsTrue (is_sound ram.old.registers) }
     requires change { IsChange change }
-    ensures lines { Edits ram.old ram.new (lines_of_change change) at (without_answer result) }
-    ensures sound { IsTrue (is_sound ram.new) }
-    ensures count { IfOk result (Counts ram.old at) }
+    ensures lines { Edits ram.old.registers ram.new.registers (lines_of_change change) at (without_answer result) }
+    ensures sound { IsTrue (is_sound ram.new.registers) }
+    ensures count { IfOk result (Counts ram.old.registers at) }
+    ensures mark { KeepsMark ram.old ram.new }
 {
     let place = line_at(ram, at)?.position;
     let count = lines_before(ram, place);
@@ -149,8 +155,8 @@ fn change_at<const REGS: usize>(
 
 /// How many lines of the list from 0 stand before a position.
 fn lines_before<const REGS: usize>(ram: &Ram<REGS>, place: u16) -> u16
-    requires { IsTrue (is_sound ram.now) }
-    ensures { AnswersFrom (count_before place) ram.now 0 result }
+    requires { IsTrue (is_sound ram.now.registers) }
+    ensures { AnswersFrom (count_before place) ram.now.registers 0 result }
 {
     let mut count = 0;
     let mut at = 0;
@@ -170,8 +176,8 @@ fn lines_before<const REGS: usize>(ram: &Ram<REGS>, place: u16) -> u16
 
 /// The line of the list from 0 that has so many lines before it, and the byte behind it.
 fn line_behind<const REGS: usize>(ram: &Ram<REGS>, count: u16) -> Option<Found>
-    requires { IsTrue (is_sound ram.now) }
-    ensures line { AnswersFrom (λ lines. slice_get lines count) ram.now 0 (listed_of result) }
+    requires { IsTrue (is_sound ram.now.registers) }
+    ensures line { AnswersFrom (λ lines. slice_get lines count) ram.now.registers 0 (listed_of result) }
     ensures behind { IfSome result (λ found. found.behind ≡ behind found.listed) }
 {
     let mut left = count;
@@ -192,8 +198,8 @@ fn line_behind<const REGS: usize>(ram: &Ram<REGS>, count: u16) -> Option<Found>
 
 /// What stands in front of the line that has so many before it.
 fn in_front<const REGS: usize>(ram: &Ram<REGS>, count: u16) -> InFront
-    requires { IsTrue (is_sound ram.now) }
-    ensures { AnswersFrom (position_in_front count) ram.now 0 result }
+    requires { IsTrue (is_sound ram.now.registers) }
+    ensures { AnswersFrom (position_in_front count) ram.now.registers 0 result }
 {
     if count == 0 {
         return InFront::Start(0);
@@ -222,9 +228,9 @@ fn packed_changed<const REGS: usize>(
     place: u16,
     change: &Change,
 ) -> Result<Packer, ProgramRefusal>
-    requires sound { IsTrue (is_sound ram.now) }
+    requires sound { IsTrue (is_sound ram.now.registers) }
     requires change { IsChange change.now }
-    ensures { PacksChanged ram.now (lines_of_change change.now place) place result }
+    ensures { PacksChanged ram.now.registers (lines_of_change change.now place) place result }
 {
     let mut packer = Packer::new();
     let mut met = false;

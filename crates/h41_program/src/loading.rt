@@ -9,6 +9,7 @@ ghost use Rattle.h41_program.specs.private.LoadSteps.{PacksProgram, WritesClosed
 ghost use Rattle.h41_program.specs.private.LoadSteps.{listed_option, kept_option, checked_nulls};
 ghost use Rattle.h41_program.specs.private.Packers.{Puts};
 ghost use Rattle.h41_program.specs.ProgramLines.{AnswersOf};
+ghost use Rattle.h41_ram.specs.RamState.{KeepsMark};
 
 use crate::given::{are_nulls, line_in};
 use crate::kinds::{is_end, is_final_end};
@@ -24,10 +25,11 @@ use h41_ram::Ram;
 /// passed over (this project's choice). 14 where bytes of memory or given bytes are no line, or an `.END.` stands elsewhere
 /// than at the end of those given; 16 where the program would pass below main memory.
 pub fn load<const REGS: usize>(ram: &mut Ram<REGS>, bytes: &[u8]) -> Result<u16, ProgramRefusal>
-    requires { IsTrue (is_sound ram.old) }
-    ensures lines { Loads ram.old ram.new bytes.now result }
+    requires { IsTrue (is_sound ram.old.registers) }
+    ensures lines { Loads ram.old.registers ram.new.registers bytes.now result }
     ensures bound { IfOk result (λ start. start ≤ 2237) }
-    ensures sound { IsTrue (is_sound ram.new) }
+    ensures sound { IsTrue (is_sound ram.new.registers) }
+    ensures mark { KeepsMark ram.old ram.new }
 {
     let mut packer = packed_program(ram)?;
     packer.close();
@@ -39,8 +41,8 @@ pub fn load<const REGS: usize>(ram: &mut Ram<REGS>, bytes: &[u8]) -> Result<u16,
 
 /// Whether the last program in memory has lines and no END of its own. 14 where the list does not reach `.END.`.
 pub fn is_last_open<const REGS: usize>(ram: &Ram<REGS>) -> Result<bool, ProgramRefusal>
-    requires { IsTrue (is_sound ram.now) }
-    ensures { AnswersOf open_in ram.now 0 result }
+    requires { IsTrue (is_sound ram.now.registers) }
+    ensures { AnswersOf open_in ram.now.registers 0 result }
 {
     match packed_program(ram) {
         Ok(packer) => Ok(packer.is_open()),
@@ -51,10 +53,11 @@ pub fn is_last_open<const REGS: usize>(ram: &Ram<REGS>) -> Result<bool, ProgramR
 /// Puts an END behind the last program in memory where it has lines and no END; else nothing changes, nor is anything packed
 /// anew. 14 where the list does not reach `.END.`, 16 where the program would pass below main memory.
 pub fn close_last<const REGS: usize>(ram: &mut Ram<REGS>) -> Result<(), ProgramRefusal>
-    requires { IsTrue (is_sound ram.old) }
-    ensures lines { Closes ram.old ram.new result }
-    ensures sound { IsTrue (is_sound ram.new) }
-    ensures read { OnOk result (LeavesClosed ram.old ram.new) }
+    requires { IsTrue (is_sound ram.old.registers) }
+    ensures lines { Closes ram.old.registers ram.new.registers result }
+    ensures sound { IsTrue (is_sound ram.new.registers) }
+    ensures read { OnOk result (LeavesClosed ram.old.registers ram.new.registers) }
+    ensures mark { KeepsMark ram.old ram.new }
 {
     changes_are_read();
     match packed_program(ram) {
@@ -68,8 +71,9 @@ fn write_closed<const REGS: usize>(
     packer: Packer,
     ram: &mut Ram<REGS>,
 ) -> Result<(), ProgramRefusal>
-    requires { IsTrue (is_sound ram.old) }
-    ensures { WritesClosed packer ram.old ram.new result }
+    requires { IsTrue (is_sound ram.old.registers) }
+    ensures change { WritesClosed packer ram.old.registers ram.new.registers result }
+    ensures mark { KeepsMark ram.old ram.new }
 {
     let mut packer = packer;
     if !packer.is_open() {
@@ -81,8 +85,8 @@ fn write_closed<const REGS: usize>(
 
 /// The lines of memory before `.END.`.
 pub fn packed_program<const REGS: usize>(ram: &Ram<REGS>) -> Result<Packer, ProgramRefusal>
-    requires { IsTrue (is_sound ram.now) }
-    ensures { PacksProgram ram.now result }
+    requires { IsTrue (is_sound ram.now.registers) }
+    ensures { PacksProgram ram.now.registers result }
 {
     let mut packer = Packer::new();
     let mut at = 0;

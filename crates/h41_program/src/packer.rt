@@ -9,6 +9,7 @@ ghost use Rattle.h41_program.specs.private.EditSteps.{Writes};
 ghost use Rattle.h41_ram.specs.RegisterMap.{curtain_of, is_sound, main_start};
 ghost use Rattle.h41_program.specs.private.Packers.{Packs, Pushes, Puts, null_between};
 ghost use Rattle.h41_program.specs.Packing.{filled_up};
+ghost use Rattle.h41_ram.specs.RamState.{KeepsMark};
 
 use crate::kinds::{is_end, is_number};
 use crate::refusal::ProgramRefusal;
@@ -77,9 +78,10 @@ impl Packer {
 
     /// Writes the lines into program memory. 16 where they would pass below main memory.
     pub fn write<const REGS: usize>(self, ram: &mut Ram<REGS>) -> Result<(), ProgramRefusal>
-        requires { IsTrue (is_sound ram.old) }
-        ensures lines { Writes self ram.old ram.new result }
-        ensures small { curtain_of ram.old ≤ main_start + 320 }
+        requires { IsTrue (is_sound ram.old.registers) }
+        ensures lines { Writes self ram.old.registers ram.new.registers result }
+        ensures small { curtain_of ram.old.registers ≤ main_start + 320 }
+        ensures mark { KeepsMark ram.old ram.new }
     {
         let Packer { bytes, full, .. } = self;
         let curtain = ram.curtain();

@@ -20,8 +20,8 @@ pub fn line_at<const REGS: usize>(
     ram: &Ram<REGS>,
     at: Position,
 ) -> Result<PlacedLine, ProgramRefusal>
-    requires { IsTrue (is_sound ram.now) }
-    ensures { LineAt ram.now at result }
+    requires { IsTrue (is_sound ram.now.registers) }
+    ensures { LineAt ram.now.registers at result }
 {
     match at {
         Position::Memory(at) => match reading::line_at(ram, at) {
@@ -37,8 +37,8 @@ pub fn line_at<const REGS: usize>(
 /// The position of the line behind the one that a position stands for, or the byte behind that one where no line follows;
 /// of `.END.` its own. 14 where there is no line.
 pub fn next<const REGS: usize>(ram: &Ram<REGS>, at: Position) -> Result<Position, ProgramRefusal>
-    requires { IsTrue (is_sound ram.now) }
-    ensures { NextAt ram.now at result }
+    requires { IsTrue (is_sound ram.now.registers) }
+    ensures { NextAt ram.now.registers at result }
 {
     match at {
         Position::Memory(at) => match reading::next(ram, at) {
@@ -54,8 +54,8 @@ pub fn line_and_next<const REGS: usize>(
     ram: &Ram<REGS>,
     at: Position,
 ) -> Result<(Line, Position), ProgramRefusal>
-    requires { IsTrue (is_sound ram.now) }
-    ensures { LineAndNext ram.now at result }
+    requires { IsTrue (is_sound ram.now.registers) }
+    ensures { LineAndNext ram.now.registers at result }
 {
     match at {
         Position::Memory(at) => match first_from(ram, at) {
@@ -73,8 +73,8 @@ pub fn line_and_next<const REGS: usize>(
 /// Where the program of a position begins: behind the last END whose first byte is before the position, or at 0. `.END.` is
 /// no END here.
 pub fn start_of<const REGS: usize>(ram: &Ram<REGS>, at: Position) -> Position
-    requires { IsTrue (is_sound ram.now) }
-    ensures { StartOf ram.now at result }
+    requires { IsTrue (is_sound ram.now.registers) }
+    ensures { StartOf ram.now.registers at result }
 {
     match at {
         Position::Memory(at) => Position::Memory(searches::start_of(ram, at)),
@@ -83,8 +83,8 @@ pub fn start_of<const REGS: usize>(ram: &Ram<REGS>, at: Position) -> Position
 
 /// Where the `LBL n` stands that a position finds: the first from there to the END, else the first of its program.
 pub fn local<const REGS: usize>(ram: &Ram<REGS>, at: Position, label: Parameter) -> Option<Position>
-    requires { IsTrue (is_sound ram.now) }
-    ensures { LocalFrom label ram.now at result }
+    requires { IsTrue (is_sound ram.now.registers) }
+    ensures { LocalFrom label ram.now.registers at result }
 {
     match at {
         Position::Memory(at) => match searches::local(ram, at, label) {
@@ -97,8 +97,8 @@ pub fn local<const REGS: usize>(ram: &Ram<REGS>, at: Position, label: Parameter)
 /// Where the program of a position ends: where its END stands, or `.END.` where that comes first. `None` where its list has
 /// neither: bytes that are no line come first.
 pub fn end_of<const REGS: usize>(ram: &Ram<REGS>, at: Position) -> Option<Position>
-    requires { IsTrue (is_sound ram.now) }
-    ensures { EndOf ram.now at result }
+    requires { IsTrue (is_sound ram.now.registers) }
+    ensures { EndOf ram.now.registers at result }
 {
     match at {
         Position::Memory(at) => match searches::end_of(ram, at) {
@@ -111,8 +111,8 @@ pub fn end_of<const REGS: usize>(ram: &Ram<REGS>, at: Position) -> Option<Positi
 /// The number of the line at its own position in its program, where the first has number 1. `None` where the list from the
 /// program's start to its END has no line at the position.
 pub fn line_number<const REGS: usize>(ram: &Ram<REGS>, position: Position) -> Option<u16>
-    requires { IsTrue (is_sound ram.now) }
-    ensures { NumberAt ram.now position result }
+    requires { IsTrue (is_sound ram.now.registers) }
+    ensures { NumberAt ram.now.registers position result }
 {
     match position {
         Position::Memory(position) => {
@@ -126,8 +126,8 @@ pub fn line_number<const REGS: usize>(ram: &Ram<REGS>, position: Position) -> Op
 /// Where the line before the one at a position stands in its program. `None` where the list has no line at the position, or it
 /// is the first.
 pub fn line_before<const REGS: usize>(ram: &Ram<REGS>, position: Position) -> Option<Position>
-    requires { IsTrue (is_sound ram.now) }
-    ensures { LineBefore ram.now position result }
+    requires { IsTrue (is_sound ram.now.registers) }
+    ensures { LineBefore ram.now.registers position result }
 {
     match position {
         Position::Memory(position) => match numbering::line_before(ram, position) {

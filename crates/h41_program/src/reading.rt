@@ -59,9 +59,9 @@ pub struct LinePlace {
 /// if not before, at another `.END.` or at bytes that are no line.
 #[inline(always)]
 pub fn final_position<const REGS: usize>(ram: &Ram<REGS>) -> u16
-    requires { IsTrue (is_sound ram.now) }
-    ensures value { result ≡ spec.final_position ram.now }
-    ensures count { result + 3 ≡ byte_count ram.now }
+    requires { IsTrue (is_sound ram.now.registers) }
+    ensures value { result ≡ spec.final_position ram.now.registers }
+    ensures count { result + 3 ≡ byte_count ram.now.registers }
     ensures bound { result ≤ 2237 }
 {
     (ram.curtain() - ram.end_register()) * REGISTER_BYTES - END_BYTES
@@ -70,9 +70,9 @@ pub fn final_position<const REGS: usize>(ram: &Ram<REGS>) -> u16
 /// The register that has the byte at a position of program memory; at its end the one below it.
 #[inline(always)]
 fn register_holding<const REGS: usize>(ram: &Ram<REGS>, position: u16) -> Reg
-    requires count { position ≤ byte_count ram.now }
-    requires sound { IsTrue (is_sound ram.now) }
-    ensures { result ≡ register_holding ram.now position }
+    requires count { position ≤ byte_count ram.now.registers }
+    requires sound { IsTrue (is_sound ram.now.registers) }
+    ensures { result ≡ register_holding ram.now.registers position }
 {
     ram.read(ram.curtain() - 1 - position / REGISTER_BYTES)
 }
@@ -80,8 +80,8 @@ fn register_holding<const REGS: usize>(ram: &Ram<REGS>, position: u16) -> Reg
 /// The byte at a position of program memory.
 #[inline(always)]
 fn byte_at<const REGS: usize>(ram: &Ram<REGS>, position: u16) -> u8
-    requires { position < byte_count ram.now }
-    ensures { result ≡ program_byte ram.now position }
+    requires { position < byte_count ram.now.registers }
+    ensures { result ≡ program_byte ram.now.registers position }
 {
     let register = ram.read(ram.curtain() - 1 - position / REGISTER_BYTES);
     register.byte(usize::from(6 - position % REGISTER_BYTES))
@@ -91,11 +91,11 @@ fn byte_at<const REGS: usize>(ram: &Ram<REGS>, position: u16) -> u8
 #[inline(always)]
 fn past_nulls<const REGS: usize>(ram: &Ram<REGS>, at: u16, last: u16) -> u16
     requires from { at ≤ last }
-    requires last { last < byte_count ram.now }
+    requires last { last < byte_count ram.now.registers }
     ensures from { at ≤ result }
     ensures to { result ≤ last }
-    ensures nulls { (k : ℕ) → at ≤ k → k < result → program_byte ram.now k ≡ 0 }
-    ensures stop { result < last → program_byte ram.now result ≢ 0 }
+    ensures nulls { (k : ℕ) → at ≤ k → k < result → program_byte ram.now.registers k ≡ 0 }
+    ensures stop { result < last → program_byte ram.now.registers result ≢ 0 }
 {
     for position in at..last {
         if byte_at(ram, position) != 0 {
@@ -109,10 +109,10 @@ fn past_nulls<const REGS: usize>(ram: &Ram<REGS>, at: u16, last: u16) -> u16
 #[inline(always)]
 fn window<const REGS: usize>(ram: &Ram<REGS>, at: u16, limit: u16) -> Window
     requires from { at ≤ limit }
-    requires limit { limit ≤ byte_count ram.now }
+    requires limit { limit ≤ byte_count ram.now.registers }
     requires bound { limit < 65000 }
-    requires sound { IsTrue (is_sound ram.now) }
-    ensures { result.items ≡ bytes_seen ram.now at limit }
+    requires sound { IsTrue (is_sound ram.now.registers) }
+    ensures { result.items ≡ bytes_seen ram.now.registers at limit }
 {
     let mut window = Window::new();
     let mut register = register_holding(ram, at);
@@ -152,10 +152,10 @@ fn decoded<const REGS: usize>(
     limit: u16,
 ) -> Result<(Line, usize), BrokenProgram>
     requires from { at < limit }
-    requires limit { limit ≤ byte_count ram.now }
+    requires limit { limit ≤ byte_count ram.now.registers }
     requires bound { limit < 65000 }
-    requires sound { IsTrue (is_sound ram.now) }
-    ensures { AnswersLine result (bytes_seen ram.now at limit) }
+    requires sound { IsTrue (is_sound ram.now.registers) }
+    ensures { AnswersLine result (bytes_seen ram.now.registers at limit) }
 {
     byte_round_trip();
     first_bytes();
@@ -177,10 +177,10 @@ fn decoded_in<const REGS: usize>(
     limit: u16,
 ) -> Result<(Line, usize), BrokenProgram>
     requires from { at < limit }
-    requires limit { limit ≤ byte_count ram.now }
+    requires limit { limit ≤ byte_count ram.now.registers }
     requires bound { limit < 65000 }
-    requires sound { IsTrue (is_sound ram.now) }
-    ensures { AnswersLine result (bytes_seen ram.now at limit) }
+    requires sound { IsTrue (is_sound ram.now.registers) }
+    ensures { AnswersLine result (bytes_seen ram.now.registers at limit) }
 {
     decode(window(ram, at, limit).as_slice())
 }
@@ -204,9 +204,9 @@ fn line_limit(position: u16, last: u16) -> u16
 /// from that byte, except behind `.END.`, its last line. A line of one byte or two that stands there is read without a window.
 #[inline(always)]
 pub fn first_from<const REGS: usize>(ram: &Ram<REGS>, at: u16) -> Option<Found>
-    requires { IsTrue (is_sound ram.now) }
-    ensures first { IfSome result (λ found. HasFirst ram.now at found) }
-    ensures none { IfNone result (HasNoLine ram.now at) }
+    requires { IsTrue (is_sound ram.now.registers) }
+    ensures first { IfSome result (λ found. HasFirst ram.now.registers at found) }
+    ensures none { IfNone result (HasNoLine ram.now.registers at) }
     ensures inside { IfSome result (λ found. found.listed.position ≤ 2237) }
     ensures behind { IfSome result (λ found. found.behind ≤ 2240) }
 {
@@ -236,13 +236,13 @@ pub fn first_from<const REGS: usize>(ram: &Ram<REGS>, at: u16) -> Option<Found>
 /// The line of two bytes that stands at a position, whose first is given, where both stand before the last three.
 #[inline(always)]
 fn two_bytes_at<const REGS: usize>(ram: &Ram<REGS>, at: u16, byte: u8, last: u16) -> Option<Line>
-    requires sound { IsTrue (is_sound ram.now) }
-    requires last { last ≡ final_position ram.now }
-    requires count { last + 3 ≡ byte_count ram.now }
+    requires sound { IsTrue (is_sound ram.now.registers) }
+    requires last { last ≡ final_position ram.now.registers }
+    requires count { last + 3 ≡ byte_count ram.now.registers }
     requires before { at < last }
     requires bound { last ≤ 2237 }
-    requires byte { byte ≡ program_byte ram.now at }
-    ensures first { IfSome result (λ line. HasThere ram.now at 2 line) }
+    requires byte { byte ≡ program_byte ram.now.registers at }
+    ensures first { IfSome result (λ line. HasThere ram.now.registers at 2 line) }
     ensures ends { IfSome result (λ line. EndsNothing line) }
     ensures inside { IsSome result → at + 1 < last }
 {
@@ -258,12 +258,12 @@ fn two_bytes_at<const REGS: usize>(ram: &Ram<REGS>, at: u16, byte: u8, last: u16
 /// The first line from a position on, nulls passed over, read of a window of bytes.
 #[inline(always)]
 fn first_decoded<const REGS: usize>(ram: &Ram<REGS>, at: u16, last: u16) -> Option<Found>
-    requires sound { IsTrue (is_sound ram.now) }
-    requires last { last ≡ final_position ram.now }
-    requires count { last + 3 ≡ byte_count ram.now }
+    requires sound { IsTrue (is_sound ram.now.registers) }
+    requires last { last ≡ final_position ram.now.registers }
+    requires count { last + 3 ≡ byte_count ram.now.registers }
     requires bound { last ≤ 2237 }
-    ensures first { IfSome result (λ found. HasFirst ram.now at found) }
-    ensures none { IfNone result (HasNoLine ram.now at) }
+    ensures first { IfSome result (λ found. HasFirst ram.now.registers at found) }
+    ensures none { IfNone result (HasNoLine ram.now.registers at) }
     ensures inside { IfSome result (λ found. found.listed.position ≤ 2237) }
     ensures behind { IfSome result (λ found. found.behind ≤ 2240) }
 {
@@ -284,9 +284,9 @@ fn first_decoded<const REGS: usize>(ram: &Ram<REGS>, at: u16, last: u16) -> Opti
 /// Where the first line from a position on stands and what it ends, as `first_from` finds it.
 #[inline(always)]
 pub fn place_from<const REGS: usize>(ram: &Ram<REGS>, at: u16) -> Option<LinePlace>
-    requires { IsTrue (is_sound ram.now) }
-    ensures place { IfSome result (λ place. HasPlace ram.now at place) }
-    ensures none { IfNone result (HasNoLine ram.now at) }
+    requires { IsTrue (is_sound ram.now.registers) }
+    ensures place { IfSome result (λ place. HasPlace ram.now.registers at place) }
+    ensures none { IfNone result (HasNoLine ram.now.registers at) }
 {
     byte_round_trip();
     first_bytes();
@@ -325,8 +325,8 @@ pub fn place_from<const REGS: usize>(ram: &Ram<REGS>, at: u16) -> Option<LinePla
 
 /// The line at a byte of memory, as `positions::line_at` answers it.
 pub fn line_at<const REGS: usize>(ram: &Ram<REGS>, at: u16) -> Result<ListedLine, ProgramRefusal>
-    requires { IsTrue (is_sound ram.now) }
-    ensures { AnswersFirst ram.now at result }
+    requires { IsTrue (is_sound ram.now.registers) }
+    ensures { AnswersFirst ram.now.registers at result }
 {
     match first_from(ram, at) {
         Some(found) => Ok(found.listed),
@@ -336,8 +336,8 @@ pub fn line_at<const REGS: usize>(ram: &Ram<REGS>, at: u16) -> Result<ListedLine
 
 /// The byte of the next line, as `positions::next` answers it.
 pub fn next<const REGS: usize>(ram: &Ram<REGS>, at: u16) -> Result<u16, ProgramRefusal>
-    requires { IsTrue (is_sound ram.now) }
-    ensures { AnswersNext ram.now at result }
+    requires { IsTrue (is_sound ram.now.registers) }
+    ensures { AnswersNext ram.now.registers at result }
 {
     match first_from(ram, at) {
         Some(first) => Ok(position_behind(ram, first)),
@@ -347,8 +347,8 @@ pub fn next<const REGS: usize>(ram: &Ram<REGS>, at: u16) -> Result<u16, ProgramR
 
 /// The position of the line behind one, or the byte behind it where no line follows; of `.END.` its own.
 pub fn position_behind<const REGS: usize>(ram: &Ram<REGS>, first: Found) -> u16
-    requires { IsTrue (is_sound ram.now) }
-    ensures { FoundBehind ram.now first result }
+    requires { IsTrue (is_sound ram.now.registers) }
+    ensures { FoundBehind ram.now.registers first result }
 {
     let Found { listed, behind } = first;
     if is_final_end(listed.line) {
@@ -361,8 +361,8 @@ pub fn position_behind<const REGS: usize>(ram: &Ram<REGS>, first: Found) -> u16
 /// so where the byte is none it need not be looked for.
 #[inline(always)]
 fn position_from<const REGS: usize>(ram: &Ram<REGS>, at: u16) -> u16
-    requires { IsTrue (is_sound ram.now) }
-    ensures { PositionFrom ram.now at result }
+    requires { IsTrue (is_sound ram.now.registers) }
+    ensures { PositionFrom ram.now.registers at result }
 {
     byte_round_trip();
     line_or_none();

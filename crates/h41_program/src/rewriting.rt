@@ -4,32 +4,36 @@ ghost use Rattle.h41_ram.specs.RegisterMap.{IsMemory, top_of};
 ghost use Rattle.h41_program.specs.private.ProgramPlaces.{IsPlace};
 ghost use Rattle.h41_program.specs.Rewriting.{with_program_bytes, rewritten_register};
 ghost use Rattle.h41_program.specs.Rewriting as spec;
+ghost use Rattle.h41_ram.specs.RamState.{KeepsMark};
 
 use crate::registers::{C, END_PLACE, register_of, with_address};
 use h41_digits::Reg;
+use h41_ram::laws::mark_is_kept;
 use h41_ram::{MAIN_START, Ram};
 
 /// Makes bytes that fill registers the program's, and writes where it ends. Registers that the program leaves become zero (this
 /// project's choice).
 pub fn rewrite<const REGS: usize>(ram: &mut Ram<REGS>, bytes: &[u8], end: u16)
-    requires place { IsPlace ram.old (length bytes.now) end }
-    requires memory { IsMemory REGS ram.old }
-    ensures { ram.new ≡ with_program_bytes ram.old bytes.now }
+    requires place { IsPlace ram.old.registers (length bytes.now) end }
+    requires memory { IsMemory REGS ram.old.registers }
+    ensures change { ram.new.registers ≡ with_program_bytes ram.old.registers bytes.now }
+    ensures mark { KeepsMark ram.old ram.new }
 {
     let c = with_address(ram.status(usize::from(C)), END_PLACE, end);
     let mut main = ram.main_memory();
     for (index, register) in main.iter_mut().enumerate() {
         *register = new_register(ram, bytes, end, MAIN_START as u16 + index as u16);
     }
+    mark_is_kept();
     ram.write(C, c);
     ram.set_main_memory(main);
 }
 
 /// The register that stands at an address once a program's bytes were written.
 fn new_register<const REGS: usize>(ram: &Ram<REGS>, bytes: &[u8], end: u16, address: u16) -> Reg
-    requires place { IsPlace ram.now (length bytes.now) end }
-    requires address { address < top_of ram.now }
-    ensures { result ≡ rewritten_register ram.now bytes.now address }
+    requires place { IsPlace ram.now.registers (length bytes.now) end }
+    requires address { address < top_of ram.now.registers }
+    ensures { result ≡ rewritten_register ram.now.registers bytes.now address }
 {
     let curtain = ram.curtain();
     if address < end {
@@ -43,7 +47,7 @@ fn new_register<const REGS: usize>(ram: &Ram<REGS>, bytes: &[u8], end: u16, addr
 
 /// A register below the end: what stood there below the former end, else zero.
 pub fn free_register<const REGS: usize>(ram: &Ram<REGS>, address: u16) -> Reg
-    ensures { result ≡ spec.free_register ram.now address }
+    ensures { result ≡ spec.free_register ram.now.registers address }
 {
     if address < ram.end_register() {
         ram.read(address)

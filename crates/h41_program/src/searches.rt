@@ -15,8 +15,8 @@ use h41_ram::Ram;
 
 /// Where the program of a byte of memory begins, as `positions::start_of` answers it.
 pub fn start_of<const REGS: usize>(ram: &Ram<REGS>, at: u16) -> u16
-    requires { IsTrue (is_sound ram.now) }
-    ensures { AnswersOf (start_in at) ram.now 0 result }
+    requires { IsTrue (is_sound ram.now.registers) }
+    ensures { AnswersOf (start_in at) ram.now.registers 0 result }
 {
     byte_round_trip();
     one_list();
@@ -39,8 +39,8 @@ pub fn start_of<const REGS: usize>(ram: &Ram<REGS>, at: u16) -> u16
 
 /// Where the program of a byte of memory ends, as `positions::end_of` answers it.
 pub fn end_of<const REGS: usize>(ram: &Ram<REGS>, at: u16) -> Option<u16>
-    requires { IsTrue (is_sound ram.now) }
-    ensures { AnswersProgram end_in ram.now at result }
+    requires { IsTrue (is_sound ram.now.registers) }
+    ensures { AnswersProgram end_in ram.now.registers at result }
 {
     byte_round_trip();
     one_list();
@@ -49,8 +49,8 @@ pub fn end_of<const REGS: usize>(ram: &Ram<REGS>, at: u16) -> Option<u16>
 
 /// Where the first END or `.END.` stands from a position on.
 fn end_from<const REGS: usize>(ram: &Ram<REGS>, from: u16) -> Option<u16>
-    requires { IsTrue (is_sound ram.now) }
-    ensures { AnswersFrom (λ lines. end_in (up_to_end lines)) ram.now from result }
+    requires { IsTrue (is_sound ram.now.registers) }
+    ensures { AnswersFrom (λ lines. end_in (up_to_end lines)) ram.now.registers from result }
 {
     let mut at = from;
     while let Some(place) = place_from(ram, at) {
@@ -67,8 +67,8 @@ fn end_from<const REGS: usize>(ram: &Ram<REGS>, from: u16) -> Option<u16>
 
 /// Where the `LBL n` stands that a byte of memory finds, as `positions::local` answers it.
 pub fn local<const REGS: usize>(ram: &Ram<REGS>, at: u16, label: Parameter) -> Option<u16>
-    requires { IsTrue (is_sound ram.now) }
-    ensures { AnswersLocal ram.now at label result }
+    requires { IsTrue (is_sound ram.now.registers) }
+    ensures { AnswersLocal ram.now.registers at label result }
 {
     byte_round_trip();
     one_list();
@@ -80,8 +80,8 @@ pub fn local<const REGS: usize>(ram: &Ram<REGS>, at: u16, label: Parameter) -> O
 
 /// Where the first `LBL n` stands from a position to the END.
 fn label_from<const REGS: usize>(ram: &Ram<REGS>, at: u16, label: Parameter) -> Option<u16>
-    requires { IsTrue (is_sound ram.now) }
-    ensures { AnswersFrom (λ lines. position_of (label_in label lines)) ram.now at result }
+    requires { IsTrue (is_sound ram.now.registers) }
+    ensures { AnswersFrom (λ lines. position_of (label_in label lines)) ram.now.registers at result }
 {
     let mut position = at;
     while let Some(found) = first_from(ram, position) {
@@ -102,8 +102,8 @@ fn label_from<const REGS: usize>(ram: &Ram<REGS>, at: u16, label: Parameter) -> 
 
 /// Where the last `LBL` of a name stands in memory.
 pub fn global<const REGS: usize>(ram: &Ram<REGS>, name: &[u8]) -> Option<u16>
-    requires { IsTrue (is_sound ram.now) }
-    ensures { AnswersOf (λ lines. position_of (named_in name.now lines)) ram.now 0 result }
+    requires { IsTrue (is_sound ram.now.registers) }
+    ensures { AnswersOf (λ lines. position_of (named_in name.now lines)) ram.now.registers 0 result }
 {
     let mut last = None;
     let mut position = 0;

@@ -4,6 +4,7 @@ ghost use Rattle.h41_ram.specs.RegisterMap.{IsMemory, is_sound, top_of};
 ghost use Rattle.h41_program.specs.private.ProgramPlaces.{IsMove};
 ghost use Rattle.h41_program.specs.Rewriting.{HasOutcome};
 ghost use Rattle.h41_program.specs.Size.{with_size, resized_c, resized_register, size_outcome};
+ghost use Rattle.h41_ram.specs.RamState.{KeepsMark};
 
 use crate::refusal::ProgramRefusal;
 use crate::registers::{
@@ -11,15 +12,17 @@ use crate::registers::{
 };
 use crate::rewriting::free_register;
 use h41_digits::Reg;
+use h41_ram::laws::mark_is_kept;
 use h41_ram::{MAIN_START, Ram};
 
 /// Makes memory have so many data registers. The program and the statistics registers move with the curtain, the data registers
 /// that there were and are keep their values, new ones are zero, and so are registers that the program leaves (this project's
 /// choice). 17 where there are not more registers than that, 16 where the program would pass below main memory.
 pub fn set_size<const REGS: usize>(ram: &mut Ram<REGS>, size: u16) -> Result<(), ProgramRefusal>
-    requires { IsTrue (is_sound ram.old) }
-    ensures size { HasOutcome ram.old ram.new result (size_outcome ram.old size) }
-    ensures sound { IsTrue (is_sound ram.new) }
+    requires { IsTrue (is_sound ram.old.registers) }
+    ensures size { HasOutcome ram.old.registers ram.new.registers result (size_outcome ram.old.registers size) }
+    ensures sound { IsTrue (is_sound ram.new.registers) }
+    ensures mark { KeepsMark ram.old ram.new }
 {
     let curtain = ram.curtain();
     let end = ram.end_register();
@@ -36,23 +39,25 @@ pub fn set_size<const REGS: usize>(ram: &mut Ram<REGS>, size: u16) -> Result<(),
 
 /// Moves the curtain and the end.
 fn resize<const REGS: usize>(ram: &mut Ram<REGS>, curtain: u16, end: u16)
-    requires place { IsMove ram.old curtain end }
-    requires memory { IsMemory REGS ram.old }
-    ensures { ram.new ≡ with_size ram.old (top_of ram.old - curtain) }
+    requires place { IsMove ram.old.registers curtain end }
+    requires memory { IsMemory REGS ram.old.registers }
+    ensures change { ram.new.registers ≡ with_size ram.old.registers (top_of ram.old.registers - curtain) }
+    ensures mark { KeepsMark ram.old ram.new }
 {
     let c = moved_addresses(ram, curtain, end);
     let mut main = ram.main_memory();
     for (index, register) in main.iter_mut().enumerate() {
         *register = moved_register(ram, curtain, end, MAIN_START as u16 + index as u16);
     }
+    mark_is_kept();
     ram.write(C, c);
     ram.set_main_memory(main);
 }
 
 /// Register c with the addresses of a curtain and an end: the statistics registers move with the curtain.
 fn moved_addresses<const REGS: usize>(ram: &Ram<REGS>, curtain: u16, end: u16) -> Reg
-    requires { IsMove ram.now curtain end }
-    ensures { result ≡ resized_c ram.now (top_of ram.now - curtain) }
+    requires { IsMove ram.now.registers curtain end }
+    ensures { result ≡ resized_c ram.now.registers (top_of ram.now.registers - curtain) }
 {
     let c = ram.status(usize::from(C));
     let statistics = (address_at(c, STATISTICS_PLACE) + curtain + ADDRESSES - ram.curtain())
@@ -64,9 +69,9 @@ fn moved_addresses<const REGS: usize>(ram: &Ram<REGS>, curtain: u16, end: u16) -
 
 /// The register that stands at an address once the curtain and the end moved.
 fn moved_register<const REGS: usize>(ram: &Ram<REGS>, curtain: u16, end: u16, address: u16) -> Reg
-    requires place { IsMove ram.now curtain end }
-    requires address { address < top_of ram.now }
-    ensures { result ≡ resized_register ram.now (top_of ram.now - curtain) address }
+    requires place { IsMove ram.now.registers curtain end }
+    requires address { address < top_of ram.now.registers }
+    ensures { result ≡ resized_register ram.now.registers (top_of ram.now.registers - curtain) address }
 {
     if address < end {
         free_register(ram, address)

@@ -8,11 +8,11 @@ use Rattle.h41_program.proofs.Walks.{up_to_none, up_to_more, ends_none, goes_on,
 use Rattle.h41_program.proofs.editing.line_behind.Goals as goal
 
 pub loop-found-init : goal.loop-found-init
-loop-found-init g c = ([], up_to_none (program_bytes c.args.ram.now) (final_position c.args.ram.now) 0, omega arith)
+loop-found-init g c = ([], up_to_none (program_bytes c.args.ram.now.registers) (final_position c.args.ram.now.registers) 0, omega arith)
 
 pub returns-then-left-eq0-clause-line : goal.returns-then-left-eq0-clause-line
 returns-then-left-eq0-clause-line g c lines from =
-    let memory = c.args.ram.now in
+    let memory = c.args.ram.now.registers in
     let found = c.in-Some.found in
     let before = c.loop-found.invariant in
     let on =
@@ -24,7 +24,7 @@ returns-then-left-eq0-clause-line g c lines from =
 
 pub returns-then-is_final_end-clause-line : goal.returns-then-is_final_end-clause-line
 returns-then-is_final_end-clause-line g c lines from =
-    let memory = c.args.ram.now in
+    let memory = c.args.ram.now.registers in
     let found = c.in-Some.found in
     let before = c.loop-found.invariant in
     let final = sym c.is_final_end.ensures ∙ c.if-is_final_end.true in
@@ -37,7 +37,7 @@ returns-then-is_final_end-clause-line g c lines from =
 
 pub loop-found-preserved : goal.loop-found-preserved
 loop-found-preserved g c =
-    let memory = c.args.ram.now in
+    let memory = c.args.ram.now.registers in
     let found = c.in-Some.found in
     let before = c.loop-found.invariant in
     let running = sym c.is_final_end.ensures ∙ c.if-is_final_end.false in
@@ -50,7 +50,7 @@ loop-found-preserved g c =
 
 pub returns-clause-line : goal.returns-clause-line
 returns-clause-line g c lines from =
-    let memory = c.args.ram.now in
+    let memory = c.args.ram.now.registers in
     let before = c.loop-found.invariant in
     let whole =
     ends_none (program_bytes memory) (final_position memory) 0 c.loop-found.at

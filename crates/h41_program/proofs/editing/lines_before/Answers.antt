@@ -6,7 +6,7 @@ use Rattle.h41_program.proofs.Walks.{up_to_none, up_to_more, ends_none, ends_fin
 use Rattle.h41_program.proofs.editing.lines_before.Goals as goal
 
 pub loop-found-init : goal.loop-found-init
-loop-found-init g c = ([], up_to_none (program_bytes c.args.ram.now) (final_position c.args.ram.now) 0, refl, omega arith)
+loop-found-init g c = ([], up_to_none (program_bytes c.args.ram.now.registers) (final_position c.args.ram.now.registers) 0, refl, omega arith)
 
 pub overflow_add-count : goal.overflow_add-count
 overflow_add-count g c =
@@ -17,7 +17,7 @@ overflow_add-count g c =
 
 pub returns-then-listed-place : goal.returns-then-listed-place
 returns-then-listed-place g c lines from =
-    let memory = c.args.ram.now in
+    let memory = c.args.ram.now.registers in
     let found = c.in-Some.found in
     let before = c.loop-found.invariant in
     let parts = before.1.split lines (from.sound c.requires) in
@@ -28,7 +28,7 @@ returns-then-listed-place g c lines from =
 
 pub returns-then-is_final_end : goal.returns-then-is_final_end
 returns-then-is_final_end g c lines from =
-    let memory = c.args.ram.now in
+    let memory = c.args.ram.now.registers in
     let found = c.in-Some.found in
     let before = c.loop-found.invariant in
     let final = sym c.is_final_end.ensures ∙ c.if-is_final_end.true in
@@ -40,7 +40,7 @@ returns-then-is_final_end g c lines from =
 
 pub loop-found-preserved : goal.loop-found-preserved
 loop-found-preserved g c =
-    let memory = c.args.ram.now in
+    let memory = c.args.ram.now.registers in
     let found = c.in-Some.found in
     let before = c.loop-found.invariant in
     let running = sym c.is_final_end.ensures ∙ c.if-is_final_end.false in
@@ -54,7 +54,7 @@ loop-found-preserved g c =
 
 pub returns : goal.returns
 returns g c lines from =
-    let memory = c.args.ram.now in
+    let memory = c.args.ram.now.registers in
     let before = c.loop-found.invariant in
     before.2
     ∙ sym (ap (count_before c.args.place) (ends_none (program_bytes memory) (final_position memory) 0

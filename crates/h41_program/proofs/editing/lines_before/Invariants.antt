@@ -9,10 +9,10 @@ use Rattle.h41_program.proofs.editing.lines_before.Given as goal
 abbrev pub invariant-loop-found : goal.invariant-loop-found
 invariant-loop-found g l =
     (before : List ListedLine)
-    × UpTo (program_bytes l.ram) (final_position l.ram) 0 before l.at
+    × UpTo (program_bytes l.ram.registers) (final_position l.ram.registers) 0 before l.at
     × (l.count ≡ count_before l.place before)
     × (l.count ≤ l.at)
 
 -- the bytes that are left
 abbrev pub decreases-loop-found : goal.decreases-loop-found
-decreases-loop-found g l = length (program_bytes l.ram) - l.at
+decreases-loop-found g l = length (program_bytes l.ram.registers) - l.at

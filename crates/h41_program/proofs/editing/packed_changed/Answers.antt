@@ -12,7 +12,7 @@ pub loop-found-init : goal.loop-found-init
 loop-found-init g c = (
   [],
   record {
-    read = up_to_none (program_bytes c.args.ram.now) (final_position c.args.ram.now) 0;
+    read = up_to_none (program_bytes c.args.ram.now.registers) (final_position c.args.ram.now.registers) 0;
     packs = c.new-packer.ensures;
     found = refl;
   },
@@ -20,7 +20,7 @@ loop-found-init g c = (
 
 pub loop-found-preserved : goal.loop-found-preserved
 loop-found-preserved g c =
-    let memory = c.args.ram.now in
+    let memory = c.args.ram.now.registers in
     let found = c.in-Some.found in
     let before = c.loop-found.invariant in
     let running = sym c.is_final_end.ensures ∙ c.if-is_final_end.false in
@@ -41,7 +41,7 @@ loop-found-preserved g c =
 
 pub returns-then-met : goal.returns-then-met
 returns-then-met g c =
-    let memory = c.args.ram.now in
+    let memory = c.args.ram.now.registers in
     let found = c.in-Some.found in
     let before = c.loop-found.invariant in
     let lines = before.0 ++ found.listed ∷ [] in
@@ -63,7 +63,7 @@ returns-then-met g c =
 
 pub returns-else-met : goal.returns-else-met
 returns-else-met g c =
-    let memory = c.args.ram.now in
+    let memory = c.args.ram.now.registers in
     let found = c.in-Some.found in
     let before = c.loop-found.invariant in
     let lines = before.0 ++ found.listed ∷ [] in
@@ -85,7 +85,7 @@ returns-else-met g c =
 
 pub returns : goal.returns
 returns g c =
-    let memory = c.args.ram.now in
+    let memory = c.args.ram.now.registers in
     let before = c.loop-found.invariant in
     let reads =
     all_none (program_bytes memory) (final_position memory) 0 c.loop-found.at before.0 before.1.read c.in_default.ensures.none in (

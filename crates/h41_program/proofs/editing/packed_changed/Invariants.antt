@@ -9,8 +9,8 @@ use Rattle.h41_program.proofs.editing.packed_changed.Given as goal
 abbrev pub invariant-loop-found : goal.invariant-loop-found
 invariant-loop-found g l =
     (before : List ListedLine)
-    × Changed (program_bytes l.ram) (final_position l.ram) l.packer l.met (lines_of_change l.change l.place) l.place l.at before
+    × Changed (program_bytes l.ram.registers) (final_position l.ram.registers) l.packer l.met (lines_of_change l.change l.place) l.place l.at before
 
 -- the bytes that are left
 abbrev pub decreases-loop-found : goal.decreases-loop-found
-decreases-loop-found g l = length (program_bytes l.ram) - l.at
+decreases-loop-found g l = length (program_bytes l.ram.registers) - l.at

@@ -11,7 +11,7 @@ pub returns-in_err-packer-clause-lines : goal.returns-in_err-packer-clause-lines
 returns-in_err-packer-clause-lines g c =
     let program = c.packed_program.ensures in
     let broken =
-    load_broken c.args.ram.now c.args.bytes.now c.packed_program.result (before_end program.0)
+    load_broken c.args.ram.now.registers c.args.bytes.now c.packed_program.result (before_end program.0)
     c.in_err-packer.field-0.0 c.from_residual.result program.2 c.in_err-packer.was
     (let p = err_from_is_err_and c.from_residual.result c.from_residual.ensures.1 in rw (p.1, p.2) refl) in
     (Err BrokenProgram, (program.0, program.1, broken.0), (broken.1, refl))
@@ -20,9 +20,9 @@ pub returns-in_err-put_loaded-clause-lines : goal.returns-in_err-put_loaded-clau
 returns-in_err-put_loaded-clause-lines g c =
     let program = c.packed_program.ensures in
     let given = c.put_loaded.ensures in (
-      outcome_of c.args.ram.now (before_end program.0) (loaded_of c.args.bytes.now given.0),
-      (program.0, program.1, loads_behind c.args.ram.now c.args.bytes.now (before_end program.0) given.0 given.1),
-      load_refused c.args.ram.now c.args.ram.now c.packed_program.result
+      outcome_of c.args.ram.now.registers (before_end program.0) (loaded_of c.args.bytes.now given.0),
+      (program.0, program.1, loads_behind c.args.ram.now.registers c.args.bytes.now (before_end program.0) given.0 given.1),
+      load_refused c.args.ram.now.registers c.args.ram.now.registers c.packed_program.result
           c.in_ok-packer.packer c.close.new.self c.put_loaded.new.packer c.put_loaded.result
           (before_end program.0) (loaded_of c.args.bytes.now given.0) c.in_err-put_loaded.field-0.0 c.from_residual-in_err-put_loaded.result
           (record { program = program.2; begun = c.in_ok-packer.was; closes = c.close.ensures; puts = given.2 })
@@ -36,9 +36,9 @@ pub returns-in_err-write-clause-lines : goal.returns-in_err-write-clause-lines
 returns-in_err-write-clause-lines g c =
     let program = c.packed_program.ensures in
     let given = c.put_loaded.ensures in (
-      outcome_of c.args.ram.now (before_end program.0) (loaded_of c.args.bytes.now given.0),
-      (program.0, program.1, loads_behind c.args.ram.now c.args.bytes.now (before_end program.0) given.0 given.1),
-      load_unwritten c.args.ram.now c.write.new.ram c.packed_program.result
+      outcome_of c.args.ram.now.registers (before_end program.0) (loaded_of c.args.bytes.now given.0),
+      (program.0, program.1, loads_behind c.args.ram.now.registers c.args.bytes.now (before_end program.0) given.0 given.1),
+      load_unwritten c.args.ram.now.registers c.write.new.ram.registers c.packed_program.result
           c.in_ok-packer.packer c.close.new.self c.put_loaded.new.packer c.put_loaded.result
           (before_end program.0) (loaded_of c.args.bytes.now given.0) c.write.result
           c.in_err-write.field-0.0 c.from_residual-in_err-write.result
@@ -52,9 +52,9 @@ pub returns-clause-lines : goal.returns-clause-lines
 returns-clause-lines g c =
     let program = c.packed_program.ensures in
     let given = c.put_loaded.ensures in (
-      outcome_of c.args.ram.now (before_end program.0) (loaded_of c.args.bytes.now given.0),
-      (program.0, program.1, loads_behind c.args.ram.now c.args.bytes.now (before_end program.0) given.0 given.1),
-      load_written c.args.ram.now c.write.new.ram c.packed_program.result
+      outcome_of c.args.ram.now.registers (before_end program.0) (loaded_of c.args.bytes.now given.0),
+      (program.0, program.1, loads_behind c.args.ram.now.registers c.args.bytes.now (before_end program.0) given.0 given.1),
+      load_written c.args.ram.now.registers c.write.new.ram.registers c.packed_program.result
           c.in_ok-packer.packer c.close.new.self c.put_loaded.new.packer c.put_loaded.result
           (before_end program.0) (loaded_of c.args.bytes.now given.0) c.write.result c.len-start.result
           (record { program = program.2; begun = c.in_ok-packer.was; closes = c.close.ensures; puts = given.2 })
@@ -65,7 +65,7 @@ pub returns-clause-bound : goal.returns-clause-bound
 returns-clause-bound g c =
     let program = c.packed_program.ensures in
     let given = c.put_loaded.ensures in
-    load_bound c.args.ram.now c.write.new.ram c.packed_program.result
+    load_bound c.args.ram.now.registers c.write.new.ram.registers c.packed_program.result
     c.in_ok-packer.packer c.close.new.self c.put_loaded.new.packer c.put_loaded.result
     (before_end program.0) (loaded_of c.args.bytes.now given.0) c.write.result c.len-start.result
     (record { program = program.2; begun = c.in_ok-packer.was; closes = c.close.ensures; puts = given.2 })
@@ -73,9 +73,9 @@ returns-clause-bound g c =
 
 pub returns-in_err-write-clause-sound : goal.returns-in_err-write-clause-sound
 returns-in_err-write-clause-sound g c =
-    load_sound c.args.ram.now c.write.new.ram c.args.bytes.now
+    load_sound c.args.ram.now.registers c.write.new.ram.registers c.args.bytes.now
     c.from_residual-in_err-write.result c.requires (returns-in_err-write-clause-lines g c)
 
 pub returns-clause-sound : goal.returns-clause-sound
 returns-clause-sound g c =
-    load_sound c.args.ram.now c.write.new.ram c.args.bytes.now (Ok c.len-start.result) c.requires (returns-clause-lines g c)
+    load_sound c.args.ram.now.registers c.write.new.ram.registers c.args.bytes.now (Ok c.len-start.result) c.requires (returns-clause-lines g c)

@@ -7,11 +7,11 @@ use Rattle.h41_program.proofs.Walks.{up_to_none, up_to_more, all_none, all_final
 use Rattle.h41_program.proofs.loading.packed_program.Goals as goal
 
 pub loop-found-init : goal.loop-found-init
-loop-found-init g c = ([], up_to_none (program_bytes c.args.ram.now) (final_position c.args.ram.now) 0, c.new-packer.ensures)
+loop-found-init g c = ([], up_to_none (program_bytes c.args.ram.now.registers) (final_position c.args.ram.now.registers) 0, c.new-packer.ensures)
 
 pub returns-then-is_final_end : goal.returns-then-is_final_end
 returns-then-is_final_end g c =
-    let memory = c.args.ram.now in
+    let memory = c.args.ram.now.registers in
     let found = c.in-Some.found in
     let before = c.loop-found.invariant in
     let last = sym c.is_final_end.ensures ∙ c.if-is_final_end.true in
@@ -26,7 +26,7 @@ returns-then-is_final_end g c =
 
 pub loop-found-preserved : goal.loop-found-preserved
 loop-found-preserved g c =
-    let memory = c.args.ram.now in
+    let memory = c.args.ram.now.registers in
     let found = c.in-Some.found in
     let before = c.loop-found.invariant in (
       before.0 ++ found.listed ∷ [],
@@ -38,7 +38,7 @@ loop-found-preserved g c =
 
 pub returns : goal.returns
 returns g c =
-    let memory = c.args.ram.now in
+    let memory = c.args.ram.now.registers in
     let before = c.loop-found.invariant in
     let none = before_end-none (program_bytes memory) (final_position memory) 0 c.loop-found.at before.0 before.1 in (
       before.0,

@@ -7,7 +7,7 @@ use Rattle.h41_program.proofs.numbering.line_before.Goals as goal
 pub returns-in-Some : goal.returns-in-Some
 returns-in-Some g c =
     of_program c.byte_round_trip.ensures.one c.one_list.ensures (before_in c.args.position)
-    c.args.ram.now c.args.position c.start_of-start.result c.numbered_from.result
+    c.args.ram.now.registers c.args.position c.start_of-start.result c.numbered_from.result
     c.start_of-start.ensures
     (λ lines from.
     c.numbered_from.ensures lines from
@@ -16,6 +16,6 @@ returns-in-Some g c =
 pub returns-in-None : goal.returns-in-None
 returns-in-None g c =
     of_program c.byte_round_trip.ensures.one c.one_list.ensures (before_in c.args.position)
-    c.args.ram.now c.args.position c.start_of-start.result None
+    c.args.ram.now.registers c.args.position c.start_of-start.result None
     c.start_of-start.ensures
     (λ lines from. ap (before_number (up_to_end lines)) (sym c.in-None.is ∙ c.number_from.ensures.is lines from))

@@ -8,7 +8,7 @@ use Rattle.h41_program.proofs.numbering.number_from.Goals as goal
 pub loop-found-init : goal.loop-found-init
 loop-found-init g c = (
   [],
-  up_to_none (program_bytes c.args.ram.now) (final_position c.args.ram.now) c.args.from,
+  up_to_none (program_bytes c.args.ram.now.registers) (final_position c.args.ram.now.registers) c.args.from,
   refl,
   omega arith,
   counted_none c.args.position,
@@ -23,7 +23,7 @@ overflow_add-count g c =
 
 pub returns-then-listed-position-clause-is : goal.returns-then-listed-position-clause-is
 returns-then-listed-position-clause-is g c lines from =
-    let memory = c.args.ram.now in
+    let memory = c.args.ram.now.registers in
     let found = c.in-Some.found in
     let before = c.loop-found.invariant in
     let on =
@@ -36,7 +36,7 @@ returns-then-listed-position-clause-is g c lines from =
 
 pub returns-then-is_end-clause-is : goal.returns-then-is_end-clause-is
 returns-then-is_end-clause-is g c lines from =
-    let memory = c.args.ram.now in
+    let memory = c.args.ram.now.registers in
     let found = c.in-Some.found in
     let before = c.loop-found.invariant in
     let on =
@@ -49,7 +49,7 @@ returns-then-is_end-clause-is g c lines from =
 
 pub returns-then-is_final_end-clause-is : goal.returns-then-is_final_end-clause-is
 returns-then-is_final_end-clause-is g c lines from =
-    let memory = c.args.ram.now in
+    let memory = c.args.ram.now.registers in
     let found = c.in-Some.found in
     let before = c.loop-found.invariant in
     let final = sym c.is_final_end.ensures ∙ c.if-is_final_end.true in
@@ -63,7 +63,7 @@ returns-then-is_final_end-clause-is g c lines from =
 
 pub loop-found-preserved : goal.loop-found-preserved
 loop-found-preserved g c =
-    let memory = c.args.ram.now in
+    let memory = c.args.ram.now.registers in
     let found = c.in-Some.found in
     let before = c.loop-found.invariant in
     let running = sym c.is_final_end.ensures ∙ c.if-is_final_end.false in
@@ -80,7 +80,7 @@ loop-found-preserved g c =
 
 pub returns-clause-is : goal.returns-clause-is
 returns-clause-is g c lines from =
-    let memory = c.args.ram.now in
+    let memory = c.args.ram.now.registers in
     let before = c.loop-found.invariant in
     let whole =
     ends_none (program_bytes memory) (final_position memory) c.args.from c.loop-found.at

@@ -9,11 +9,11 @@ use Rattle.h41_program.proofs.numbering.number_from.Given as goal
 abbrev pub invariant-loop-found : goal.invariant-loop-found
 invariant-loop-found g l =
     (before : List ListedLine)
-    × UpTo (program_bytes l.ram) (final_position l.ram) l.from before l.at
+    × UpTo (program_bytes l.ram.registers) (final_position l.ram.registers) l.from before l.at
     × (l.count ≡ length before)
     × (l.count ≤ l.at)
     × Counted l.position before
 
 -- the bytes that are left
 abbrev pub decreases-loop-found : goal.decreases-loop-found
-decreases-loop-found g l = length (program_bytes l.ram) - l.at
+decreases-loop-found g l = length (program_bytes l.ram.registers) - l.at

@@ -5,11 +5,11 @@ use Rattle.h41_program.proofs.Walks.{up_to_none, up_to_more, ends_none, goes_on,
 use Rattle.h41_program.proofs.numbering.numbered_from.Goals as goal
 
 pub loop-found-init : goal.loop-found-init
-loop-found-init g c = ([], up_to_none (program_bytes c.args.ram.now) (final_position c.args.ram.now) c.args.from, λ rest. refl)
+loop-found-init g c = ([], up_to_none (program_bytes c.args.ram.now.registers) (final_position c.args.ram.now.registers) c.args.from, λ rest. refl)
 
 pub returns-then-left-eq1 : goal.returns-then-left-eq1
 returns-then-left-eq1 g c lines from =
-    let memory = c.args.ram.now in
+    let memory = c.args.ram.now.registers in
     let found = c.in-Some.found in
     let before = c.loop-found.invariant in
     let on =
@@ -20,7 +20,7 @@ returns-then-left-eq1 g c lines from =
 
 pub returns-then-is_end : goal.returns-then-is_end
 returns-then-is_end g c lines from =
-    let memory = c.args.ram.now in
+    let memory = c.args.ram.now.registers in
     let found = c.in-Some.found in
     let before = c.loop-found.invariant in
     let on =
@@ -32,7 +32,7 @@ returns-then-is_end g c lines from =
 
 pub returns-then-is_final_end : goal.returns-then-is_final_end
 returns-then-is_final_end g c lines from =
-    let memory = c.args.ram.now in
+    let memory = c.args.ram.now.registers in
     let found = c.in-Some.found in
     let before = c.loop-found.invariant in
     let final = sym c.is_final_end.ensures ∙ c.if-is_final_end.true in
@@ -45,7 +45,7 @@ returns-then-is_final_end g c lines from =
 
 pub loop-found-preserved : goal.loop-found-preserved
 loop-found-preserved g c =
-    let memory = c.args.ram.now in
+    let memory = c.args.ram.now.registers in
     let found = c.in-Some.found in
     let before = c.loop-found.invariant in
     let running = sym c.is_final_end.ensures ∙ c.if-is_final_end.false in
@@ -60,7 +60,7 @@ loop-found-preserved g c =
 
 pub returns : goal.returns
 returns g c lines from =
-    let memory = c.args.ram.now in
+    let memory = c.args.ram.now.registers in
     let before = c.loop-found.invariant in
     let whole =
     ends_none (program_bytes memory) (final_position memory) c.args.from c.loop-found.at

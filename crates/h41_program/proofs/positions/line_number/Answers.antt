@@ -5,6 +5,6 @@ use Rattle.h41_program.proofs.positions.line_number.Goals as goal
 
 pub returns : goal.returns
 returns g c =
-    number_found c.args.ram.now c.args.position c.number_from.result
+    number_found c.args.ram.now.registers c.args.position c.number_from.result
     (of_program c.byte_round_trip.ensures.one c.one_list.ensures (number_in (byte_of c.args.position))
-    c.args.ram.now (byte_of c.args.position) c.start_of.result c.number_from.result c.start_of.ensures c.number_from.ensures.is)
+    c.args.ram.now.registers (byte_of c.args.position) c.start_of.result c.number_from.result c.start_of.ensures c.number_from.ensures.is)

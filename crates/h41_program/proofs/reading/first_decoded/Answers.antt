@@ -25,8 +25,8 @@ overflow_add-result g c =
 
 pub returns-in-Ok-clause-first : goal.returns-in-Ok-clause-first
 returns-in-Ok-clause-first g c =
-    let looked : Looked c.args.ram.now c.args.at c.past_nulls-position.result c.args.last
-    c.line_limit.result (bytes_seen c.args.ram.now c.past_nulls-position.result c.line_limit.result) = record {
+    let looked : Looked c.args.ram.now.registers c.args.at c.past_nulls-position.result c.args.last
+    c.line_limit.result (bytes_seen c.args.ram.now.registers c.past_nulls-position.result c.line_limit.result) = record {
       last_is = c.requires.last;
       count = c.requires.count;
       from = c.past_nulls-position.ensures.from;
@@ -37,22 +37,22 @@ returns-in-Ok-clause-first g c =
       behind = c.line_limit.ensures.last;
       bytes = refl;
     } in
-    looked_first c.byte_round_trip.ensures.one c.args.ram.now c.requires.sound
+    looked_first c.byte_round_trip.ensures.one c.args.ram.now.registers c.requires.sound
     c.args.at c.past_nulls-position.result c.args.last c.line_limit.result
-    (bytes_seen c.args.ram.now c.past_nulls-position.result c.line_limit.result) looked c.decoded.result
+    (bytes_seen c.args.ram.now.registers c.past_nulls-position.result c.line_limit.result) looked c.decoded.result
     c.decoded.ensures c.in-Ok.line c.in-Ok.count (c.past_nulls-position.result + c.in-Ok.count) c.in-Ok.is refl
 
 pub returns-in-Ok-clause-behind : goal.returns-in-Ok-clause-behind
 returns-in-Ok-clause-behind g c =
-    let memory = c.args.ram.now in
+    let memory = c.args.ram.now.registers in
     let inside = (returns-in-Ok-clause-first g c).inside in
     let last = c.requires in
     omega (arith, inside, length-map-range_with_len (program_byte memory) 0 (byte_count memory), last.count, last.bound)
 
 pub returns-in-Err-clause-none : goal.returns-in-Err-clause-none
 returns-in-Err-clause-none g c =
-    let looked : Looked c.args.ram.now c.args.at c.past_nulls-position.result c.args.last
-    c.line_limit.result (bytes_seen c.args.ram.now c.past_nulls-position.result c.line_limit.result) = record {
+    let looked : Looked c.args.ram.now.registers c.args.at c.past_nulls-position.result c.args.last
+    c.line_limit.result (bytes_seen c.args.ram.now.registers c.past_nulls-position.result c.line_limit.result) = record {
       last_is = c.requires.last;
       count = c.requires.count;
       from = c.past_nulls-position.ensures.from;
@@ -63,7 +63,7 @@ returns-in-Err-clause-none g c =
       behind = c.line_limit.ensures.last;
       bytes = refl;
     } in
-    looked_none c.byte_round_trip.ensures.one c.args.ram.now c.requires.sound
+    looked_none c.byte_round_trip.ensures.one c.args.ram.now.registers c.requires.sound
     c.args.at c.past_nulls-position.result c.args.last c.line_limit.result
-    (bytes_seen c.args.ram.now c.past_nulls-position.result c.line_limit.result)
+    (bytes_seen c.args.ram.now.registers c.past_nulls-position.result c.line_limit.result)
     looked c.decoded.result c.decoded.ensures c.in-Err.field-0 c.in-Err.is

@@ -6,5 +6,5 @@ returns-in-Some-clause-first g c =
     let last = c.final_position-last in
     let found = c.in-Some.ensures.some in
     one_byte_first c.byte_round_trip.ensures.one c.first_bytes.ensures.number
-    c.args.ram.now c.requires c.args.at last.result c.byte_at-byte.result
+    c.args.ram.now.registers c.requires c.args.at last.result c.byte_at-byte.result
     last.ensures.value last.ensures.count c.if-at-last.true c.byte_at-byte.ensures c.if-byte-ne0.true found.0 c.in-Some.line found.1

@@ -11,7 +11,7 @@ returns-in-Some g c =
       found.listed,
       c.in-Some.ensures.first.first,
       subst (λ (n : ℕ).
-          MatchBool (is_final_end found.listed.line) (position ≡ found.listed.position) (PositionFrom c.args.ram.now n position))
+          MatchBool (is_final_end found.listed.line) (position ≡ found.listed.position) (PositionFrom c.args.ram.now.registers n position))
           c.in-Some.ensures.first.behind
           c.position_behind.ensures,
     )

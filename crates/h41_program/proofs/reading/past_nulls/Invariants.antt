@@ -4,4 +4,4 @@ use Rattle.h41_program.proofs.reading.past_nulls.Given as goal
 
 -- the bytes so far are nulls
 abbrev pub invariant-loop-position : goal.invariant-loop-position
-invariant-loop-position g l = (k : ℕ) → l.at ≤ k → k < l.position → program_byte l.ram k ≡ 0
+invariant-loop-position g l = (k : ℕ) → l.at ≤ k → k < l.position → program_byte l.ram.registers k ≡ 0

@@ -17,7 +17,7 @@ record IsHeld (register expected : List ℕ) (left position : ℕ) : Type 0 wher
 
 pub loop-position-preserved : goal.loop-position-preserved
 loop-position-preserved g c =
-    let memory = c.args.ram.now in
+    let memory = c.args.ram.now.registers in
     let position = c.loop-position.position in
     let register = c.if-left-eq0.register in
     let left = c.if-left-eq0.left in
@@ -56,4 +56,4 @@ loop-position-preserved g c =
 pub returns : goal.returns
 returns g c =
     let size : c.loop-position.position - c.args.at ≡ min 18 (c.args.limit - c.args.at) = omega arith in
-    c.loop-position.invariant.items ∙ ap (λ n. map (program_byte c.args.ram.now) (range_with_len c.args.at n)) size
+    c.loop-position.invariant.items ∙ ap (λ n. map (program_byte c.args.ram.now.registers) (range_with_len c.args.at n)) size

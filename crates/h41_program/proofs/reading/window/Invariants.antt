@@ -7,11 +7,11 @@ use Rattle.h41_program.proofs.reading.window.Given as goal
 -- the bytes so far
 abbrev pub invariant-loop-position : goal.invariant-loop-position
 invariant-loop-position g l = record {
-  items : l.window.items ≡ map (program_byte l.ram) (range_with_len l.at (l.position - l.at));
+  items : l.window.items ≡ map (program_byte l.ram.registers) (range_with_len l.at (l.position - l.at));
   count : length l.window.items ≡ l.position - l.at;
   -- how many bytes of the register follow
   few : l.left ≤ 7;
   ends : (l.position + l.left) % 7 ≡ 0;
   -- the register of the next byte, where that is not its first
-  held : (l.left ≡ 0 → ⊥) → l.register ≡ register_holding l.ram l.position;
+  held : (l.left ≡ 0 → ⊥) → l.register ≡ register_holding l.ram.registers l.position;
 }

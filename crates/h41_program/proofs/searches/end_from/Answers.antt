@@ -9,11 +9,11 @@ use Rattle.h41_program.proofs.Walks.{up_to_none, up_to_more, ends_none, goes_on}
 use Rattle.h41_program.proofs.searches.end_from.Goals as goal
 
 pub loop-place-init : goal.loop-place-init
-loop-place-init g c = ([], up_to_none (program_bytes c.args.ram.now) (final_position c.args.ram.now) c.args.from, λ rest. refl)
+loop-place-init g c = ([], up_to_none (program_bytes c.args.ram.now.registers) (final_position c.args.ram.now.registers) c.args.from, λ rest. refl)
 
 pub returns-then-place : goal.returns-then-place
 returns-then-place g c lines from =
-    let memory = c.args.ram.now in
+    let memory = c.args.ram.now.registers in
     let place = c.in-Some.place in
     let before = c.loop-place.invariant in
     let has = c.in-Some.ensures.place in
@@ -26,7 +26,7 @@ returns-then-place g c lines from =
 
 pub returns-then-place-2 : goal.returns-then-place-2
 returns-then-place-2 g c lines from =
-    let memory = c.args.ram.now in
+    let memory = c.args.ram.now.registers in
     let place = c.in-Some.place in
     let before = c.loop-place.invariant in
     let has = c.in-Some.ensures.place in
@@ -40,7 +40,7 @@ returns-then-place-2 g c lines from =
 
 pub loop-place-preserved : goal.loop-place-preserved
 loop-place-preserved g c =
-    let memory = c.args.ram.now in
+    let memory = c.args.ram.now.registers in
     let place = c.in-Some.place in
     let before = c.loop-place.invariant in
     let has = c.in-Some.ensures.place in
@@ -55,7 +55,7 @@ loop-place-preserved g c =
 
 pub returns : goal.returns
 returns g c lines from =
-    let memory = c.args.ram.now in
+    let memory = c.args.ram.now.registers in
     let before = c.loop-place.invariant in
     let whole =
     ends_none (program_bytes memory) (final_position memory) c.args.from c.loop-place.at

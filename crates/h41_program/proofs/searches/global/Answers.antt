@@ -6,7 +6,7 @@ use Rattle.h41_program.proofs.searches.global.Goals as goal
 
 pub returns-then-is_final_end : goal.returns-then-is_final_end
 returns-then-is_final_end g c =
-    let memory = c.args.ram.now in
+    let memory = c.args.ram.now.registers in
     let found = c.in-Some.found in
     let before = c.loop-found.invariant in
     let final = sym c.is_final_end.ensures ∙ c.if-is_final_end.true in
@@ -20,7 +20,7 @@ returns-then-is_final_end g c =
 
 pub loop-found-preserved-then-is_named : goal.loop-found-preserved-then-is_named
 loop-found-preserved-then-is_named g c =
-    let memory = c.args.ram.now in
+    let memory = c.args.ram.now.registers in
     let found = c.in-Some.found in
     let before = c.loop-found.invariant in
     let running = sym c.is_final_end.ensures ∙ c.if-is_final_end.false in
@@ -33,7 +33,7 @@ loop-found-preserved-then-is_named g c =
 
 pub loop-found-preserved : goal.loop-found-preserved
 loop-found-preserved g c =
-    let memory = c.args.ram.now in
+    let memory = c.args.ram.now.registers in
     let found = c.in-Some.found in
     let before = c.loop-found.invariant in
     let running = sym c.is_final_end.ensures ∙ c.if-is_final_end.false in
@@ -46,7 +46,7 @@ loop-found-preserved g c =
 
 pub returns : goal.returns
 returns g c =
-    let memory = c.args.ram.now in
+    let memory = c.args.ram.now.registers in
     let before = c.loop-found.invariant in (
       before.0,
       from_reads memory 0 before.0 c.requires

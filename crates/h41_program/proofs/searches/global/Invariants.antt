@@ -9,9 +9,9 @@ use Rattle.h41_program.proofs.searches.global.Given as goal
 abbrev pub invariant-loop-found : goal.invariant-loop-found
 invariant-loop-found g l =
     (before : List ListedLine)
-    × UpTo (program_bytes l.ram) (final_position l.ram) 0 before l.position
+    × UpTo (program_bytes l.ram.registers) (final_position l.ram.registers) 0 before l.position
     × (l.last ≡ position_of (named_in l.name before))
 
 -- the bytes that are left
 abbrev pub decreases-loop-found : goal.decreases-loop-found
-decreases-loop-found g l = length (program_bytes l.ram) - l.position
+decreases-loop-found g l = length (program_bytes l.ram.registers) - l.position

@@ -7,11 +7,11 @@ use Rattle.h41_program.proofs.Walks.{up_to_none, up_to_more, ends_none, goes_on,
 use Rattle.h41_program.proofs.searches.label_from.Goals as goal
 
 pub loop-found-init : goal.loop-found-init
-loop-found-init g c = ([], up_to_none (program_bytes c.args.ram.now) (final_position c.args.ram.now) c.args.at, λ rest. refl)
+loop-found-init g c = ([], up_to_none (program_bytes c.args.ram.now.registers) (final_position c.args.ram.now.registers) c.args.at, λ rest. refl)
 
 pub returns-then-is_label : goal.returns-then-is_label
 returns-then-is_label g c lines from =
-    let memory = c.args.ram.now in
+    let memory = c.args.ram.now.registers in
     let found = c.in-Some.found in
     let before = c.loop-found.invariant in
     let label = sym c.is_label.ensures ∙ c.if-is_label.true in
@@ -23,7 +23,7 @@ returns-then-is_label g c lines from =
 
 pub returns-then-is_end : goal.returns-then-is_end
 returns-then-is_end g c lines from =
-    let memory = c.args.ram.now in
+    let memory = c.args.ram.now.registers in
     let found = c.in-Some.found in
     let before = c.loop-found.invariant in
     let end = sym c.is_end.ensures ∙ c.if-is_end.true in
@@ -35,7 +35,7 @@ returns-then-is_end g c lines from =
 
 pub returns-then-is_final_end : goal.returns-then-is_final_end
 returns-then-is_final_end g c lines from =
-    let memory = c.args.ram.now in
+    let memory = c.args.ram.now.registers in
     let found = c.in-Some.found in
     let before = c.loop-found.invariant in
     let final = sym c.is_final_end.ensures ∙ c.if-is_final_end.true in
@@ -47,7 +47,7 @@ returns-then-is_final_end g c lines from =
 
 pub loop-found-preserved : goal.loop-found-preserved
 loop-found-preserved g c =
-    let memory = c.args.ram.now in
+    let memory = c.args.ram.now.registers in
     let found = c.in-Some.found in
     let before = c.loop-found.invariant in
     let running = sym c.is_final_end.ensures ∙ c.if-is_final_end.false in
@@ -64,7 +64,7 @@ loop-found-preserved g c =
 
 pub returns : goal.returns
 returns g c lines from =
-    let memory = c.args.ram.now in
+    let memory = c.args.ram.now.registers in
     let before = c.loop-found.invariant in
     let all =
     ends_none (program_bytes memory) (final_position memory) c.args.at c.loop-found.position

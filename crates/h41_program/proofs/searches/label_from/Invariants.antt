@@ -8,9 +8,9 @@ use Rattle.h41_program.proofs.searches.label_from.Given as goal
 -- the lines so far have no such label and no END
 abbrev pub invariant-loop-found : goal.invariant-loop-found
 invariant-loop-found g l =
-    (before : List ListedLine) × UpTo (program_bytes l.ram) (final_position l.ram) l.at before l.position
+    (before : List ListedLine) × UpTo (program_bytes l.ram.registers) (final_position l.ram.registers) l.at before l.position
     × ((rest : List ListedLine) → label_in l.label (before ++ rest) ≡ label_in l.label rest)
 
 -- the bytes that are left
 abbrev pub decreases-loop-found : goal.decreases-loop-found
-decreases-loop-found g l = length (program_bytes l.ram) - l.position
+decreases-loop-found g l = length (program_bytes l.ram.registers) - l.position

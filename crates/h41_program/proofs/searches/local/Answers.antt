@@ -7,7 +7,7 @@ use Rattle.h41_program.proofs.searches.local.Goals as goal
 
 pub returns-in-Some : goal.returns-in-Some
 returns-in-Some g c =
-    let memory = c.args.ram.now in
+    let memory = c.args.ram.now.registers in
     let all = c.one_list.ensures memory 0 in
     let onward = c.one_list.ensures memory c.args.at in
     let own = c.one_list.ensures memory (start_in c.args.at all.lines) in
@@ -24,7 +24,7 @@ returns-in-Some g c =
 
 pub returns-in-None : goal.returns-in-None
 returns-in-None g c =
-    let memory = c.args.ram.now in
+    let memory = c.args.ram.now.registers in
     let all = c.one_list.ensures memory 0 in
     let onward = c.one_list.ensures memory c.args.at in
     let own = c.one_list.ensures memory (start_in c.args.at all.lines) in

@@ -11,7 +11,7 @@ use Rattle.h41_program.proofs.searches.start_of.Goals as goal
 
 pub returns-then-place : goal.returns-then-place
 returns-then-place g c =
-    let memory = c.args.ram.now in
+    let memory = c.args.ram.now.registers in
     let place = c.in-Some.place in
     let before = c.loop-place.invariant in
     let has = c.in-Some.ensures.place in
@@ -28,7 +28,7 @@ returns-then-place g c =
 -- the list from there on has no line before the position
 pub returns-then-place-at : goal.returns-then-place-at
 returns-then-place-at g c =
-    let memory = c.args.ram.now in
+    let memory = c.args.ram.now.registers in
     let place = c.in-Some.place in
     let before = c.loop-place.invariant in
     let has = c.in-Some.ensures.place in
@@ -47,7 +47,7 @@ returns-then-place-at g c =
 
 pub loop-place-preserved-then-place-2 : goal.loop-place-preserved-then-place-2
 loop-place-preserved-then-place-2 g c =
-    let memory = c.args.ram.now in
+    let memory = c.args.ram.now.registers in
     let place = c.in-Some.place in
     let before = c.loop-place.invariant in
     let has = c.in-Some.ensures.place in
@@ -63,7 +63,7 @@ loop-place-preserved-then-place-2 g c =
 
 pub loop-place-preserved : goal.loop-place-preserved
 loop-place-preserved g c =
-    let memory = c.args.ram.now in
+    let memory = c.args.ram.now.registers in
     let place = c.in-Some.place in
     let before = c.loop-place.invariant in
     let has = c.in-Some.ensures.place in
@@ -78,7 +78,7 @@ loop-place-preserved g c =
 
 pub returns : goal.returns
 returns g c =
-    let memory = c.args.ram.now in
+    let memory = c.args.ram.now.registers in
     let before = c.loop-place.invariant in (
       before.0,
       from_reads memory 0 before.0 c.requires

@@ -50,7 +50,7 @@ fn text_at(calculator: &Calculator, location: Location) -> ArrayString<NEXT>
 
 /// The text of the line at a position.
 fn line_text(ram: &Ram<REGISTERS>, position: Position) -> ArrayString<NEXT>
-    ensures { TellsLine ram.now position result.bytes }
+    ensures { TellsLine ram.now.registers position result.bytes }
 {
     let mut text = ArrayString::new();
     if !ram.is_sound() {

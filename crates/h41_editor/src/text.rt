@@ -46,8 +46,8 @@ fn unknown_text() -> ArrayString<PROGRAM_TEXT_CAPACITY>
 
 /// Line 00, with the number of registers that are left.
 fn line_00_text<const REGS: usize>(ram: &Ram<REGS>) -> ArrayString<PROGRAM_TEXT_CAPACITY>
-    requires { IsTrue (is_sound ram.now) }
-    ensures { result.bytes ≡ spec.line_00_text ram.now }
+    requires { IsTrue (is_sound ram.now.registers) }
+    ensures { result.bytes ≡ spec.line_00_text ram.now.registers }
 {
     let mut text = ArrayString::new();
     text.push_str("00 REG ");

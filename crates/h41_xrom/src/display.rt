@@ -75,7 +75,7 @@ fn cursor_of(entry: TypedEntry) -> &'static str
 
 /// ALPHA with flag 48, the number that is being typed, and else X in the display format.
 fn entry_text<const REGS: usize>(ram: &Ram<REGS>, entry: TypedEntry) -> ArrayString<TEXT_CAPACITY>
-    ensures { result.bytes ≡ spec.entry_text ram.now entry }
+    ensures { result.bytes ≡ spec.entry_text ram.now.registers entry }
 {
     if ram.flag(ALPHA_MODE) {
         return alpha_text(ram);

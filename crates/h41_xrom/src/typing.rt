@@ -5,6 +5,7 @@ ghost use Rattle.h41_ram.specs.RegisterMap.{alpha_of};
 ghost use Rattle.h41_xrom.specs.KeyActions.{BeginsNumber, ChangesNumber, Leaves};
 ghost use Rattle.h41_xrom.specs.KeyActions.{with_alpha_toggled, with_letters, with_text};
 ghost use Rattle.h41_xrom.specs.declared.acting.KeyEffect.TheVariants.{Nothing};
+ghost use Rattle.h41_ram.specs.RamState.{KeepsMark};
 
 use crate::acting::KeyEffect;
 use h41_codes::Number;
@@ -36,8 +37,9 @@ pub fn change_number<const REGS: usize>(machine: &mut Machine<REGS>, number: &Nu
 
 /// ALPHA is shown and written, or no longer.
 pub fn toggle_alpha<const REGS: usize>(ram: &mut Ram<REGS>) -> KeyEffect
-    ensures memory { ram.new ≡ with_alpha_toggled ram.old }
+    ensures memory { ram.new.registers ≡ with_alpha_toggled ram.old.registers }
     ensures effect { result ≡ Nothing }
+    ensures mark { KeepsMark ram.old ram.new }
 {
     let on = !ram.flag(ALPHA_MODE);
     ram.set_flag(ALPHA_MODE, on);
@@ -46,8 +48,9 @@ pub fn toggle_alpha<const REGS: usize>(ram: &mut Ram<REGS>) -> KeyEffect
 
 /// A letter is the first of ALPHA.
 pub fn begin_text<const REGS: usize>(ram: &mut Ram<REGS>, letter: u8) -> KeyEffect
-    ensures memory { ram.new ≡ with_letters ram.old (letter ∷ []) }
+    ensures memory { ram.new.registers ≡ with_letters ram.old.registers (letter ∷ []) }
     ensures effect { result ≡ Nothing }
+    ensures mark { KeepsMark ram.old ram.new }
 {
     replace_text(ram, &[letter]);
     ram.set_flag(ALPHA_ENTRY, true);
@@ -56,8 +59,9 @@ pub fn begin_text<const REGS: usize>(ram: &mut Ram<REGS>, letter: u8) -> KeyEffe
 
 /// A letter comes behind what ALPHA holds.
 pub fn add_letter<const REGS: usize>(ram: &mut Ram<REGS>, letter: u8) -> KeyEffect
-    ensures memory { ram.new ≡ with_letters ram.old (alpha_of ram.old ++ letter ∷ []) }
+    ensures memory { ram.new.registers ≡ with_letters ram.old.registers (alpha_of ram.old.registers ++ letter ∷ []) }
     ensures effect { result ≡ Nothing }
+    ensures mark { KeepsMark ram.old ram.new }
 {
     append_text(ram, &[letter]);
     ram.set_flag(ALPHA_ENTRY, true);
@@ -66,8 +70,9 @@ pub fn add_letter<const REGS: usize>(ram: &mut Ram<REGS>, letter: u8) -> KeyEffe
 
 /// ALPHA's last character goes.
 pub fn take_letter<const REGS: usize>(ram: &mut Ram<REGS>) -> KeyEffect
-    ensures memory { ram.new ≡ with_text ram.old (take 23 (alpha_of ram.old)) }
+    ensures memory { ram.new.registers ≡ with_text ram.old.registers (take 23 (alpha_of ram.old.registers)) }
     ensures effect { result ≡ Nothing }
+    ensures mark { KeepsMark ram.old ram.new }
 {
     let alpha = ram.alpha();
     replace_text(ram, &alpha[..ALPHA_LENGTH - 1]);
@@ -76,8 +81,9 @@ pub fn take_letter<const REGS: usize>(ram: &mut Ram<REGS>) -> KeyEffect
 
 /// ALPHA is cleared.
 pub fn clear_alpha<const REGS: usize>(ram: &mut Ram<REGS>) -> KeyEffect
-    ensures memory { ram.new ≡ with_text ram.old [] }
+    ensures memory { ram.new.registers ≡ with_text ram.old.registers [] }
     ensures effect { result ≡ Nothing }
+    ensures mark { KeepsMark ram.old ram.new }
 {
     replace_text(ram, &[]);
     KeyEffect::Nothing

@@ -31,7 +31,7 @@ impl fmt::Display for RegisterLine<'_> {
     ghost use Rattle.std.specs.Prelude.{Some};
     ghost use Rattle.h41_deck.specs.Views.{register_line};
 
-    ghost output = { λ line. Some (register_line line.ram.now line.address) };
+    ghost output = { λ line. Some (register_line line.ram.now.registers line.address) };
 
     fn fmt<W: fmt::Write>(&self, f: &mut fmt::Formatter<W>) -> fmt::Result {
         write_register(f, self.ram, self.address)
@@ -75,7 +75,7 @@ fn write_register<W: fmt::Write>(
     ram: &Ram<REGISTERS>,
     address: u16,
 ) -> fmt::Result
-    ensures { WritesOnOk W.write_str_gives f.old result (register_line ram.now address) f.new }
+    ensures { WritesOnOk W.write_str_gives f.old result (register_line ram.now.registers address) f.new }
 {
     let name = Digits::<3>::holding(u64::from(address % 0x1000));
     let register = ram.read(address);
@@ -85,7 +85,7 @@ fn write_register<W: fmt::Write>(
 /// The stack from T down, and L.
 #[tactic(auto, unfolding(crate::specs::Views::stack_text))]
 fn write_stack<W: fmt::Write>(f: &mut fmt::Formatter<W>, ram: &Ram<REGISTERS>) -> fmt::Result
-    ensures { WritesOnOk W.write_str_gives f.old result (stack_text ram.now) f.new }
+    ensures { WritesOnOk W.write_str_gives f.old result (stack_text ram.now.registers) f.new }
 {
     write_level(f, "T", ram.status(0))?;
     write_level(f, "Z", ram.status(1))?;
@@ -105,7 +105,7 @@ fn write_level<W: fmt::Write>(f: &mut fmt::Formatter<W>, name: &str, register: R
 /// The numbers of the flags that are set.
 #[tactic(auto, unfolding(crate::specs::Views::flags_line))]
 fn write_flags<W: fmt::Write>(f: &mut fmt::Formatter<W>, ram: &Ram<REGISTERS>) -> fmt::Result
-    ensures { WritesOnOk W.write_str_gives f.old result (flags_line ram.now) f.new }
+    ensures { WritesOnOk W.write_str_gives f.old result (flags_line ram.now.registers) f.new }
 {
     let flags = set_flags(ram);
     let flags = flags.as_str();
@@ -114,7 +114,7 @@ fn write_flags<W: fmt::Write>(f: &mut fmt::Formatter<W>, ram: &Ram<REGISTERS>) -
 
 /// The numbers of the flags that are set, parted by blanks.
 fn set_flags(ram: &Ram<REGISTERS>) -> ArrayString<FLAGS_TEXT>
-    ensures { result.bytes ≡ flags_below 56 ram.now }
+    ensures { result.bytes ≡ flags_below 56 ram.now.registers }
 {
     let mut flags = ArrayString::new();
     for flag in 0..FLAGS {

@@ -15,7 +15,7 @@ use std::alloc::{AllocError, Global};
 /// The lines of memory from the first on, each with its position and its text; memory that is not sound has none. 21 where
 /// memory is refused.
 pub fn program_lines(alloc: Global, ram: &Ram<REGISTERS>) -> Result<Vec<u8>, AllocError>
-    ensures { IfOk result (λ listing. spec.ListsProgram ram.now listing.items) }
+    ensures { IfOk result (λ listing. spec.ListsProgram ram.now.registers listing.items) }
 {
     let mut listing = Vec::new(alloc);
     if !ram.is_sound() {

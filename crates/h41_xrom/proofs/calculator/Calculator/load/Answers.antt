@@ -12,11 +12,11 @@ returns-in_err-check_change c =
 pub returns-in_err-start : goal.returns-in_err-start
 returns-in_err-start c =
     let p = err_from_is_err_and c.from_residual-in_err-start.result c.from_residual-in_err-start.ensures.1 in
-    rw (p.1, p.2) (load_failed c.args.bytes.now _ c.args.self.now c.load.new.ram _
+    rw (p.1, p.2) (load_failed c.args.bytes.now _ c.args.self.now c.load.new.ram.registers _
     (ap the_view c.self-inside.view_is ∙ c.self.view_is) (c.in_ok-check_change.ensures) (c.in_err-start.ensures).lines)
 
 pub returns : goal.returns
 returns c =
-    load_done c.args.bytes.now _ c.args.self.now c.load.new.ram c.in_ok-start.start
+    load_done c.args.bytes.now _ c.args.self.now c.load.new.ram.registers c.in_ok-start.start
     c.halt_at.new.self (ap the_view c.self-inside.view_is ∙ c.self.view_is) c.halt_at.ensures
     (c.in_ok-check_change.ensures) (c.in_ok-start.ensures).lines

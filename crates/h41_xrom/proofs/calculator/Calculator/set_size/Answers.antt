@@ -8,5 +8,5 @@ pub returns-in_err-set_size : goal.returns-in_err-set_size
 returns-in_err-set_size c =
     let p = err_from_is_err_and c.from_residual-in_err-set_size.result c.from_residual-in_err-set_size.ensures.1 in
     rw (p.1, p.2)
-    (size_failed c.args.count _ c.args.self.now c.set_size.new.ram c.in_err-set_size.field-0.0
+    (size_failed c.args.count _ c.args.self.now c.set_size.new.ram.registers c.in_err-set_size.field-0.0
     (ap the_view c.self-inside.view_is ∙ c.self.view_is) (c.in_ok-check_change.ensures) (c.in_err-set_size.ensures).size)

@@ -87,10 +87,12 @@ fn arrive(focal: &mut Focal, origin: Origin, branch: Branch, position: Position)
 fn push_return(returns: &mut ArrayVec<Position, RETURNS>, position: Position)
     ensures { returns.new.items ≡ pushed returns.old.items position }
 {
-    if returns.is_full() {
-        returns.remove(0);
+    match returns.as_slice() {
+        [_, second, third, fourth, fifth, sixth] => {
+            *returns = ArrayVec::from([*second, *third, *fourth, *fifth, *sixth, position]);
+        }
+        _ => returns.push(position),
     }
-    returns.push(position);
 }
 
 /// Back to the latest position to return to. Where there is none, and where the line is typed, to line 00 of the program.

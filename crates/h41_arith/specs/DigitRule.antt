@@ -88,8 +88,8 @@ with_places into lo hi digit =
     (from_to 0 13)
 
 -- a copy: each place from lo to hi takes the digit of x
-abbrev pub copied : List ℕ → List ℕ → ℕ → ℕ → List ℕ
-copied into x lo hi = with_places into lo hi (λ place. slice_index x place)
+abbrev pub copy_of : List ℕ → List ℕ → ℕ → ℕ → List ℕ
+copy_of into x lo hi = with_places into lo hi (λ place. slice_index x place)
 
 -- a shift to the left: place lo becomes 0, each place above it takes the digit below its own
 abbrev pub shifted_left : List ℕ → List ℕ → ℕ → ℕ → List ℕ

@@ -1,14 +1,14 @@
 //! Digits that are copied, exchanged and shifted within a span.
 
 ghost use Rattle.std.specs.Prelude.{◌≡◌, false};
-ghost use Rattle.h41_arith.specs.DigitRule.{copied, shifted_left, shifted_right};
+ghost use Rattle.h41_arith.specs.DigitRule.{copy_of, shifted_left, shifted_right};
 
 use h41_digits::{Reg, Span};
 
 /// `into` with the digits of `x` in the span, and no carry.
 #[inline(always)]
 pub fn copy(into: Reg, x: Reg, span: Span) -> (Reg, bool)
-    ensures digits { result.0 ≡ copied into x span.lo span.hi }
+    ensures digits { result.0 ≡ copy_of into x span.lo span.hi }
     ensures carry { result.1 ≡ false }
 {
     (into.with_span(span, x.in_span(span)), false)
@@ -37,8 +37,8 @@ pub fn shift_right(into: Reg, x: Reg, span: Span) -> (Reg, bool)
 /// The two registers with their digits in the span exchanged.
 #[inline(always)]
 pub fn exchange(x: Reg, y: Reg, span: Span) -> (Reg, Reg)
-    ensures first { result.0 ≡ copied x y span.lo span.hi }
-    ensures second { result.1 ≡ copied y x span.lo span.hi }
+    ensures first { result.0 ≡ copy_of x y span.lo span.hi }
+    ensures second { result.1 ≡ copy_of y x span.lo span.hi }
 {
     (copy(x, y, span).0, copy(y, x, span).0)
 }

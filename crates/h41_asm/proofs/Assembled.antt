@@ -22,7 +22,8 @@ use Rattle.h41_asm.specs.Faults.{own_fault_at, reach_fault, read_fault, referenc
 use Rattle.h41_asm.specs.Placing.{IsDisplacement, Labels, LinesSpell, StatementSpells, SpellsRead, entry_words}
 use Rattle.h41_asm.specs.LabelTable.{IsReady}
 use Rattle.h41_asm.specs.SourceLines.{SourceLine, labels_of, source_lines}
-use Rattle.h41_asm.specs.Statements.{Statement, Words, OutOfReach, LongJumpTo, ShortJumpTo, EntryAt, is_in_reach, long_jump_words, reading}
+use Rattle.h41_asm.specs.Statements.{Statement, Words, OutOfReach, LongJumpTo, ShortJumpTo, EntryAt, is_in_reach, long_jump_words}
+use Rattle.h41_asm.specs.Statements.{reading_of}
 use Rattle.h41_asm.proofs.Addresses.{labels_low, named, ready}
 use Rattle.h41_asm.proofs.Determined.{labels_agree, length-line, lines_spell_once}
 use Rattle.h41_asm.proofs.Faultless.{AreFaultless, IsNew, at_no_line, faultless, names_behind, names_distinct, no_own_faults}
@@ -34,7 +35,7 @@ spelled_within : (labels : Labels) (rest : List SourceLine) (address : ℕ) (wor
     → IsReady labels address rest → LinesSpell labels address rest words → address + length words ≤ address_count
 spelled_within labels [] address words low ready spelled = omega (arith, ap length spelled)
 spelled_within labels (line ∷ rest) address words low ready spelled =
-    let long : length spelled.0 ≡ line_length line = length-line labels address (reading line.code) spelled.0 spelled.3.words in
+    let long : length spelled.0 ≡ line_length line = length-line labels address (reading_of line.code) spelled.0 spelled.3.words in
     let behind =
     spelled_within labels rest (address + line_length line) spelled.1 ready.1 ready.3
     (subst (λ (n : ℕ). LinesSpell labels (address + n) rest spelled.1) long spelled.4) in
@@ -140,8 +141,8 @@ no_reference_faults : (labels : Labels) (rest : List SourceLine) (number address
     → LinesSpell labels address rest words → reference_faults labels number address rest ≡ None
 no_reference_faults labels [] number address words spelled = refl
 no_reference_faults labels (line ∷ rest) number address words spelled =
-    let long : length spelled.0 ≡ line_length line = length-line labels address (reading line.code) spelled.0 spelled.3.words in
-    rw (no_read_fault labels address (reading line.code) spelled.0 spelled.3.words)
+    let long : length spelled.0 ≡ line_length line = length-line labels address (reading_of line.code) spelled.0 spelled.3.words in
+    rw (no_read_fault labels address (reading_of line.code) spelled.0 spelled.3.words)
     (no_reference_faults labels rest (suc number) (address + line_length line) spelled.1
     (subst (λ (n : ℕ). LinesSpell labels (address + n) rest spelled.1) long spelled.4))
 
@@ -163,10 +164,10 @@ spelled_faultless : (labels : Labels) (rest earlier : List SourceLine) (address 
 spelled_faultless labels [] earlier address words new distinct within fits spelled = tt
 spelled_faultless labels (line ∷ rest) earlier address words new distinct within fits spelled =
     let names = names_behind earlier line rest new distinct in
-    let long : length spelled.0 ≡ line_length line = length-line labels address (reading line.code) spelled.0 spelled.3.words in
+    let long : length spelled.0 ≡ line_length line = length-line labels address (reading_of line.code) spelled.0 spelled.3.words in
     let all : length words ≡ length spelled.0 + length spelled.1 = ap length spelled.2 ∙ length-append spelled.0 spelled.1 in (
       record {
-        readable = was_read labels address (reading line.code) spelled.0 spelled.3.words;
+        readable = was_read labels address (reading_of line.code) spelled.0 spelled.3.words;
         new = names.0;
         low = is_low labels address line.label within spelled.3.label;
         ends = omega (arith, long, all);
@@ -234,10 +235,11 @@ spelled_lines : (labels : Labels) (rest : List SourceLine) (number address : ℕ
     → reference_faults labels number address rest ≡ None → (words : List ℕ) × LinesSpell labels address rest words
 spelled_lines labels [] number address ready none = ([], refl)
 spelled_lines labels (line ∷ rest) number address ready none =
-    let parts = or_none (at_line number (read_fault labels address (reading line.code))) _ none in
+    let parts = or_none (at_line number (read_fault labels address (reading_of line.code))) _ none in
     let own =
-    spelled_line labels address (reading line.code) ready.0 (at_no_line number (read_fault labels address (reading line.code)) parts.0) in
-    let long : line_length line ≡ length own.0 = sym (length-line labels address (reading line.code) own.0 own.1) in
+    spelled_line labels address (reading_of line.code) ready.0
+        (at_no_line number (read_fault labels address (reading_of line.code)) parts.0) in
+    let long : line_length line ≡ length own.0 = sym (length-line labels address (reading_of line.code) own.0 own.1) in
     let others = spelled_lines labels rest (suc number) (address + line_length line) ready.3 parts.1 in (
       own.0 ++ others.0,
       (

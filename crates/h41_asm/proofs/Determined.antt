@@ -15,7 +15,7 @@ use Rattle.h41_asm.specs.Assembly.{AssemblesBy}
 use Rattle.h41_asm.specs.Faults.{has_label, line_length, read_length}
 use Rattle.h41_asm.specs.Placing.{Labels, LinesSpell, StatementSpells, SpellsRead, entry_words}
 use Rattle.h41_asm.specs.SourceLines.{SourceLine, labels_of, source_lines}
-use Rattle.h41_asm.specs.Statements.{Statement, Words, OutOfReach, LongJumpTo, ShortJumpTo, EntryAt, long_jump_words, reading}
+use Rattle.h41_asm.specs.Statements.{Statement, Words, OutOfReach, LongJumpTo, ShortJumpTo, EntryAt, long_jump_words, reading_of}
 use Rattle.h41_asm.proofs.Addresses.{named}
 use Rattle.h41_asm.proofs.Found.{unfound}
 use Rattle.h41_asm.proofs.Spelling.{length-spelled}
@@ -57,7 +57,7 @@ pub lines_spell_once : (labels : Labels) (rest : List SourceLine) (address : ℕ
     → LinesSpell labels address rest other → one ≡ other
 lines_spell_once labels [] address one other first second = first ∙ sym second
 lines_spell_once labels (line ∷ rest) address one other first second =
-    let own : first.0 ≡ second.0 = line_spells_once labels address (reading line.code) first.0 second.0 first.3.words second.3.words in
+    let own : first.0 ≡ second.0 = line_spells_once labels address (reading_of line.code) first.0 second.0 first.3.words second.3.words in
     let behind : LinesSpell labels (address + length second.0) rest first.1 =
     subst (λ words. LinesSpell labels (address + length words) rest first.1) own first.4 in
     let others : first.1 ≡ second.1 = lines_spell_once labels rest (address + length second.0) first.1 second.1 behind second.4 in
@@ -79,7 +79,7 @@ labelled_at labels (line ∷ rest) address words name found spelled at = elim (c
       labelled_here labels address name line.label here spelled.3.label ∙ same
   | inr other ↦
       let behind : address_from (address + line_length line) rest name ≡ Some found = rw other at at in
-      let long : length spelled.0 ≡ line_length line = length-line labels address (reading line.code) spelled.0 spelled.3.words in
+      let long : length spelled.0 ≡ line_length line = length-line labels address (reading_of line.code) spelled.0 spelled.3.words in
       labelled_at labels rest (address + line_length line) spelled.1 name found
       (subst (λ (n : ℕ). LinesSpell labels (address + n) rest spelled.1) long spelled.4) behind
 ]

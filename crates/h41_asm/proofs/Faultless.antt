@@ -15,7 +15,7 @@ use Rattle.h41_asm.specs.declared.fault.SourceFault.TheVariants.{LabelTwice, Too
 use Rattle.h41_asm.specs.Assembly.{address_count}
 use Rattle.h41_asm.specs.Faults.{at_line, has_label, is_labelled_twice, is_past, line_length, own_fault}
 use Rattle.h41_asm.specs.SourceLines.{SourceLine, labels_of}
-use Rattle.h41_asm.specs.Statements.{Statement, reading}
+use Rattle.h41_asm.specs.Statements.{Statement, reading_of}
 use Rattle.h41_asm.proofs.Found.{both_false, or_none, not_then_some}
 use Rattle.h41_asm.proofs.Walks.{own_faults}
 
@@ -25,7 +25,7 @@ IsNew earlier name = list_any (λ line. has_label name line.label) earlier ≡ f
 
 -- a line that can be read, whose label is new and within the addresses, and that ends within them
 pub record IsFaultless (earlier : List SourceLine) (address : ℕ) (line : SourceLine) : Type 0 where
-  pub readable : IsOk (reading line.code)
+  pub readable : IsOk (reading_of line.code)
   pub new : IfSome line.label (IsNew earlier)
   pub low : IfSome line.label (λ name. address < address_count)
   pub ends : address + line_length line ≤ address_count
@@ -52,13 +52,13 @@ low_from address (Some name) none = leb-false address_count address none
 faultless_line : (earlier : List SourceLine) (address : ℕ) (line : SourceLine)
     → own_fault (is_labelled_twice earlier line.label) address line ≡ None → IsFaultless earlier address line
 faultless_line earlier address line none =
-    let read = or_none (result_err (reading line.code)) _ none in
+    let read = or_none (result_err (reading_of line.code)) _ none in
     let twice = or_none (then_some (is_labelled_twice earlier line.label) LabelTwice) _ read.1 in
     let long =
     both_false (is_some line.label && nat_le address_count address) _
     (not_then_some (is_past address line.label (line_length line)) TooLong twice.1) in
     record {
-      readable = readable_from (reading line.code) read.0;
+      readable = readable_from (reading_of line.code) read.0;
       new = new_from earlier line.label (not_then_some _ LabelTwice twice.0);
       low = low_from address line.label long.0;
       ends = ltb-false address_count (address + line_length line) long.1;
@@ -81,7 +81,8 @@ none_line : (earlier : List SourceLine) (address : ℕ) (line : SourceLine) → 
     → own_fault (is_labelled_twice earlier line.label) address line ≡ None
 none_line earlier address line fits =
     let long : nat_lt address_count (address + line_length line) ≡ false = grind (arith, nat_tests, fits.ends) in
-    rw (none_readable (reading line.code) fits.readable, none_new earlier line.label fits.new, none_low address line.label fits.low, long)
+    rw (none_readable (reading_of line.code) fits.readable, none_new earlier line.label fits.new, none_low address line.label fits.low,
+        long)
     refl
 
 -- and those of all

@@ -18,7 +18,7 @@ use Rattle.h41_asm.specs.LabelTable.{IsReady, SpellsNext}
 use Rattle.h41_asm.specs.Placing.{Labels, LinesSpell, SpellsRead}
 use Rattle.h41_asm.specs.Refusals.{IsFault, IsRefusal, refusal_of}
 use Rattle.h41_asm.specs.SourceLines.{SourceLine, source_lines}
-use Rattle.h41_asm.specs.Statements.{Statement, Words, OutOfReach, LongJumpTo, ShortJumpTo, EntryAt, reading, statement_length}
+use Rattle.h41_asm.specs.Statements.{Statement, Words, OutOfReach, LongJumpTo, ShortJumpTo, EntryAt, reading_of, statement_length}
 use Rattle.h41_asm.proofs.Determined.{length-line}
 use Rattle.h41_asm.proofs.Walks.{reference_faults}
 
@@ -81,7 +81,7 @@ pub faults_said : (labels : Labels) (number address : ℕ) (lines : List SourceL
     → reference_faults labels number address lines ≡ said_faults labels address (said_from number lines)
 faults_said labels number address [] = refl
 faults_said labels number address (line ∷ rest) =
-    let said = reading line.code in
+    let said = reading_of line.code in
     ap (option_or (at_line number (read_fault labels address said))) (faults_said labels (suc number) (address + read_length said) rest)
     ∙ sym (faults_with labels number address said (said_from (suc number) rest))
 
@@ -102,7 +102,7 @@ pub ready_said : (labels : Labels) (number address : ℕ) (lines : List SourceLi
     → AreReady address (said_from number lines)
 ready_said labels number address [] ready = tt
 ready_said labels number address (line ∷ rest) ready =
-    let said = reading line.code in
+    let said = reading_of line.code in
     ready_with number address said (said_from (suc number) rest) ready.0 ready.1
     (ready_said labels (suc number) (address + read_length said) rest ready.3)
 
@@ -123,7 +123,7 @@ pub spelled_said : (labels : Labels) (number address : ℕ) (lines : List Source
     → SaidSpell labels address (said_from number lines) words → LinesSpell labels address lines words
 spelled_said labels number address [] words ready spelled = spelled
 spelled_said labels number address (line ∷ rest) words ready spelled =
-    let said = reading line.code in
+    let said = reading_of line.code in
     let apart = spelled_with labels number address said (said_from (suc number) rest) words ready.0 spelled in
     let long = length-line labels address said apart.0 apart.3 in
     let others = spelled_said labels (suc number) (address + read_length said) rest apart.1 ready.3 apart.4 in (
@@ -178,17 +178,17 @@ kept_of-said text number start statement read =
 -- what is kept with one more line
 pub kept_next : (text : List ℕ) (number start : ℕ) (statement : code.Statement)
     (line : SourceLine) (rest : List SourceLine) (before after : List KeptLine)
-    → Ok (in_code statement) ≡ reading line.code → source_lines (drop start text) ≡ line ∷ rest
+    → Ok (in_code statement) ≡ reading_of line.code → source_lines (drop start text) ≡ line ∷ rest
     → after ≡ before ++ kept_of number start statement
     → map (kept_said text) after ++ said_from (number + 1) rest ≡ map (kept_said text) before ++ said_from number (line ∷ rest)
 kept_next text number start statement line rest before after read left added =
     let again : Ok (in_code statement) ≡ first_reading (source_lines (drop start text)) = read ∙ ap first_reading (sym left) in
     let own = kept_of-said text number start statement again ∙ ap (with_words number) read in
-    let more : map (kept_said text) after ≡ map (kept_said text) before ++ with_words number (reading line.code) =
+    let more : map (kept_said text) after ≡ map (kept_said text) before ++ with_words number (reading_of line.code) =
     ap (map (kept_said text)) added ∙ map-append (kept_said text) before (kept_of number start statement)
     ∙ ap (λ others. map (kept_said text) before ++ others) own in
     ap (λ others. others ++ said_from (number + 1) rest) more
-    ∙ append_assoc (map (kept_said text) before) (with_words number (reading line.code)) (said_from (number + 1) rest)
+    ∙ append_assoc (map (kept_said text) before) (with_words number (reading_of line.code)) (said_from (number + 1) rest)
     ∙ rw add-one refl
 
 -- a fault of the first line is the first of all

@@ -17,9 +17,10 @@ use Rattle.h41_asm.specs.declared.fault.SourceFault.TheVariants.{BadLine, BadOpe
 use Rattle.h41_asm.specs.declared.table.Opening.TheVariants.{Data, Fetch, GoTo, If, Logic, Peripheral, Pop, Push, Ram, Select, Single}
 use Rattle.h41_asm.specs.declared.table.Numbered.TheVariants as numbers
 use Rattle.h41_asm.specs.CodeStatements.{takes_numbered}
-use Rattle.h41_asm.specs.Statements.{Statement, Taking, Words, behind, is_begun, one_word, reading, single_among, singles, statement_by}
+use Rattle.h41_asm.specs.Statements.{Statement, Taking, Words, words_behind, is_begun, one_word, reading_of, single_among, singles}
+use Rattle.h41_asm.specs.Statements.{statement_by}
 use Rattle.h41_asm.specs.Statements.{taken_among, takers, takes_address}
-use Rattle.h41_asm.specs.Openings.{OpensAs, alone, at_carry, pair}
+use Rattle.h41_asm.specs.Openings.{OpensAs, without_operand, at_carry, pair}
 
 -- what words say by the single mnemonic that they are, by the one that they begin with, and by whether they begin with a single
 abbrev answer : Option Row → Option (Result Statement SourceFault) → Bool → Result Statement SourceFault
@@ -30,7 +31,7 @@ answer None None begun = Err (if begun then BadOperand else BadLine)
 answered : (first : List ℕ) (others : List (List ℕ)) (found : Option Row) (statement_by : Option (Result Statement SourceFault))
     (begun : Bool)
     → single_among singles (first ∷ others) ≡ found → taken_among takers (first ∷ others) ≡ statement_by
-    → is_begun singles (first ∷ others) ≡ begun → reading (first ∷ others) ≡ answer found statement_by begun
+    → is_begun singles (first ∷ others) ≡ begun → reading_of (first ∷ others) ≡ answer found statement_by begun
 answered first others (Some row) statement_by begun found_is taken_is begun_is = rw found_is refl
 answered first others None (Some read) begun found_is taken_is begun_is = rw (found_is, taken_is) refl
 answered first others None None begun found_is taken_is begun_is = rw (found_is, taken_is, begun_is) refl
@@ -46,7 +47,7 @@ row_of found = option_map (λ single. single.1) found
 abbrev alone_if : ℕ → Bool → Result Statement SourceFault
 alone_if number none = if none then Ok (Words (number ∷ [])) else Err BadOperand
 
-alone_is : (number : ℕ) (others : List (List ℕ)) → alone_if number (length others == 0) ≡ alone number others
+alone_is : (number : ℕ) (others : List (List ℕ)) → alone_if number (length others == 0) ≡ without_operand number others
 alone_is number [] = refl
 alone_is number (word ∷ others) = rw (eqb-suc-zero (length others)) refl
 
@@ -80,7 +81,7 @@ is_pair first second_name name row = (second : List ℕ) (others : List (List �
     × (is_begun singles (first ∷ second ∷ others) ≡ ((bytes_eq second second_name && true) || false))
 
 pair_reads : (first second_name name : List ℕ) (row : Row) → is_pair first second_name name row → (second : List ℕ) (others : List (List ℕ))
-    → reading (first ∷ second ∷ others) ≡ pair second_name (number_of row) second others
+    → reading_of (first ∷ second ∷ others) ≡ pair second_name (number_of row) second others
 pair_reads first second_name name row facts second others =
     let given = facts second others in
     answered first (second ∷ others) _ _ _ given.0 given.1 given.2 ∙ pair_answer (bytes_eq second second_name) (length others == 0) name row
@@ -135,11 +136,11 @@ both_alone same next said next_said = if same then said else (if next then next_
 
 both_alone_is : (same next : Bool) (number next_number : ℕ) (others : List (List ℕ))
     → both_alone same next (alone_if number (length others == 0)) (alone_if next_number (length others == 0))
-    ≡ both_alone same next (alone number others) (alone next_number others)
+    ≡ both_alone same next (without_operand number others) (without_operand next_number others)
 both_alone_is same next number next_number others =
     ap (λ (said : Result Statement SourceFault). both_alone same next said (alone_if next_number (length others == 0)))
     (alone_is number others)
-    ∙ ap (λ (said : Result Statement SourceFault). both_alone same next (alone number others) said) (alone_is next_number others)
+    ∙ ap (λ (said : Result Statement SourceFault). both_alone same next (without_operand number others) said) (alone_is next_number others)
 
 pub select_sound : OpensAs (codes "SLCT") (Some Select)
 unfolding singles takers
@@ -196,12 +197,12 @@ logic_answer false false false none name next_name row next_row = refl
 
 logic_alone : (same next a : Bool) (number next_number : ℕ) (others : List (List ℕ))
     → both_alone same next (with_a a (alone_if number (length others == 0))) (with_a a (alone_if next_number (length others == 0)))
-    ≡ both_alone same next (with_a a (alone number others)) (with_a a (alone next_number others))
+    ≡ both_alone same next (with_a a (without_operand number others)) (with_a a (without_operand next_number others))
 logic_alone same next a number next_number others =
     ap
     (λ (said : Result Statement SourceFault). both_alone same next (with_a a said) (with_a a (alone_if next_number (length others == 0))))
     (alone_is number others)
-    ∙ ap (λ (said : Result Statement SourceFault). both_alone same next (with_a a (alone number others)) (with_a a said))
+    ∙ ap (λ (said : Result Statement SourceFault). both_alone same next (with_a a (without_operand number others)) (with_a a said))
     (alone_is next_number others)
 
 pub logic_sound : OpensAs (codes "C=C") (Some Logic)
@@ -259,7 +260,7 @@ jump_answer true go says name next_name takes next = refl
 jump_answer false true says name next_name takes next = refl
 jump_answer false false says name next_name takes next = refl
 
-carry_returns : (others : List (List ℕ)) → reading (codes "?C" ∷ codes "RTN" ∷ others) ≡ at_carry Carry (codes "RTN") others
+carry_returns : (others : List (List ℕ)) → reading_of (codes "?C" ∷ codes "RTN" ∷ others) ≡ at_carry Carry (codes "RTN") others
 unfolding singles takers
 carry_returns others =
     answered (codes "?C") (codes "RTN" ∷ others)
@@ -267,20 +268,20 @@ carry_returns others =
     ∙ single_answer (length others == 0) (codes "?C RTN") (ReturnIf Carry) ∙ alone_is (number_of (ReturnIf Carry)) others
 
 carry_jumps : (second : List ℕ) (others : List (List ℕ)) → bytes_eq second (codes "RTN") ≡ false
-    → reading (codes "?C" ∷ second ∷ others) ≡ at_carry Carry second others
+    → reading_of (codes "?C" ∷ second ∷ others) ≡ at_carry Carry second others
 unfolding singles takers
 carry_jumps second others other =
     let x : Bool = bytes_eq second (codes "XQ") in
     let g : Bool = bytes_eq second (codes "GO") in
     let says : List ℕ × Taking → Result Statement SourceFault =
-    λ taker. statement_by taker.1 (behind taker.0 (codes "?C" ∷ second ∷ others)) in
+    λ taker. statement_by taker.1 (words_behind taker.0 (codes "?C" ∷ second ∷ others)) in
     answered (codes "?C") (second ∷ others) None (option_map says (if_found (x && true) (codes "?C XQ")
     (takes_address Carry Execute) (if_found (g && true) (codes "?C GO") (takes_address Carry Go) None)))
     false
     (ap (λ (b : Bool). row_of (if_found ((b && true) && (length others == 0)) (codes "?C RTN") (ReturnIf Carry) None)) other) refl
     (ap (λ (b : Bool). (b && true) || false) other)
     ∙ jump_answer x g says (codes "?C XQ") (codes "?C GO") (takes_address Carry Execute) (takes_address Carry Go)
-    ∙ ap (λ (b : Bool). if b then alone (number_of (ReturnIf Carry)) others
+    ∙ ap (λ (b : Bool). if b then without_operand (number_of (ReturnIf Carry)) others
     else both_alone x g (statement_by (takes_address Carry Execute) others) (statement_by (takes_address Carry Go) others))
     (sym other)
 
@@ -290,11 +291,11 @@ carry_sound [] = refl
 carry_sound (second ∷ others) = elim (cases_Bool (bytes_eq second (codes "RTN"))) [
   | inl same ↦
       let word : second ≡ codes "RTN" = (bytes_eq-Decides second (codes "RTN")).0 same in
-      subst (λ (w : List ℕ). reading (codes "?C" ∷ w ∷ others) ≡ at_carry Carry w others) (sym word) (carry_returns others)
+      subst (λ (w : List ℕ). reading_of (codes "?C" ∷ w ∷ others) ≡ at_carry Carry w others) (sym word) (carry_returns others)
   | inr other ↦ carry_jumps second others other
 ]
 
-no_carry_returns : (others : List (List ℕ)) → reading (codes "?NC" ∷ codes "RTN" ∷ others) ≡ at_carry NoCarry (codes "RTN") others
+no_carry_returns : (others : List (List ℕ)) → reading_of (codes "?NC" ∷ codes "RTN" ∷ others) ≡ at_carry NoCarry (codes "RTN") others
 unfolding singles takers
 no_carry_returns others =
     answered (codes "?NC") (codes "RTN" ∷ others)
@@ -302,20 +303,20 @@ no_carry_returns others =
     ∙ single_answer (length others == 0) (codes "?NC RTN") (ReturnIf NoCarry) ∙ alone_is (number_of (ReturnIf NoCarry)) others
 
 no_carry_jumps : (second : List ℕ) (others : List (List ℕ)) → bytes_eq second (codes "RTN") ≡ false
-    → reading (codes "?NC" ∷ second ∷ others) ≡ at_carry NoCarry second others
+    → reading_of (codes "?NC" ∷ second ∷ others) ≡ at_carry NoCarry second others
 unfolding singles takers
 no_carry_jumps second others other =
     let x : Bool = bytes_eq second (codes "XQ") in
     let g : Bool = bytes_eq second (codes "GO") in
     let says : List ℕ × Taking → Result Statement SourceFault =
-    λ taker. statement_by taker.1 (behind taker.0 (codes "?NC" ∷ second ∷ others)) in
+    λ taker. statement_by taker.1 (words_behind taker.0 (codes "?NC" ∷ second ∷ others)) in
     answered (codes "?NC") (second ∷ others) None (option_map says (if_found (x && true) (codes "?NC XQ")
     (takes_address NoCarry Execute) (if_found (g && true) (codes "?NC GO") (takes_address NoCarry Go) None)))
     false
     (ap (λ (b : Bool). row_of (if_found ((b && true) && (length others == 0)) (codes "?NC RTN") (ReturnIf NoCarry) None)) other) refl
     (ap (λ (b : Bool). (b && true) || false) other)
     ∙ jump_answer x g says (codes "?NC XQ") (codes "?NC GO") (takes_address NoCarry Execute) (takes_address NoCarry Go)
-    ∙ ap (λ (b : Bool). if b then alone (number_of (ReturnIf NoCarry)) others
+    ∙ ap (λ (b : Bool). if b then without_operand (number_of (ReturnIf NoCarry)) others
     else both_alone x g (statement_by (takes_address NoCarry Execute) others) (statement_by (takes_address NoCarry Go) others))
     (sym other)
 
@@ -325,6 +326,6 @@ no_carry_sound [] = refl
 no_carry_sound (second ∷ others) = elim (cases_Bool (bytes_eq second (codes "RTN"))) [
   | inl same ↦
       let word : second ≡ codes "RTN" = (bytes_eq-Decides second (codes "RTN")).0 same in
-      subst (λ (w : List ℕ). reading (codes "?NC" ∷ w ∷ others) ≡ at_carry NoCarry w others) (sym word) (no_carry_returns others)
+      subst (λ (w : List ℕ). reading_of (codes "?NC" ∷ w ∷ others) ≡ at_carry NoCarry w others) (sym word) (no_carry_returns others)
   | inr other ↦ no_carry_jumps second others other
 ]

@@ -17,7 +17,7 @@ use Rattle.h41_asm.specs.Faults.{own_fault, own_fault_at}
 use Rattle.h41_asm.specs.Placing.{Labels}
 use Rattle.h41_asm.specs.LabelTable.{is_held, with_label}
 use Rattle.h41_asm.specs.SourceLines.{SourceLine}
-use Rattle.h41_asm.specs.Statements.{reading}
+use Rattle.h41_asm.specs.Statements.{reading_of}
 use Rattle.h41_asm.proofs.Found.{both_false, not_then_some, or_none, or_nothing, unfound}
 use Rattle.h41_asm.proofs.Walks.{address_from, addresses_of, own_faults, own_faults_of}
 
@@ -79,7 +79,7 @@ addresses_next labels address behind (Some own) none name =
 pub placed_within : (twice : Bool) (address : ℕ) (line : SourceLine) → own_fault twice address line ≡ None
     → address + line_length line ≤ address_count
 placed_within twice address line none =
-    let parts = or_none (result_err (reading line.code)) _ none in
+    let parts = or_none (result_err (reading_of line.code)) _ none in
     let long = or_none (then_some twice LabelTwice) _ parts.1 in
     let both =
     both_false (is_some line.label && nat_le address_count address) _
@@ -94,7 +94,7 @@ pub placed_next : (labels after : Labels) (all : List SourceLine) (origin number
 placed_next labels after all origin number address line rest placed none added =
     let twice = held_twice labels placed.earlier placed.known line.label in
     let own : own_fault (is_labelled_twice placed.earlier line.label) address line ≡ None = rw twice at none in
-    let parts = or_none (result_err (reading line.code)) _ none in
+    let parts = or_none (result_err (reading_of line.code)) _ none in
     let new = or_none (then_some (is_held labels line.label) LabelTwice) _ parts.1 in
     record {
       earlier = placed.earlier ++ line ∷ [];

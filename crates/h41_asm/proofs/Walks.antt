@@ -10,10 +10,10 @@ use Rattle.std.proofs.lemmas.List.Sums.{sum_by_push}
 use Rattle.h41_asm.specs.declared.fault.SourceFault.{SourceFault}
 use Rattle.h41_asm.specs.Faults.{FaultOnLine, NumberedSourceLine, at_line, first_fault, has_label, is_labelled_twice, label_address}
 use Rattle.h41_asm.specs.Faults.{line_length}
-use Rattle.h41_asm.specs.Faults.{numbered, numbered_lines, own_fault, own_fault_at, read_fault, reference_fault_at}
+use Rattle.h41_asm.specs.Faults.{line_at_place, numbered_lines, own_fault, own_fault_at, read_fault, reference_fault_at}
 use Rattle.h41_asm.specs.Placing.{Labels}
 use Rattle.h41_asm.specs.SourceLines.{SourceLine}
-use Rattle.h41_asm.specs.Statements.{reading}
+use Rattle.h41_asm.specs.Statements.{reading_of}
 
 -- the first fault that lines have whatever the labels are, where the first has this number and address and these are before it
 abbrev pub own_faults : ℕ → ℕ → List SourceLine → List SourceLine → FaultOnLine
@@ -26,7 +26,7 @@ own_faults number address earlier (line ∷ rest) =
 abbrev pub reference_faults : Labels → ℕ → ℕ → List SourceLine → FaultOnLine
 reference_faults labels number address [] = None
 reference_faults labels number address (line ∷ rest) =
-    option_or (at_line number (read_fault labels address (reading line.code)))
+    option_or (at_line number (read_fault labels address (reading_of line.code)))
     (reference_faults labels (suc number) (address + line_length line) rest)
 
 -- the address of the first line with a label
@@ -38,7 +38,7 @@ address_from address (line ∷ rest) name =
 -- the lines behind some, each with its number and address
 abbrev numbered_behind : ℕ → List SourceLine → List SourceLine → List NumberedSourceLine
 numbered_behind origin earlier rest =
-    map (λ entry. numbered origin (earlier ++ rest) entry.0 entry.1) (enumerate_from (length earlier) rest)
+    map (λ entry. line_at_place origin (earlier ++ rest) entry.0 entry.1) (enumerate_from (length earlier) rest)
 
 abbrev next : ℕ → List SourceLine → SourceLine → NumberedSourceLine
 next origin earlier line =
@@ -96,12 +96,12 @@ references_behind labels origin (line ∷ rest) earlier number address stands =
     (address + line_length line) (stands_next origin earlier line number address stands) in
     let at = next origin earlier line in
     let fault = reference_fault_at labels in
-    let own : at_line at.number (fault at) ≡ at_line number (read_fault labels address (reading line.code)) =
+    let own : at_line at.number (fault at) ≡ at_line number (read_fault labels address (reading_of line.code)) =
     rw (stands.0, stands.1) refl in
     ap (first_fault fault) (next_behind origin earlier line rest)
     ∙ first_or (at_line at.number (fault at)) (told fault (numbered_behind origin (earlier ++ line ∷ []) rest))
     ∙ ap (λ first. option_or first (first_fault fault (numbered_behind origin (earlier ++ line ∷ []) rest))) own
-    ∙ ap (option_or (at_line number (read_fault labels address (reading line.code)))) others
+    ∙ ap (option_or (at_line number (read_fault labels address (reading_of line.code)))) others
 
 addresses_behind : (origin : ℕ) (rest earlier : List SourceLine) (number address : ℕ) (name : List ℕ)
     → StandsAt origin earlier number address → label_address (numbered_behind origin earlier rest) name ≡ address_from address rest name

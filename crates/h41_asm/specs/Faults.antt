@@ -15,7 +15,7 @@ use Rattle.h41_asm.specs.Assembly.{address_count}
 use Rattle.h41_asm.specs.Placing.{Labels}
 use Rattle.h41_asm.specs.SourceLines.{SourceLine, source_lines}
 use Rattle.h41_asm.specs.Statements.{Statement, Words, OutOfReach, LongJumpTo, ShortJumpTo, EntryAt}
-use Rattle.h41_asm.specs.Statements.{is_in_reach, reading, statement_length}
+use Rattle.h41_asm.specs.Statements.{is_in_reach, reading_of, statement_length}
 
 -- how many words a line takes; one that cannot be read takes none
 abbrev pub read_length : Result Statement SourceFault → ℕ
@@ -23,7 +23,7 @@ read_length (Ok statement) = statement_length statement
 read_length (Err fault) = 0
 
 abbrev pub line_length : SourceLine → ℕ
-line_length line = read_length (reading line.code)
+line_length line = read_length (reading_of line.code)
 
 -- a line of a source, with its number, counted from 1, its address, and the lines before it
 pub record NumberedSourceLine : Type 0 where
@@ -34,8 +34,8 @@ pub record NumberedSourceLine : Type 0 where
 
 -- the line at a place, counted from 0, among all: its address is the origin plus the lengths of the
 -- lines before it
-abbrev pub numbered : ℕ → List SourceLine → ℕ → SourceLine → NumberedSourceLine
-numbered origin all place line =
+abbrev pub line_at_place : ℕ → List SourceLine → ℕ → SourceLine → NumberedSourceLine
+line_at_place origin all place line =
     let earlier = take place all in
     record {
       number = place + 1;
@@ -47,7 +47,7 @@ numbered origin all place line =
 -- the lines of a source
 abbrev pub numbered_lines : ℕ → List SourceLine → List NumberedSourceLine
 numbered_lines origin all =
-    map (λ entry. numbered origin all entry.0 entry.1) (enumerate_from 0 all)
+    map (λ entry. line_at_place origin all entry.0 entry.1) (enumerate_from 0 all)
 
 -- a fault of the line with this number
 abbrev pub FaultOnLine : Type 0
@@ -78,7 +78,7 @@ is_past address label length =
 -- 30 or 31, 32, 35
 abbrev pub own_fault : Bool → ℕ → SourceLine → Option SourceFault
 own_fault twice address line =
-    option_or (result_err (reading line.code)) (option_or (then_some twice LabelTwice)
+    option_or (result_err (reading_of line.code)) (option_or (then_some twice LabelTwice)
     (then_some (is_past address line.label (line_length line)) TooLong))
 
 abbrev pub own_fault_at : NumberedSourceLine → Option SourceFault
@@ -110,7 +110,7 @@ read_fault labels address (Ok statement) = reference_fault labels address statem
 read_fault labels address (Err fault) = None
 
 abbrev pub reference_fault_at : Labels → NumberedSourceLine → Option SourceFault
-reference_fault_at labels at = read_fault labels at.address (reading at.line.code)
+reference_fault_at labels at = read_fault labels at.address (reading_of at.line.code)
 
 -- the first fault that lines have, and its line's number
 abbrev pub first_fault : (NumberedSourceLine → Option SourceFault)

@@ -13,7 +13,7 @@ use Rattle.h41_asm.specs.declared.statement.Statement.TheVariants as codes_of
 use Rattle.h41_asm.specs.CodeStatements.{in_code, in_line}
 use Rattle.h41_asm.specs.Faults.{read_length}
 use Rattle.h41_asm.specs.SourceLines.{SourceLine, source_lines}
-use Rattle.h41_asm.specs.Statements.{Statement, Words, reading, statement_length}
+use Rattle.h41_asm.specs.Statements.{Statement, Words, reading_of, statement_length}
 
 -- what a line says, with its number
 abbrev pub Said : Type 0
@@ -22,7 +22,7 @@ Said = ℕ × Result Statement SourceFault
 -- what the first of some lines says
 abbrev pub first_reading : List SourceLine → Result Statement SourceFault
 first_reading [] = Err BadLine
-first_reading (line ∷ rest) = reading line.code
+first_reading (line ∷ rest) = reading_of line.code
 
 -- what the line says that begins at a place in a text
 abbrev pub reading_at : List ℕ → ℕ → Result Statement SourceFault
@@ -44,7 +44,7 @@ with_words number said = if read_length said == 0 then [] else (number, said) �
 abbrev pub said_from : ℕ → List SourceLine → List Said
 said_from number [] = []
 said_from number (line ∷ rest) =
-    with_words number (reading line.code) ++ said_from (suc number) rest
+    with_words number (reading_of line.code) ++ said_from (suc number) rest
 
 -- this is kept of the lines of a source
 abbrev pub KeepsLines : List ℕ → List KeptLine → Type 0
@@ -68,4 +68,4 @@ kept_of number start statement =
 
 -- a line of the code says what a statement of the code does
 abbrev pub Says : code.Statement → code_lines.SourceLine → Type 0
-Says statement line = Ok (in_code statement) ≡ reading (in_line line).code
+Says statement line = Ok (in_code statement) ≡ reading_of (in_line line).code

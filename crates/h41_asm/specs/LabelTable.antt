@@ -20,7 +20,7 @@ use Rattle.h41_asm.specs.Faults.{numbered_lines}
 use Rattle.h41_asm.specs.Faults.{own_fault, own_fault_at, reference_fault, reference_fault_at}
 use Rattle.h41_asm.specs.Placing.{Labels, LinesSpell, StatementSpells}
 use Rattle.h41_asm.specs.SourceLines.{SourceLine, source_lines}
-use Rattle.h41_asm.specs.Statements.{Statement, is_in_reach, reading}
+use Rattle.h41_asm.specs.Statements.{Statement, is_in_reach, reading_of}
 
 -- the code's table of labels, and the addresses that it holds
 abbrev pub Table : Type 0 → Type 0
@@ -63,7 +63,7 @@ jump_word condition displacement =
 abbrev pub IsReady : Labels → ℕ → List SourceLine → Type 0
 IsReady labels address [] = Unit {0}
 IsReady labels address (line ∷ rest) =
-    IsOk (reading line.code)
+    IsOk (reading_of line.code)
     × (address + line_length line ≤ address_count)
     × IfSome line.label (λ name. labels name ≡ Some address)
     × IsReady labels (address + line_length line) rest

@@ -19,13 +19,13 @@ use Rattle.h41_asm.specs.declared.statement.Statement as code
 use Rattle.h41_asm.specs.declared.words.SourceWords as rests
 use Rattle.h41_asm.specs.CodeStatements.{read_in_code, takes_in_code, takes_numbered}
 use Rattle.h41_asm.specs.SourceLines.{words_of}
-use Rattle.h41_asm.specs.Statements.{Statement, Words, Taking, is_whole, reading, statement_by}
+use Rattle.h41_asm.specs.Statements.{Statement, Words, Taking, is_whole, reading_of, statement_by}
 use Rattle.h41_asm.specs.Statements.{takes_address}
 
 -- the words behind an instruction that takes none, by its word
-abbrev pub alone : ℕ → List (List ℕ) → Result Statement SourceFault
-alone number [] = Ok (Words (number ∷ []))
-alone number (word ∷ others) = Err BadOperand
+abbrev pub without_operand : ℕ → List (List ℕ) → Result Statement SourceFault
+without_operand number [] = Ok (Words (number ∷ []))
+without_operand number (word ∷ others) = Err BadOperand
 
 -- behind READ and WRIT: DATA, or an operand
 abbrev pub data_or : ℕ → Taking → List (List ℕ) → Result Statement SourceFault
@@ -49,12 +49,15 @@ abbrev pub ReadsSecond : (List ℕ → List (List ℕ) → Result Statement Sour
 ReadsSecond says others read = Reads (by_second says) others read
 
 abbrev pub pair : List ℕ → ℕ → List ℕ → List (List ℕ) → Result Statement SourceFault
-pair name number second others = if bytes_eq second name then alone number others else Err BadLine
+pair name number second others = if bytes_eq second name then without_operand number others else Err
+    BadLine
 
 -- the first of two that the second word is
-abbrev pub either : List ℕ → ℕ → List ℕ → ℕ → List ℕ → List (List ℕ) → Result Statement SourceFault
-either name number other_name other second others =
-    if bytes_eq second name then alone number others else pair other_name other second others
+abbrev pub one_of_two : List ℕ → ℕ → List ℕ → ℕ → List ℕ → List (List ℕ)
+    → Result Statement SourceFault
+one_of_two name number other_name other second others =
+    if bytes_eq second name then without_operand number others else pair other_name other second
+        others
 
 abbrev pub then_a : ℕ → List (List ℕ) → Result Statement SourceFault
 then_a number words = by_second (pair (codes "A") number) words
@@ -66,14 +69,15 @@ logic second others =
 
 abbrev pub at_carry : Condition → List ℕ → List (List ℕ) → Result Statement SourceFault
 at_carry condition second others =
-    if bytes_eq second (codes "RTN") then alone (number_of (rows.ReturnIf condition)) others
+    if bytes_eq second (codes "RTN") then without_operand (number_of (rows.ReturnIf condition))
+        others
     else (if bytes_eq second (codes "XQ") then statement_by (takes_address condition Execute) others
     else (if bytes_eq second (codes "GO") then statement_by (takes_address condition Go) others
     else Err BadLine))
 
 -- what words say behind the first
 abbrev pub statement_of : table.Opening → List (List ℕ) → Result Statement SourceFault
-statement_of (openings.Single number) others = alone number others
+statement_of (openings.Single number) others = without_operand number others
 statement_of (openings.Taker takes) others = statement_by (takes_in_code takes) others
 statement_of (openings.Data number numbered) others =
     data_or number (takes_numbered numbered) others
@@ -87,12 +91,12 @@ statement_of openings.Peripheral others =
 statement_of openings.Fetch others =
     by_second (pair (codes "S&X") (number_of rows.FetchWord)) others
 statement_of openings.Select others =
-    by_second (either (codes "P") (number_of (rows.SelectPointer P))
+    by_second (one_of_two (codes "P") (number_of (rows.SelectPointer P))
     (codes "Q") (number_of (rows.SelectPointer Q)))
     others
 statement_of openings.GoTo others =
     by_second
-    (either (codes "ADR") (number_of rows.GoToAddress) (codes "KEY") (number_of rows.GoToKey))
+    (one_of_two (codes "ADR") (number_of rows.GoToAddress) (codes "KEY") (number_of rows.GoToKey))
     others
 statement_of openings.Logic others = by_second logic others
 statement_of (openings.If condition) others = by_second (at_carry condition) others
@@ -109,7 +113,8 @@ TellsWords other = Unit {0}
 
 -- what a first word begins
 abbrev pub OpensAs : List ℕ → Option table.Opening → Type 0
-OpensAs word found = (others : List (List ℕ)) → reading (word ∷ others) ≡ opened_or_bad found others
+OpensAs word found = (others : List (List ℕ)) → reading_of (word ∷ others)
+    ≡ opened_or_bad found others
 
 -- the hash of a word
 abbrev pub place_count : ℕ

@@ -28,19 +28,19 @@ abbrev pub word_in : List ℕ → Option ℕ
 word_in word = rom_word (hexadecimal_in 3 word)
 
 -- a displacement: '+' or '-' and two digits, where a zero is '+00' alone
-abbrev pub forward : Option ℕ → Option ℤ
-forward None = None
-forward (Some size) = Some (pos size)
+abbrev pub forward_by : Option ℕ → Option ℤ
+forward_by None = None
+forward_by (Some size) = Some (pos size)
 
-abbrev pub backward : Option ℕ → Option ℤ
-backward None = None
-backward (Some size) = if size == 0 then None else Some (negsuc (size - 1))
+abbrev pub backward_by : Option ℕ → Option ℤ
+backward_by None = None
+backward_by (Some size) = if size == 0 then None else Some (negsuc (size - 1))
 
 abbrev pub displacement_in : List ℕ → Option ℤ
 displacement_in [] = None
 displacement_in (sign ∷ digits) =
-    if sign == 43 then forward (hexadecimal_in 2 digits)
-    else (if sign == 45 then backward (hexadecimal_in 2 digits) else None)
+    if sign == 43 then forward_by (hexadecimal_in 2 digits)
+    else (if sign == 45 then backward_by (hexadecimal_in 2 digits) else None)
 
 -- a decimal number: one of so many from the least on
 abbrev pub number_in : ℕ → ℕ → List ℕ → Option ℕ

@@ -8,7 +8,7 @@ use Rattle.h41_words.specs.WordTable.{number_of}
 use Rattle.h41_asm.specs.declared.fault.SourceFault.{SourceFault}
 use Rattle.h41_asm.specs.SourceLines.{SourceLine}
 use Rattle.h41_asm.specs.Statements.{Statement, Words, OutOfReach, LongJumpTo, ShortJumpTo, EntryAt}
-use Rattle.h41_asm.specs.Statements.{is_in_reach, long_jump_words, reading}
+use Rattle.h41_asm.specs.Statements.{is_in_reach, long_jump_words, reading_of}
 
 -- the addresses that names stand for
 abbrev pub Labels : Type 0
@@ -51,7 +51,7 @@ pub record LineSpells (labels : Labels) (address : ℕ)
   -- its label is its address
   pub label : IfSome line.label (λ name. labels name ≡ Some address)
   -- its words
-  pub words : SpellsRead labels address (reading line.code) own
+  pub words : SpellsRead labels address (reading_of line.code) own
 
 -- the lines from an address on spell these words, each its own
 abbrev pub LinesSpell : Labels → ℕ → List SourceLine → List ℕ → Type 0

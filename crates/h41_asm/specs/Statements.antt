@@ -86,9 +86,9 @@ abbrev pub Taking : Type 0
 Taking = List ℕ → Option Statement
 
 -- a value that the word is, as a statement
-abbrev pub said : {T : Type 0} → (T → Statement) → Option T → Option Statement
-said says None = None
-said says (Some value) = Some (says value)
+abbrev pub value_statement : {T : Type 0} → (T → Statement) → Option T → Option Statement
+value_statement says None = None
+value_statement says (Some value) = Some (says value)
 
 -- one of two, where the first is none
 abbrev pub or_else : Option Statement → Option Statement → Option Statement
@@ -96,33 +96,36 @@ or_else None other = other
 or_else (Some statement) other = Some statement
 
 abbrev pub takes_field : Operation → Taking
-takes_field operation word = said (λ field. one_word (Arithmetic operation field)) (field_in word)
+takes_field operation word = value_statement (λ field. one_word (Arithmetic operation field))
+    (field_in word)
 
 abbrev pub takes_number : ℕ → ℕ → (ℕ → Row) → Taking
 takes_number least count row word =
-    said (λ number. one_word (row number)) (number_in least count word)
+    value_statement (λ number. one_word (row number)) (number_in least count word)
 
 abbrev pub takes_address : Condition → LongJumpKind → Taking
 takes_address condition kind word =
-    or_else (said (λ address. Words (long_jump_words condition kind address)) (address_in word))
-    (said (λ name. LongJumpTo condition kind name) (reference_in word))
+    or_else (value_statement (λ address. Words (long_jump_words condition kind address))
+        (address_in word))
+    (value_statement (λ name. LongJumpTo condition kind name) (reference_in word))
 
 abbrev pub takes_displacement : Condition → Taking
 takes_displacement condition word =
-    or_else (said (short_jump_by condition) (displacement_in word))
-    (said (λ name. ShortJumpTo condition name) (reference_in word))
+    or_else (value_statement (short_jump_by condition) (displacement_in word))
+    (value_statement (λ name. ShortJumpTo condition name) (reference_in word))
 
 abbrev pub takes_immediate : Taking
-takes_immediate word = said (λ number. Words (number_of LoadImmediate ∷ number ∷ [])) (word_in word)
+takes_immediate word = value_statement (λ number. Words (number_of LoadImmediate ∷ number ∷ []))
+    (word_in word)
 
 abbrev pub takes_constant : Taking
-takes_constant word = said (λ number. Words (number ∷ [])) (word_in word)
+takes_constant word = value_statement (λ number. Words (number ∷ [])) (word_in word)
 
 abbrev pub takes_name : Taking
-takes_name word = said (λ text. Words (name_words text)) (text_in word)
+takes_name word = value_statement (λ text. Words (name_words text)) (text_in word)
 
 abbrev pub takes_entry : ℕ → Taking
-takes_entry bits word = said (λ name. EntryAt bits name) (reference_in word)
+takes_entry bits word = value_statement (λ name. EntryAt bits name) (reference_in word)
 
 -- the instructions and directives with an operand: what they begin with, and how they take it
 unfoldable pub takers : List (List ℕ × Taking)
@@ -158,12 +161,12 @@ singles = map (λ row. (mnemonic row, row)) (filter (λ row. is_none (operand ro
 abbrev pub begins : List (List ℕ) → List ℕ → Bool
 begins words name = starts_with (λ part word. bytes_eq word part) words (words_of name)
 
-abbrev pub behind : List ℕ → List (List ℕ) → List (List ℕ)
-behind name words = drop (length (words_of name)) words
+abbrev pub words_behind : List ℕ → List (List ℕ) → List (List ℕ)
+words_behind name words = drop (length (words_of name)) words
 
 -- whether words are just a mnemonic
 abbrev pub is_whole : List (List ℕ) → List ℕ → Bool
-is_whole words name = begins words name && length (behind name words) == 0
+is_whole words name = begins words name && length (words_behind name words) == 0
 
 -- the words behind a mnemonic: its operand is one word, and nothing else stands there
 abbrev pub statement_by : Taking → List (List ℕ) → Result Statement SourceFault
@@ -184,7 +187,7 @@ is_begun some words = list_any (λ single. begins words single.0) some
 abbrev pub taken_among : List (List ℕ × Taking) → List (List ℕ)
     → Option (Result Statement SourceFault)
 taken_among some words =
-    option_map (λ taker. statement_by taker.1 (behind taker.0 words))
+    option_map (λ taker. statement_by taker.1 (words_behind taker.0 words))
     (find (λ taker. begins words taker.0) some)
 
 -- the fault of words that begin with none of these: a single mnemonic with something behind it, or
@@ -208,6 +211,6 @@ single_or_not None words = not_single words
 -- What the words behind a label say: nothing, a single mnemonic, or one that takes an operand.
 -- BadOperand is a known mnemonic or directive with an operand that is missing, too many, or not one
 -- that it takes; BadLine is everything else.
-abbrev pub reading : List (List ℕ) → Result Statement SourceFault
-reading [] = Ok (Words [])
-reading (first ∷ others) = single_or_not (single_among singles (first ∷ others)) (first ∷ others)
+abbrev pub reading_of : List (List ℕ) → Result Statement SourceFault
+reading_of [] = Ok (Words [])
+reading_of (first ∷ others) = single_or_not (single_among singles (first ∷ others)) (first ∷ others)

@@ -41,7 +41,7 @@ pub(crate) fn displacement_in(word: &[u8]) -> Option<i16>
 
 /// A displacement forward, by its two digits.
 fn forward(digits: &[u8]) -> Option<i16>
-    ensures { result ≡ spec.forward (spec.hexadecimal_in 2 digits.now) }
+    ensures { result ≡ spec.forward_by (spec.hexadecimal_in 2 digits.now) }
 {
     let size = hexadecimal(2, 2, digits)?;
     Some(size as i16)
@@ -49,7 +49,7 @@ fn forward(digits: &[u8]) -> Option<i16>
 
 /// A displacement backward, by its two digits, which are not both zero.
 fn backward(digits: &[u8]) -> Option<i16>
-    ensures { result ≡ spec.backward (spec.hexadecimal_in 2 digits.now) }
+    ensures { result ≡ spec.backward_by (spec.hexadecimal_in 2 digits.now) }
 {
     let size = hexadecimal(2, 2, digits)?;
     if size == 0 {

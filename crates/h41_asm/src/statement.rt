@@ -61,7 +61,7 @@ impl Statement<'_> {
 /// What the words behind a line's label say, or why they cannot be read.
 #[inline(always)]
 pub(crate) fn read(line: SourceLine<'_>) -> Result<Statement<'_>, SourceFault>
-    ensures { read_in_code result ≡ spec.reading (in_line line.entry).code }
+    ensures { read_in_code result ≡ spec.reading_of (in_line line.entry).code }
 {
     match line.first {
         Some(first) => read_from(first, line.others),
@@ -72,7 +72,7 @@ pub(crate) fn read(line: SourceLine<'_>) -> Result<Statement<'_>, SourceFault>
 /// What a first word says with those behind it.
 #[inline(always)]
 fn read_from<'a>(first: &[u8], others: SourceWords<'a>) -> Result<Statement<'a>, SourceFault>
-    ensures { read_in_code result ≡ spec.reading (first.now ∷ words_of others.entry.rest.now) }
+    ensures { read_in_code result ≡ spec.reading_of (first.now ∷ words_of others.entry.rest.now) }
 {
     match opening_of(first) {
         Some(opening) => opened(opening, others),
@@ -111,7 +111,7 @@ fn opened(opening: Opening, others: SourceWords<'_>) -> Result<Statement<'_>, So
 /// An instruction behind which no word stands.
 #[inline(always)]
 fn alone(instruction: Word, others: SourceWords<'_>) -> Result<Statement<'_>, SourceFault>
-    ensures { Reads (openings.alone instruction) others.entry result }
+    ensures { Reads (openings.without_operand instruction) others.entry result }
 {
     if is_nothing(others) {
         Ok(Statement::One(instruction))
@@ -169,7 +169,8 @@ fn either<'a>(
     other: Word,
     others: SourceWords<'a>,
 ) -> Result<Statement<'a>, SourceFault>
-    ensures { ReadsSecond (openings.either name.now word other_name.now other) others.entry result }
+    ensures { ReadsSecond (openings.one_of_two name.now word other_name.now other) others.entry
+        result }
 {
     let mut others = others;
     match others.next() {

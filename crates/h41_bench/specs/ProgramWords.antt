@@ -2,5 +2,5 @@
 use Rattle.std.specs.Prelude.{ℕ, List, ◌∷◌, codes, drop}
 
 -- the first of them is the program's own name, whatever that was
-abbrev pub named : List (List ℕ) → List (List ℕ)
-named words = codes "bench" ∷ drop 1 words
+abbrev pub behind_name : List (List ℕ) → List (List ℕ)
+behind_name words = codes "bench" ∷ drop 1 words

@@ -3,7 +3,7 @@
 
 ghost use Rattle.std.specs.Prelude.{◌≡◌, ◌≢◌, ◌∷◌, ◌≤◌, true, Err, IfOk, IfSome, IsSome, Ok, OnErr};
 ghost use Rattle.std.specs.Prelude.{codes, drop, map, string_bytes};
-ghost use Rattle.h41_bench.specs.ProgramWords.{named};
+ghost use Rattle.h41_bench.specs.ProgramWords.{behind_name};
 ghost use Rattle.h41_jobs.specs.CommandLine.{asks_help, asks_version, file_to_run, is_mistake};
 ghost use Rattle.h41_jobs.specs.Ending.{status_of};
 ghost use Rattle.h41_jobs.specs.Statuses.{EndsJobOf, EndsTask, IsOrFailed, IsStatus, IsTaskStatus};
@@ -39,11 +39,15 @@ fn main(rt: HostRuntime) -> ExitCode {
 /// Does what the words of the command line ask for, with a file, or with standard input where its name is `-`, or says why
 /// there is no job. Answers the status.
 fn run_words(rt: &HostRuntime, alloc: Global, words: &[String]) -> u8
-    ensures help { asks_help (named (map string_bytes words.now)) ≡ true → IsOrFailed 0 result }
-    ensures about { asks_version (named (map string_bytes words.now)) ≡ true → IsOrFailed 0 result }
-    ensures mistake { is_mistake (named (map string_bytes words.now)) ≡ true → IsOrFailed 2 result }
-    ensures run { IsSome (file_to_run (named (map string_bytes words.now))) → IsStatus result }
-    ensures job { EndsJobOf (named (map string_bytes words.now)) result }
+    ensures help { asks_help (behind_name (map string_bytes words.now)) ≡ true
+        → IsOrFailed 0 result }
+    ensures about { asks_version (behind_name (map string_bytes words.now)) ≡ true
+        → IsOrFailed 0 result }
+    ensures mistake { is_mistake (behind_name (map string_bytes words.now)) ≡ true
+        → IsOrFailed 2 result }
+    ensures run { IsSome (file_to_run (behind_name (map string_bytes words.now)))
+        → IsStatus result }
+    ensures job { EndsJobOf (behind_name (map string_bytes words.now)) result }
     ensures bound { result ≤ 3 }
 {
     let Ok(words) = named(alloc, words) else {
@@ -61,7 +65,8 @@ fn run_words(rt: &HostRuntime, alloc: Global, words: &[String]) -> u8
 
 /// The words with the program's own name for the first, under whatever name it was started.
 fn named(alloc: Global, words: &[String]) -> Result<Vec<&str>, AllocError>
-    ensures { IfOk result (λ all. map (λ w. w.now) all.items ≡ named (map string_bytes words.now)) }
+    ensures { IfOk result (λ all. map (λ w. w.now) all.items
+        ≡ behind_name (map string_bytes words.now)) }
 {
     let mut named = Vec::new(alloc);
     named.push(NAME)?;

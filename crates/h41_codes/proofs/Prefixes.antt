@@ -12,7 +12,7 @@ use Rattle.h41_codes.specs.declared.line.Line.{Line}
 use Rattle.h41_codes.specs.declared.line.Line.TheVariants.{Null, Number, WithOperand, ShortGoTo, GlobalLabel, End, FinalEnd, BranchTo}
 use Rattle.h41_codes.specs.ByteGrammar.{spelling, IsLine, IsWhole}
 use Rattle.h41_codes.specs.ByteLaws.{IsNumber, NoPrefix, CanonicalIsLine, CanonicalIsShortest, CanonicalOnce}
-use Rattle.h41_codes.specs.Canon.{canonical, shortest_function, shortest_branch}
+use Rattle.h41_codes.specs.Canon.{canonical_line, shortest_function, shortest_branch}
 use Rattle.h41_codes.proofs.Reading.{line_at, line_again}
 
 -- a line that is no number is whole, and so is each at the end
@@ -74,7 +74,7 @@ branch_is_shortest GoTo label =
     cond_both (nat_lt label 15) _ _ (λ line. length (spelling line) ≤ 3) (λ short. omega arith) (λ long. omega arith)
 branch_is_shortest Execute label = omega arith
 
-canonical_is_no_longer : (line : Line) → length (spelling (canonical line)) ≤ length (spelling line)
+canonical_is_no_longer : (line : Line) → length (spelling (canonical_line line)) ≤ length (spelling line)
 canonical_is_no_longer (WithOperand function operand) = function_is_shortest function operand
 canonical_is_no_longer (BranchTo branch distance backwards label) = branch_is_shortest branch label
 canonical_is_no_longer Null = omega arith
@@ -86,18 +86,20 @@ canonical_is_shortest line other same =
 
 -- and its own
 function_once : (function : ParameterFunction) (operand : Operand)
-    → canonical (shortest_function function operand) ≡ shortest_function function operand
+    → canonical_line (shortest_function function operand) ≡ shortest_function function operand
 function_once Recall (Direct register) =
-    cond_both (nat_lt register 16) _ _ (λ line. canonical line ≡ line) (λ short. refl) (λ long. cond-false (nat_lt register 16) _ _ long)
+    cond_both (nat_lt register 16) _ _ (λ line. canonical_line line ≡ line) (λ short. refl)
+        (λ long. cond-false (nat_lt register 16) _ _ long)
 function_once Store (Direct register) =
-    cond_both (nat_lt register 16) _ _ (λ line. canonical line ≡ line) (λ short. refl) (λ long. cond-false (nat_lt register 16) _ _ long)
+    cond_both (nat_lt register 16) _ _ (λ line. canonical_line line ≡ line) (λ short. refl)
+        (λ long. cond-false (nat_lt register 16) _ _ long)
 function_once Label (Direct label) =
-    cond_both (nat_lt label 15) _ _ (λ line. canonical line ≡ line) (λ short. refl) (λ long. cond-false (nat_lt label 15) _ _ long)
+    cond_both (nat_lt label 15) _ _ (λ line. canonical_line line ≡ line) (λ short. refl) (λ long. cond-false (nat_lt label 15) _ _ long)
 function_once function operand = refl
 
-branch_once : (branch : Branch) (label : ℕ) → canonical (shortest_branch branch label) ≡ shortest_branch branch label
+branch_once : (branch : Branch) (label : ℕ) → canonical_line (shortest_branch branch label) ≡ shortest_branch branch label
 branch_once GoTo label =
-    cond_both (nat_lt label 15) _ _ (λ line. canonical line ≡ line) (λ short. refl) (λ long. cond-false (nat_lt label 15) _ _ long)
+    cond_both (nat_lt label 15) _ _ (λ line. canonical_line line ≡ line) (λ short. refl) (λ long. cond-false (nat_lt label 15) _ _ long)
 branch_once Execute label = refl
 
 pub canonical_once : CanonicalOnce

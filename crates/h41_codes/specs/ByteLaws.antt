@@ -3,7 +3,7 @@ use Rattle.std.specs.Prelude.{◌≡◌, ℕ, ◌≤◌, ◌⊎◌, ◌↔◌, L
 use Rattle.h41_codes.specs.declared.line.Line.{Line}
 use Rattle.h41_codes.specs.declared.line.Line.TheVariants.{Null, Number}
 use Rattle.h41_codes.specs.ByteGrammar.{spelling, IsLine, GoesOn, IsWhole, Begins}
-use Rattle.h41_codes.specs.Canon.{canonical}
+use Rattle.h41_codes.specs.Canon.{canonical_line}
 
 -- a line's bytes begin with it, whatever follows; a number of fewer than 16 bytes where no number
 -- goes on
@@ -56,12 +56,12 @@ NullBegins =
 -- the canonical line is a line, takes the fewest bytes of all lines with that canonical line, and
 -- is its own
 abbrev pub CanonicalIsLine : Type 0
-CanonicalIsLine = (line : Line) → IsLine line → IsLine (canonical line)
+CanonicalIsLine = (line : Line) → IsLine line → IsLine (canonical_line line)
 
 abbrev pub CanonicalIsShortest : Type 0
 CanonicalIsShortest =
-    (line other : Line) → canonical other ≡ canonical line
-    → length (spelling (canonical line)) ≤ length (spelling other)
+    (line other : Line) → canonical_line other ≡ canonical_line line
+    → length (spelling (canonical_line line)) ≤ length (spelling other)
 
 abbrev pub CanonicalOnce : Type 0
-CanonicalOnce = (line : Line) → canonical (canonical line) ≡ canonical line
+CanonicalOnce = (line : Line) → canonical_line (canonical_line line) ≡ canonical_line line

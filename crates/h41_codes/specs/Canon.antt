@@ -34,13 +34,13 @@ shortest_branch GoTo label =
 shortest_branch Execute label = BranchTo Execute 0 false label
 
 -- the canonical line
-abbrev pub canonical : Line → Line
-canonical (WithOperand function operand) = shortest_function function operand
-canonical (BranchTo branch distance backwards label) = shortest_branch branch label
+abbrev pub canonical_line : Line → Line
+canonical_line (WithOperand function operand) = shortest_function function operand
+canonical_line (BranchTo branch distance backwards label) = shortest_branch branch label
 -- distances, links, keys and marks are zero: END is C0 00 00, .END. is C0 00 20
-canonical (ShortGoTo label distance) = ShortGoTo label 0
-canonical (GlobalLabel link key name) = GlobalLabel 0 0 name
-canonical (End link marks) = End 0 0
-canonical (FinalEnd link marks) = FinalEnd 0 0
+canonical_line (ShortGoTo label distance) = ShortGoTo label 0
+canonical_line (GlobalLabel link key name) = GlobalLabel 0 0 name
+canonical_line (End link marks) = End 0 0
+canonical_line (FinalEnd link marks) = FinalEnd 0 0
 -- all others are as they are
-canonical line = line
+canonical_line line = line

@@ -4,8 +4,8 @@ use Rattle.h41_codes.specs.Counts.{number_most}
 use Rattle.std.proofs.Common.{sym, ◌∙◌, ap, subst, length-take-le}
 
 -- the cells of a list
-abbrev pub filled : {A : Type 0} → A → ℕ → List A → List A
-filled blank most items = items ++ replicate (most - length items) blank
+abbrev pub with_cells : {A : Type 0} → A → ℕ → List A → List A
+with_cells blank most items = items ++ replicate (most - length items) blank
 
 -- the cells behind the first ones are blank
 abbrev pub IsPadded : {A : Type 0} → A → ℕ → ℕ → List A → Type 0
@@ -29,7 +29,7 @@ count_again most count cells inside size =
 -- cells whose first ones are a list are that list's cells
 pub filled_again : {A : Type 0} (blank : A) (most count : ℕ) (cells : List A) → count ≤ most
     → length cells ≡ most → IsPadded blank most count cells
-    → filled blank most (take count cells) ≡ cells
+    → with_cells blank most (take count cells) ≡ cells
 filled_again blank most count cells inside size rest =
     ap (λ n. take count cells ++ replicate (most - n) blank)
     (count_again most count cells inside size)

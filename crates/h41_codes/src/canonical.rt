@@ -1,6 +1,6 @@
 //! The shortest spelling of a line.
 ghost use Rattle.std.specs.Prelude.{◌≡◌};
-ghost use Rattle.h41_codes.specs.Canon.{canonical, shortest_function, shortest_branch};
+ghost use Rattle.h41_codes.specs.Canon.{canonical_line, shortest_function, shortest_branch};
 ghost use Rattle.h41_codes.specs.declared.line.Operand.TheVariants.{Direct};
 
 use crate::functions::{Branch, ParameterFunction, RegisterFunction};
@@ -16,7 +16,7 @@ const SHORT_LABELS: u8 = 15;
 /// The canonical line: of all lines with that canonical line the one of the fewest bytes, without the distances, links, keys
 /// and marks that only the calculator uses.
 pub fn canon(line: Line) -> Line
-    ensures { result ≡ canonical line }
+    ensures { result ≡ canonical_line line }
 {
     match line {
         Line::WithOperand(function, operand) => short_function(function, operand),

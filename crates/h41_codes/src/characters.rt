@@ -20,7 +20,7 @@ pub struct Text<const MOST: usize> {
 
 impl<const MOST: usize> Model for Text<MOST> {
     ghost use Rattle.std.specs.Prelude.{◌≡◌, ◌≤◌, List, ℕ, take, length};
-    ghost use Rattle.h41_codes.specs.Cells.{filled, Keeps, filled_again, count_again};
+    ghost use Rattle.h41_codes.specs.Cells.{with_cells, Keeps, filled_again, count_again};
 
     ghost Value = { List ℕ };
 
@@ -29,7 +29,7 @@ impl<const MOST: usize> Model for Text<MOST> {
     ghost invariant = { λ text. Keeps 0 MOST text.count text.cells };
 
     ghost inverse = { λ characters.
-        record { cells = filled 0 MOST characters; count = length characters } };
+        record { cells = with_cells 0 MOST characters; count = length characters } };
 
     ghost inverse_ok = { λ text h i. record {
       cells = filled_again 0 MOST text.count text.cells h.0 h.1 h.2 i;
@@ -162,7 +162,7 @@ pub struct Number {
 
 impl Model for Number {
     ghost use Rattle.std.specs.Prelude.{◌≡◌, ◌≤◌, List, ℕ, take, length};
-    ghost use Rattle.h41_codes.specs.Cells.{filled, Keeps, filled_again, count_again};
+    ghost use Rattle.h41_codes.specs.Cells.{with_cells, Keeps, filled_again, count_again};
     ghost use Rattle.h41_codes.specs.Counts.{number_most};
     ghost use Rattle.h41_codes.specs.declared.characters.Character.{Character as Sign};
     ghost use Rattle.h41_codes.specs.declared.characters.Character.TheVariants.{Zero};
@@ -175,7 +175,7 @@ impl Model for Number {
         (1 ≤ number.count) × Keeps Zero number_most number.count number.cells };
 
     ghost inverse = { λ characters.
-        record { cells = filled Zero number_most characters; count = length characters } };
+        record { cells = with_cells Zero number_most characters; count = length characters } };
 
     ghost inverse_ok = { λ number h i. record {
       cells = filled_again Zero number_most number.count number.cells h.1.0 h.1.1 h.1.2 i;

@@ -5,7 +5,7 @@ use Rattle.h41_asm.specs.AssemblyLaws.{NeverBoth, WordsAreDetermined}
 use Rattle.h41_asm.specs.Faults.{assembly_fault}
 use Rattle.h41_asm.specs.declared.fault.SourceFault as asm
 use Rattle.h41_codes.specs.declared.line.Line.{Line}
-use Rattle.h41_program.specs.Packing.{packed}
+use Rattle.h41_program.specs.Packing.{packed_lines}
 use Rattle.h41_text.specs.TextLaws.{OneLineOfText}
 use Rattle.h41_commands.specs.declared.commands.PageKind.{PageKind}
 use Rattle.h41_commands.specs.declared.commands.PageKind.TheVariants as kinds
@@ -14,7 +14,7 @@ use Rattle.h41_commands.specs.declared.commands.ProgramKind.TheVariants as progr
 use Rattle.h41_commands.specs.declared.refusal.LineRefusal.{LineRefusal}
 use Rattle.h41_commands.specs.declared.refusal.LineRefusal.TheVariants.{Source}
 use Rattle.h41_commands.specs.Commands.{and_then}
-use Rattle.h41_commands.specs.PageBlocks.{Fills, SourceMakes, fitting, page_address}
+use Rattle.h41_commands.specs.PageBlocks.{Fills, SourceMakes, words_of_page, page_address}
 use Rattle.h41_commands.specs.ProgramBlocks.{IsBadText, Means, SayLines, SaysLine, texts_of, with_more}
 
 same_fault : (fault other : Option (asm.SourceFault × ℕ)) (why : LineRefusal)
@@ -49,7 +49,7 @@ module _ (never_both : NeverBoth) (same_words : WordsAreDetermined) (same_line :
   same_meaning programs.Bytes values a b p q = p ∙ sym q
   same_meaning programs.Text values a b p q =
       p.2
-      ∙ ap (λ (lines : Result (List Line) LineRefusal). and_then lines (λ lines. Ok (packed lines)))
+      ∙ ap (λ (lines : Result (List Line) LineRefusal). and_then lines (λ lines. Ok (packed_lines lines)))
       (same_say 1 (texts_of values) p.0 q.0 p.1 q.1)
       ∙ sym q.2
 
@@ -68,4 +68,4 @@ module _ (never_both : NeverBoth) (same_words : WordsAreDetermined) (same_line :
   same_filling kinds.Words page values one other p q = p ∙ sym q
   same_filling kinds.Image page values one other p q = p ∙ sym q
   same_filling kinds.Asm page values one other p q =
-      p.2 ∙ ap (λ given. and_then given fitting) (same_given values (page_address page) p.0 q.0 p.1 q.1) ∙ sym q.2
+      p.2 ∙ ap (λ given. and_then given words_of_page) (same_given values (page_address page) p.0 q.0 p.1 q.1) ∙ sym q.2

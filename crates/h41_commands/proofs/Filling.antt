@@ -7,13 +7,13 @@ use Rattle.h41_asm.specs.declared.fault.SourceFault.{SourceFault}
 use Rattle.h41_commands.specs.declared.commands.PageKind.TheVariants.{Asm}
 use Rattle.h41_commands.specs.declared.refusal.LineRefusal.{LineRefusal}
 use Rattle.h41_commands.specs.Contents.{values_in}
-use Rattle.h41_commands.specs.PageBlocks.{Fills, fitting, page_address}
+use Rattle.h41_commands.specs.PageBlocks.{Fills, words_of_page, page_address}
 use Rattle.h41_commands.specs.declared.refusal.LineRefusal.TheVariants.{Source}
 
 -- words that it spells
 pub fills_words : {E : Type 0} (source text : List ℕ) (page origin : ℕ)
     (words : List ℕ) (ended : Result (Result (Vec ℕ Global) LineRefusal) E)
-    → text ≡ source → origin ≡ page_address page → Assembles text origin words → IfOk ended (λ made. values_in made ≡ fitting words)
+    → text ≡ source → origin ≡ page_address page → Assembles text origin words → IfOk ended (λ made. values_in made ≡ words_of_page words)
     → IfOk ended (λ made. Fills Asm page source (values_in made))
 fills_words source text page origin words (Ok made) same at spelled fits = (Ok words, rw (sym same, sym at) spelled, fits)
 fills_words source text page origin words (Err why) same at spelled fits = fits

@@ -8,13 +8,13 @@ use Rattle.std.proofs.lemmas.List.Sums.{count_by-le-length, fails_before_first}
 use Rattle.h41_codes.specs.ByteGrammar.{spelling}
 use Rattle.h41_codes.specs.declared.line.Line.{Line}
 use Rattle.h41_program.specs.Lines.{is_number}
-use Rattle.h41_program.specs.Packing.{gap, last_line, packed}
+use Rattle.h41_program.specs.Packing.{gap, last_line, packed_lines}
 use Rattle.h41_text.specs.LineReading.{IsTextOf}
 use Rattle.h41_commands.specs.declared.refusal.LineRefusal.{LineRefusal}
 use Rattle.h41_commands.specs.declared.refusal.LineRefusal.TheVariants.{BadText}
 use Rattle.h41_commands.specs.ProgramBlocks.{IsBadText, SayLines, SaysLine, texts_of, with_more}
 use Rattle.h41_commands.specs.declared.blocks.program_text.Packed.{Packed}
-use Rattle.h41_commands.specs.ProgramTexts.{IsPacked, parting}
+use Rattle.h41_commands.specs.ProgramTexts.{IsPacked, null_between}
 use Rattle.h41_lines.proofs.Positions.{position_none, position_some}
 
 -- the first text, and those behind it
@@ -43,7 +43,7 @@ last_line-more (one ∷ next ∷ lines) line = last_line-more (next ∷ lines) l
 
 -- a line behind others, by its bytes
 packed-more : (lines : List Line) (line : Line)
-    → packed (lines ++ line ∷ []) ≡ packed lines ++ parting (ends_with_number lines) (is_number line) ++ spelling line
+    → packed_lines (lines ++ line ∷ []) ≡ packed_lines lines ++ null_between (ends_with_number lines) (is_number line) ++ spelling line
 packed-more [] line = simp append-nil
 packed-more (one ∷ []) line = simp (append-nil, append_assoc)
 packed-more (one ∷ next ∷ lines) line =
@@ -51,12 +51,12 @@ packed-more (one ∷ next ∷ lines) line =
     ∙ simp append_assoc
 
 pub pushed : (lines : List Line) (line : Line) (old new : Packed) → IsPacked lines old
-    → new.bytes.items ≡ (old.bytes.items ++ parting old.ends_with_number (is_number line)) ++ spelling line
+    → new.bytes.items ≡ (old.bytes.items ++ null_between old.ends_with_number (is_number line)) ++ spelling line
     → new.ends_with_number ≡ is_number line → IsPacked (lines ++ line ∷ []) new
 pushed lines line old new packed_is bytes last = record {
   bytes =
-      bytes ∙ ap (λ (front : List ℕ). (front ++ parting old.ends_with_number (is_number line)) ++ spelling line) packed_is.bytes
-      ∙ ap (λ (ends : Bool). (packed lines ++ parting ends (is_number line)) ++ spelling line) packed_is.last
+      bytes ∙ ap (λ (front : List ℕ). (front ++ null_between old.ends_with_number (is_number line)) ++ spelling line) packed_is.bytes
+      ∙ ap (λ (ends : Bool). (packed_lines lines ++ null_between ends (is_number line)) ++ spelling line) packed_is.last
       ∙ sym (packed-more lines line);
   last = last ∙ sym (ap (λ found. option_map_or is_number found false) (last_line-more lines line));
 }

@@ -11,7 +11,7 @@ use Rattle.std.proofs.lemmas.List.Elements.{filter-append}
 use Rattle.std.proofs.lemmas.List.Folds.{list_all-append, list_any-append}
 use Rattle.std.proofs.lemmas.Grind.{flat_map-append}
 use Rattle.h41_pages.specs.Addresses.{page_size}
-use Rattle.h41_commands.specs.Blocks.{word_values, block_words, filled}
+use Rattle.h41_commands.specs.Blocks.{word_values, block_words, page_of_words}
 use Rattle.h41_lines.specs.Words.{words_of}
 use Rattle.h41_commands.specs.DeckLines.{is_skipped}
 use Rattle.h41_lines.specs.Numbers.{is_hexadecimal}
@@ -134,7 +134,7 @@ block_words-push inside line other =
 
 -- what `resize` makes of a page's words
 pub resized : (values items : List ℕ) (count : ℕ) → count ≡ length values → count ≤ page_size
-    → items ≡ take page_size values ++ replicate (page_size - count) 0 → items ≡ filled values
+    → items ≡ take page_size values ++ replicate (page_size - count) 0 → items ≡ page_of_words values
 resized values items count same room e =
     let short : length values ≤ page_size = omega arith in
     e ∙ (λ i. take_all page_size values short i ++ replicate (page_size - same i) 0)

@@ -91,19 +91,19 @@ abbrev pub content_of : Option BlockKind → List (List ℕ) → Result (List �
 content_of kind lines = whole_said kind (said_by kind lines)
 
 -- a line that is too long comes before what else is wrong
-abbrev pub judged : Bool → Result (List ℕ) LineRefusal → Result (List ℕ) LineRefusal
-judged has_long content = if has_long then Err LineTooLong else content
+abbrev pub unless_long : Bool → Result (List ℕ) LineRefusal → Result (List ℕ) LineRefusal
+unless_long has_long content = if has_long then Err LineTooLong else content
 
 -- the lines that are not too long
 abbrev pub short_lines : List (List ℕ) → List (List ℕ)
 short_lines lines = filter (λ line. not (is_long line)) lines
 
 abbrev pub block_values : Option BlockKind → List (List ℕ) → Result (List ℕ) LineRefusal
-block_values kind lines = judged (list_any is_long lines) (content_of kind (short_lines lines))
+block_values kind lines = unless_long (list_any is_long lines) (content_of kind (short_lines lines))
 
 -- words of a page, filled with 000 to its end
-abbrev pub filled : List ℕ → List ℕ
-filled words = words ++ replicate (page_size - length words) 0
+abbrev pub page_of_words : List ℕ → List ℕ
+page_of_words words = words ++ replicate (page_size - length words) 0
 
 -- what a block tells of the lines that it has taken
 pub record TakenBlock : Type 0 where
@@ -128,4 +128,4 @@ pub record Takes (old : TakenBlock) (line : List ℕ) (new : TakenBlock) : Type 
 
 -- its judgement
 abbrev pub judgement : TakenBlock → Result (List ℕ) LineRefusal
-judgement block = judged block.has_long (whole_said block.kind block.content)
+judgement block = unless_long block.has_long (whole_said block.kind block.content)

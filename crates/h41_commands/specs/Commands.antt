@@ -242,9 +242,9 @@ abbrev pub command_by : Option BlockKind → List ℕ → List (List ℕ) → Re
 command_by (Some kind) name operands = opening_command kind operands
 command_by None name operands = plain_command name operands
 
-abbrev pub parsed : List (List ℕ) → Result Command LineRefusal
-parsed [] = Err BadCommand
-parsed (name ∷ operands) = command_by (kind_of_word name) name operands
+abbrev pub command_of : List (List ℕ) → Result Command LineRefusal
+command_of [] = Err BadCommand
+command_of (name ∷ operands) = command_by (kind_of_word name) name operands
 
 -- a line opens a block by its first word, whatever follows
 abbrev pub is_opening : List (List ℕ) → Bool

@@ -10,22 +10,22 @@ use Rattle.h41_commands.specs.Items.{Spelled, commands, with_values}
 use Rattle.h41_lines.specs.Lines.{lines}
 
 -- what an item's lines spell
-abbrev pub given : Item → Spelled
-given (Given read) = with_values (judgement read.block) read.command
-given (Refused refusal) = Err refusal
+abbrev pub what_is_spelled : Item → Spelled
+what_is_spelled (Given read) = with_values (judgement read.block) read.command
+what_is_spelled (Refused refusal) = Err refusal
 
 -- the lines that are left of a deck
-abbrev pub left : Lines → List (List ℕ)
-left rest = lines rest.rest.now
+abbrev pub lines_left : Lines → List (List ℕ)
+lines_left rest = lines rest.rest.now
 
 -- this is the first item of some lines, and the others are those of the lines that are left
 abbrev pub NextOf : List (List ℕ) → List (List ℕ) → Option Item → Type 0
-NextOf lines left None = commands lines ≡ []
-NextOf lines left (Some item) = commands lines ≡ given item ∷ commands left
+NextOf lines lines_left None = commands lines ≡ []
+NextOf lines lines_left (Some item) = commands lines ≡ what_is_spelled item ∷ commands lines_left
 
 -- where there is one, fewer lines are left
 abbrev pub TakesSome : List (List ℕ) → List (List ℕ) → Option Item → Type 0
-TakesSome lines left next = OnSome next (length left < length lines)
+TakesSome lines lines_left next = OnSome next (length lines_left < length lines)
 
 -- where there is a block, it is of this kind, and these are the lines that it has taken
 pub record IsTaken (kind : Option BlockKind)

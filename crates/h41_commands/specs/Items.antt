@@ -6,7 +6,7 @@ use Rattle.h41_commands.specs.declared.commands.Command.{Command}
 use Rattle.h41_commands.specs.declared.refusal.LineRefusal.{LineRefusal}
 use Rattle.h41_commands.specs.declared.refusal.LineRefusal.TheVariants.{NoEnd, LineTooLong}
 use Rattle.h41_commands.specs.Blocks.{block_values}
-use Rattle.h41_commands.specs.Commands.{and_then, is_opening, kind_of, parsed}
+use Rattle.h41_commands.specs.Commands.{and_then, is_opening, kind_of, command_of}
 use Rattle.h41_lines.specs.Words.{words_of}
 use Rattle.h41_commands.specs.DeckLines.{is_end, is_long, is_skipped}
 
@@ -23,7 +23,7 @@ with_values values command = and_then values (λ values. Ok (command, values))
 -- else
 abbrev pub spelled_by : List ℕ → List (List ℕ) → Spelled
 spelled_by first inside =
-    and_then (parsed (words_of first))
+    and_then (command_of (words_of first))
     (λ command. with_values (block_values (kind_of command) inside) command)
 
 -- a line that opens a block, and the lines after it
@@ -53,5 +53,5 @@ is_open (Err refusal) = false
 is_open (Ok given) = false
 
 -- what is spelled but for such a block
-abbrev pub closed : List Spelled → List Spelled
-closed items = filter (λ item. not (is_open item)) items
+abbrev pub without_open_block : List Spelled → List Spelled
+without_open_block items = filter (λ item. not (is_open item)) items

@@ -25,8 +25,8 @@ SourceMakes source origin (Ok words) = Assembles source origin words
 SourceMakes source origin (Err refusal) = source_refusal source origin ≡ Some refusal
 
 -- words for one page: 4 where there are more than it has
-abbrev pub fitting : List ℕ → Result (List ℕ) LineRefusal
-fitting words = if nat_lt page_size (length words) then Err BadImage else Ok words
+abbrev pub words_of_page : List ℕ → Result (List ℕ) LineRefusal
+words_of_page words = if nat_lt page_size (length words) then Err BadImage else Ok words
 
 -- the words that a block's values say for a page, or why they say none: they are words already, or
 -- the source of these
@@ -36,4 +36,4 @@ Fills Image page values words = words ≡ Ok values
 Fills Asm page source words =
     (given : Result (List ℕ) LineRefusal)
     × SourceMakes source (page_address page) given
-    × (words ≡ and_then given fitting)
+    × (words ≡ and_then given words_of_page)

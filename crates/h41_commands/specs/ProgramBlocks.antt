@@ -3,7 +3,7 @@
 use Rattle.std.specs.Prelude.{◌≡◌, ◌⊎◌, ℕ, suc, ◌==◌, ◌++◌, List, [], ◌∷◌, Result, Ok, Err}
 use Rattle.std.specs.List.{slice_split}
 use Rattle.h41_codes.specs.declared.line.Line.{Line}
-use Rattle.h41_program.specs.Packing.{packed}
+use Rattle.h41_program.specs.Packing.{packed_lines}
 use Rattle.h41_text.specs.LineReading.{IsTextOf}
 use Rattle.h41_commands.specs.declared.commands.ProgramKind.{ProgramKind}
 use Rattle.h41_commands.specs.declared.commands.ProgramKind.TheVariants.{Bytes, Text}
@@ -46,7 +46,7 @@ abbrev pub TextSpells : List ℕ → Result (List ℕ) LineRefusal → Type 0
 TextSpells source bytes =
     (lines : Result (List Line) LineRefusal)
     × SayLines 1 (texts_of source) lines
-    × (bytes ≡ and_then lines (λ lines. Ok (packed lines)))
+    × (bytes ≡ and_then lines (λ lines. Ok (packed_lines lines)))
 
 -- the bytes of a block: they are these already, or its text spells them
 abbrev pub Means : ProgramKind → List ℕ → Result (List ℕ) LineRefusal → Type 0

@@ -28,11 +28,11 @@ pub enum Item {
 }
 
 impl Item {
-    ghost use Rattle.h41_commands.specs.Entries.{given};
+    ghost use Rattle.h41_commands.specs.Entries.{what_is_spelled};
 
     /// Whether this is a block whose end was not read.
     pub fn is_open(&self) -> bool
-        ensures { result ≡ is_open (given self.now) }
+        ensures { result ≡ is_open (what_is_spelled self.now) }
     {
         matches!(self, Item::Refused(LineRefusal::NoEnd))
     }

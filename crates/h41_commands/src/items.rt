@@ -3,7 +3,8 @@
 ghost use Rattle.std.specs.List.{after_first, before_first, list_any};
 ghost use Rattle.std.specs.Prelude.{◌≡◌, ◌≤◌, [], length, is_some, IfOk, OnOk};
 ghost use Rattle.h41_commands.specs.Blocks.{HasTaken};
-ghost use Rattle.h41_commands.specs.Entries.{IfTaken, NextOf, TakesSome, given, left};
+ghost use Rattle.h41_commands.specs.Entries.{IfTaken, NextOf, TakesSome, what_is_spelled};
+ghost use Rattle.h41_commands.specs.Entries.{lines_left};
 ghost use Rattle.h41_commands.specs.Items.{opened_block, spelled_by};
 ghost use Rattle.h41_commands.specs.DeckLines.{is_end, longest_line};
 
@@ -19,8 +20,8 @@ use std::alloc::{AllocError, Global};
 /// The next item of a deck, by the lines that are left of it; nothing where they have none. Its lines are taken. 21 where
 /// memory is refused.
 pub fn next_item(alloc: Global, rest: &mut Lines<'_>) -> Result<Option<Item>, AllocError>
-    ensures item { IfOk result (NextOf (left rest.old) (left rest.new)) }
-    ensures shorter { IfOk result (TakesSome (left rest.old) (left rest.new)) }
+    ensures item { IfOk result (NextOf (lines_left rest.old) (lines_left rest.new)) }
+    ensures shorter { IfOk result (TakesSome (lines_left rest.old) (lines_left rest.new)) }
 {
     while let Some(line) = rest.next() {
         if is_long(line) {
@@ -42,7 +43,7 @@ pub fn next_item(alloc: Global, rest: &mut Lines<'_>) -> Result<Option<Item>, Al
 /// The command of one line.
 fn line_item(alloc: Global, line: &[u8]) -> Item
     requires { length line.now ≤ longest_line }
-    ensures { given result ≡ spelled_by line.now [] }
+    ensures { what_is_spelled result ≡ spelled_by line.now [] }
 {
     match parse(line) {
         Ok(command) => {
@@ -57,8 +58,9 @@ fn line_item(alloc: Global, line: &[u8]) -> Item
 /// The item of a block by its first line; takes the block's other lines.
 fn block_item(alloc: Global, first: &[u8], rest: &mut Lines<'_>) -> Result<Item, AllocError>
     requires { length first.now ≤ longest_line }
-    ensures item { IfOk result (λ item. given item ≡ opened_block first.now (left rest.old)) }
-    ensures rest { OnOk result (left rest.new ≡ after_first is_end (left rest.old)) }
+    ensures item { IfOk result (λ item. what_is_spelled item
+        ≡ opened_block first.now (lines_left rest.old)) }
+    ensures rest { OnOk result (lines_left rest.new ≡ after_first is_end (lines_left rest.old)) }
 {
     let parsed = parse(first);
     let block = Block::of_kind(alloc, parsed.ok().and_then(Command::block_kind));
@@ -74,9 +76,9 @@ fn block_item(alloc: Global, first: &[u8], rest: &mut Lines<'_>) -> Result<Item,
 /// Takes the lines of a block up to its end; nothing where it has none.
 fn take_lines(block: Block, rest: &mut Lines<'_>) -> Result<Option<Block>, AllocError>
     requires { HasTaken block [] }
-    ensures end { IfOk result (λ taken. is_some taken ≡ list_any is_end (left rest.old)) }
-    ensures taken { IfOk result (IfTaken block.kind (before_first is_end (left rest.old))) }
-    ensures rest { OnOk result (left rest.new ≡ after_first is_end (left rest.old)) }
+    ensures end { IfOk result (λ taken. is_some taken ≡ list_any is_end (lines_left rest.old)) }
+    ensures taken { IfOk result (IfTaken block.kind (before_first is_end (lines_left rest.old))) }
+    ensures rest { OnOk result (lines_left rest.new ≡ after_first is_end (lines_left rest.old)) }
 {
     let mut block = block;
     while let Some(line) = rest.next() {

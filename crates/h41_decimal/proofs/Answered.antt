@@ -6,7 +6,7 @@ use Rattle.std.proofs.lemmas.Bool.{cases_lt}
 use Rattle.std.proofs.lemmas.Int.{ints, by_lt_z}
 use Rattle.std.proofs.Math.Nat.{mul-le-mul_right}
 use Rattle.std.proofs.Math.IntN.{pos-*ℤ-pos, pos-*ℤ-negsuc, negsuc-*ℤ-pos, negsuc-*ℤ-negsuc}
-use Rattle.h41_decimal.specs.Signs.{signed, sign_of}
+use Rattle.h41_decimal.specs.Signs.{with_sign, sign_of}
 use Rattle.h41_decimal.specs.Units.{one, units}
 use Rattle.h41_decimal.specs.NearestDecimal.{Nearest}
 use Rattle.h41_decimal.specs.Operations.{IsFloor, RoundsRest}
@@ -39,8 +39,8 @@ pub steps_determined : StepsAreDetermined
 steps_determined step number a b h k =
     let e : h.steps ≡ k.steps =
     same_count step (2 * unsigned_abs number + step) h.steps k.steps h.not_above h.next_above k.not_above k.next_above in
-    let P : ℕ → Type 0 = λ t. Nearest (signed (sign_of number) (t * step)) 1 b in
-    nearest_determined (signed (sign_of number) (h.steps * step)) 1 a b h.value (subst P (sym e) k.value)
+    let P : ℕ → Type 0 = λ t. Nearest (with_sign (sign_of number) (t * step)) 1 b in
+    nearest_determined (with_sign (sign_of number) (h.steps * step)) 1 a b h.value (subst P (sym e) k.value)
 
 -- a quotient
 quotient_either : (t : Bool) (above : ℤ) (below : ℕ) (a b : Result Ten DecimalFault)

@@ -5,7 +5,7 @@ use Rattle.std.specs.Prelude.{ℤ, pos, negsuc, nat_le, ◌==◌, unsigned_abs}
 use Rattle.std.proofs.lemmas.Bool.{cases_lt}
 use Rattle.std.proofs.Math.Nat.{eq_of_mul-eq-mul_right}
 use Rattle.std.proofs.lemmas.Nat.{pow-add}
-use Rattle.h41_decimal.specs.Signs.{signed, sign_of}
+use Rattle.h41_decimal.specs.Signs.{with_sign, sign_of}
 use Rattle.h41_decimal.specs.Units.{one, size_of, units}
 use Rattle.h41_decimal.specs.NearestDecimal.{Exact, Fraction, RootOf, IsBelow, IsAtLeast, IsNear, IsTenDigits, IsBounded, IsRounded}
 use Rattle.h41_decimal.specs.NearestDecimal.{Nearest, NearestRoot, up_of, down_of}
@@ -93,7 +93,7 @@ answers sign v m (pos s) n (pos t) x y m_ten n_ten near near' bounded bounded' =
     let mn : m ≡ n = eq_of_mul-eq-mul_right (10 ^ s) (ten_pow_pos s) m n (omega arith) in
     let P : ℕ → Type 0 = λ k. IsBounded sign n (pos k) y in
     let Q : ℕ → Type 0 = λ k. IsBounded sign k (pos s) y in
-    in_range (nat_le s 198) (signed sign (size_of m s)) x y bounded (subst Q (sym mn) (subst P (sym st) bounded'))
+    in_range (nat_le s 198) (with_sign sign (size_of m s)) x y bounded (subst Q (sym mn) (subst P (sym st) bounded'))
 
 rounded_determined : (sign : Sign) (v : Exact) (x y : Result Ten DecimalFault) → IsRounded sign v x → IsRounded sign v y → x ≡ y
 rounded_determined sign v x y h k =

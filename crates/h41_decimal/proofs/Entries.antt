@@ -2,7 +2,7 @@
 use Rattle.std.proofs.Common.{◌≡◌, ℕ, ◌+◌, ◌*◌, ◌^◌, ◌<◌, sym, ◌∙◌, ap, refl, subst, arith, Result, Ok}
 use Rattle.std.proofs.Math.Nat.{mul-pos}
 use Rattle.std.proofs.lemmas.Nat.{pow-add}
-use Rattle.h41_decimal.specs.Signs.{signed}
+use Rattle.h41_decimal.specs.Signs.{with_sign}
 use Rattle.h41_decimal.specs.Units.{one}
 use Rattle.h41_decimal.specs.NearestDecimal.{Fraction, Nearest}
 use Rattle.h41_decimal.specs.NumberEntry.{IsTyped, within_bounds}
@@ -35,7 +35,7 @@ typed_cut digits biased places scale e =
 
 pub typed_nearest : (sign : Sign) (digits biased places whole scale : ℕ) (answer : Result Ten DecimalFault) → 0 < digits
     → scale + places ≡ 137 + biased → whole ≡ digits → RoundsWhole sign whole scale answer
-    → Nearest (signed sign (digits * 10 ^ 108 * 10 ^ biased)) (10 ^ places * 10 ^ 99) answer
+    → Nearest (with_sign sign (digits * 10 ^ 108 * 10 ^ biased)) (10 ^ places * 10 ^ 99) answer
 typed_nearest sign digits biased places whole scale answer some e same rounds =
     let rounds_digits = subst (λ n. RoundsWhole sign n scale answer) same rounds in
     nearest_of _ (10 ^ places * 10 ^ 99) sign (digits * 10 ^ 108 * 10 ^ biased)
@@ -56,6 +56,6 @@ pub typed_determined : TypedIsDetermined
 typed_determined sign digits places exponent x y p q =
     units_injective x y
     (p.value
-    ∙ ap (within_bounds sign) (nearest_determined (signed sign (digits * one * 10 ^ exponent.biased))
+    ∙ ap (within_bounds sign) (nearest_determined (with_sign sign (digits * one * 10 ^ exponent.biased))
     (10 ^ places * 10 ^ 99) p.answer q.answer p.nearest q.nearest)
     ∙ sym q.value)

@@ -4,7 +4,7 @@ use Rattle.std.specs.Prelude.{ℤ, pos, ◌+ℤ◌, ◌-ℤ◌, ◌*ℤ◌, ◌<
 use Rattle.std.proofs.lemmas.Int.{ints}
 use Rattle.std.proofs.Math.Nat.{mul-pos, mul-lt-mul_of_pos_right}
 use Rattle.std.proofs.lemmas.Nat.{mul-mod_first, div-add-mod', mod_below}
-use Rattle.h41_decimal.specs.Signs.{signed, opposite_of, product_of}
+use Rattle.h41_decimal.specs.Signs.{with_sign, opposite_of, product_of}
 use Rattle.h41_decimal.specs.Units.{size, units}
 use Rattle.h41_decimal.specs.NearestDecimal.{Fraction, Nearest}
 use Rattle.h41_decimal.specs.Operations.{IsFloor, RoundsRest, NearestModulo}
@@ -27,20 +27,20 @@ IsBetween : Sign → ℤ → ℤ → ℤ → Type 0
 IsBetween Plus low y high = (low ≤ℤ y) × (y <ℤ high)
 IsBetween Minus low y high = (y ≤ℤ low) × (high <ℤ y)
 
-floor_at : (s : Sign) (w y : ℤ) (X : ℕ) (low high : ℤ) → 0 < X → w *ℤ signed s X ≡ low → (w +ℤ pos 1) *ℤ signed s X ≡ high
-    → IsBetween s low y high → IsFloor w y (signed s X)
+floor_at : (s : Sign) (w y : ℤ) (X : ℕ) (low high : ℤ) → 0 < X → w *ℤ with_sign s X ≡ low → (w +ℤ pos 1) *ℤ with_sign s X ≡ high
+    → IsBetween s low y high → IsFloor w y (with_sign s X)
 unfolding IsBetween
 floor_at Plus w y X low high some e f between = (subst (λ t. t ≤ℤ y) (sym e) between.0, subst (λ t. y <ℤ t) (sym f) between.1)
 floor_at Minus w y zero low high some e f between = absurd (omega arith)
 floor_at Minus w y (suc X) low high some e f between = (subst (λ t. y ≤ℤ t) (sym e) between.0, subst (λ t. t <ℤ y) (sym f) between.1)
 
-between_same : (s : Sign) (a b c : ℕ) → a ≤ b → b < c → IsBetween s (signed s a) (signed s b) (signed s c)
+between_same : (s : Sign) (a b c : ℕ) → a ≤ b → b < c → IsBetween s (with_sign s a) (with_sign s b) (with_sign s c)
 unfolding IsBetween
 between_same Plus a b c h k = (omega (arith, ints), omega (arith, ints))
 between_same Minus a b c h k = (omega (arith, ints), omega (arith, ints))
 
 between_apart : (s : Sign) (a b c : ℕ) → b ≤ a → c < b
-    → IsBetween s (signed (opposite_of s) a) (signed (opposite_of s) b) (signed (opposite_of s) c)
+    → IsBetween s (with_sign (opposite_of s) a) (with_sign (opposite_of s) b) (with_sign (opposite_of s) c)
 unfolding IsBetween
 between_apart Plus a b c h k = (omega (arith, ints), omega (arith, ints))
 between_apart Minus a b c h k = (omega (arith, ints), omega (arith, ints))
@@ -53,21 +53,22 @@ opposite_twice : (s : Sign) → opposite_of (opposite_of s) ≡ s
 opposite_twice Plus = refl
 opposite_twice Minus = refl
 
-one_less : (q : ℕ) → signed Minus (suc q) +ℤ pos 1 ≡ signed Minus q
+one_less : (q : ℕ) → with_sign Minus (suc q) +ℤ pos 1 ≡ with_sign Minus q
 one_less zero = refl
 one_less (suc q) = omega (arith, ints)
 
 -- both of one sign
-pub rest_of_same : (s : Sign) (Y X q r : ℕ) (answer : Result Ten DecimalFault) → Y ≡ q * X + r → r < X → Nearest (signed s r) 1 answer
-    → RoundsRest (signed s Y) (signed s X) answer
+pub rest_of_same : (s : Sign) (Y X q r : ℕ) (answer : Result Ten DecimalFault) → Y ≡ q * X + r → r < X → Nearest (with_sign s r) 1 answer
+    → RoundsRest (with_sign s Y) (with_sign s X) answer
 rest_of_same s Y X q r answer e less nearest =
-    let x : signed s X *ℤ signed Plus q ≡ signed s (X * q) = signed-mul s Plus X q ∙ ap (λ t. signed t (X * q)) (product_with_plus s) in
-    let d : signed s Y -ℤ signed s X *ℤ signed Plus q ≡ signed s r =
-    ap (λ z. signed s Y -ℤ z) x ∙ signed-sub s Y (X * q) r (omega arith) in
+    let x : with_sign s X *ℤ with_sign Plus q ≡ with_sign s (X * q) = signed-mul s Plus X q
+        ∙ ap (λ t. with_sign t (X * q)) (product_with_plus s) in
+    let d : with_sign s Y -ℤ with_sign s X *ℤ with_sign Plus q ≡ with_sign s r =
+    ap (λ z. with_sign s Y -ℤ z) x ∙ signed-sub s Y (X * q) r (omega arith) in
     record {
       whole = pos q;
       floor =
-          floor_at s (pos q) (signed s Y) X (signed s (q * X)) (signed s ((q + 1) * X))
+          floor_at s (pos q) (with_sign s Y) X (with_sign s (q * X)) (with_sign s ((q + 1) * X))
           (omega arith) (signed-mul Plus s q X) (signed-mul Plus s (q + 1) X)
           (between_same s (q * X) Y ((q + 1) * X) (omega arith) (omega arith));
       rest = nearest_along _ _ 1 answer d nearest;
@@ -75,40 +76,41 @@ rest_of_same s Y X q r answer e less nearest =
 
 -- of two signs, with something left
 pub rest_of_apart : (s : Sign) (Y X q r : ℕ) (answer : Result Ten DecimalFault) → Y ≡ q * X + r → 0 < r → r < X
-    → Nearest (signed s (X - r)) 1 answer → RoundsRest (signed (opposite_of s) Y) (signed s X) answer
+    → Nearest (with_sign s (X - r)) 1 answer → RoundsRest (with_sign (opposite_of s) Y) (with_sign s X) answer
 rest_of_apart s Y X q r answer e some less nearest =
-    let x : signed s X *ℤ signed Minus (suc q) ≡ signed (opposite_of s) (X * suc q) =
-    signed-mul s Minus X (suc q) ∙ ap (λ t. signed t (X * suc q)) (product_with_minus s) in
+    let x : with_sign s X *ℤ with_sign Minus (suc q) ≡ with_sign (opposite_of s) (X * suc q) =
+    signed-mul s Minus X (suc q) ∙ ap (λ t. with_sign t (X * suc q)) (product_with_minus s) in
     let xq : X * suc q ≡ X * q + X = omega arith in
-    let d : signed (opposite_of s) Y -ℤ signed s X *ℤ signed Minus (suc q) ≡ signed s (X - r) =
-    ap (λ z. signed (opposite_of s) Y -ℤ z) x
-    ∙ (signed-sub_turned (opposite_of s) Y (X * suc q) (X - r) (omega arith) ∙ ap (λ t. signed t (X - r)) (opposite_twice s)) in
+    let d : with_sign (opposite_of s) Y -ℤ with_sign s X *ℤ with_sign Minus (suc q) ≡ with_sign s (X - r) =
+    ap (λ z. with_sign (opposite_of s) Y -ℤ z) x
+    ∙ (signed-sub_turned (opposite_of s) Y (X * suc q) (X - r) (omega arith) ∙ ap (λ t. with_sign t (X - r)) (opposite_twice s)) in
     let l : suc q * X ≡ q * X + X = omega arith in
     record {
-      whole = signed Minus (suc q);
+      whole = with_sign Minus (suc q);
       floor =
-          floor_at s (signed Minus (suc q)) (signed (opposite_of s) Y) X
-          (signed (opposite_of s) (suc q * X)) (signed (opposite_of s) (q * X)) (omega arith)
-          (signed-mul Minus s (suc q) X) (ap (λ z. z *ℤ signed s X) (one_less q) ∙ signed-mul Minus s q X)
+          floor_at s (with_sign Minus (suc q)) (with_sign (opposite_of s) Y) X
+          (with_sign (opposite_of s) (suc q * X)) (with_sign (opposite_of s) (q * X)) (omega arith)
+          (signed-mul Minus s (suc q) X) (ap (λ z. z *ℤ with_sign s X) (one_less q) ∙ signed-mul Minus s q X)
           (between_apart s (suc q * X) Y (q * X) (omega arith) (omega arith));
       rest = nearest_along _ _ 1 answer d nearest;
     }
 
 -- and with nothing left
-pub rest_of_apart_none : (s : Sign) (Y X q : ℕ) → Y ≡ q * X → 0 < Y → 0 < X → RoundsRest (signed (opposite_of s) Y) (signed s X) (Ok Zero)
+pub rest_of_apart_none : (s : Sign) (Y X q : ℕ) → Y ≡ q * X → 0 < Y → 0 < X
+    → RoundsRest (with_sign (opposite_of s) Y) (with_sign s X) (Ok Zero)
 rest_of_apart_none s Y X zero e some X_pos = absurd (omega arith)
 rest_of_apart_none s Y X (suc q) e some X_pos =
-    let x : signed s X *ℤ signed Minus (suc q) ≡ signed (opposite_of s) (X * suc q) =
-    signed-mul s Minus X (suc q) ∙ ap (λ t. signed t (X * suc q)) (product_with_minus s) in
-    let d : signed (opposite_of s) Y -ℤ signed s X *ℤ signed Minus (suc q) ≡ pos 0 =
-    ap (λ z. signed (opposite_of s) Y -ℤ z) x ∙ signed-sub_same (opposite_of s) Y (X * suc q) (omega arith) in
+    let x : with_sign s X *ℤ with_sign Minus (suc q) ≡ with_sign (opposite_of s) (X * suc q) =
+    signed-mul s Minus X (suc q) ∙ ap (λ t. with_sign t (X * suc q)) (product_with_minus s) in
+    let d : with_sign (opposite_of s) Y -ℤ with_sign s X *ℤ with_sign Minus (suc q) ≡ pos 0 =
+    ap (λ z. with_sign (opposite_of s) Y -ℤ z) x ∙ signed-sub_same (opposite_of s) Y (X * suc q) (omega arith) in
     let l : suc q * X ≡ q * X + X = omega arith in
     record {
-      whole = signed Minus (suc q);
+      whole = with_sign Minus (suc q);
       floor =
-          floor_at s (signed Minus (suc q)) (signed (opposite_of s) Y) X
-          (signed (opposite_of s) (suc q * X)) (signed (opposite_of s) (q * X)) X_pos
-          (signed-mul Minus s (suc q) X) (ap (λ z. z *ℤ signed s X) (one_less q) ∙ signed-mul Minus s q X)
+          floor_at s (with_sign Minus (suc q)) (with_sign (opposite_of s) Y) X
+          (with_sign (opposite_of s) (suc q * X)) (with_sign (opposite_of s) (q * X)) X_pos
+          (signed-mul Minus s (suc q) X) (ap (λ z. z *ℤ with_sign s X) (one_less q) ∙ signed-mul Minus s q X)
           (between_apart s (suc q * X) Y (q * X) (omega arith) (omega arith));
       rest = nearest_of_zero _ 1 (Ok Zero) d refl;
     }
@@ -135,26 +137,26 @@ sizes_divide n m t s r m_pos le r_is =
 
 -- what is rounded is what is left
 pub rest_rounds : (sign : Sign) (k place : ℕ) (answer : Result Ten DecimalFault) → 0 < k → RoundsWhole sign k (place + 128) answer
-    → Nearest (signed sign (k * 10 ^ place)) 1 answer
+    → Nearest (with_sign sign (k * 10 ^ place)) 1 answer
 rest_rounds sign k place answer k_pos rounds =
-    nearest_of (signed sign (k * 10 ^ place)) 1 sign (k * 10 ^ place) answer refl (mul-pos k_pos (ten_pow_pos place))
+    nearest_of (with_sign sign (k * 10 ^ place)) 1 sign (k * 10 ^ place) answer refl (mul-pos k_pos (ten_pow_pos place))
     (rounds (Fraction (k * 10 ^ place) 1) (exact_fraction (k * 10 ^ place) 1 k (place + 128) (omega arith) (at_unit_scale k place)))
 
 pub rest_rounds_at : (sign : Sign) (k place scale : ℕ) (answer : Result Ten DecimalFault) → 0 < k → scale ≡ place + 128
-    → RoundsWhole sign k scale answer → Nearest (signed sign (k * 10 ^ place)) 1 answer
+    → RoundsWhole sign k scale answer → Nearest (with_sign sign (k * 10 ^ place)) 1 answer
 rest_rounds_at sign k place scale answer k_pos scale_is rounds =
     let P : ℕ → Type 0 = λ t. RoundsWhole sign k t answer in
     rest_rounds sign k place answer k_pos (subst P scale_is rounds)
 
 -- zero divided
-pub rest_of_zero : (s : Sign) (X : ℕ) → 0 < X → RoundsRest (pos 0) (signed s X) (Ok Zero)
+pub rest_of_zero : (s : Sign) (X : ℕ) → 0 < X → RoundsRest (pos 0) (with_sign s X) (Ok Zero)
 rest_of_zero Plus X some = rest_of_same Plus 0 X 0 0 (Ok Zero) (omega arith) some refl
 rest_of_zero Minus X some = rest_of_same Minus 0 X 0 0 (Ok Zero) (omega arith) some refl
 
 pub modulo_by : (y : Ten) (t : Sign) (x : Magnitude) (z : ℤ) (answer : Result Ten DecimalFault) → units y ≡ z
-    → RoundsRest z (signed t (size x)) answer → NearestModulo y (Nonzero t x) answer
+    → RoundsRest z (with_sign t (size x)) answer → NearestModulo y (Nonzero t x) answer
 modulo_by y t x z answer e rest =
-    let a : unsigned_abs (signed t (size x)) ≡ size x = unsigned_abs-signed t (size x) in
-    let some : 0 < unsigned_abs (signed t (size x)) = subst (λ n. 0 < n) (sym a) (size_pos x) in
-    not_zero (answer ≡ Ok y) (RoundsRest (units y) (signed t (size x)) answer) (unsigned_abs (signed t (size x))) some
-    (let P : ℤ → Type 0 = λ u. RoundsRest u (signed t (size x)) answer in subst P (sym e) rest)
+    let a : unsigned_abs (with_sign t (size x)) ≡ size x = unsigned_abs-signed t (size x) in
+    let some : 0 < unsigned_abs (with_sign t (size x)) = subst (λ n. 0 < n) (sym a) (size_pos x) in
+    not_zero (answer ≡ Ok y) (RoundsRest (units y) (with_sign t (size x)) answer) (unsigned_abs (with_sign t (size x))) some
+    (let P : ℤ → Type 0 = λ u. RoundsRest u (with_sign t (size x)) answer in subst P (sym e) rest)

@@ -7,7 +7,7 @@ use Rattle.std.proofs.lemmas.Bool.{cases_lt}
 use Rattle.std.proofs.lemmas.Bool.Decides.{nat_tests}
 use Rattle.std.proofs.lemmas.List.{ext_get_or}
 use Rattle.std.proofs.Math.Nat.{eq_of_mul-eq-mul_right, mul-pos, pow-suc}
-use Rattle.h41_decimal.specs.Signs.{signed, sign_of}
+use Rattle.h41_decimal.specs.Signs.{with_sign, sign_of}
 use Rattle.h41_decimal.specs.Units.{size_of}
 use Rattle.h41_decimal.specs.Holding.{Number, decimal_in, digits_worth, holding_of, number_in, parts_worth, sign_in, steps_in, worth}
 use Rattle.h41_decimal.specs.Laws.{RegisterIsDetermined}
@@ -88,7 +88,7 @@ record IsHeldNonzero (m e s : ℕ) (z : ℤ) : Type 0 where
   pub sign_is : sign_in s ≡ Some sign
   pub steps_is : steps_in e ≡ Some steps
   pub at_least : 10 ^ 9 ≤ m
-  pub value_is : z ≡ signed sign (size_of m steps)
+  pub value_is : z ≡ with_sign sign (size_of m steps)
 
 record IsHeld (mantissa exponent : Option ℕ) (s : ℕ) (z : ℤ) : Type 0 where
   pub m : ℕ
@@ -98,7 +98,7 @@ record IsHeld (mantissa exponent : Option ℕ) (s : ℕ) (z : ℤ) : Type 0 wher
   pub either : IsHeldZero m e s z ⊎ IsHeldNonzero m e s z
 
 worth_of : (t : Bool) (m e s : ℕ) (sign : Sign) (steps : ℕ) (z : ℤ) → nat_lt m (10 ^ 9) ≡ t → sign_in s ≡ Some sign
-    → steps_in e ≡ Some steps → (if t then None else Some (signed sign (size_of m steps))) ≡ Some z → IsHeldNonzero m e s z
+    → steps_in e ≡ Some steps → (if t then None else Some (with_sign sign (size_of m steps))) ≡ Some z → IsHeldNonzero m e s z
 worth_of true m e s sign steps z less sign_is steps_is h = absurd cc
 worth_of false m e s sign steps z less sign_is steps_is h = record {
   sign = sign;
@@ -207,7 +207,7 @@ same_nonzero : (m e s n f r : ℕ) (z : ℤ) → m < 10 ^ 10 → n < 10 ^ 10 →
 same_nonzero m e s n f r z m_below n_below e_below f_below h k =
     let x = m * 10 ^ h.steps in
     let y = n * 10 ^ k.steps in
-    let values : signed h.sign x ≡ signed k.sign y = sym h.value_is ∙ k.value_is in
+    let values : with_sign h.sign x ≡ with_sign k.sign y = sym h.value_is ∙ k.value_is in
     let sizes : x ≡ y = sym (unsigned_abs-signed h.sign x) ∙ (ap unsigned_abs values ∙ unsigned_abs-signed k.sign y) in
     let x_pos : 0 < x = held_pos m h.steps h.at_least in
     let y_pos : 0 < y = held_pos n k.steps k.at_least in

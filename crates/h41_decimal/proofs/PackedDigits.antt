@@ -11,7 +11,7 @@ use Rattle.h41_digits.specs.Register.{IsRegister, value}
 use Rattle.h41_digits.specs.Packed.{digits_of, pow-next}
 use Rattle.h41_digits.proofs.Packed.{bits_of_places, digits_of-value}
 use Rattle.h41_decimal.specs.Holding.{decimal_in}
-use Rattle.h41_decimal.specs.private.PackedDigits.{packed}
+use Rattle.h41_decimal.specs.private.PackedDigits.{word_of_digits}
 use Rattle.h41_decimal.specs.private.SameDigits.{SameDigitsFrom}
 use Rattle.h41_decimal.proofs.Registers.{written_more}
 
@@ -21,12 +21,14 @@ moved_digit place digit small few =
     shl_whole digit 4 (4 * place) 64 (omega arith) (omega arith) ∙ ap (λ weight. digit * weight) (bits_of_places place)
 
 pub packed_more : (count place number rest so_far : ℕ) → place < count → count ≤ 14
-    → so_far + 16 ^ place * packed (count - place) rest ≡ packed count number
-    → so_far + rest % 10 * 2 ^ (4 * place) % 2 ^ 64 + 16 ^ (place + 1) * packed (count - (place + 1)) (rest / 10) ≡ packed count number
+    → so_far + 16 ^ place * word_of_digits (count - place) rest ≡ word_of_digits count number
+    → so_far + rest % 10 * 2 ^ (4 * place) % 2 ^ 64 + 16 ^ (place + 1) * word_of_digits (count - (place + 1)) (rest / 10)
+        ≡ word_of_digits count number
 packed_more count place number rest so_far more few held =
     let left = count - (place + 1) in
     let split : count - place ≡ suc left = omega arith in
-    let before : so_far + 16 ^ place * (rest % 10 + 16 * packed left (rest / 10)) ≡ packed count number = rw split at held in
+    let before : so_far + 16 ^ place * (rest % 10 + 16 * word_of_digits left (rest / 10)) ≡ word_of_digits count number =
+        rw split at held in
     rw (moved_digit place (rest % 10) (omega arith) (omega arith), pow-next place) (omega (arith, before))
 
 weighed : (digit weight so_far : ℕ) → digit ≤ 9 → so_far < weight → so_far + digit * weight < 16 * weight
@@ -40,11 +42,11 @@ packed_bound place rest so_far small few =
     let digit : rest % 10 ≤ 9 = omega arith in
     rw (moved_digit place (rest % 10) digit few, pow-next place) (weighed (rest % 10) (16 ^ place) so_far digit small)
 
-pub packed_all : (count number rest so_far : ℕ) → so_far + 16 ^ count * packed (count - count) rest ≡ packed count number
-    → so_far ≡ packed count number
+pub packed_all : (count number rest so_far : ℕ) → so_far + 16 ^ count * word_of_digits (count - count) rest ≡ word_of_digits count number
+    → so_far ≡ word_of_digits count number
 packed_all count number rest so_far held =
     let none : count - count ≡ 0 = omega arith in
-    let plain : so_far + 16 ^ count * 0 ≡ packed count number = rw none at held in
+    let plain : so_far + 16 ^ count * 0 ≡ word_of_digits count number = rw none at held in
     omega (arith, plain)
 
 -- digits that stand alike are read alike
@@ -69,10 +71,11 @@ behind_first digit digits count = moved (digit ∷ digits) digits 1 0 count (λ 
     let same : 0 + k ≡ k = omega arith in
     rw (next, same) refl)
 
-pub packed_read : (count number : ℕ) → number < 10 ^ count → decimal_in (digits_of count (packed count number)) 0 count ≡ Some number
+pub packed_read : (count number : ℕ) → number < 10 ^ count → decimal_in (digits_of count (word_of_digits count number)) 0 count
+    ≡ Some number
 packed_read zero number small = ap Some (omega (arith, small))
 packed_read (suc count) number small =
-    let rest = packed count (number / 10) in
+    let rest = word_of_digits count (number / 10) in
     let low : (number % 10 + 16 * rest) % 16 ≡ number % 10 = omega arith in
     let high : (number % 10 + 16 * rest) / 16 ≡ rest = omega arith in
     let fewer : number / 10 < 10 ^ count = omega (arith, pow-succ' 10 count, small) in
@@ -86,14 +89,14 @@ packed_read (suc count) number small =
 
 -- a register in which packed digits were written
 pub packed_written : (register : List ℕ) (place hi count number : ℕ) → IsRegister 14 register → hi + 1 ≡ place + count → place + count ≤ 14
-    → number < 10 ^ count → value (take (hi + 1 - place) (drop place register)) ≡ packed count number
+    → number < 10 ^ count → value (take (hi + 1 - place) (drop place register)) ≡ word_of_digits count number
     → decimal_in register place count ≡ Some number
 packed_written register place hi count number is ends inside small held =
     let part = take count (drop place register) in
     let places : hi + 1 - place ≡ count = omega arith in
-    let held_in : value part ≡ packed count number = rw places at held in
+    let held_in : value part ≡ word_of_digits count number = rw places at held in
     let size : length part ≡ count = length-take-le count (drop place register) (omega (arith, length-drop place register, is.size)) in
-    let part_is : part ≡ digits_of count (packed count number) =
+    let part_is : part ≡ digits_of count (word_of_digits count number) =
     sym (digits_of-value count part (record {
       size = size;
       each = All-take (λ digit. digit < 16) count (drop place register) (All-drop (λ digit. digit < 16) place register is.each);

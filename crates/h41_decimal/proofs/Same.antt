@@ -5,7 +5,7 @@ use Rattle.std.specs.Option.{option_map}
 use Rattle.std.proofs.lemmas.Bool.{cases_lt}
 use Rattle.std.proofs.Math.Bridge.{le_prop}
 use Rattle.std.proofs.Math.Nat.{eq_of_mul-eq-mul_right}
-use Rattle.h41_decimal.specs.Signs.{signed, sign_of}
+use Rattle.h41_decimal.specs.Signs.{with_sign, sign_of}
 use Rattle.h41_decimal.specs.Units.{size, units}
 use Rattle.h41_decimal.specs.declared.parts.Mantissa.{Mantissa}
 use Rattle.h41_decimal.specs.declared.parts.Exponent.{Exponent}
@@ -67,7 +67,7 @@ same_sizes x y e =
     let mn : m ≡ n = eq_of_mul-eq-mul_right (10 ^ s) (ten_pow_pos s) m n f in
     same_parts x y (same_mantissa x.mantissa y.mantissa mn) (same_exponent_of x.exponent y.exponent st)
 
-no_zero : (s : Sign) (y : Magnitude) → pos 0 ≡ signed s (size y) → ⊥
+no_zero : (s : Sign) (y : Magnitude) → pos 0 ≡ with_sign s (size y) → ⊥
 no_zero s y e =
     let a : 0 ≡ size y = ap unsigned_abs e ∙ unsigned_abs-signed s (size y) in
     let h = size_pos y in

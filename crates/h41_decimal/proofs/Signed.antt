@@ -4,7 +4,7 @@ use Rattle.std.proofs.lemmas.Bool.Decides.{nat_tests}
 use Rattle.std.specs.Prelude.{ℤ, pos, negsuc, neg_ℤ, ◌+ℤ◌, ◌-ℤ◌, ◌*ℤ◌, ◌==◌}
 use Rattle.std.proofs.lemmas.Int.{ints}
 use Rattle.std.proofs.Math.IntN.{pos-*ℤ-pos, pos-*ℤ-negsuc, negsuc-*ℤ-pos, negsuc-*ℤ-negsuc, *ℤ-zero, zero-*ℤ}
-use Rattle.h41_decimal.specs.Signs.{signed, opposite_of, product_of}
+use Rattle.h41_decimal.specs.Signs.{with_sign, opposite_of, product_of}
 use Rattle.h41_decimal.specs.NearestDecimal.{Fraction, IsRounded, Nearest}
 use Rattle.h41_decimal.specs.declared.fault.DecimalFault.{DecimalFault}
 use Rattle.h41_decimal.specs.declared.sign.Sign.{Sign}
@@ -20,7 +20,7 @@ not_zero A B n n_pos b =
     subst P (sym f) b
 
 -- the nearest decimal of a size with a sign
-pub nearest_of : (z : ℤ) (d : ℕ) (sign : Sign) (n : ℕ) (answer : Result Ten DecimalFault) → z ≡ signed sign n → 0 < n
+pub nearest_of : (z : ℤ) (d : ℕ) (sign : Sign) (n : ℕ) (answer : Result Ten DecimalFault) → z ≡ with_sign sign n → 0 < n
     → IsRounded sign (Fraction n d) answer → Nearest z d answer
 nearest_of z d sign zero answer e n_pos rounded = absurd (omega arith)
 nearest_of z d Plus (suc n) answer e n_pos rounded =
@@ -35,33 +35,33 @@ pub nearest_of_zero : (z : ℤ) (d : ℕ) (answer : Result Ten DecimalFault) →
 nearest_of_zero z d answer e zero_is = let P : ℤ → Type 0 = λ t. Nearest t d answer in subst P (sym e) zero_is
 
 -- sums and differences of sizes with one sign
-pub signed-add : (sign : Sign) (a b : ℕ) → signed sign a +ℤ signed sign b ≡ signed sign (a + b)
+pub signed-add : (sign : Sign) (a b : ℕ) → with_sign sign a +ℤ with_sign sign b ≡ with_sign sign (a + b)
 signed-add Plus a b = refl
 signed-add Minus a b = omega (arith, ints)
 
-pub signed-sub : (sign : Sign) (a b r : ℕ) → r + b ≡ a → signed sign a -ℤ signed sign b ≡ signed sign r
+pub signed-sub : (sign : Sign) (a b r : ℕ) → r + b ≡ a → with_sign sign a -ℤ with_sign sign b ≡ with_sign sign r
 signed-sub Plus a b r e = omega (arith, ints)
 signed-sub Minus a b r e = omega (arith, ints)
 
-pub signed-sub_turned : (sign : Sign) (a b r : ℕ) → r + a ≡ b → signed sign a -ℤ signed sign b ≡ signed (opposite_of sign) r
+pub signed-sub_turned : (sign : Sign) (a b r : ℕ) → r + a ≡ b → with_sign sign a -ℤ with_sign sign b ≡ with_sign (opposite_of sign) r
 signed-sub_turned Plus a b r e = omega (arith, ints)
 signed-sub_turned Minus a b r e = omega (arith, ints)
 
-pub signed-sub_same : (sign : Sign) (a b : ℕ) → a ≡ b → signed sign a -ℤ signed sign b ≡ pos 0
+pub signed-sub_same : (sign : Sign) (a b : ℕ) → a ≡ b → with_sign sign a -ℤ with_sign sign b ≡ pos 0
 signed-sub_same Plus a b e = omega (arith, ints)
 signed-sub_same Minus a b e = omega (arith, ints)
 
 -- the size zero with any sign
-pub signed-zero : (sign : Sign) (n : ℕ) → n ≡ 0 → signed sign n ≡ pos 0
+pub signed-zero : (sign : Sign) (n : ℕ) → n ≡ 0 → with_sign sign n ≡ pos 0
 signed-zero sign zero e = zero_of sign
   where
-    zero_of : (sign : Sign) → signed sign 0 ≡ pos 0
+    zero_of : (sign : Sign) → with_sign sign 0 ≡ pos 0
     zero_of Plus = refl
     zero_of Minus = refl
 signed-zero sign (suc n) e = absurd (omega arith)
 
 -- the product of two sizes with signs
-pub signed-mul : (s t : Sign) (a b : ℕ) → signed s a *ℤ signed t b ≡ signed (product_of s t) (a * b)
+pub signed-mul : (s t : Sign) (a b : ℕ) → with_sign s a *ℤ with_sign t b ≡ with_sign (product_of s t) (a * b)
 signed-mul Plus Plus a b = pos-*ℤ-pos a b
 signed-mul Plus Minus a zero = *ℤ-zero (pos a) ∙ sym (signed-zero Minus (a * 0) (omega arith))
 signed-mul Plus Minus a (suc b) = pos-*ℤ-negsuc a b

@@ -4,7 +4,7 @@ use Rattle.std.specs.Prelude.{pos, unsigned_abs}
 use Rattle.std.proofs.Math.Nat.{mul-pos, mul-le-mul_right, mul-lt-mul_of_pos_right, div-mul-le_self, lt-div-mul-add, pow-le-pow_right}
 use Rattle.std.proofs.Math.Nat.{pow-suc}
 use Rattle.std.proofs.lemmas.Nat.{pow-add}
-use Rattle.h41_decimal.specs.Signs.{signed, sign_of}
+use Rattle.h41_decimal.specs.Signs.{with_sign, sign_of}
 use Rattle.h41_decimal.specs.Units.{size}
 use Rattle.h41_decimal.specs.NearestDecimal.{Fraction, Nearest}
 use Rattle.h41_decimal.specs.Operations.{RoundsTo}
@@ -21,18 +21,18 @@ use Rattle.h41_decimal.proofs.Exact.{exact_fraction}
 use Rattle.h41_decimal.proofs.Signed.{nearest_of, nearest_of_zero, signed-zero}
 use Rattle.h41_decimal.proofs.Tens.{size_pos, unsigned_abs-signed, own_nearest}
 
-pub sign_of-signed : (sign : Sign) (n : ℕ) → 0 < n → sign_of (signed sign n) ≡ sign
+pub sign_of-signed : (sign : Sign) (n : ℕ) → 0 < n → sign_of (with_sign sign n) ≡ sign
 sign_of-signed Plus n h = refl
 sign_of-signed Minus zero h = absurd (omega arith)
 sign_of-signed Minus (suc n) h = refl
 
 -- a size with its sign rounds as the size does
 pub rounds_of : (sign : Sign) (n steps step : ℕ) (answer : Result Ten DecimalFault) → 0 < n
-    → 2 * (steps * step) ≤ 2 * n + step → 2 * n + step < 2 * ((steps + 1) * step) → Nearest (signed sign (steps * step)) 1 answer
-    → RoundsTo step (signed sign n) answer
+    → 2 * (steps * step) ≤ 2 * n + step → 2 * n + step < 2 * ((steps + 1) * step) → Nearest (with_sign sign (steps * step)) 1 answer
+    → RoundsTo step (with_sign sign n) answer
 rounds_of sign n steps step answer n_pos low high nearest =
-    let a : unsigned_abs (signed sign n) ≡ n = unsigned_abs-signed sign n in
-    let P : Sign → Type 0 = λ t. Nearest (signed t (steps * step)) 1 answer in
+    let a : unsigned_abs (with_sign sign n) ≡ n = unsigned_abs-signed sign n in
+    let P : Sign → Type 0 = λ t. Nearest (with_sign t (steps * step)) 1 answer in
     record {
       steps = steps;
       not_above = omega arith;
@@ -46,25 +46,25 @@ zero_rounds step step_pos = record {
   steps = 0;
   not_above = omega arith;
   next_above = omega arith;
-  value = nearest_of_zero (signed Plus (0 * step)) 1 (Ok Zero) (signed-zero Plus (0 * step) (omega arith)) refl;
+  value = nearest_of_zero (with_sign Plus (0 * step)) 1 (Ok Zero) (signed-zero Plus (0 * step) (omega arith)) refl;
 }
 
 -- a size with no place below the step stays as it is
 pub whole_rounds : (sign : Sign) (x : Magnitude) (place : ℕ) → place ≤ x.exponent.biased
-    → RoundsTo (10 ^ place) (signed sign (size x)) (Ok (Nonzero sign x))
+    → RoundsTo (10 ^ place) (with_sign sign (size x)) (Ok (Nonzero sign x))
 whole_rounds sign x place low =
     let m = x.mantissa.digits in
     let s = x.exponent.biased in
     let p : 10 ^ (s - place) * 10 ^ place ≡ 10 ^ s = power_parts (s - place) place s (omega arith) in
     let e : (m * 10 ^ (s - place)) * 10 ^ place ≡ m * 10 ^ s = (let f = ap (λ t. m * t) p in omega (arith, f)) in
     let some = ten_pow_pos place in
-    let P : ℕ → Type 0 = λ t. Nearest (signed sign t) 1 (Ok (Nonzero sign x)) in
+    let P : ℕ → Type 0 = λ t. Nearest (with_sign sign t) 1 (Ok (Nonzero sign x)) in
     rounds_of sign (m * 10 ^ s) (m * 10 ^ (s - place)) (10 ^ place) (Ok (Nonzero sign x)) (size_pos x) (omega arith) (omega arith)
     (subst P (sym e) (own_nearest (Nonzero sign x)))
 
 -- one far below half a step becomes zero
 pub tiny_rounds : (sign : Sign) (x : Magnitude) (place : ℕ) → x.exponent.biased + 10 < place
-    → RoundsTo (10 ^ place) (signed sign (size x)) (Ok Zero)
+    → RoundsTo (10 ^ place) (with_sign sign (size x)) (Ok Zero)
 tiny_rounds sign x place far =
     let m = x.mantissa.digits in
     let s = x.exponent.biased in
@@ -75,7 +75,7 @@ tiny_rounds sign x place far =
     let q : 10 ^ (s + 11) ≡ 10 ^ s * 10 ^ 11 = pow-add 10 s 11 in
     let a : m * 10 ^ s < 10 ^ 10 * 10 ^ s = mul-lt-mul_of_pos_right m_below (ten_pow_pos s) in
     rounds_of sign (m * 10 ^ s) 0 (10 ^ place) (Ok Zero) (size_pos x) (omega arith) (omega arith)
-    (nearest_of_zero (signed sign (0 * 10 ^ place)) 1 (Ok Zero) (signed-zero sign (0 * 10 ^ place) (omega arith)) refl)
+    (nearest_of_zero (with_sign sign (0 * 10 ^ place)) 1 (Ok Zero) (signed-zero sign (0 * 10 ^ place) (omega arith)) refl)
 
 -- the quotient that is rounded, of digits m by the step p, at the place of x
 steps_low : (m p ps k : ℕ) → k * p ≤ m + p / 2 → 2 * (k * (p * ps)) ≤ 2 * (m * ps) + p * ps
@@ -94,8 +94,8 @@ half_of_power p (suc dropped) e h = let q : 10 ^ suc dropped ≡ 10 ^ dropped * 
 
 quotient_rounds : (sign : Sign) (x : Magnitude) (place dropped p k : ℕ) (answer : Result Ten DecimalFault)
     → dropped + x.exponent.biased ≡ place → 0 < dropped → p ≡ 10 ^ dropped
-    → k ≡ (x.mantissa.digits + p / 2) / p → Nearest (signed sign (k * 10 ^ place)) 1 answer
-    → RoundsTo (10 ^ place) (signed sign (size x)) answer
+    → k ≡ (x.mantissa.digits + p / 2) / p → Nearest (with_sign sign (k * 10 ^ place)) 1 answer
+    → RoundsTo (10 ^ place) (with_sign sign (size x)) answer
 quotient_rounds sign x place dropped p k answer places some p_is k_is nearest =
     let m = x.mantissa.digits in
     let s = x.exponent.biased in
@@ -114,11 +114,11 @@ quotient_rounds sign x place dropped p k answer places some p_is k_is nearest =
 
 -- a quotient of zero
 pub quotient_rounds_to_zero : (sign : Sign) (x : Magnitude) (place dropped p k : ℕ) → dropped + x.exponent.biased ≡ place → 0 < dropped
-    → p ≡ 10 ^ dropped → k ≡ (x.mantissa.digits + p / 2) / p → k ≡ 0 → RoundsTo (10 ^ place) (signed sign (size x)) (Ok Zero)
+    → p ≡ 10 ^ dropped → k ≡ (x.mantissa.digits + p / 2) / p → k ≡ 0 → RoundsTo (10 ^ place) (with_sign sign (size x)) (Ok Zero)
 quotient_rounds_to_zero sign x place dropped p k places some p_is k_is none =
     let e : k * 10 ^ place ≡ 0 = ap (λ t. t * 10 ^ place) none ∙ omega arith in
     quotient_rounds sign x place dropped p k (Ok Zero) places some p_is k_is
-    (nearest_of_zero (signed sign (k * 10 ^ place)) 1 (Ok Zero) (signed-zero sign (k * 10 ^ place) e) refl)
+    (nearest_of_zero (with_sign sign (k * 10 ^ place)) 1 (Ok Zero) (signed-zero sign (k * 10 ^ place) e) refl)
 
 pub at_unit_scale : (k place : ℕ) → (k * 10 ^ place) * 10 ^ 128 ≡ (k * 10 ^ (place + 128)) * 1
 at_unit_scale k place = let p = ap (λ t. k * t) (pow-add 10 place 128) in omega (arith, p)
@@ -126,8 +126,8 @@ at_unit_scale k place = let p = ap (λ t. k * t) (pow-add 10 place 128) in omega
 -- and another, rounded to ten digits
 pub quotient_rounds_to_steps : (sign : Sign) (x : Magnitude) (place dropped p k : ℕ) (answer : Result Ten DecimalFault)
     → dropped + x.exponent.biased ≡ place → 0 < dropped → p ≡ 10 ^ dropped → k ≡ (x.mantissa.digits + p / 2) / p → 0 < k
-    → RoundsWhole sign k (place + 128) answer → RoundsTo (10 ^ place) (signed sign (size x)) answer
+    → RoundsWhole sign k (place + 128) answer → RoundsTo (10 ^ place) (with_sign sign (size x)) answer
 quotient_rounds_to_steps sign x place dropped p k answer places some p_is k_is k_pos rounds =
     quotient_rounds sign x place dropped p k answer places some p_is k_is
-    (nearest_of (signed sign (k * 10 ^ place)) 1 sign (k * 10 ^ place) answer refl (mul-pos k_pos (ten_pow_pos place))
+    (nearest_of (with_sign sign (k * 10 ^ place)) 1 sign (k * 10 ^ place) answer refl (mul-pos k_pos (ten_pow_pos place))
     (rounds (Fraction (k * 10 ^ place) 1) (exact_fraction (k * 10 ^ place) 1 k (place + 128) (omega arith) (at_unit_scale k place))))

@@ -14,7 +14,7 @@ use denote.Enum.Bare.{sameb}
 use Rattle.h41_decimal.specs.contracts.sign.Sign.{the_type}
 use Rattle.std.proofs.Math.IntN.{zero-*ℤ}
 use Rattle.std.proofs.lemmas.Nat.{pow-add}
-use Rattle.h41_decimal.specs.Signs.{signed, opposite_of, product_of}
+use Rattle.h41_decimal.specs.Signs.{with_sign, opposite_of, product_of}
 use Rattle.h41_decimal.specs.Units.{one, size, size_of, units}
 use Rattle.h41_decimal.specs.NearestDecimal.{Exact, Fraction, RootOf, IsBounded, IsRounded, Nearest, NearestRoot}
 use Rattle.h41_decimal.specs.Operations.{NearestQuotient}
@@ -37,7 +37,7 @@ size_pos x =
     let d : 0 < x.mantissa.digits = omega arith in
     mul-pos d (ten_pow_pos x.exponent.biased)
 
-pub unsigned_abs-signed : (sign : Sign) (n : ℕ) → unsigned_abs (signed sign n) ≡ n
+pub unsigned_abs-signed : (sign : Sign) (n : ℕ) → unsigned_abs (with_sign sign n) ≡ n
 unsigned_abs-signed Plus n = refl
 unsigned_abs-signed Minus zero = refl
 unsigned_abs-signed Minus (suc n) = refl
@@ -49,10 +49,10 @@ own_bounded sign x steps e =
     let low : x.exponent.biased ≤ 198 = x.exponent.in_range in
     let small : steps ≤ 198 = omega arith in
     let t : nat_le steps 198 ≡ true = grind (arith, nat_tests) in
-    let same : signed sign (size x) ≡ signed sign (size_of x.mantissa.digits steps) =
-    ap (λ k. signed sign (size_of x.mantissa.digits k)) (sym e) in
+    let same : with_sign sign (size x) ≡ with_sign sign (size_of x.mantissa.digits steps) =
+    ap (λ k. with_sign sign (size_of x.mantissa.digits k)) (sym e) in
     let answer : Result Ten DecimalFault = Ok (Nonzero sign x) in
-    let Then : Type 0 = IsOkAnd answer (λ number. units number ≡ signed sign (size_of x.mantissa.digits steps)) in
+    let Then : Type 0 = IsOkAnd answer (λ number. units number ≡ with_sign sign (size_of x.mantissa.digits steps)) in
     let Else : Type 0 = answer ≡ Err Range in
     let P : Bool → Type 0 = λ b. MatchBool b Then Else in
     subst P (sym t) same
@@ -87,18 +87,18 @@ own_nearest (Nonzero sign x) =
 
 -- the product, and a hundredth of it
 pub product_nearest : (s t : Sign) (x y : Magnitude) (d : ℕ) (answer : Result Ten DecimalFault)
-    → IsRounded (product_of s t) (Fraction (size x * size y) d) answer → Nearest (signed s (size x) *ℤ signed t (size y)) d answer
+    → IsRounded (product_of s t) (Fraction (size x * size y) d) answer → Nearest (with_sign s (size x) *ℤ with_sign t (size y)) d answer
 product_nearest s t x y d answer rounded =
     nearest_of _ d (product_of s t) (size x * size y) answer (signed-mul s t (size x) (size y)) (mul-pos (size_pos x) (size_pos y)) rounded
 
 -- the quotient by what is not zero
 pub quotient_by : (z : ℤ) (t : Sign) (y : Magnitude) (answer : Result Ten DecimalFault)
-    → Nearest (z *ℤ signed t (size y) *ℤ pos one) (size y * size y) answer → NearestQuotient z (signed t (size y)) answer
+    → Nearest (z *ℤ with_sign t (size y) *ℤ pos one) (size y * size y) answer → NearestQuotient z (with_sign t (size y)) answer
 quotient_by z t y answer nearest =
-    let e : unsigned_abs (signed t (size y)) ≡ size y = unsigned_abs-signed t (size y) in
-    let some : 0 < unsigned_abs (signed t (size y)) = subst (λ n. 0 < n) (sym e) (size_pos y) in
-    not_zero (answer ≡ Err Data) _ (unsigned_abs (signed t (size y))) some
-    (subst (λ n. Nearest (z *ℤ signed t (size y) *ℤ pos one) (n * n) answer) (sym e) nearest)
+    let e : unsigned_abs (with_sign t (size y)) ≡ size y = unsigned_abs-signed t (size y) in
+    let some : 0 < unsigned_abs (with_sign t (size y)) = subst (λ n. 0 < n) (sym e) (size_pos y) in
+    not_zero (answer ≡ Err Data) _ (unsigned_abs (with_sign t (size y))) some
+    (subst (λ n. Nearest (z *ℤ with_sign t (size y) *ℤ pos one) (n * n) answer) (sym e) nearest)
 
 pub product_with_plus : (s : Sign) → product_of s Plus ≡ s
 product_with_plus Plus = refl
@@ -106,30 +106,30 @@ product_with_plus Minus = refl
 
 pub quotient_nearest : (s t : Sign) (x y : Magnitude) (answer : Result Ten DecimalFault)
     → IsRounded (product_of s t) (Fraction (size x * size y * one) (size y * size y)) answer
-    → NearestQuotient (signed s (size x)) (signed t (size y)) answer
+    → NearestQuotient (with_sign s (size x)) (with_sign t (size y)) answer
 quotient_nearest s t x y answer rounded =
-    let e : signed s (size x) *ℤ signed t (size y) *ℤ pos one ≡ signed (product_of s t) (size x * size y * one) =
+    let e : with_sign s (size x) *ℤ with_sign t (size y) *ℤ pos one ≡ with_sign (product_of s t) (size x * size y * one) =
     ap (λ z. z *ℤ pos one) (signed-mul s t (size x) (size y))
     ∙ (signed-mul (product_of s t) Plus (size x * size y) one
-    ∙ ap (λ u. signed u (size x * size y * one)) (product_with_plus (product_of s t))) in
-    quotient_by (signed s (size x)) t y answer
+    ∙ ap (λ u. with_sign u (size x * size y * one)) (product_with_plus (product_of s t))) in
+    quotient_by (with_sign s (size x)) t y answer
     (nearest_of _ (size y * size y) (product_of s t) (size x * size y * one) answer
     e (mul-pos (mul-pos (size_pos x) (size_pos y)) (ten_pow_pos 108)) rounded)
 
-pub quotient_of_zero : (t : Sign) (y : Magnitude) → NearestQuotient (pos 0) (signed t (size y)) (Ok Zero)
+pub quotient_of_zero : (t : Sign) (y : Magnitude) → NearestQuotient (pos 0) (with_sign t (size y)) (Ok Zero)
 quotient_of_zero t y =
     quotient_by (pos 0) t y (Ok Zero)
-    (nearest_of_zero _ (size y * size y) (Ok Zero) (ap (λ z. z *ℤ pos one) (zero-*ℤ (signed t (size y))) ∙ zero-*ℤ (pos one)) refl)
+    (nearest_of_zero _ (size y * size y) (Ok Zero) (ap (λ z. z *ℤ pos one) (zero-*ℤ (with_sign t (size y))) ∙ zero-*ℤ (pos one)) refl)
 
 -- the square root of what is above zero, and of what is below
 pub root_nearest : (x : Magnitude) (answer : Result Ten DecimalFault) → IsRounded Plus (RootOf (size x * one)) answer
-    → NearestRoot (signed Plus (size x)) answer
+    → NearestRoot (with_sign Plus (size x)) answer
 root_nearest x answer rounded = not_zero (answer ≡ Ok Zero) _ (size x) (size_pos x) rounded
 
-pub root_of_negative : (x : Magnitude) → NearestRoot (signed Minus (size x)) (Err Data)
+pub root_of_negative : (x : Magnitude) → NearestRoot (with_sign Minus (size x)) (Err Data)
 root_of_negative x = go (size x) (size_pos x)
   where
-    go : (n : ℕ) → 0 < n → NearestRoot (signed Minus n) (Err Data)
+    go : (n : ℕ) → 0 < n → NearestRoot (with_sign Minus n) (Err Data)
     go zero n_pos = absurd (omega arith)
     go (suc n) n_pos = refl
 
@@ -153,7 +153,7 @@ plus_comm y z = omega (arith, ints)
 pub plus_negative : (y z : ℤ) → y -ℤ z ≡ y +ℤ neg_ℤ z
 plus_negative y z = omega (arith, ints)
 
-pub minus_same_sign : (s : Sign) (a b : ℕ) → signed s a +ℤ signed (opposite_of s) b ≡ signed s a -ℤ signed s b
+pub minus_same_sign : (s : Sign) (a b : ℕ) → with_sign s a +ℤ with_sign (opposite_of s) b ≡ with_sign s a -ℤ with_sign s b
 minus_same_sign Plus a b = omega (arith, ints)
 minus_same_sign Minus a b = omega (arith, ints)
 

@@ -4,7 +4,7 @@ use Rattle.std.specs.Prelude.{ℤ, pos, ◌-ℤ◌}
 use Rattle.std.proofs.Math.Nat.{mul-le-mul_right, mul-lt-mul_of_pos_right, pow-le-pow_right, div-mul-le_self, lt-div-mul-add}
 use Rattle.std.proofs.lemmas.Nat.{div-add-mod'}
 use Rattle.std.proofs.lemmas.Bool.{cases_lt}
-use Rattle.h41_decimal.specs.Signs.{signed, sign_of}
+use Rattle.h41_decimal.specs.Signs.{with_sign, sign_of}
 use Rattle.h41_decimal.specs.Units.{one}
 use Rattle.h41_decimal.specs.WholeParts.{HasOnes, IsIntegerPart, IsFraction}
 use Rattle.h41_decimal.specs.Laws.{OnesAreDetermined, IntegerPartIsDetermined, FractionIsDetermined}
@@ -64,23 +64,24 @@ split_at_ones m s k p is e =
     omega arith
 
 -- with the sign
-pub integer_of : (sign : Sign) (n ones : ℕ) (part : ℤ) → 0 < n → HasOnes n ones → part ≡ signed sign (ones * 10 ^ 108)
-    → IsIntegerPart (signed sign n) part
+pub integer_of : (sign : Sign) (n ones : ℕ) (part : ℤ) → 0 < n → HasOnes n ones → part ≡ with_sign sign (ones * 10 ^ 108)
+    → IsIntegerPart (with_sign sign n) part
 integer_of sign n ones part n_pos has e = record {
   ones = ones;
   whole = subst (λ k. HasOnes k ones) (sym (unsigned_abs-signed sign n)) has;
-  value = e ∙ ap (λ t. signed t (ones * 10 ^ 108)) (sym (sign_of-signed sign n n_pos));
+  value = e ∙ ap (λ t. with_sign t (ones * 10 ^ 108)) (sym (sign_of-signed sign n n_pos));
 }
 
-pub fraction_of : (sign : Sign) (n ones r : ℕ) (fraction : ℤ) → 0 < n → HasOnes n ones → r + ones * 10 ^ 108 ≡ n → fraction ≡ signed sign r
-    → IsFraction (signed sign n) fraction
+pub fraction_of : (sign : Sign) (n ones r : ℕ) (fraction : ℤ) → 0 < n → HasOnes n ones → r + ones * 10 ^ 108 ≡ n → fraction
+    ≡ with_sign sign r
+    → IsFraction (with_sign sign n) fraction
 fraction_of sign n ones r fraction n_pos has sum e = record {
-  part = signed sign (ones * 10 ^ 108);
-  integer = integer_of sign n ones (signed sign (ones * 10 ^ 108)) n_pos has refl;
+  part = with_sign sign (ones * 10 ^ 108);
+  integer = integer_of sign n ones (with_sign sign (ones * 10 ^ 108)) n_pos has refl;
   rest = e ∙ sym (signed-sub sign n (ones * 10 ^ 108) r sum);
 }
 
-pub no_fraction : (sign : Sign) (n ones : ℕ) → 0 < n → HasOnes n ones → ones * 10 ^ 108 ≡ n → IsFraction (signed sign n) (pos 0)
+pub no_fraction : (sign : Sign) (n ones : ℕ) → 0 < n → HasOnes n ones → ones * 10 ^ 108 ≡ n → IsFraction (with_sign sign n) (pos 0)
 no_fraction sign n ones n_pos has all = fraction_of sign n ones 0 (pos 0) n_pos has (omega arith) (sym (signed-zero sign 0 refl))
 
 -- a number of up to ten digits, filled with zeros
@@ -124,7 +125,7 @@ ones_determined size x y p q =
 
 pub integer_determined : IntegerPartIsDetermined
 integer_determined number x y p q =
-    p.value ∙ ap (λ k. signed (sign_of number) (k * one)) (ones_determined _ p.ones q.ones p.whole q.whole) ∙ sym q.value
+    p.value ∙ ap (λ k. with_sign (sign_of number) (k * one)) (ones_determined _ p.ones q.ones p.whole q.whole) ∙ sym q.value
 
 pub fraction_determined : FractionIsDetermined
 fraction_determined number x y p q =

@@ -4,7 +4,7 @@ use Rattle.std.specs.Prelude.{slice_index, Option, Some, None, nat_le, nat_lt, �
 use Rattle.std.specs.Prelude.{ℤ, pos}
 use Rattle.std.specs.Option.{option_map}
 use Rattle.h41_digits.specs.Register.{byte_at}
-use Rattle.h41_decimal.specs.Signs.{signed}
+use Rattle.h41_decimal.specs.Signs.{with_sign}
 use Rattle.h41_decimal.specs.Units.{size_of}
 use Rattle.h41_decimal.specs.declared.sign.Sign.{Sign}
 use Rattle.h41_decimal.specs.declared.sign.Sign.TheVariants.{Plus, Minus}
@@ -43,7 +43,7 @@ steps_in exponent =
 -- what ten digits are worth with a sign and an exponent: the first of them is not zero
 abbrev pub digits_worth : ℕ → Option Sign → Option ℕ → Option ℤ
 digits_worth mantissa (Some sign) (Some steps) =
-    if nat_lt mantissa (10 ^ 9) then None else Some (signed sign (size_of mantissa steps))
+    if nat_lt mantissa (10 ^ 9) then None else Some (with_sign sign (size_of mantissa steps))
 digits_worth mantissa _ _ = None
 
 -- what the parts of a register are worth: zero is all zeros

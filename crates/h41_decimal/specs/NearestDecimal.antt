@@ -1,7 +1,7 @@
 -- The nearest decimal of ten digits, halves away from zero, by comparisons of whole numbers alone.
 use Rattle.std.specs.Prelude.{◌≡◌, ℕ, ◌+◌, ◌*◌, ◌^◌, ◌<◌, ◌≤◌, ◌==◌, nat_le, MatchBool, IsOkAnd, Ok}
 use Rattle.std.specs.Prelude.{Err, Result, ℤ, pos, negsuc, unsigned_abs}
-use Rattle.h41_decimal.specs.Signs.{signed, sign_of}
+use Rattle.h41_decimal.specs.Signs.{with_sign, sign_of}
 use Rattle.h41_decimal.specs.Units.{one, size_of, units}
 use Rattle.h41_decimal.specs.declared.fault.DecimalFault.{DecimalFault}
 use Rattle.h41_decimal.specs.declared.fault.DecimalFault.TheVariants.{Data, Range}
@@ -60,7 +60,7 @@ abbrev pub IsBounded : Sign → ℕ → ℤ → Result Ten DecimalFault → Type
 IsBounded sign digits (negsuc steps) answer = answer ≡ Ok Zero
 IsBounded sign digits (pos steps) answer =
     MatchBool (nat_le steps 198)
-    (IsOkAnd answer (λ number. units number ≡ signed sign (size_of digits steps)))
+    (IsOkAnd answer (λ number. units number ≡ with_sign sign (size_of digits steps)))
     (answer ≡ Err Range)
 
 -- the answer for an exact size above zero and a sign: its nearest decimal, whatever the exponent,

@@ -1,7 +1,7 @@
 -- The exact values that the operations round.
 use Rattle.std.specs.Prelude.{◌≡◌, ℕ, ◌+◌, ◌-◌, ◌*◌, ◌^◌, ◌<◌, ◌≤◌, ◌==◌, MatchBool, Ok, Err}
 use Rattle.std.specs.Prelude.{Result, ℤ, pos, negsuc, ◌+ℤ◌, ◌-ℤ◌, ◌*ℤ◌, ◌<ℤ◌, ◌≤ℤ◌, unsigned_abs}
-use Rattle.h41_decimal.specs.Signs.{signed, sign_of}
+use Rattle.h41_decimal.specs.Signs.{with_sign, sign_of}
 use Rattle.h41_decimal.specs.Units.{one, units}
 use Rattle.h41_decimal.specs.NearestDecimal.{Nearest}
 use Rattle.h41_decimal.specs.declared.fault.DecimalFault.{DecimalFault}
@@ -47,4 +47,4 @@ pub record RoundsTo (step : ℕ) (number : ℤ) (answer : Result Ten DecimalFaul
   pub steps : ℕ
   pub not_above : 2 * (steps * step) ≤ 2 * unsigned_abs number + step
   pub next_above : 2 * unsigned_abs number + step < 2 * ((steps + 1) * step)
-  pub value : Nearest (signed (sign_of number) (steps * step)) 1 answer
+  pub value : Nearest (with_sign (sign_of number) (steps * step)) 1 answer

@@ -14,9 +14,9 @@ product_of Plus other = other
 product_of Minus other = opposite_of other
 
 -- a size with a sign
-abbrev pub signed : Sign → ℕ → ℤ
-signed Plus size = pos size
-signed Minus size = neg_ℤ (pos size)
+abbrev pub with_sign : Sign → ℕ → ℤ
+with_sign Plus size = pos size
+with_sign Minus size = neg_ℤ (pos size)
 
 -- the sign of a number
 abbrev pub sign_of : ℤ → Sign

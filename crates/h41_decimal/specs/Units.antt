@@ -2,7 +2,7 @@
 -- the smallest decimals, those of exponent -99, counts such units, so every decimal is a whole
 -- number of them.
 use Rattle.std.specs.Prelude.{ℕ, ◌*◌, ◌^◌, ℤ, pos}
-use Rattle.h41_decimal.specs.Signs.{signed}
+use Rattle.h41_decimal.specs.Signs.{with_sign}
 use Rattle.h41_decimal.specs.declared.parts.Magnitude.{Magnitude}
 use Rattle.h41_decimal.specs.declared.ten.Ten.{Ten}
 use Rattle.h41_decimal.specs.declared.ten.Ten.TheVariants.{Zero, Nonzero}
@@ -21,4 +21,4 @@ size x = size_of x.mantissa.digits x.exponent.biased
 -- how many units a decimal is worth
 abbrev pub units : Ten → ℤ
 units Zero = pos 0
-units (Nonzero sign x) = signed sign (size x)
+units (Nonzero sign x) = with_sign sign (size x)

@@ -1,6 +1,6 @@
 -- The integer part and the fraction of a number, by whole numbers of units alone.
 use Rattle.std.specs.Prelude.{◌≡◌, ℕ, ◌+◌, ◌*◌, ◌<◌, ◌≤◌, ℤ, ◌-ℤ◌, unsigned_abs}
-use Rattle.h41_decimal.specs.Signs.{signed, sign_of}
+use Rattle.h41_decimal.specs.Signs.{with_sign, sign_of}
 use Rattle.h41_decimal.specs.Units.{one}
 
 -- a size has so many whole ones
@@ -12,7 +12,7 @@ pub record HasOnes (size ones : ℕ) : Type 0 where
 pub record IsIntegerPart (number part : ℤ) : Type 0 where
   pub ones : ℕ
   pub whole : HasOnes (unsigned_abs number) ones
-  pub value : part ≡ signed (sign_of number) (ones * one)
+  pub value : part ≡ with_sign (sign_of number) (ones * one)
 
 -- the fraction of a number: what is left of it without its integer part
 pub record IsFraction (number fraction : ℤ) : Type 0 where

@@ -1,9 +1,9 @@
 //! A number from its digits, as it is typed.
 
 ghost use Rattle.std.specs.Prelude.{◌≡◌, ◌≤◌};
-ghost use Rattle.h41_decimal.specs.Signs.{signed};
+ghost use Rattle.h41_decimal.specs.Signs.{with_sign};
 ghost use Rattle.h41_decimal.specs.Units.{units};
-ghost use Rattle.h41_decimal.specs.NumberEntry.{IsTyped, greatest as greatest_size};
+ghost use Rattle.h41_decimal.specs.NumberEntry.{IsTyped, size_of_greatest as greatest_size};
 
 use crate::parts::{Exponent, Magnitude, Mantissa};
 use crate::rounding::round_whole;
@@ -30,7 +30,7 @@ pub fn typed(sign: Sign, digits: u64, places: u8, exponent: Exponent) -> Ten
 
 /// The greatest number with a sign: 9.999999999E99.
 pub fn greatest(sign: Sign) -> Ten
-    ensures { units result ≡ signed sign greatest_size }
+    ensures { units result ≡ with_sign sign greatest_size }
 {
     let mantissa = Mantissa {
         digits: 9_999_999_999,

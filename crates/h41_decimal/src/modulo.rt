@@ -1,7 +1,7 @@
 //! What a division to a whole number leaves.
 
 ghost use Rattle.std.specs.Prelude.{◌≡◌, ◌+◌, ◌*◌, ◌%◌, ◌^◌, ◌<◌, ◌≤◌};
-ghost use Rattle.h41_decimal.specs.Signs.{signed, opposite_of};
+ghost use Rattle.h41_decimal.specs.Signs.{with_sign, opposite_of};
 ghost use Rattle.h41_decimal.specs.Units.{size};
 ghost use Rattle.h41_decimal.specs.Operations.{RoundsRest};
 
@@ -17,7 +17,7 @@ const AT_ONCE: u32 = 28;
 
 /// What is left of a size with a sign by another.
 pub fn modulo(y_sign: Sign, y: Magnitude, x_sign: Sign, x: Magnitude) -> Result<Ten, DecimalFault>
-    ensures { RoundsRest (signed y_sign (size y)) (signed x_sign (size x)) result }
+    ensures { RoundsRest (with_sign y_sign (size y)) (with_sign x_sign (size x)) result }
 {
     if x_sign == y_sign {
         rest_same(x_sign, y, x)
@@ -28,7 +28,7 @@ pub fn modulo(y_sign: Sign, y: Magnitude, x_sign: Sign, x: Magnitude) -> Result<
 
 /// What is left where both have one sign: the remainder of the sizes.
 fn rest_same(sign: Sign, y: Magnitude, x: Magnitude) -> Result<Ten, DecimalFault>
-    ensures { RoundsRest (signed sign (size y)) (signed sign (size x)) result }
+    ensures { RoundsRest (with_sign sign (size y)) (with_sign sign (size x)) result }
 {
     if y.exponent.biased < x.exponent.biased {
         return Ok(Ten::Nonzero(sign, y));
@@ -43,7 +43,7 @@ fn rest_same(sign: Sign, y: Magnitude, x: Magnitude) -> Result<Ten, DecimalFault
 /// What is left where the divisor has this sign and the dividend the other: what the remainder of the sizes lacks of the
 /// divisor, or nothing.
 fn rest_apart(sign: Sign, y: Magnitude, x: Magnitude) -> Result<Ten, DecimalFault>
-    ensures { RoundsRest (signed (opposite_of sign) (size y)) (signed sign (size x)) result }
+    ensures { RoundsRest (with_sign (opposite_of sign) (size y)) (with_sign sign (size x)) result }
 {
     if y.exponent.biased < x.exponent.biased {
         return sizes::subtract(sign, x, y);

@@ -2,9 +2,9 @@
 
 ghost use Rattle.std.specs.Prelude.{◌≡◌, ℕ, ◌+◌, ◌*◌, ◌^◌, ◌<◌, ◌≤◌, IfSome, Some, None};
 ghost use Rattle.std.specs.Prelude.{slice_index};
-ghost use Rattle.h41_decimal.specs.private.PackedDigits.{packed};
+ghost use Rattle.h41_decimal.specs.private.PackedDigits.{word_of_digits};
 ghost use Rattle.h41_decimal.specs.private.SameDigits.{SameDigitsBelow, SameDigitsFrom};
-ghost use Rattle.h41_decimal.specs.Signs.{signed};
+ghost use Rattle.h41_decimal.specs.Signs.{with_sign};
 ghost use Rattle.std.specs.Option.{option_map};
 ghost use Rattle.h41_decimal.specs.Units.{size, units};
 ghost use Rattle.h41_decimal.specs.Holding.{decimal_in, sign_in, steps_in, parts_worth, holding_of};
@@ -106,7 +106,7 @@ pub fn write(number: Ten) -> Reg
 
 /// The register that holds a size with a sign.
 fn write_size(sign: Sign, x: Magnitude) -> Reg
-    ensures { holding_of result ≡ Number (signed sign (size x)) }
+    ensures { holding_of result ≡ Number (with_sign sign (size x)) }
 {
     let signed = Reg::zero().with(13, sign_digit(sign));
     let with_mantissa = with_digits(signed, 3, 10, x.mantissa.digits);
@@ -130,7 +130,7 @@ fn with_digits(register: Reg, place: usize, count: usize, number: u64) -> Reg
 /// So many decimal digits of a number in four bits each, the lowest in the lowest bits.
 fn packed_digits(number: u64, count: usize) -> u64
     requires { count ≤ 14 }
-    ensures digits { result ≡ packed count number }
+    ensures digits { result ≡ word_of_digits count number }
     ensures bound { result < 16 ^ count }
 {
     let mut packed = 0;

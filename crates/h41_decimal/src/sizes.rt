@@ -2,7 +2,7 @@
 
 ghost use Rattle.std.specs.Prelude.{◌≡◌, ◌+◌, ◌*◌, ◌^◌, ◌<◌, ◌≤◌, pos, ◌-ℤ◌};
 ghost use Rattle.std.specs.Ordering.{int_cmp};
-ghost use Rattle.h41_decimal.specs.Signs.{signed};
+ghost use Rattle.h41_decimal.specs.Signs.{with_sign};
 ghost use Rattle.h41_decimal.specs.Units.{one, size};
 ghost use Rattle.h41_decimal.specs.NearestDecimal.{IsRounded, Nearest, Fraction, RootOf};
 ghost use Rattle.h41_decimal.specs.Operations.{RoundsTo};
@@ -67,7 +67,7 @@ pub fn add(sign: Sign, x: Magnitude, y: Magnitude) -> Result<Ten, DecimalFault>
 /// The difference of two sizes that have this sign, the first of which has no lower exponent than the second.
 pub fn subtract(sign: Sign, x: Magnitude, y: Magnitude) -> Result<Ten, DecimalFault>
     requires { y.exponent.biased ≤ x.exponent.biased }
-    ensures { Nearest (signed sign (size x) -ℤ signed sign (size y)) 1 result }
+    ensures { Nearest (with_sign sign (size x) -ℤ with_sign sign (size y)) 1 result }
 {
     let apart = x.steps() - y.steps();
     if apart < FAR_APART {
@@ -107,7 +107,7 @@ pub fn compare(x: Magnitude, y: Magnitude) -> Ordering
 /// A size rounded to a whole count of steps of a place, which is ten to a power of units.
 pub fn round_at(sign: Sign, x: Magnitude, place: u32) -> Result<Ten, DecimalFault>
     requires { place < 300 }
-    ensures { RoundsTo (10 ^ place) (signed sign (size x)) result }
+    ensures { RoundsTo (10 ^ place) (with_sign sign (size x)) result }
 {
     if place <= x.steps() {
         return Ok(Ten::Nonzero(sign, x));

@@ -3,12 +3,12 @@
 ghost use Rattle.std.specs.Prelude.{◌≡◌, ◌*◌, ◌^◌, ◌<◌, ◌≤◌, pos, ◌+ℤ◌, ◌-ℤ◌, ◌*ℤ◌, neg_ℤ};
 ghost use Rattle.std.specs.Prelude.{unsigned_abs, IfSome, IfNone};
 ghost use Rattle.std.specs.Ordering.{int_cmp, nat_cmp};
-ghost use Rattle.h41_decimal.specs.Signs.{signed, sign_of};
+ghost use Rattle.h41_decimal.specs.Signs.{with_sign, sign_of};
 ghost use Rattle.h41_decimal.specs.Units.{one, size, units};
 ghost use Rattle.std.specs.Option.{option_map};
 ghost use Rattle.h41_decimal.specs.Holding.{holding_of, worth, Number};
 ghost use Rattle.h41_decimal.specs.NearestDecimal.{Nearest, NearestRoot};
-ghost use Rattle.h41_decimal.specs.NumberEntry.{IsTyped, greatest};
+ghost use Rattle.h41_decimal.specs.NumberEntry.{IsTyped, size_of_greatest};
 ghost use Rattle.h41_decimal.specs.WholeParts.{HasOnes, IsIntegerPart, IsFraction};
 ghost use Rattle.h41_decimal.specs.Operations.{NearestQuotient, NearestModulo, RoundsTo, step_of};
 
@@ -62,7 +62,7 @@ impl Ten {
 
     /// 1 or -1: 1 with the sign, so that zero's is 1.
     pub fn signum(self) -> Self
-        ensures { units result ≡ signed (sign_of (units self)) one }
+        ensures { units result ≡ with_sign (sign_of (units self)) one }
     {
         let mantissa = Mantissa {
             digits: 1_000_000_000,
@@ -73,7 +73,7 @@ impl Ten {
 
     /// The greatest number with a sign, 9.999999999E99.
     pub fn greatest(sign: Sign) -> Self
-        ensures { units result ≡ signed sign greatest }
+        ensures { units result ≡ with_sign sign size_of_greatest }
     {
         entry::greatest(sign)
     }
@@ -261,7 +261,7 @@ impl Ten {
 
 /// Which of zero and a size with a sign is greater.
 fn zero_against(sign: Sign, x: Magnitude) -> Ordering
-    ensures { result ≡ int_cmp (pos 0) (signed sign (size x)) }
+    ensures { result ≡ int_cmp (pos 0) (with_sign sign (size x)) }
 {
     match sign {
         Sign::Plus => Ordering::Less,
@@ -271,7 +271,7 @@ fn zero_against(sign: Sign, x: Magnitude) -> Ordering
 
 /// Which of a size with a sign and zero is greater.
 fn against_zero(sign: Sign, x: Magnitude) -> Ordering
-    ensures { result ≡ int_cmp (signed sign (size x)) (pos 0) }
+    ensures { result ≡ int_cmp (with_sign sign (size x)) (pos 0) }
 {
     match sign {
         Sign::Plus => Ordering::Greater,
@@ -281,7 +281,7 @@ fn against_zero(sign: Sign, x: Magnitude) -> Ordering
 
 /// Which of two sizes with signs is greater.
 fn compare_signed(x_sign: Sign, x: Magnitude, y_sign: Sign, y: Magnitude) -> Ordering
-    ensures { result ≡ int_cmp (signed x_sign (size x)) (signed y_sign (size y)) }
+    ensures { result ≡ int_cmp (with_sign x_sign (size x)) (with_sign y_sign (size y)) }
 {
     match (x_sign, y_sign) {
         (Sign::Plus, Sign::Plus) => sizes::compare(x, y),
@@ -293,7 +293,7 @@ fn compare_signed(x_sign: Sign, x: Magnitude, y_sign: Sign, y: Magnitude) -> Ord
 
 /// The sum of two sizes with signs.
 fn add_signed(x_sign: Sign, x: Magnitude, y_sign: Sign, y: Magnitude) -> Result<Ten, DecimalFault>
-    ensures { Nearest (signed x_sign (size x) +ℤ signed y_sign (size y)) 1 result }
+    ensures { Nearest (with_sign x_sign (size x) +ℤ with_sign y_sign (size y)) 1 result }
 {
     if x.exponent.biased < y.exponent.biased {
         add_smaller(y_sign, y, x_sign, x)
@@ -305,7 +305,7 @@ fn add_signed(x_sign: Sign, x: Magnitude, y_sign: Sign, y: Magnitude) -> Result<
 /// The sum of two sizes with signs, the first of which has no lower exponent than the second.
 fn add_smaller(x_sign: Sign, x: Magnitude, y_sign: Sign, y: Magnitude) -> Result<Ten, DecimalFault>
     requires { y.exponent.biased ≤ x.exponent.biased }
-    ensures { Nearest (signed x_sign (size x) +ℤ signed y_sign (size y)) 1 result }
+    ensures { Nearest (with_sign x_sign (size x) +ℤ with_sign y_sign (size y)) 1 result }
 {
     if x_sign == y_sign {
         sizes::add(x_sign, x, y)

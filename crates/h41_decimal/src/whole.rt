@@ -1,7 +1,7 @@
 //! The integer part and the fraction of a size, and decimals from whole numbers.
 
 ghost use Rattle.std.specs.Prelude.{◌≡◌, ◌*◌, ◌^◌, ◌<◌, ◌≤◌, IfSome, IfNone};
-ghost use Rattle.h41_decimal.specs.Signs.{signed};
+ghost use Rattle.h41_decimal.specs.Signs.{with_sign};
 ghost use Rattle.h41_decimal.specs.Units.{size, units};
 ghost use Rattle.h41_decimal.specs.WholeParts.{HasOnes, IsIntegerPart, IsFraction};
 
@@ -34,7 +34,7 @@ pub fn ones(x: Magnitude) -> Option<u64>
 
 /// The integer part of a size with a sign.
 pub fn integer_part(sign: Sign, x: Magnitude) -> Ten
-    ensures { IsIntegerPart (signed sign (size x)) (units result) }
+    ensures { IsIntegerPart (with_sign sign (size x)) (units result) }
 {
     match ones(x) {
         None => Ten::Nonzero(sign, x),
@@ -45,7 +45,7 @@ pub fn integer_part(sign: Sign, x: Magnitude) -> Ten
 
 /// The fraction of a size with a sign.
 pub fn fraction(sign: Sign, x: Magnitude) -> Ten
-    ensures { IsFraction (signed sign (size x)) (units result) }
+    ensures { IsFraction (with_sign sign (size x)) (units result) }
 {
     let steps = x.steps();
     if steps >= ONES {
@@ -67,7 +67,7 @@ fn decimal(sign: Sign, number: u64, steps: u32) -> Ten
     requires few { number < 10 ^ 10 }
     requires least { 9 ≤ steps }
     requires most { steps ≤ 198 }
-    ensures { units result ≡ signed sign (number * 10 ^ steps) }
+    ensures { units result ≡ with_sign sign (number * 10 ^ steps) }
 {
     let missing = 10 - digit_count(u128::from(number));
     let mantissa = Mantissa {

@@ -13,7 +13,7 @@ use Rattle.h41_deck.specs.declared.fault.Fault.{Fault}
 use Rattle.h41_deck.specs.declared.fault.Fault.TheVariants.{OutOfMemory, ReadFault, WriteFault}
 use Rattle.h41_deck.specs.declared.replies.Outcome.{Outcome}
 use Rattle.h41_deck.specs.declared.replies.Outcome.TheVariants.{Accepted, Refused}
-use Rattle.h41_commands.specs.Items.{Spelled, is_open, closed}
+use Rattle.h41_commands.specs.Items.{Spelled, is_open, without_open_block}
 use Rattle.h41_debug.specs.Bench.{BenchState, start}
 use Rattle.h41_deck.specs.AnsweredItems.{AnswersItems, answered_items, outcome_and}
 use Rattle.h41_deck.specs.Answers.{Answer, printed_text}
@@ -95,17 +95,17 @@ pub answered-some : (whole : Bool) (item : Spelled) (all items : List Spelled) �
     → answered_items whole all ≡ item ∷ answered_items whole items
 answered-some true item all items first shut = first
 answered-some false item all items first shut =
-    ap closed first ∙ ap (λ lasts. if not lasts then item ∷ closed items else closed items) (shut refl)
+    ap without_open_block first ∙ ap (λ lasts. if not lasts then item ∷ without_open_block items else without_open_block items) (shut refl)
 
 pub answered-open : (whole : Bool) (item : Spelled) (all items : List Spelled) → all ≡ item ∷ items → whole ≡ false → is_open item ≡ true
     → answered_items whole all ≡ answered_items whole items
 answered-open true item all items first cut lasts = cc
 answered-open false item all items first cut lasts =
-    ap closed first ∙ ap (λ lasts. if not lasts then item ∷ closed items else closed items) lasts
+    ap without_open_block first ∙ ap (λ lasts. if not lasts then item ∷ without_open_block items else without_open_block items) lasts
 
 pub answered-none : (whole : Bool) (all : List Spelled) → all ≡ [] → answered_items whole all ≡ []
 answered-none true all none = none
-answered-none false all none = ap closed none
+answered-none false all none = ap without_open_block none
 
 -- an item that is answered goes on what was told
 pub told_next : (old mid new : Option (List ℕ)) (whole : Bool) (all left rest : List Spelled)

@@ -7,7 +7,7 @@ use Rattle.h41_pages.specs.Addresses.{page_size}
 use Rattle.h41_pages.specs.PageMap.{PageMap, RefusesPlug, plug_refusal}
 use Rattle.h41_pages.specs.declared.refusal.PlugRefusal.{PlugRefusal}
 use Rattle.h41_pages.specs.declared.refusal.PlugRefusal.TheVariants as plugs
-use Rattle.h41_commands.specs.Blocks.{filled}
+use Rattle.h41_commands.specs.Blocks.{page_of_words}
 use Rattle.h41_debug.specs.Bench.{BenchState, with_calculator}
 use Rattle.h41_xrom.specs.Calculator.{CalculatorState, RefusesPage, TakesPage, with_page}
 use Rattle.h41_deck.specs.Answers.{ends_by}
@@ -16,28 +16,29 @@ use Rattle.h41_deck.specs.Replies.{PlugsWords, block_refusal, state_unless, with
 
 -- what `resize` makes of a page's words
 pub resized : (values items : List ℕ) (count : ℕ) → count ≡ length values → count ≤ page_size
-    → items ≡ take page_size values ++ replicate (page_size - count) 0 → items ≡ filled values
+    → items ≡ take page_size values ++ replicate (page_size - count) 0 → items ≡ page_of_words values
 resized values items count same room e =
     let short : length values ≤ page_size = omega arith in
     e ∙ (λ i. take_all page_size values short i ++ replicate (page_size - same i) 0)
 
 -- a page that is refused for another reason than memory
-pub refused_page : (all : PageMap) (page : ℕ) (words filled : List ℕ) (why : PlugRefusal) → words ≡ filled
-    → RefusesPlug all page 1 words why → (why ≡ plugs.OutOfMemory → ⊥) → Some (of_plug why) ≡ page_refusal all page filled
-refused_page all page words filled why same (inl e) other = sym (ap (option_map of_plug) (ap (plug_refusal all page 1) (sym same) ∙ e))
-refused_page all page words filled why same (inr e) other = absurd (other e.1)
+pub refused_page : (all : PageMap) (page : ℕ) (words page_of_words : List ℕ) (why : PlugRefusal) → words ≡ page_of_words
+    → RefusesPlug all page 1 words why → (why ≡ plugs.OutOfMemory → ⊥) → Some (of_plug why) ≡ page_refusal all page page_of_words
+refused_page all page words page_of_words why same (inl e) other =
+    sym (ap (option_map of_plug) (ap (plug_refusal all page 1) (sym same) ∙ e))
+refused_page all page words page_of_words why same (inr e) other = absurd (other e.1)
 
-pub accepted_page : (all : PageMap) (page : ℕ) (words filled : List ℕ) → words ≡ filled → plug_refusal all page 1 words ≡ None
-    → None ≡ page_refusal all page filled
-accepted_page all page words filled same e = sym (ap (option_map of_plug) (ap (plug_refusal all page 1) (sym same) ∙ e))
+pub accepted_page : (all : PageMap) (page : ℕ) (words page_of_words : List ℕ) → words ≡ page_of_words → plug_refusal all page 1 words ≡ None
+    → None ≡ page_refusal all page page_of_words
+accepted_page all page words page_of_words same e = sym (ap (option_map of_plug) (ap (plug_refusal all page 1) (sym same) ∙ e))
 
 -- what plugging words leaves of the bench
 module _ (s : BenchState) (page : ℕ) (writable : Bool) (words items : List ℕ) (from c : CalculatorState)
-    (is : from ≡ s.calculator) (same : items ≡ filled words) where
+    (is : from ≡ s.calculator) (same : items ≡ page_of_words words) where
   pub plugs_done : TakesPage from page 1 items → c ≡ with_page page 1 writable items from
       → PlugsWords page writable (Ok words) s (with_calculator c s) (ends_by None)
   plugs_done taken changed =
-      let accepted : None ≡ block_refusal s page words = accepted_page s.calculator.nut.pages page items (filled words) same
+      let accepted : None ≡ block_refusal s page words = accepted_page s.calculator.nut.pages page items (page_of_words words) same
       (subst (λ (of : CalculatorState). TakesPage of page 1 items) is taken) in (
         ap (λ d. with_calculator d s) (changed ∙ (λ i. with_page page 1 writable (same i) (is i)))
             ∙ ap (λ why. state_unless why (with_words page writable words s) s) accepted,
@@ -47,7 +48,8 @@ module _ (s : BenchState) (page : ℕ) (writable : Bool) (words items : List ℕ
   pub plugs_refused : (why : PlugRefusal) → RefusesPage from page 1 items why → (why ≡ plugs.OutOfMemory → ⊥) → c ≡ from
       → PlugsWords page writable (Ok words) s (with_calculator c s) (ends_by (Some (of_plug why)))
   plugs_refused why refuses other stays =
-      let refused : Some (of_plug why) ≡ block_refusal s page words = refused_page s.calculator.nut.pages page items (filled words) why same
+      let refused : Some (of_plug why) ≡ block_refusal s page words =
+          refused_page s.calculator.nut.pages page items (page_of_words words) why same
       (subst (λ (of : CalculatorState). RefusesPage of page 1 items why) is refuses) other in (
         ap (λ d. with_calculator d s) (stays ∙ is) ∙ ap (λ why. state_unless why (with_words page writable words s) s) refused,
         ap ends_by refused,

@@ -5,7 +5,7 @@ use Rattle.std.proofs.lemmas.Bool.{leb-true}
 use Rattle.std.proofs.lemmas.List.{append-nil, take_all}
 use Rattle.std.specs.Io.KnownBytes.{Appends}
 use Rattle.std.proofs.KnownBytes.{Appends-nil}
-use Rattle.h41_commands.specs.Items.{Spelled, closed, commands}
+use Rattle.h41_commands.specs.Items.{Spelled, without_open_block, commands}
 use Rattle.h41_lines.specs.Lines.{ended_lines, lines}
 use Rattle.h41_ends.specs.declared.fault.InputFault.{InputFault}
 use Rattle.h41_ends.specs.declared.fault.InputFault.TheVariants as input
@@ -64,15 +64,15 @@ module _ (known old new : Option (List ℕ)) (bytes : List ℕ) (whole : Bool) (
       ] front fits
 
   pub long_left : IfSome known (λ deck. bytes ≡ take most_bytes deck) → IfSome known (λ deck. whole ≡ nat_le (length deck) most_bytes)
-      → whole ≡ false → LeavesFirst (closed (commands (lines (ended_lines bytes)))) old new fault
+      → whole ≡ false → LeavesFirst (without_open_block (commands (lines (ended_lines bytes)))) old new fault
       → IfSome known (λ deck. LeavesFirst (commands_of deck) old new fault)
   long_left front fits cut left = elim known as (λ known. IfSome known (λ deck. bytes ≡ take most_bytes deck)
       → IfSome known (λ deck. whole ≡ nat_le (length deck) most_bytes)
       → IfSome known (λ deck. LeavesFirst (commands_of deck) old new fault)) [
         | None ↦ λ front fits. tt
         | Some deck ↦ λ front fits.
-            let same : closed (commands (lines (ended_lines bytes))) ≡ commands_of deck =
-            ap (λ (of : List ℕ). closed (commands (lines (ended_lines of)))) front
+            let same : without_open_block (commands (lines (ended_lines bytes))) ≡ commands_of deck =
+            ap (λ (of : List ℕ). without_open_block (commands (lines (ended_lines of)))) front
             ∙ sym (ap (λ (short : Bool). if short then commands (lines deck) else commands_within deck) (sym fits ∙ cut)) in
             subst (λ (items : List Spelled). LeavesFirst items old new fault) same left
       ] front fits

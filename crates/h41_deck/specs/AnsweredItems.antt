@@ -4,8 +4,8 @@ use Rattle.std.specs.Prelude.{◌≡◌, Bool, true, false, ℕ, List, Option, f
 use Rattle.std.specs.Prelude.{IfOk}
 use Rattle.std.specs.Io.KnownBytes.{Appends}
 use Rattle.h41_commands.specs.declared.item.Item.{Item}
-use Rattle.h41_commands.specs.Entries.{given}
-use Rattle.h41_commands.specs.Items.{Spelled, closed, commands}
+use Rattle.h41_commands.specs.Entries.{what_is_spelled}
+use Rattle.h41_commands.specs.Items.{Spelled, without_open_block, commands}
 use Rattle.h41_lines.specs.Lines.{lines}
 use Rattle.h41_debug.specs.Bench.{BenchState, start}
 use Rattle.h41_deck.specs.declared.fault.CommandFault.{CommandFault}
@@ -26,7 +26,7 @@ pub record PrintsInTurn (items : List Spelled) (text : List ℕ) (outcome : Outc
 -- the commands of a deck that are answered: of one that is cut, all but a block that is open
 abbrev pub answered_items : Bool → List Spelled → List Spelled
 answered_items true items = items
-answered_items false items = closed items
+answered_items false items = without_open_block items
 
 -- their text is written
 abbrev pub AnswersItems : List Spelled → Option (List ℕ) → Option (List ℕ) → Outcome → Type 0
@@ -55,4 +55,5 @@ LeavesBytes result is_whole bytes contents old new = IfErr result (λ fault.
 -- what an item leaves, by its answer: its reply, a front of it, or nothing
 abbrev pub AnswersItem : {W : Type 0} → Result Outcome CommandFault → Item → BenchState → BenchState
     → (W → Option (List ℕ)) → W → W → Type 0
-AnswersItem result item s t contents old new = Leaves result (given item) s t contents old new
+AnswersItem result item s t contents old new =
+    Leaves result (what_is_spelled item) s t contents old new

@@ -10,7 +10,7 @@ use Rattle.h41_ends.specs.declared.source.Source as sources
 use Rattle.h41_ends.specs.declared.sink.Sink as sinks
 use Rattle.h41_deck.specs.declared.fault.Fault.{Fault}
 use Rattle.h41_deck.specs.declared.fault.Fault.TheVariants.{OutOfMemory, ReadFault, WriteFault}
-use Rattle.h41_commands.specs.Items.{Spelled, closed, commands}
+use Rattle.h41_commands.specs.Items.{Spelled, without_open_block, commands}
 use Rattle.h41_lines.specs.Lines.{ended_lines, lines}
 use Rattle.h41_debug.specs.Bench.{BenchState, start}
 use Rattle.h41_ends.specs.Ends.{most_bytes}
@@ -27,7 +27,7 @@ AnswersInTurn (item ∷ items) s (answer ∷ answers) =
 
 -- the commands of a deck that is too long: those whose last line end is within the bound
 abbrev pub commands_within : List ℕ → List Spelled
-commands_within deck = closed (commands (lines (ended_lines (take most_bytes deck))))
+commands_within deck = without_open_block (commands (lines (ended_lines (take most_bytes deck))))
 
 -- the commands of a deck that are carried out
 abbrev pub commands_of : List ℕ → List Spelled

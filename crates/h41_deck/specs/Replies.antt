@@ -12,7 +12,7 @@ use Rattle.h41_commands.specs.declared.commands.Command.TheVariants.{Reset, Call
 use Rattle.h41_commands.specs.declared.commands.Command.TheVariants.{Trace, Break, Unbreak, Show}
 use Rattle.h41_commands.specs.declared.commands.Command.TheVariants as commands
 use Rattle.h41_commands.specs.declared.refusal.LineRefusal.{LineRefusal}
-use Rattle.h41_commands.specs.Blocks.{filled}
+use Rattle.h41_commands.specs.Blocks.{page_of_words}
 use Rattle.h41_commands.specs.Items.{Spelled}
 use Rattle.h41_commands.specs.PageBlocks.{Fills}
 use Rattle.h41_commands.specs.ProgramBlocks.{Means}
@@ -22,8 +22,8 @@ use Rattle.h41_debug.specs.Run as runs
 use Rattle.h41_debug.specs.Traces.{Traces}
 use Rattle.h41_debug.specs.declared.run.Stop.{Stop}
 use Rattle.h41_xrom.specs.declared.refusal.CalculatorRefusal.{CalculatorRefusal}
-use Rattle.h41_xrom.specs.Calculator.{CalculatorState, with_page, without_page, restarted}
-use Rattle.h41_xrom.specs.Calculator.{call_refusal, called}
+use Rattle.h41_xrom.specs.Calculator.{CalculatorState, with_page, without_page, after_reset}
+use Rattle.h41_xrom.specs.Calculator.{call_refusal, after_call}
 use Rattle.h41_xrom.specs.Programs.{Becomes, Loads, size_makes}
 use Rattle.h41_deck.specs.declared.refusal.Refusal.{Refusal}
 use Rattle.h41_deck.specs.declared.refusal.Refusal.TheVariants.{BreakFull, Calculator, Line}
@@ -57,12 +57,12 @@ Calls does s t answer =
 
 -- why the words of a block are not plugged at a page
 abbrev pub block_refusal : BenchState → ℕ → List ℕ → Option Refusal
-block_refusal s page words = page_refusal s.calculator.nut.pages page (filled words)
+block_refusal s page words = page_refusal s.calculator.nut.pages page (page_of_words words)
 
 -- the bench with these words plugged there
 abbrev pub with_words : ℕ → Bool → List ℕ → BenchState → BenchState
 with_words page writable words s =
-    with_calculator (with_page page block_bank writable (filled words) s.calculator) s
+    with_calculator (with_page page block_bank writable (page_of_words words) s.calculator) s
 
 -- a page is plugged with these words, filled with 000, or refused as 1 or 2; nothing changes where
 -- there are none
@@ -113,11 +113,11 @@ Reply (Unplug page) values s t answer =
 Reply (Size count) values s t answer = Calls (λ old. Becomes (size_makes old count) old) s t answer
 -- reset: as at the start, but that the pages stay plugged
 Reply Reset values s t answer =
-    (t ≡ with_calculator (restarted s.calculator) s) × (answer ≡ ends_by None)
+    (t ≡ with_calculator (after_reset s.calculator) s) × (answer ≡ ends_by None)
 -- call hhhh: the function runs, or 24 or 8
 Reply (Call address) values s t answer =
     ChangesUnless (option_map Calculator (call_refusal s.calculator address))
-    (with_calculator (called address s.calculator) s) s t answer
+    (with_calculator (after_call address s.calculator) s) s t answer
 -- key NAME ..: keys in turn up to the first refusal
 Reply (Key keys) values s t answer =
     (refusal : Option CalculatorRefusal)

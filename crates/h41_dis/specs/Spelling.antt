@@ -8,8 +8,8 @@ use Rattle.h41_words.specs.WordTable.{row_of, length_of}
 use Rattle.h41_dis.specs.declared.cut.Piece.{Piece}
 
 -- a piece of one word, and one of two
-abbrev pub alone : ℕ → Piece
-alone first = record { first = first; second = None }
+abbrev pub piece_of_one : ℕ → Piece
+piece_of_one first = record { first = first; second = None }
 
 abbrev pub with_second : ℕ → ℕ → Piece
 with_second first second = record { first = first; second = Some second }
@@ -18,10 +18,10 @@ with_second first second = record { first = first; second = Some second }
 -- it, else one
 abbrev pub pieces : List ℕ → List Piece
 pieces [] = []
-pieces (first ∷ []) = alone first ∷ []
+pieces (first ∷ []) = piece_of_one first ∷ []
 pieces (first ∷ second ∷ rest) =
     if length_of first == 2 then with_second first second ∷ pieces rest
-    else alone first ∷ pieces (second ∷ rest)
+    else piece_of_one first ∷ pieces (second ∷ rest)
 
 -- the text of an instruction: its row's. A word that begins an instruction of two words, but has
 -- none behind it, is CON.

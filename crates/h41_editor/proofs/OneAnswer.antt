@@ -13,7 +13,7 @@ use Rattle.h41_editor.specs.Moves.{ShowsStart, is_last, returns_kept, shown_end}
 use Rattle.h41_editor.specs.NumberedLines.{Numbers, with_number}
 use Rattle.h41_editor.specs.ProgramText.{ShowsLine, line_00_text, text_of, unknown_text}
 use Rattle.h41_editor.specs.declared.numbered.NumberedLine.{NumberedLine}
-use Rattle.h41_focal.specs.LineStep.{Machine, at_line_00, placed}
+use Rattle.h41_focal.specs.LineStep.{Machine, at_line_00, at_line}
 use Rattle.h41_program.specs.Edits.{EditGives, PlacesAreDetermined, before_end, close_behind, position_behind, position_in_front}
 use Rattle.h41_program.specs.Edits.{with_inserted, with_replaced, without_deleted}
 use Rattle.h41_program.specs.LastProgram.{open_in}
@@ -36,7 +36,7 @@ Moved = Result Machine ProgramRefusal
 
 -- the next line is shown
 abbrev GoesOn : Machine → Moved → Type 0
-GoesOn machine moved = (next : Position) × NextAt machine.memory machine.focal.position (Ok next) × (moved ≡ Ok (placed next machine))
+GoesOn machine moved = (next : Position) × NextAt machine.memory machine.focal.position (Ok next) × (moved ≡ Ok (at_line next machine))
 
 -- what holds of the line at the position, or of there being none
 abbrev ByFirst : Machine → (Result PlacedLine ProgramRefusal → Type 0) → Type 0
@@ -94,7 +94,7 @@ module _ (once : IsReadOnce) (same_start : HasOneAnswer StartOf) where
   same_onward true machine a b p q = same_shown_start same_start machine a b p q
   same_onward false machine a b p q =
       let same = same_next once machine.memory machine.focal.position p.0 q.0 p.1 q.1 in
-      p.2 ∙ ap (λ (next : Position). Ok (placed next machine)) same ∙ sym q.2
+      p.2 ∙ ap (λ (next : Position). Ok (at_line next machine)) same ∙ sym q.2
 
   same_shown_behind : (machine : Machine) (first : Result PlacedLine ProgramRefusal) (a b : Moved)
       → ShowsBehind machine first a → ShowsBehind machine first b → a ≡ b
@@ -102,8 +102,8 @@ module _ (once : IsReadOnce) (same_start : HasOneAnswer StartOf) where
   same_shown_behind machine (Err refusal) a b p q = p ∙ sym q
 
   same_step : (at_line_00 : Bool) (machine : Machine) (a b : Moved)
-      → MatchBool at_line_00 (a ≡ Ok (placed machine.focal.position machine)) (ByFirst machine (λ first. ShowsBehind machine first a))
-      → MatchBool at_line_00 (b ≡ Ok (placed machine.focal.position machine)) (ByFirst machine (λ first. ShowsBehind machine first b))
+      → MatchBool at_line_00 (a ≡ Ok (at_line machine.focal.position machine)) (ByFirst machine (λ first. ShowsBehind machine first a))
+      → MatchBool at_line_00 (b ≡ Ok (at_line machine.focal.position machine)) (ByFirst machine (λ first. ShowsBehind machine first b))
       → a ≡ b
   same_step true machine a b p q = p ∙ sym q
   same_step false machine a b p q =

@@ -4,7 +4,7 @@ use Rattle.h41_editor.specs.Changes.{InsertsAt}
 use Rattle.h41_editor.specs.Moves.{ShowsBefore, ShowsEnd, ShowsNext, is_last}
 use Rattle.h41_editor.specs.NumberedLines.{HasNumbered}
 use Rattle.h41_editor.specs.declared.numbered.NumberedLine.{NumberedLine}
-use Rattle.h41_focal.specs.LineStep.{Machine, placed}
+use Rattle.h41_focal.specs.LineStep.{Machine, at_line}
 use Rattle.h41_program.specs.Positions.{LineAt, LineBefore, NextAt}
 use Rattle.h41_program.specs.declared.position.PlacedLine.{PlacedLine}
 use Rattle.h41_program.specs.declared.position.Position.{Position}
@@ -18,10 +18,10 @@ pub next_shown :
     → LineAt from.memory from.focal.position (Ok first)
     → false ≡ is_last first
     → NextAt from.memory from.focal.position (Ok next)
-    → moved ≡ placed next machine
+    → moved ≡ at_line next machine
     → ShowsNext machine (Ok moved)
-next_shown from machine moved first next is behind there inner goes placed =
-    rw (placed, ← is, behind) (Ok first, there, rw (sym inner) (next, goes, refl))
+next_shown from machine moved first next is behind there inner goes at_line =
+    rw (at_line, ← is, behind) (Ok first, there, rw (sym inner) (next, goes, refl))
 
 -- the one before
 pub before_shown :
@@ -30,11 +30,11 @@ pub before_shown :
     → from.focal.at_line_00 ≡ false
     → HasNumbered machine.memory machine.focal.position (Some numbered)
     → LineBefore from.memory numbered.placed.position (Some before)
-    → moved ≡ placed before machine
+    → moved ≡ at_line before machine
     → ShowsBefore machine (Ok moved)
-before_shown from machine moved numbered before is behind has stands placed =
+before_shown from machine moved numbered before is behind has stands at_line =
     let there = rw (← is) at has in
-    rw (placed, ← is) (Some numbered, there, rw behind (Some before, stands, refl))
+    rw (at_line, ← is) (Some numbered, there, rw behind (Some before, stands, refl))
 
 -- the end, from line 00
 pub end_shown :

@@ -5,7 +5,7 @@ use Rattle.std.specs.Prelude.{◌≡◌, ℕ, Bool, true, ◌||◌, List, [], Ma
 use Rattle.std.specs.Prelude.{Result, Ok, Err}
 use Rattle.h41_editor.specs.NumberedLines.{HasNumbered}
 use Rattle.h41_editor.specs.declared.numbered.NumberedLine.{NumberedLine}
-use Rattle.h41_focal.specs.LineStep.{Machine, at_line_00, placed}
+use Rattle.h41_focal.specs.LineStep.{Machine, at_line_00, at_line}
 use Rattle.h41_program.specs.Edits.{before_end, close_behind}
 use Rattle.h41_program.specs.LastProgram.{open_in}
 use Rattle.h41_program.specs.Lines.{is_end, is_final_end}
@@ -34,7 +34,7 @@ ShowsStart machine moved =
 
 -- whether a line is the last of its program
 abbrev pub is_last : PlacedLine → Bool
-is_last placed = is_end placed.line || is_final_end placed.line
+is_last at_line = is_end at_line.line || is_final_end at_line.line
 
 -- SST: from line 00 to the line that the position stands for; from the last line of a program to
 -- its line 00 (this project's choice), from others to the next line, or to the byte behind where no
@@ -45,12 +45,12 @@ ShowsBehind machine (Ok first) moved =
     MatchBool (is_last first) (ShowsStart machine moved)
     ((next : Position)
     × NextAt machine.memory machine.focal.position (Ok next)
-    × (moved ≡ Ok (placed next machine)))
+    × (moved ≡ Ok (at_line next machine)))
 ShowsBehind machine (Err refusal) moved = moved ≡ Err BrokenProgram
 
 abbrev pub ShowsNext : Machine → Result Machine ProgramRefusal → Type 0
 ShowsNext machine moved =
-    MatchBool machine.focal.at_line_00 (moved ≡ Ok (placed machine.focal.position machine))
+    MatchBool machine.focal.at_line_00 (moved ≡ Ok (at_line machine.focal.position machine))
     ((first : Result PlacedLine ProgramRefusal)
     × LineAt machine.memory machine.focal.position first
     × ShowsBehind machine first moved)
@@ -58,7 +58,7 @@ ShowsNext machine moved =
 -- BST: from line 00 to the program's END or .END., from line 1 to line 00, from others to the line
 -- before; 14 where the position's program has no line there, and from line 00 where it has no end
 abbrev pub shown_end : Machine → Option Position → Result Machine ProgramRefusal
-shown_end machine (Some position) = Ok (placed position machine)
+shown_end machine (Some position) = Ok (at_line position machine)
 shown_end machine None = Err BrokenProgram
 
 abbrev pub ShowsEnd : Machine → PlacedLine → Result Machine ProgramRefusal → Type 0
@@ -68,7 +68,7 @@ ShowsEnd machine first moved =
     × (moved ≡ shown_end machine end)
 
 abbrev pub ShowsAt : Machine → Option Position → Result Machine ProgramRefusal → Type 0
-ShowsAt machine (Some position) moved = moved ≡ Ok (placed position machine)
+ShowsAt machine (Some position) moved = moved ≡ Ok (at_line position machine)
 ShowsAt machine None moved = ShowsStart machine moved
 
 abbrev pub ShowsInFront : Machine → PlacedLine → Result Machine ProgramRefusal → Type 0

@@ -6,7 +6,7 @@ use Rattle.std.proofs.lemmas.List.{get_or_at}
 use Rattle.h41_asm.specs.Placing.{Labels, LinesSpell, SpellsRead, entry_words}
 use Rattle.h41_asm.specs.SourceLines.{SourceLine}
 use Rattle.h41_asm.specs.Statements.{name_words}
-use Rattle.h41_pages.specs.FunctionTables.{entry_offset, spelled, words_before}
+use Rattle.h41_pages.specs.FunctionTables.{entry_offset, spelled_name, words_before}
 use Rattle.h41_entries.specs.DirectivesRead.{NameIsRead, EntryIsRead, FocalIsRead, FunctionIsRead, SpellsBy, name_line, entry_line}
 use Rattle.h41_entries.specs.DirectivesRead.{focal_line, lines_length}
 use Rattle.h41_entries.proofs.Placed.{IsPlaced, placed, name_reading, entry_reading, focal_reading}
@@ -28,8 +28,8 @@ name_is_read labels source words fill text origin label before behind good by =
     ap (λ (all : List ℕ). all ++ fill) (at.parts ∙ ap (λ (mine : List ℕ). at.front ++ (mine ++ at.others)) own)
     ∙ ap (λ (all : List ℕ). all ++ fill) (sym (append_assoc at.front (name_words text) at.others))
     ∙ append_assoc (at.front ++ name_words text) at.others fill in
-    ap (λ (all : List ℕ). spelled (words_before all (lines_length before + length text))) all
-    ∙ ap (λ count. spelled (words_before ((at.front ++ name_words text) ++ (at.others ++ fill)) (count + length text))) (sym at.size)
+    ap (λ (all : List ℕ). spelled_name (words_before all (lines_length before + length text))) all
+    ∙ ap (λ count. spelled_name (words_before ((at.front ++ name_words text) ++ (at.others ++ fill)) (count + length text))) (sym at.size)
     ∙ name_spelled at.front text (at.others ++ fill) good
 
 -- the two words of an entry
@@ -119,6 +119,7 @@ function_is_read labels source words fill name text origin entry label other
     let size : length at.own ≡ length text = ap length own ∙ length-name_words text in
     let offset : entry_offset (words ++ fill) entry ≡ lines_length first + length text =
     read.2.offset ∙ omega (arith, target, size, at.size, start, inside) in
-    ap (λ keystroke. if keystroke then None else spelled (words_before (words ++ fill) (entry_offset (words ++ fill) entry))) read.2.kind
-    ∙ ap (λ o. spelled (words_before (words ++ fill) o)) offset
+    ap (λ keystroke. if keystroke then None else spelled_name (words_before (words ++ fill) (entry_offset (words ++ fill) entry)))
+        read.2.kind
+    ∙ ap (λ o. spelled_name (words_before (words ++ fill) o)) offset
     ∙ name_is_read labels source words fill text origin other first (next ∷ rest) quoted by_name

@@ -10,13 +10,15 @@ use Rattle.h41_asm.specs.Faults.{line_length, read_length}
 use Rattle.h41_asm.specs.Operands.{is_text, text_in}
 use Rattle.h41_asm.specs.Placing.{Labels, LineSpells, LinesSpell, SpellsRead, StatementSpells}
 use Rattle.h41_asm.specs.SourceLines.{SourceLine, is_name, reference_in}
-use Rattle.h41_asm.specs.Statements.{Statement, Words, OutOfReach, LongJumpTo, ShortJumpTo, EntryAt, name_words, reading, said, singles}
+use Rattle.h41_asm.specs.Statements.{Statement, Words, OutOfReach, LongJumpTo, ShortJumpTo, EntryAt, name_words, reading_of}
+use Rattle.h41_asm.specs.Statements.{value_statement, singles}
 use Rattle.h41_asm.specs.Statements.{statement_length, takers, takes_entry, takes_name}
 use Rattle.h41_entries.specs.DirectivesRead.{lines_length}
 
 -- a line's own words are as many as it takes
-length_said : (labels : Labels) (address : ℕ) (said : Statement) (own : List ℕ) → StatementSpells labels address said own
-    → length own ≡ statement_length said
+length_said : (labels : Labels) (address : ℕ) (value_statement : Statement) (own : List ℕ)
+    → StatementSpells labels address value_statement own
+    → length own ≡ statement_length value_statement
 length_said labels address (Words words) own spells = ap length spells
 length_said labels address OutOfReach own spells = absurd spells
 length_said labels address (LongJumpTo condition kind name) own spells = ap length spells.2
@@ -56,7 +58,7 @@ placed labels origin (first ∷ before) line behind words spelled =
     let next = placed labels (origin + length spelled.0) before line behind spelled.1 spelled.4 in
     let here : origin + length spelled.0 + length next.front ≡ origin + length (spelled.0 ++ next.front) =
     omega (arith, length-append spelled.0 next.front) in
-    let own : length spelled.0 ≡ line_length first = length_read labels origin (reading first.code) spelled.0 spelled.3.words in
+    let own : length spelled.0 ≡ line_length first = length_read labels origin (reading_of first.code) spelled.0 spelled.3.words in
     record {
       front = spelled.0 ++ next.front;
       own = next.own;
@@ -70,15 +72,15 @@ placed labels origin (first ∷ before) line behind words spelled =
     }
 
 -- what the directives say
-name_taken : (word : List ℕ) → reading (codes "NAME" ∷ word ∷ []) ≡ ok_or (takes_name word) BadOperand
+name_taken : (word : List ℕ) → reading_of (codes "NAME" ∷ word ∷ []) ≡ ok_or (takes_name word) BadOperand
 unfolding singles takers
 name_taken word = refl
 
-entry_taken : (word : List ℕ) → reading (codes "ENTRY" ∷ word ∷ []) ≡ ok_or (takes_entry 0 word) BadOperand
+entry_taken : (word : List ℕ) → reading_of (codes "ENTRY" ∷ word ∷ []) ≡ ok_or (takes_entry 0 word) BadOperand
 unfolding singles takers
 entry_taken word = refl
 
-focal_taken : (word : List ℕ) → reading (codes "FOCAL" ∷ word ∷ []) ≡ ok_or (takes_entry 0x200 word) BadOperand
+focal_taken : (word : List ℕ) → reading_of (codes "FOCAL" ∷ word ∷ []) ≡ ok_or (takes_entry 0x200 word) BadOperand
 unfolding singles takers
 focal_taken word = refl
 
@@ -95,17 +97,18 @@ text_quoted text good =
     (take_at text (34 ∷ []) (length word - 2) (omega (arith, size))) good
 
 pub name_reading : (text : List ℕ) → is_text text ≡ true
-    → reading (codes "NAME" ∷ (34 ∷ text ++ 34 ∷ []) ∷ []) ≡ Ok (Words (name_words text))
+    → reading_of (codes "NAME" ∷ (34 ∷ text ++ 34 ∷ []) ∷ []) ≡ Ok (Words (name_words text))
 name_reading text good =
     name_taken (34 ∷ text ++ 34 ∷ [])
-    ∙ ap (λ found. ok_or (said (λ t. Words (name_words t)) found) BadOperand) (text_quoted text good)
+    ∙ ap (λ found. ok_or (value_statement (λ t. Words (name_words t)) found) BadOperand) (text_quoted text good)
 
 name_referred : (name : List ℕ) → is_name name ≡ true → reference_in (58 ∷ name) ≡ Some name
 name_referred name good = rw good refl
 
-pub entry_reading : (name : List ℕ) → is_name name ≡ true → reading (codes "ENTRY" ∷ (58 ∷ name) ∷ []) ≡ Ok (EntryAt 0 name)
-entry_reading name good = entry_taken (58 ∷ name) ∙ ap (λ found. ok_or (said (λ n. EntryAt 0 n) found) BadOperand) (name_referred name good)
+pub entry_reading : (name : List ℕ) → is_name name ≡ true → reading_of (codes "ENTRY" ∷ (58 ∷ name) ∷ []) ≡ Ok (EntryAt 0 name)
+entry_reading name good = entry_taken (58 ∷ name) ∙ ap (λ found. ok_or (value_statement (λ n. EntryAt 0 n) found) BadOperand)
+    (name_referred name good)
 
-pub focal_reading : (name : List ℕ) → is_name name ≡ true → reading (codes "FOCAL" ∷ (58 ∷ name) ∷ []) ≡ Ok (EntryAt 0x200 name)
+pub focal_reading : (name : List ℕ) → is_name name ≡ true → reading_of (codes "FOCAL" ∷ (58 ∷ name) ∷ []) ≡ Ok (EntryAt 0x200 name)
 focal_reading name good =
-    focal_taken (58 ∷ name) ∙ ap (λ found. ok_or (said (λ n. EntryAt 0x200 n) found) BadOperand) (name_referred name good)
+    focal_taken (58 ∷ name) ∙ ap (λ found. ok_or (value_statement (λ n. EntryAt 0x200 n) found) BadOperand) (name_referred name good)

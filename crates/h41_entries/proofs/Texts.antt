@@ -10,7 +10,7 @@ use Rattle.std.proofs.lemmas.List.{get_or-reverse, get_or-take, get_or_append_le
 use Rattle.std.proofs.lemmas.List.FromFn.{fill_by_all}
 use Rattle.h41_asm.specs.Operands.{is_text, is_text_byte}
 use Rattle.h41_asm.specs.Statements.{name_words, with_mark}
-use Rattle.h41_pages.specs.FunctionTables.{character, is_last, spelled, word_before, words_before}
+use Rattle.h41_pages.specs.FunctionTables.{character, is_last, spelled_name, word_before, words_before}
 
 -- words with the last of them marked
 mark_last : List ℕ → List ℕ
@@ -72,7 +72,7 @@ in_range byte good =
 
 -- the characters of a text, and whatever stands before them
 text_spelled : (text more : List ℕ) (count : ℕ) → 0 < length text → length text ≤ count → list_all is_text_byte text ≡ true
-    → spelled (take count (mark_last (map (λ byte. byte % 64) text) ++ more)) ≡ Some text
+    → spelled_name (take count (mark_last (map (λ byte. byte % 64) text) ++ more)) ≡ Some text
 unfolding mark_last
 text_spelled [] more count some fits good = absurd (omega arith)
 text_spelled (byte ∷ text) more zero some fits good = absurd (omega arith)
@@ -102,14 +102,14 @@ words_in_front front behind =
         ∙ sym (get_or_append_left front behind 0 (length front - 1 - k) (omega arith))
 
 pub name_spelled : (front text behind : List ℕ) → is_text text ≡ true
-    → spelled (words_before ((front ++ name_words text) ++ behind) (length front + length text)) ≡ Some text
+    → spelled_name (words_before ((front ++ name_words text) ++ behind) (length front + length text)) ≡ Some text
 name_spelled front text behind good =
     let parts = and_parts (nat_lt 0 (length text)) (nat_le (length text) 11 && list_all is_text_byte text) good in
     let more = and_parts (nat_le (length text) 11) (list_all is_text_byte text) parts.1 in
     let size : length front + length text ≡ length (front ++ name_words text) =
     omega (arith, length-append front (name_words text), length-name_words text) in
-    ap (λ offset. spelled (words_before ((front ++ name_words text) ++ behind) offset)) size
-    ∙ ap spelled (words_in_front (front ++ name_words text) behind)
-    ∙ ap (λ (all : List ℕ). spelled (take 11 all))
+    ap (λ offset. spelled_name (words_before ((front ++ name_words text) ++ behind) offset)) size
+    ∙ ap spelled_name (words_in_front (front ++ name_words text) behind)
+    ∙ ap (λ (all : List ℕ). spelled_name (take 11 all))
     (reverse-append front (name_words text) ∙ ap (λ (all : List ℕ). all ++ reverse front) (turned (map (λ byte. byte % 64) text)))
     ∙ text_spelled text (reverse front) 11 (ltb-true 0 (length text) parts.0) (leb-true (length text) 11 more.0) more.1

@@ -8,7 +8,7 @@ use Rattle.h41_asm.specs.Operands.{is_text}
 use Rattle.h41_asm.specs.Placing.{Labels}
 use Rattle.h41_asm.specs.SourceLines.{SourceLine, is_name, source_lines}
 use Rattle.h41_pages.specs.Addresses.{page_size, offset_of}
-use Rattle.h41_pages.specs.FunctionTables.{spelled, words_before, entry_offset, is_keystroke}
+use Rattle.h41_pages.specs.FunctionTables.{spelled_name, words_before, entry_offset, is_keystroke}
 use Rattle.h41_pages.specs.FunctionTables.{entry_name}
 
 -- the lines 'NAME "text"', 'ENTRY :name' and 'FOCAL :name', with a label or without
@@ -39,7 +39,7 @@ NameIsRead =
     (label : Option (List ℕ)) (before behind : List SourceLine)
     → is_text text ≡ true
     → SpellsBy labels source origin words (before ++ name_line label text ∷ behind)
-    → spelled (words_before (words ++ fill) (lines_length before + length text)) ≡ Some text
+    → spelled_name (words_before (words ++ fill) (lines_length before + length text)) ≡ Some text
 
 -- an entry is that of the function at an address, of this kind
 pub record IsEntryOf (words : List ℕ) (entry target : ℕ) (keystroke : Bool) : Type 0 where

@@ -7,8 +7,9 @@ use Rattle.h41_focal.specs.Destinations.{Arrives, Destination, Halts, HasNoLabel
 use Rattle.h41_focal.specs.Destinations.{Typed}
 use Rattle.h41_focal.specs.private.Carrying.{TakesAs, manner_of}
 use Rattle.h41_focal.specs.MachineCalls.{KeepsElsewhere}
-use Rattle.h41_focal.specs.LineStep.{AppliesTo, AppliesWith, CarriesOut, Ends, Fails, FailsIn, Left, Machine, TakesLine, answered, caught}
-use Rattle.h41_focal.specs.LineStep.{done, failed, named_by, placed}
+use Rattle.h41_focal.specs.LineStep.{AppliesTo, AppliesWith, CarriesOut, Ends, Fails, FailsIn, Left, Machine, TakesLine, answer_of_showing}
+use Rattle.h41_focal.specs.LineStep.{with_fault_caught}
+use Rattle.h41_focal.specs.LineStep.{left_done, left_failed, named_by, at_line}
 use Rattle.h41_focal.specs.Outcomes.{Answer, is_elsewhere}
 use Rattle.h41_focal.specs.declared.origin.Origin.{Origin}
 use Rattle.h41_focal.specs.declared.outcome.LineOutcome.{LineOutcome}
@@ -25,7 +26,7 @@ use Rattle.h41_rows.specs.declared.fault.LineFault.{LineFault}
 
 -- what a row answers is done here
 own_answer : (memory : RegisterMap) (named : ℕ) (shows : rows.Showing) (ends : rows.RowEnding)
-    → is_elsewhere (answered memory named shows ends) ≡ false
+    → is_elsewhere (answer_of_showing memory named shows ends) ≡ false
 own_answer memory named rows.AsBefore rows.GoesOn = refl
 own_answer memory named rows.AsBefore rows.Stops = refl
 own_answer memory named rows.AsBefore rows.TurnsOff = refl
@@ -45,14 +46,15 @@ never left answer old is own elsewhere = absurd (true≢false (sym elsewhere ∙
 -- a line that fails
 stepped_fails : (flag : Bool) (machine : Machine) (fault : LineFault) (left : Left)
     → MatchBool flag
-    ((next : Position) × NextAt machine.memory machine.focal.position (Ok next) × (left ≡ done (placed next (caught machine))))
-    (left ≡ failed (placed machine.focal.position machine) fault)
+    ((next : Position) × NextAt machine.memory machine.focal.position (Ok next)
+        × (left ≡ left_done (at_line next (with_fault_caught machine))))
+    (left ≡ left_failed (at_line machine.focal.position machine) fault)
     → is_elsewhere left.answer ≡ false
 stepped_fails true machine fault left (next, answers, is) = ap (λ (of : Left). is_elsewhere of.answer) is
 stepped_fails false machine fault left is = ap (λ (of : Left). is_elsewhere of.answer) is
 
 typed_fails : (flag : Bool) (machine : Machine) (fault : LineFault) (left : Left)
-    → left ≡ (if flag then done (caught machine) else failed machine fault) → is_elsewhere left.answer ≡ false
+    → left ≡ (if flag then left_done (with_fault_caught machine) else left_failed machine fault) → is_elsewhere left.answer ≡ false
 typed_fails true machine fault left is = ap (λ (of : Left). is_elsewhere of.answer) is
 typed_fails false machine fault left is = ap (λ (of : Left). is_elsewhere of.answer) is
 

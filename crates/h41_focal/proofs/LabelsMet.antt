@@ -8,7 +8,7 @@ use Rattle.h41_focal.specs.BriefOutcomes.{briefly}
 use Rattle.h41_focal.specs.Outcomes as answers
 use Rattle.h41_focal.specs.Destinations as destinations
 use Rattle.h41_rows.specs.LineRows as lines
-use Rattle.h41_focal.specs.LineStep.{Fails, Machine, halted}
+use Rattle.h41_focal.specs.LineStep.{Fails, Machine, at_halt}
 use Rattle.h41_focal.specs.private.Works.{row_of_work}
 use Rattle.h41_rows.specs.declared.fault.LineFault.TheVariants.{Nonexistent}
 use Rattle.h41_focal.specs.declared.origin.Origin.{Origin}
@@ -40,7 +40,7 @@ label_found (Program next) Execute label named machine position brief knows foun
   Ok zeros,
   refl,
   (
-    destinations.Arrives position (destinations.pushed machine.focal.returns next),
+    destinations.Arrives position (destinations.with_return machine.focal.returns next),
     (next, knows, (Some position, found, refl)),
     rw answer refl,
   ),
@@ -76,7 +76,7 @@ name_found (Program next) Execute name named machine byte brief knows found answ
   Ok zeros,
   refl,
   (
-    destinations.Arrives (Memory byte) (destinations.pushed machine.focal.returns next),
+    destinations.Arrives (Memory byte) (destinations.with_return machine.focal.returns next),
     (next, knows, (Some byte, found, refl)),
     rw answer refl,
   ),
@@ -127,5 +127,5 @@ goes_back old new brief next named knows back = back_from (reverse old.focal.ret
 
 pub goes_to_line_00 : (machine : Machine) (start : Position) (named : ℕ)
     → StartOf machine.memory machine.focal.position start
-    → Leaves Typed (row_of_work works.Return) named machine (halted start machine) briefs.Done
+    → Leaves Typed (row_of_work works.Return) named machine (at_halt start machine) briefs.Done
 goes_to_line_00 machine start named found = (Ok zeros, refl, (destinations.Halts start, (start, found, refl), refl))

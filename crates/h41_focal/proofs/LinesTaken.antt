@@ -9,7 +9,7 @@ use Rattle.h41_codes.specs.declared.line.Operand.{Operand}
 use Rattle.h41_focal.specs.private.Carrying.{CarriesFound, CarriesRow, FailsAs, Stands, TakesBriefly, UsesDigits, UsesFlag, UsesAddress}
 use Rattle.h41_focal.specs.private.Carrying.{ended, manner_of}
 use Rattle.h41_focal.specs.LineStep.{FailsLine, FailsWith, Left, Machine, PassesLine, PassesWith, StepsAs, StepsLine, lift_behind, line_as}
-use Rattle.h41_focal.specs.LineStep.{TakesLine, passed}
+use Rattle.h41_focal.specs.LineStep.{TakesLine, with_line_passed}
 use Rattle.h41_focal.specs.private.Works.{digits_use_row, flag_use_row, highest_of, register_use_row, row_of_work}
 use Rattle.h41_focal.specs.declared.origin.Origin.{Origin}
 use Rattle.h41_focal.specs.declared.origin.Origin.TheVariants.{Program}
@@ -30,7 +30,7 @@ use Rattle.h41_rows.specs.FunctionRows.{function_row}
 use Rattle.h41_rows.specs.LineRows.{count_row, register_row, short_row}
 use Rattle.h41_rows.specs.Operands.{DigitKind, FlagKind, LabelKind, RegisterKind, data_register, kind_of}
 use Rattle.h41_rows.specs.Profile.{is_use_left_out}
-use Rattle.h41_rows.specs.Rows.{silent}
+use Rattle.h41_rows.specs.Rows.{silent_row}
 use Rattle.h41_rows.specs.declared.fault.LineFault.{LineFault}
 
 -- a function, by its work
@@ -91,8 +91,8 @@ pub label_taken :
     (origin : Origin) (function : ParameterFunction) (operand : Operand) (old new : Machine) (result : Result BriefOutcome FocalRefusal)
     → is_use_left_out function operand ≡ false
     → kind_of function ≡ LabelKind
-    → register_row function ≡ silent
-    → CarriesRow origin silent 0 old new result
+    → register_row function ≡ silent_row
+    → CarriesRow origin silent_row 0 old new result
     → TakesBriefly origin (lines.WithOperand function operand) old new result
 label_taken origin function operand old new result held kind row carries = rw (held, kind, row) carries
 
@@ -162,7 +162,7 @@ fail_refused fault machine refusal stands = fail_refused_by (is_sound machine.me
 pub line_passed :
     (old new : Machine) (line : Line) (next : Position)
     → Stands old (Ok (line, next))
-    → new ≡ passed line next old
+    → new ≡ with_line_passed line next old
     → PassesLine old (Ok new)
 line_passed old new line next (sound, (first, answers, is), knows) goes =
     rw sound (Ok first, answers, (next, knows, rw (goes, is) refl))

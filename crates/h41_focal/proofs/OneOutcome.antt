@@ -12,8 +12,9 @@ use Rattle.h41_focal.specs.Destinations.{Stepped, StepsFrom, Tells, Typed, Typed
 use Rattle.h41_focal.specs.LineLaws.{FailureIsDetermined, PassingIsDetermined, StepIsDetermined, TypedIsDetermined}
 use Rattle.h41_focal.specs.LineLaws.{TypedFailureIsDetermined}
 use Rattle.h41_focal.specs.LineStep.{Applies, AppliesTo, AppliesWith, CarriesOut, ComputesIn, Ends, Fails, FailsIn, FailsWith, Left}
-use Rattle.h41_focal.specs.LineStep.{Machine, PassesWith, StepsAs, TakesLine, Works, answered, caught, done, error_flag, failed, line_as}
-use Rattle.h41_focal.specs.LineStep.{named_by, passed, placed, worked}
+use Rattle.h41_focal.specs.LineStep.{Machine, PassesWith, StepsAs, TakesLine, Works, answer_of_showing, with_fault_caught, left_done}
+use Rattle.h41_focal.specs.LineStep.{error_flag, left_failed, line_as}
+use Rattle.h41_focal.specs.LineStep.{named_by, with_line_passed, at_line, with_row}
 use Rattle.h41_focal.specs.Outcomes.{Answer}
 use Rattle.h41_focal.specs.declared.refusal.FocalRefusal.{FocalRefusal}
 use Rattle.h41_focal.specs.declared.refusal.FocalRefusal.TheVariants.{MemoryLost, NotInProfile}
@@ -41,7 +42,8 @@ use Rattle.h41_rows.specs.declared.fault.LineFault.TheVariants.{AlphaData, Nonex
 -- a fault that is caught
 abbrev GoesOn : Machine → Left → Type 0
 GoesOn machine left =
-    (next : Position) × NextAt machine.memory machine.focal.position (Ok next) × (left ≡ done (placed next (caught machine)))
+    (next : Position) × NextAt machine.memory machine.focal.position (Ok next)
+        × (left ≡ left_done (at_line next (with_fault_caught machine)))
 
 -- what holds of the line at the position, or of there being none
 abbrev ByFirst : Machine → (Result PlacedLine program.ProgramRefusal → Type 0) → Type 0
@@ -63,11 +65,11 @@ no_next once memory at a p q =
 module _ (once : IsReadOnce) where
   -- what a fault leaves: with flag 25 the program goes on
   same_stop : (flag_25 : Bool) (machine : Machine) (fault : LineFault) (a b : Left)
-      → MatchBool flag_25 (GoesOn machine a) (a ≡ failed (placed machine.focal.position machine) fault)
-      → MatchBool flag_25 (GoesOn machine b) (b ≡ failed (placed machine.focal.position machine) fault) → a ≡ b
+      → MatchBool flag_25 (GoesOn machine a) (a ≡ left_failed (at_line machine.focal.position machine) fault)
+      → MatchBool flag_25 (GoesOn machine b) (b ≡ left_failed (at_line machine.focal.position machine) fault) → a ≡ b
   same_stop true machine fault a b p q =
       let same = same_next once machine.memory machine.focal.position p.0 q.0 p.1 q.1 in
-      p.2 ∙ ap (λ (next : Position). done (placed next (caught machine))) same ∙ sym q.2
+      p.2 ∙ ap (λ (next : Position). left_done (at_line next (with_fault_caught machine))) same ∙ sym q.2
   same_stop false machine fault a b p q = p ∙ sym q
 
   same_fault : (how : Manner) (machine : Machine) (fault : LineFault) (a b : Left) → Fails how machine fault a → Fails how machine fault b
@@ -113,7 +115,7 @@ module _ (once : IsReadOnce) where
       → PassesWith machine first a → PassesWith machine first b → a ≡ b
   same_beyond machine (Ok first) a b p q =
       let same = same_next once machine.memory machine.focal.position p.0 q.0 p.1 q.1 in
-      p.2 ∙ ap (λ (next : Position). Ok (passed first.line next machine)) same ∙ sym q.2
+      p.2 ∙ ap (λ (next : Position). Ok (with_line_passed first.line next machine)) same ∙ sym q.2
   same_beyond machine (Err refusal) a b p q = p ∙ sym q
 
   same_passed : (sound : Bool) (machine : Machine) (a b : Result Machine FocalRefusal)
@@ -242,8 +244,8 @@ module _
       → AppliesWith how row named machine result a → AppliesWith how row named machine result b → a ≡ b
   same_with how row named machine (Err fault) a b p q = same_failure once how machine fault a b p q
   same_with how row named machine (Ok result) a b p q =
-      let new = worked row named result machine in
-      let answer = answered machine.memory named row.shows row.ends in
+      let new = with_row row named result machine in
+      let answer = answer_of_showing machine.memory named row.shows row.ends in
       let same =
       same_destination once same_start same_local same_global how row.goes machine.memory
       named machine.focal.position machine.focal.returns p.0 q.0 p.1 q.1 in

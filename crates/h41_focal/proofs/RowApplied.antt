@@ -1,9 +1,9 @@
 -- A row whose line goes on to the next one is applied: by what it computes, what it makes of memory, and where the line then is.
 use Rattle.std.proofs.Common.{◌≡◌, ℕ, List, Ok, Err, Result, refl, subst}
-use Rattle.h41_focal.specs.private.Carrying.{KnowsNext, Leaves, advanced, ended, manner_of, nowhere}
+use Rattle.h41_focal.specs.private.Carrying.{KnowsNext, Leaves, on_to_next, ended, manner_of, nowhere}
 use Rattle.h41_focal.specs.BriefOutcomes.{brief_answer}
 use Rattle.h41_focal.specs.Destinations as destinations
-use Rattle.h41_focal.specs.LineStep.{Applies, Fails, FocalState, Left, Machine, Works, answered, joined}
+use Rattle.h41_focal.specs.LineStep.{Applies, Fails, FocalState, Left, Machine, Works, answer_of_showing, machine_with}
 use Rattle.h41_rows.specs.RowEffects.{memory_after}
 use Rattle.h41_rows.specs.Rows.{Row}
 use Rattle.h41_rows.specs.Rows as rows
@@ -18,7 +18,7 @@ use Rattle.h41_ram.specs.RegisterMap.{RegisterMap}
 abbrev pub applied_to : Origin → Row → ℕ → List ℕ → Machine → Machine
 applied_to origin row named register machine = record {
   memory = memory_after row named register machine.focal.lift machine.memory;
-  focal = advanced origin row.lift machine.focal;
+  focal = on_to_next origin row.lift machine.focal;
 }
 
 -- it is done
@@ -28,7 +28,7 @@ pub row_applied :
     → row.goes ≡ rows.Next
     → Works machine.memory named row (Ok register)
     → brief_answer nowhere (memory_after row named register machine.focal.lift machine.memory) brief
-    ≡ answered machine.memory named row.shows row.ends
+    ≡ answer_of_showing machine.memory named row.shows row.ends
     → Leaves origin row named machine (applied_to origin row named register machine) brief
 row_applied (Program next) row named machine register brief knows goes works answers =
     (Ok register, works, (destinations.Arrives next machine.focal.returns, (next, knows, rw goes refl), rw answers refl))
@@ -39,9 +39,9 @@ row_applied Typed row named machine register brief knows goes works answers =
 pub opened_row :
     (origin : Origin) (row : Row) (named : ℕ) (machine : Machine) (memory : RegisterMap) (focal : FocalState)
     (carried : Result Left FocalRefusal)
-    → joined memory focal ≡ machine
+    → machine_with memory focal ≡ machine
     → KnowsNext origin machine
-    → (KnowsNext origin (joined memory focal) → Applies (manner_of origin) row named (joined memory focal) carried)
+    → (KnowsNext origin (machine_with memory focal) → Applies (manner_of origin) row named (machine_with memory focal) carried)
     → Applies (manner_of origin) row named machine carried
 opened_row origin row named machine memory focal carried opened knows applies =
     let P : Machine → Type 0 = λ old. KnowsNext origin old → Applies (manner_of origin) row named old carried in
@@ -51,7 +51,7 @@ opened_row origin row named machine memory focal carried opened knows applies =
 pub row_failed :
     (origin : Origin) (row : Row) (named : ℕ) (machine new : Machine) (memory : RegisterMap) (focal : FocalState) (fault : LineFault)
     (brief : BriefOutcome)
-    → joined memory focal ≡ machine
+    → machine_with memory focal ≡ machine
     → Works memory named row (Err fault)
     → Fails (manner_of origin) machine fault (ended new brief)
     → Leaves origin row named machine new brief

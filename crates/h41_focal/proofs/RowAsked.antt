@@ -3,7 +3,7 @@ use Rattle.std.proofs.Common.{◌≡◌, ℕ, Bool, true, false, ◌&&◌, is_so
 use Rattle.std.proofs.Common.{inr}
 use Rattle.h41_decimal.specs.Holding.{number_in}
 use Rattle.h41_focal.proofs.RowApplied.{applied_to}
-use Rattle.h41_focal.specs.private.Carrying.{CarriesRow, KnowsNext, Leads, manner_of, told}
+use Rattle.h41_focal.specs.private.Carrying.{CarriesRow, KnowsNext, Leads, manner_of, test_answer}
 use Rattle.h41_rows.specs.Computing.{WorksOn}
 use Rattle.h41_rows.specs.Computing as computing
 use Rattle.h41_rows.specs.Counters.{Way}
@@ -68,7 +68,7 @@ pub test_leads : (origin lead : Origin) (row : Row) (condition : Condition) (hol
     (named : ℕ) (machine : Machine) (register : List ℕ) (brief : BriefOutcome)
     → KnowsNext origin machine → row.goes ≡ rows.Tests condition → row.shows ≡ rows.AsBefore → row.ends ≡ rows.GoesOn
     → Works machine.memory named row (Ok register) → holds ≡ holds_in machine.memory named condition
-    → Leads origin machine.memory holds (Ok lead) → brief ≡ told origin holds
+    → Leads origin machine.memory holds (Ok lead) → brief ≡ test_answer origin holds
     → CarriesRow origin row named machine (applied_to lead row named register machine) (Ok brief)
 test_leads (Program next) lead row condition holds named machine register brief knows goes shows ends works is leads answers =
     program_leads next lead row condition holds named machine register brief
@@ -131,16 +131,16 @@ asked : (numbers holds other : Bool)
     → MatchBool numbers (◌≡◌ {A = Result (List ℕ) LineFault} (Ok zeros) (Ok zeros))
     (◌≡◌ {A = Result (List ℕ) LineFault} (Ok zeros) (Err AlphaData))
     × (holds ≡ other)
-asked true holds other told = (refl, cc told)
-asked false holds other told = absurd (cc told)
+asked true holds other test_answer = (refl, cc test_answer)
+asked false holds other test_answer = absurd (cc test_answer)
 
 faulted : (numbers other : Bool) (fault : LineFault)
     → MatchBool numbers (◌≡◌ {A = Result Bool LineFault} (Err fault) (Ok other))
     (◌≡◌ {A = Result Bool LineFault} (Err fault) (Err AlphaData))
     → MatchBool numbers (◌≡◌ {A = Result (List ℕ) LineFault} (Err fault) (Ok zeros))
     (◌≡◌ {A = Result (List ℕ) LineFault} (Err fault) (Err AlphaData))
-faulted true other fault told = absurd (cc told)
-faulted false other fault told = cc told
+faulted true other fault test_answer = absurd (cc test_answer)
+faulted false other fault test_answer = cc test_answer
 
 pub test_asked :
     (memory : RegisterMap) (named : ℕ) (condition : Condition) (result : Result Bool LineFault) (holds : Bool)
@@ -149,7 +149,7 @@ pub test_asked :
     → Works memory named (rows.test condition) (Ok zeros) × (holds ≡ holds_in memory named condition)
 test_asked memory named condition result holds tells is =
     asked (are_numbers memory named (rows.places_in_condition condition)) holds
-    (holds_in memory named condition) (let told = tells named in rw is at told)
+    (holds_in memory named condition) (let test_answer = tells named in rw is at test_answer)
 
 pub test_faulted :
     (memory : RegisterMap) (named : ℕ) (condition : Condition) (result : Result Bool LineFault) (fault : LineFault)
@@ -158,7 +158,7 @@ pub test_faulted :
     → Works memory named (rows.test condition) (Err fault)
 test_faulted memory named condition result fault tells is =
     faulted (are_numbers memory named (rows.places_in_condition condition))
-    (holds_in memory named condition) fault (let told = tells named in rw is at told)
+    (holds_in memory named condition) fault (let test_answer = tells named in rw is at test_answer)
 
 -- a loop's counter is asked for twice, once for the value and once for the condition
 twice : (number : Bool) (A B : Type 0) → MatchBool (number && true) A B → MatchBool (number && (number && true)) A B

@@ -2,11 +2,11 @@
 use Rattle.std.proofs.Common.{arith, ◌≡◌, ◌≢◌, ℕ, ◌≤◌, false, nat_eq, List, [], ◌∷◌, length, drop, slice_index, Some, Result, Ok, refl}
 use Rattle.std.proofs.lemmas.Bool.Decides.{nat_tests}
 use Rattle.h41_focal.proofs.RowApplied.{opened_row, row_applied}
-use Rattle.h41_focal.specs.private.Carrying.{KnowsNext, Leaves, advanced, ended, nowhere}
+use Rattle.h41_focal.specs.private.Carrying.{KnowsNext, Leaves, on_to_next, ended, nowhere}
 use Rattle.h41_focal.specs.BriefOutcomes.{brief_answer}
 use Rattle.h41_rows.specs.Computing.{WorksOn, value_of_two}
 use Rattle.h41_rows.specs.LineRows.{text_row}
-use Rattle.h41_focal.specs.LineStep.{FocalState, Machine, Works, answered, joined}
+use Rattle.h41_focal.specs.LineStep.{FocalState, Machine, Works, answer_of_showing, machine_with}
 use Rattle.h41_rows.specs.Places.{Named, X}
 use Rattle.h41_rows.specs.RowEffects.{memory_after, with_alpha_change}
 use Rattle.h41_rows.specs.Rows.{Row, Appends, Becomes}
@@ -25,17 +25,18 @@ use Rattle.h41_ram.specs.RegisterMap.{RegisterMap, zeros}
 pub row_done :
     (origin : Origin) (row : Row) (named : ℕ) (machine : Machine) (memory : RegisterMap) (focal : FocalState) (register : List ℕ)
     (brief : BriefOutcome) (new : RegisterMap) (after : FocalState)
-    → joined memory focal ≡ machine
+    → machine_with memory focal ≡ machine
     → KnowsNext origin machine
     → row.goes ≡ rows.Next
     → Works memory named row (Ok register)
-    → brief_answer nowhere new brief ≡ answered memory named row.shows row.ends
+    → brief_answer nowhere new brief ≡ answer_of_showing memory named row.shows row.ends
     → new ≡ memory_after row named register focal.lift memory
-    → after ≡ advanced origin row.lift focal
-    → Leaves origin row named machine (joined new after) brief
+    → after ≡ on_to_next origin row.lift focal
+    → Leaves origin row named machine (machine_with new after) brief
 row_done origin row named machine memory focal register brief new after opened knows goes works answers makes ends =
-    opened_row origin row named machine memory focal (Ok (ended (joined new after) brief)) opened knows
-    (λ next. rw (makes, ends) (row_applied origin row named (joined memory focal) register brief next goes works (rw makes at answers)))
+    opened_row origin row named machine memory focal (Ok (ended (machine_with new after) brief)) opened knows
+    (λ next. rw (makes, ends) (row_applied origin row named (machine_with memory focal) register brief next goes works
+        (rw makes at answers)))
 
 -- arithmetic in a register works on the numbers of its value alone
 pub works_in_register :
@@ -53,11 +54,11 @@ works_in_register twos.Percentage memory named result works = works
 pub text_done :
     (characters : List ℕ) (origin : Origin) (named : ℕ) (machine : Machine) (memory : RegisterMap) (focal : FocalState)
     (new : RegisterMap) (after : FocalState)
-    → joined memory focal ≡ machine
+    → machine_with memory focal ≡ machine
     → KnowsNext origin machine
     → new ≡ with_alpha_change memory named (text_row characters).alpha memory
-    → after ≡ advanced origin rows.On focal
-    → Leaves origin (text_row characters) named machine (joined new after) briefs.Done
+    → after ≡ on_to_next origin rows.On focal
+    → Leaves origin (text_row characters) named machine (machine_with new after) briefs.Done
 text_done [] origin named machine memory focal new after opened knows makes ends =
     row_done origin (text_row []) named machine memory focal zeros briefs.Done new after opened knows refl refl refl makes ends
 text_done (character ∷ text) origin named machine memory focal new after opened knows makes ends =

@@ -9,8 +9,9 @@ use Rattle.h41_focal.specs.Destinations.{Arrives, Destination, Stays, StepsFrom,
 use Rattle.h41_focal.specs.LineLaws.{AreAlike, GoesToNext, IsAt, NextIsHere, StepsInTurn, SteppedCanBeTyped, TypedAsStepped}
 use Rattle.h41_focal.specs.LineLaws.{TypedIsDetermined, TypesInTurn}
 use Rattle.h41_focal.specs.LineStep.{Applies, AppliesTo, AppliesWith, CarriesOut, Ends, FailsIn, FocalState, Left, Machine, StepsAs}
-use Rattle.h41_focal.specs.LineStep.{StepsLine, TakesLine, TypesLine, answered, caught, done, ended, error_flag, failed, named_by, placed}
-use Rattle.h41_focal.specs.LineStep.{shown_text, worked}
+use Rattle.h41_focal.specs.LineStep.{StepsLine, TakesLine, TypesLine, answer_of_showing, with_fault_caught, left_done, answer_of_ending}
+use Rattle.h41_focal.specs.LineStep.{error_flag, left_failed, named_by, at_line}
+use Rattle.h41_focal.specs.LineStep.{shown_text, with_row}
 use Rattle.h41_focal.specs.Outcomes.{is_elsewhere}
 use Rattle.h41_focal.specs.declared.refusal.FocalRefusal.{FocalRefusal}
 use Rattle.h41_focal.specs.declared.refusal.FocalRefusal.TheVariants.{MemoryLost, NotInProfile}
@@ -62,13 +63,13 @@ shown_here text rows.GoesOn = refl
 shown_here text rows.Stops = refl
 shown_here text rows.TurnsOff = refl
 
-ended_here : (ending : rows.RowEnding) → is_elsewhere (ended ending) ≡ false
+ended_here : (ending : rows.RowEnding) → is_elsewhere (answer_of_ending ending) ≡ false
 ended_here rows.GoesOn = refl
 ended_here rows.Stops = refl
 ended_here rows.TurnsOff = refl
 
 answered_here : (memory : RegisterMap) (named : ℕ) (showing : rows.Showing) (ending : rows.RowEnding)
-    → is_elsewhere (answered memory named showing ending) ≡ false
+    → is_elsewhere (answer_of_showing memory named showing ending) ≡ false
 answered_here memory named rows.AsBefore ending = ended_here ending
 answered_here memory named rows.NoText ending = refl
 answered_here memory named rows.NamedText ending = shown_here (register_text (format_of memory) (register_at memory named)) ending
@@ -76,15 +77,16 @@ answered_here memory named rows.AlphaText ending = shown_here (alpha_text memory
 
 -- a fault
 abbrev typed_fault : Bool → Machine → LineFault → Left
-typed_fault flag_25 machine fault = if flag_25 then done (caught machine) else failed machine fault
+typed_fault flag_25 machine fault = if flag_25 then left_done (with_fault_caught machine) else left_failed machine fault
 
 fails_alike : (flag_25 : Bool) (machine : Machine) (focal : FocalState) (fault : LineFault) (left : Left)
     → MatchBool flag_25
-    ((next : Position) × NextAt machine.memory machine.focal.position (Ok next) × (left ≡ done (placed next (caught machine))))
-    (left ≡ failed (placed machine.focal.position machine) fault)
+    ((next : Position) × NextAt machine.memory machine.focal.position (Ok next)
+        × (left ≡ left_done (at_line next (with_fault_caught machine))))
+    (left ≡ left_failed (at_line machine.focal.position machine) fault)
     → AreAlike left.machine (typed_fault flag_25 (beside machine focal) fault).machine × (is_elsewhere left.answer ≡ false)
 fails_alike true machine focal fault left (next, answers, is) =
-    (as_same left _ is (caught (beside machine focal)) (refl, refl), here left _ is refl)
+    (as_same left _ is (with_fault_caught (beside machine focal)) (refl, refl), here left _ is refl)
 fails_alike false machine focal fault left is = (as_same left _ is (beside machine focal) (refl, refl), here left _ is refl)
 
 failure_alike : (machine : Machine) (focal : FocalState) (fault : LineFault) (left : Left)
@@ -102,16 +104,16 @@ with_alike : (row : rows.Row) (named : ℕ) (machine : Machine) (focal : FocalSt
     → LeavesLike (AppliesWith Typed row named (beside machine focal) result) left
 with_alike row named machine focal (Err fault) left goes_on applies = failure_alike machine focal fault left applies
 with_alike row named machine focal (Ok result) left goes_on (to, (next, answers, goes), ends) =
-    let new = worked row named result machine in
+    let new = with_row row named result machine in
     let other = beside machine focal in
-    let answer = answered machine.memory named row.shows row.ends in
+    let answer = answer_of_showing machine.memory named row.shows row.ends in
     let arrives : to ≡ Arrives next machine.focal.returns =
     subst (λ (going : rows.Going). StepsFrom going machine.memory named machine.focal.position next machine.focal.returns to)
     goes_on goes in
     let is = subst (λ (to : Destination). Ends Stepped machine new answer to (Ok left)) arrives ends in
     let stays =
     subst (λ (going : rows.Going). TypedFrom going other.memory named other.focal.position other.focal.returns Stays) (sym goes_on) refl in
-    let typed : Left = record { machine = worked row named result other; answer = answer } in
+    let typed : Left = record { machine = with_row row named result other; answer = answer } in
     let same = same_left left _ is in (
       typed,
       (Stays, stays, refl),

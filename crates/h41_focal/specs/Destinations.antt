@@ -39,8 +39,8 @@ pub data Destination : Type 0 where
   HasNoLine : Destination
 
 -- six positions are kept, the latest; a seventh loses the oldest (this project's choice)
-abbrev pub pushed : List Position → Position → List Position
-pushed returns position = drop (length returns - 5) returns ++ position ∷ []
+abbrev pub with_return : List Position → Position → List Position
+with_return returns position = drop (length returns - 5) returns ++ position ∷ []
 
 -- past the line at a position: .END. is behind itself. Where no line stands there, that is a
 -- refusal (this project's choice).
@@ -59,7 +59,7 @@ abbrev pub found_at : Branch → Position → List Position → Destination → 
     → Destination
 found_at branch next returns lost None = lost
 found_at GoTo next returns lost (Some position) = Arrives position returns
-found_at Execute next returns lost (Some position) = Arrives position (pushed returns next)
+found_at Execute next returns lost (Some position) = Arrives position (with_return returns next)
 
 -- where a name is not in memory: XEQ looks elsewhere, GTO does not (this project's choice)
 abbrev pub lost_name : Branch → List ℕ → Destination

@@ -52,8 +52,8 @@ pub record Machine : Type 0 where
   pub memory : RegisterMap
   pub focal : FocalState
 
-abbrev pub joined : RegisterMap → FocalState → Machine
-joined memory focal = record { memory = memory; focal = focal }
+abbrev pub machine_with : RegisterMap → FocalState → Machine
+machine_with memory focal = record { memory = memory; focal = focal }
 
 -- what a line leaves, and its answer
 pub record Left : Type 0 where
@@ -76,17 +76,17 @@ abbrev pub shown_text : List ℕ → rows.RowEnding → Answer
 shown_text text rows.GoesOn = answers.Viewed text
 shown_text text ending = answers.Prompted text
 
-abbrev pub ended : rows.RowEnding → Answer
-ended rows.GoesOn = answers.Done
-ended rows.Stops = answers.Stopped
-ended rows.TurnsOff = answers.TurnedOff
+abbrev pub answer_of_ending : rows.RowEnding → Answer
+answer_of_ending rows.GoesOn = answers.Done
+answer_of_ending rows.Stops = answers.Stopped
+answer_of_ending rows.TurnsOff = answers.TurnedOff
 
-abbrev pub answered : RegisterMap → ℕ → rows.Showing → rows.RowEnding → Answer
-answered memory named rows.AsBefore ending = ended ending
-answered memory named rows.NoText ending = answers.Cleared
-answered memory named rows.NamedText ending =
+abbrev pub answer_of_showing : RegisterMap → ℕ → rows.Showing → rows.RowEnding → Answer
+answer_of_showing memory named rows.AsBefore ending = answer_of_ending ending
+answer_of_showing memory named rows.NoText ending = answers.Cleared
+answer_of_showing memory named rows.NamedText ending =
     shown_text (register_text (format_of memory) (register_at memory named)) ending
-answered memory named rows.AlphaText ending = shown_text (alpha_text memory) ending
+answer_of_showing memory named rows.AlphaText ending = shown_text (alpha_text memory) ending
 
 -- where lines go on: at a line, at line 00 of the program that begins at a position, and there with
 -- nowhere to return to
@@ -100,16 +100,16 @@ abbrev pub halted_at : Position → FocalState → FocalState
 halted_at start focal = record (at_line_00 start focal) { returns = [] }
 
 -- a machine at a position that is not line 00
-abbrev pub placed : Position → Machine → Machine
-placed position machine = record machine { focal = at_position position machine.focal }
+abbrev pub at_line : Position → Machine → Machine
+at_line position machine = record machine { focal = at_position position machine.focal }
 
 -- with positions to return to
-abbrev pub returning : List Position → Machine → Machine
-returning returns machine = record machine { focal = record machine.focal { returns = returns } }
+abbrev pub with_returns : List Position → Machine → Machine
+with_returns returns machine = record machine { focal = record machine.focal { returns = returns } }
 
 -- halted at line 00 of a program
-abbrev pub halted : Position → Machine → Machine
-halted start machine = record machine { focal = halted_at start machine.focal }
+abbrev pub at_halt : Position → Machine → Machine
+at_halt start machine = record machine { focal = halted_at start machine.focal }
 
 -- a fault is shown and the program stops there, at a line that is not line 00. With flag 25 that
 -- flag is cleared, and the program goes on with the next line. Where the line was typed, the
@@ -117,25 +117,26 @@ halted start machine = record machine { focal = halted_at start machine.focal }
 abbrev pub error_flag : ℕ
 error_flag = error_ignore
 
-abbrev pub caught : Machine → Machine
-caught machine = record machine { memory = with_flag machine.memory error_flag false }
+abbrev pub with_fault_caught : Machine → Machine
+with_fault_caught machine = record machine { memory = with_flag machine.memory error_flag false }
 
-abbrev pub failed : Machine → LineFault → Left
-failed machine fault = record { machine = machine; answer = answers.Failed fault }
+abbrev pub left_failed : Machine → LineFault → Left
+left_failed machine fault = record { machine = machine; answer = answers.Failed fault }
 
-abbrev pub done : Machine → Left
-done machine = record { machine = machine; answer = answers.Done }
+abbrev pub left_done : Machine → Left
+left_done machine = record { machine = machine; answer = answers.Done }
 
 abbrev pub Fails : Manner → Machine → LineFault → Left → Type 0
 Fails Stepped machine fault left =
     MatchBool (flag_of machine.memory error_flag)
     ((next : Position)
     × NextAt machine.memory machine.focal.position (Ok next)
-    × (left ≡ done (placed next (caught machine))))
-    (left ≡ failed (placed machine.focal.position machine) fault)
+    × (left ≡ left_done (at_line next (with_fault_caught machine))))
+    (left ≡ left_failed (at_line machine.focal.position machine) fault)
 Fails Typed machine fault left =
     left
-    ≡ (if flag_of machine.memory error_flag then done (caught machine) else failed machine fault)
+    ≡ (if flag_of machine.memory error_flag then left_done (with_fault_caught machine) else
+        left_failed machine fault)
 
 -- a line is carried out, or refused
 abbrev pub FailsIn : Manner → Machine → LineFault → Result Left FocalRefusal → Type 0
@@ -146,15 +147,16 @@ FailsIn how machine fault carried =
 abbrev pub Ends : Manner → Machine → Machine → Answer → Destination → Result Left FocalRefusal
     → Type 0
 Ends how old new answer (Arrives position returns) carried =
-    carried ≡ Ok (record { machine = placed position (returning returns new); answer = answer })
+    carried ≡ Ok (record { machine = at_line position (with_returns returns new); answer = answer })
 Ends Stepped old new answer (Halts start) carried =
-    carried ≡ Ok (record { machine = halted start new; answer = answers.Stopped })
-Ends Typed old new answer (Halts start) carried = carried ≡ Ok (done (halted start new))
+    carried ≡ Ok (record { machine = at_halt start new; answer = answers.Stopped })
+Ends Typed old new answer (Halts start) carried = carried ≡ Ok (left_done (at_halt start new))
 Ends how old new answer Stays carried = carried ≡ Ok (record { machine = new; answer = answer })
 Ends how old new answer (Tells holds) carried =
     carried ≡ Ok (record { machine = new; answer = answers.Answered holds })
 Ends how old new answer (Runs position) carried =
-    carried ≡ Ok (record { machine = placed position (returning [] new); answer = answers.Runs })
+    carried ≡ Ok (record { machine = at_line position (with_returns [] new); answer =
+        answers.Runs })
 -- nothing is changed where the calculator looks elsewhere, and where the line that is to be passed
 -- over is none
 Ends how old new answer (Seeks name) carried =
@@ -163,8 +165,8 @@ Ends how old new answer HasNoLabel carried = FailsIn how old Nonexistent carried
 Ends how old new answer HasNoLine carried = carried ≡ Err BrokenProgram
 
 -- the machine with a row's changes
-abbrev pub worked : rows.Row → ℕ → List ℕ → Machine → Machine
-worked row named result machine = record {
+abbrev pub with_row : rows.Row → ℕ → List ℕ → Machine → Machine
+with_row row named result machine = record {
   memory = memory_after row named result machine.focal.lift machine.memory;
   focal = record machine.focal { lift = lift_after row.lift machine.focal.lift };
 }
@@ -176,8 +178,8 @@ AppliesWith how row named machine (Err fault) carried = FailsIn how machine faul
 AppliesWith how row named machine (Ok result) carried =
     (to : Destination)
     × Goes how row.goes machine.memory named machine.focal.position machine.focal.returns to
-    × Ends how machine (worked row named result machine)
-    (answered machine.memory named row.shows row.ends) to carried
+    × Ends how machine (with_row row named result machine)
+    (answer_of_showing machine.memory named row.shows row.ends) to carried
 
 abbrev pub Applies : Manner → rows.Row → ℕ → Machine → Result Left FocalRefusal → Type 0
 Applies how row named machine carried =
@@ -264,9 +266,9 @@ abbrev pub lift_behind : Line → Bool → Bool
 lift_behind (Module number entry) lift = true
 lift_behind line lift = lift
 
-abbrev pub passed : Line → Position → Machine → Machine
-passed line next machine =
-    placed next
+abbrev pub with_line_passed : Line → Position → Machine → Machine
+with_line_passed line next machine =
+    at_line next
     (record machine { focal = record machine.focal { lift = lift_behind line machine.focal.lift } })
 
 abbrev pub PassesWith : Machine → Result PlacedLine program.ProgramRefusal
@@ -274,7 +276,7 @@ abbrev pub PassesWith : Machine → Result PlacedLine program.ProgramRefusal
 PassesWith machine (Ok first) after =
     (next : Position)
     × NextAt machine.memory machine.focal.position (Ok next)
-    × (after ≡ Ok (passed first.line next machine))
+    × (after ≡ Ok (with_line_passed first.line next machine))
 PassesWith machine (Err refusal) after = after ≡ Err BrokenProgram
 
 abbrev pub PassesLine : Machine → Result Machine FocalRefusal → Type 0

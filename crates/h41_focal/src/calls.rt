@@ -1,7 +1,7 @@
 //! The three calls of lines for who holds memory apart from what else lines work on.
 
 ghost use Rattle.std.specs.Prelude.{◌≡◌, None, Some, OnErr};
-ghost use Rattle.h41_focal.specs.LineStep.{joined};
+ghost use Rattle.h41_focal.specs.LineStep.{machine_with};
 ghost use Rattle.h41_focal.specs.MachineCalls.{KeepsElsewhere, Steps, Types};
 
 use crate::focal::Focal;
@@ -18,10 +18,12 @@ pub fn step_line<const REGS: usize>(
     ram: &mut Ram<REGS>,
     focal: &mut Focal,
 ) -> Result<LineOutcome, FocalRefusal>
-    ensures line { Steps None (joined ram.old focal.old) (joined ram.new focal.new) result }
-    ensures unchanged { OnErr result (joined ram.new focal.new ≡ joined ram.old focal.old) }
-    ensures elsewhere { KeepsElsewhere (joined ram.old focal.old)
-        (joined ram.new focal.new) result }
+    ensures line { Steps None (machine_with ram.old focal.old) (machine_with ram.new focal.new)
+        result }
+    ensures unchanged { OnErr result (machine_with ram.new focal.new
+        ≡ machine_with ram.old focal.old) }
+    ensures elsewhere { KeepsElsewhere (machine_with ram.old focal.old)
+        (machine_with ram.new focal.new) result }
 {
     let mut machine = Machine {
         ram: ram.take(),
@@ -38,9 +40,10 @@ pub fn step_as<const REGS: usize>(
     focal: &mut Focal,
     function: Function,
 ) -> Result<LineOutcome, FocalRefusal>
-    ensures line { Steps (Some function) (joined ram.old focal.old)
-        (joined ram.new focal.new) result }
-    ensures unchanged { OnErr result (joined ram.new focal.new ≡ joined ram.old focal.old) }
+    ensures line { Steps (Some function) (machine_with ram.old focal.old)
+        (machine_with ram.new focal.new) result }
+    ensures unchanged { OnErr result (machine_with ram.new focal.new
+        ≡ machine_with ram.old focal.old) }
 {
     let mut machine = Machine {
         ram: ram.take(),
@@ -57,10 +60,12 @@ pub fn key_line<const REGS: usize>(
     focal: &mut Focal,
     line: &Line,
 ) -> Result<LineOutcome, FocalRefusal>
-    ensures line { Types line.now (joined ram.old focal.old) (joined ram.new focal.new) result }
-    ensures unchanged { OnErr result (joined ram.new focal.new ≡ joined ram.old focal.old) }
-    ensures elsewhere { KeepsElsewhere (joined ram.old focal.old)
-        (joined ram.new focal.new) result }
+    ensures line { Types line.now (machine_with ram.old focal.old) (machine_with ram.new focal.new)
+        result }
+    ensures unchanged { OnErr result (machine_with ram.new focal.new
+        ≡ machine_with ram.old focal.old) }
+    ensures elsewhere { KeepsElsewhere (machine_with ram.old focal.old)
+        (machine_with ram.new focal.new) result }
 {
     let mut machine = Machine {
         ram: ram.take(),

@@ -1,7 +1,7 @@
 //! Where a line goes once its work is done, or where it cannot be done.
 
 ghost use Rattle.std.specs.Prelude.{◌≡◌};
-ghost use Rattle.h41_focal.specs.private.Carrying.{FailsAs, IsReady, advanced};
+ghost use Rattle.h41_focal.specs.private.Carrying.{FailsAs, IsReady, on_to_next};
 ghost use Rattle.h41_rows.specs.Rows.{AsItWas, Off, On};
 
 use crate::focal::Focal;
@@ -13,7 +13,7 @@ use h41_rows::LineFault;
 
 /// On to the next line; a typed line stays. Lift stays.
 pub fn go_on(focal: &mut Focal, origin: Origin)
-    ensures { focal.new ≡ advanced origin AsItWas focal.old }
+    ensures { focal.new ≡ on_to_next origin AsItWas focal.old }
 {
     if let Origin::Program(next) = origin {
         focal.go_to(next);
@@ -22,7 +22,7 @@ pub fn go_on(focal: &mut Focal, origin: Origin)
 
 /// On to the next line, with lift.
 pub fn go_on_lifting(focal: &mut Focal, origin: Origin)
-    ensures { focal.new ≡ advanced origin On focal.old }
+    ensures { focal.new ≡ on_to_next origin On focal.old }
 {
     go_on(focal, origin);
     focal.lift = true;
@@ -30,7 +30,7 @@ pub fn go_on_lifting(focal: &mut Focal, origin: Origin)
 
 /// On to the next line, without lift: the next number takes the place of X.
 pub fn go_on_replacing(focal: &mut Focal, origin: Origin)
-    ensures { focal.new ≡ advanced origin Off focal.old }
+    ensures { focal.new ≡ on_to_next origin Off focal.old }
 {
     go_on(focal, origin);
     focal.lift = false;

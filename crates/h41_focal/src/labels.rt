@@ -3,7 +3,7 @@
 ghost use Rattle.std.specs.Prelude.{◌≡◌, ℕ, IsTrue};
 ghost use Rattle.h41_focal.specs.private.Arrivals.{ReturnsFrom, answer_at, focal_at, from_of};
 ghost use Rattle.h41_focal.specs.private.Carrying.{DoesWork, IsReady, GoesToLabel, GoesToName};
-ghost use Rattle.h41_focal.specs.Destinations.{pushed};
+ghost use Rattle.h41_focal.specs.Destinations.{with_return};
 ghost use Rattle.h41_focal.specs.declared.works.FunctionWork.TheVariants.{Return};
 ghost use Rattle.h41_ram.specs.RegisterMap.{is_sound};
 
@@ -84,7 +84,7 @@ fn arrive(focal: &mut Focal, origin: Origin, branch: Branch, position: Position)
 
 /// A position to return to; a seventh loses the oldest.
 fn push_return(returns: &mut ArrayVec<Position, RETURNS>, position: Position)
-    ensures { returns.new.items ≡ pushed returns.old.items position }
+    ensures { returns.new.items ≡ with_return returns.old.items position }
 {
     match returns.as_slice() {
         [_, second, third, fourth, fifth, sixth] => {

@@ -5,7 +5,7 @@ ghost use Rattle.h41_focal.specs.BriefOutcomes.{StepsBriefly};
 ghost use Rattle.h41_focal.specs.declared.outcome.BriefOutcome.TheVariants.{Elsewhere};
 ghost use Rattle.h41_focal.specs.MachineCalls.{Fails, FailsTyped, KeepsElsewhere, Passes, Steps};
 ghost use Rattle.h41_focal.specs.MachineCalls.{Types};
-ghost use Rattle.h41_focal.specs.LineStep.{joined, start};
+ghost use Rattle.h41_focal.specs.LineStep.{machine_with, start};
 ghost use Rattle.h41_ram.specs.RegisterMap as registers;
 
 use crate::course::{fail, go_on, go_on_lifting};
@@ -131,7 +131,7 @@ impl<const REGS: usize> Machine<REGS> {
     }
     /// Memory and what else lines work on, each where it is held apart.
     pub fn part(self, ram: &mut Ram<REGS>, focal: &mut Focal)
-        ensures { joined ram.new focal.new ≡ self.entry }
+        ensures { machine_with ram.new focal.new ≡ self.entry }
     {
         *ram = self.ram;
         *focal = self.focal;

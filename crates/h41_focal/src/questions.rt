@@ -1,7 +1,7 @@
 //! Lines that ask, and go on past the next line where the answer is no.
 
 ghost use Rattle.std.specs.Prelude.{◌≡◌, ℕ, IsTrue, OnErr};
-ghost use Rattle.h41_focal.specs.private.Carrying.{CarriesWork, IsReady, Leads, told};
+ghost use Rattle.h41_focal.specs.private.Carrying.{CarriesWork, IsReady, Leads, test_answer};
 ghost use Rattle.h41_focal.specs.declared.works.FunctionWork.TheVariants.{Ask};
 ghost use Rattle.h41_ram.specs.RegisterMap.{is_sound};
 
@@ -36,7 +36,7 @@ pub fn lead<const REGS: usize>(
 
 /// What a test answers: where it was typed, whether it holds.
 pub fn answer(origin: Origin, holds: bool) -> BriefOutcome
-    ensures { result ≡ told origin holds }
+    ensures { result ≡ test_answer origin holds }
 {
     match origin {
         Origin::Program(_) => BriefOutcome::Done,

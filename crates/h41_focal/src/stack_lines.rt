@@ -3,8 +3,8 @@
 ghost use Rattle.std.specs.Prelude.{◌≡◌, ℕ};
 ghost use Rattle.h41_codes.specs.declared.line.Line.TheVariants as lines;
 ghost use Rattle.h41_focal.specs.private.Carrying.{DoesLine, DoesWork, IsReady, LeavesRow};
-ghost use Rattle.h41_focal.specs.private.Carrying.{advanced};
-ghost use Rattle.h41_rows.specs.Rows.{nothing, silent};
+ghost use Rattle.h41_focal.specs.private.Carrying.{on_to_next};
+ghost use Rattle.h41_rows.specs.Rows.{lifting_row, silent_row};
 ghost use Rattle.h41_focal.specs.private.StackMoves.{Moves};
 ghost use Rattle.h41_focal.specs.private.Works.{move_row};
 ghost use Rattle.h41_focal.specs.declared.works.FunctionWork.TheVariants.{ClearRegisters, Move};
@@ -60,7 +60,7 @@ fn move_registers<const REGS: usize>(ram: &mut Ram<REGS>, movement: Movement, li
 
 /// On to the next line: the next number takes the place of X behind `ENTER^` and `CLX`.
 fn go_on_behind(focal: &mut Focal, origin: Origin, movement: Movement)
-    ensures { focal.new ≡ advanced origin (move_row movement).lift focal.old }
+    ensures { focal.new ≡ on_to_next origin (move_row movement).lift focal.old }
 {
     match movement {
         Movement::Enter | Movement::ClearX => go_on_replacing(focal, origin),
@@ -103,7 +103,7 @@ pub fn clear_registers<const REGS: usize>(
 /// A line that does nothing but turn lift on.
 pub fn do_nothing<const REGS: usize>(machine: &mut Machine<REGS>, origin: Origin) -> BriefOutcome
     requires { IsReady origin machine.old }
-    ensures { LeavesRow origin nothing machine.old machine.new result }
+    ensures { LeavesRow origin lifting_row machine.old machine.new result }
 {
     go_on_lifting(&mut machine.focal, origin);
     BriefOutcome::Done
@@ -112,7 +112,7 @@ pub fn do_nothing<const REGS: usize>(machine: &mut Machine<REGS>, origin: Origin
 /// A line that does nothing, and leaves lift.
 pub fn be_silent<const REGS: usize>(machine: &mut Machine<REGS>, origin: Origin) -> BriefOutcome
     requires { IsReady origin machine.old }
-    ensures { LeavesRow origin silent machine.old machine.new result }
+    ensures { LeavesRow origin silent_row machine.old machine.new result }
 {
     go_on(&mut machine.focal, origin);
     BriefOutcome::Done

@@ -16,7 +16,7 @@ use Rattle.h41_keys.specs.Keyboard.{row_of, meaning_of}
 use Rattle.h41_keys.specs.KeyPress as press
 use Rattle.h41_keys.specs.NumberTyping.{with_digit, with_point, with_exponent, with_sign_turned, without_last, kept_within, value_of}
 use Rattle.h41_keys.specs.PromptKeys as keys
-use Rattle.h41_keys.specs.Prompts.{prompt_row, wanted, takes_stack, line_with, line_naming, name_line}
+use Rattle.h41_keys.specs.Prompts.{prompt_row, digits_wanted, takes_stack, line_with, line_naming, name_line}
 use Rattle.h41_keys.specs.Prompts.{is_local_letter, local_label, stack_register}
 use Rattle.h41_keys.specs.StoredLines.{is_storable, StoresLine}
 use Rattle.h41_keys.specs.declared.action.Action.{Action}
@@ -86,7 +86,7 @@ ends_with : (prompt : Prompt) (parameter : ℕ) → Types (keys.ends_with prompt
 ends_with prompt parameter = with_parameter (prompt_row prompt.function).lines prompt.indirect parameter
 
 first_digit : (prompt : Prompt) (digit : Digit) → Types (keys.first_digit prompt digit)
-first_digit prompt digit = chosen Types (wanted prompt.function prompt.indirect == 1) _ _ (ends_with prompt (value_of digit)) tt
+first_digit prompt digit = chosen Types (digits_wanted prompt.function prompt.indirect == 1) _ _ (ends_with prompt (value_of digit)) tt
 
 first_point : (prompt : Prompt) → Types (keys.first_point prompt)
 first_point prompt =
@@ -242,7 +242,7 @@ acts input (meanings.Letter letter) = letter_typed input input.program_mode inpu
 acts input meanings.Append = append_pressed input input.program_mode input.entry
 acts input other = tt
 
-stepped : (input : Input) (step : Option PromptStep) → Types step → IfPressed (press.stepped input step)
+stepped : (input : Input) (step : Option PromptStep) → Types step → IfPressed (press.press_of_step input step)
 stepped input (Some (steps.Types line)) storable = line_typed (press.prompt_ended input) input.program_mode line storable
 stepped input (Some other) storable = tt
 stepped input None storable = tt
@@ -256,7 +256,7 @@ by_prompt : (input : Input) (prompt : Option Prompt) (letters : Bool) (key : Key
 by_prompt input (Some prompt) letters key = in_prompt input prompt key
 by_prompt input None letters key = acts input (meaning_of key letters input.shift)
 
-idle : (input : Input) (key : Key) (flags : Flags) → IfPressed (press.idle input key flags)
+idle : (input : Input) (key : Key) (flags : Flags) → IfPressed (press.press_in_idle input key flags)
 idle input key flags =
     chosen IfPressed (flags.message && not input.shift && press.is_back key) _ _ tt (by_prompt input input.prompt flags.alpha key)
 

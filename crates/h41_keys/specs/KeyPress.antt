@@ -38,11 +38,11 @@ abbrev pub does : Action → Input → Pressed
 does action input = record { action = action; input = input }
 
 -- SHIFT holds for one key; what is being typed from then on, and where that is nothing
-abbrev pub typing : Input → TypedEntry → Input
-typing input entry = record input { shift = false; entry = entry }
+abbrev pub with_entry : Input → TypedEntry → Input
+with_entry input entry = record input { shift = false; entry = entry }
 
-abbrev pub ended : Input → Input
-ended input = typing input entries.Nothing
+abbrev pub without_entry : Input → Input
+without_entry input = with_entry input entries.Nothing
 
 -- a number has ended, a text goes on
 abbrev pub without_number : TypedEntry → TypedEntry
@@ -52,9 +52,9 @@ without_number other = other
 -- a line was typed: in program mode it is stored, and ends a text; else it is carried out, and a
 -- text goes on
 abbrev pub typed_line : Input → (program_mode : Bool) → Line → Pressed
-typed_line input true line = does (actions.Insert line) (ended input)
+typed_line input true line = does (actions.Insert line) (without_entry input)
 typed_line input false line =
-    does (actions.CarryOut line) (typing input (without_number input.entry))
+    does (actions.CarryOut line) (with_entry input (without_number input.entry))
 
 abbrev pub line_typed : Input → Line → Pressed
 line_typed input line = typed_line input input.program_mode line
@@ -74,20 +74,21 @@ number_in other = []
 -- it begins: outside program mode in X, else as a line
 abbrev pub number_begun : Input → (program_mode : Bool) → List Character → Pressed
 number_begun input true text =
-    does (actions.Insert (lines.Number text)) (typing input (entries.Number text))
-number_begun input false text = does (actions.BeginNumber text) (typing input (entries.Number text))
+    does (actions.Insert (lines.Number text)) (with_entry input (entries.Number text))
+number_begun input false text = does (actions.BeginNumber text)
+    (with_entry input (entries.Number text))
 
 -- it changes
 abbrev pub number_changed : Input → (program_mode : Bool) → List Character → Pressed
 number_changed input true text =
-    does (actions.Replace (lines.Number text)) (typing input (entries.Number text))
+    does (actions.Replace (lines.Number text)) (with_entry input (entries.Number text))
 number_changed input false text =
-    does (actions.ChangeNumber text) (typing input (entries.Number text))
+    does (actions.ChangeNumber text) (with_entry input (entries.Number text))
 
 -- its last character was taken, by BACK or by CHS on a sign alone
 abbrev pub number_ended : Input → (program_mode : Bool) → Pressed
-number_ended input true = does actions.Delete (ended input)
-number_ended input false = does actions.EndNumber (ended input)
+number_ended input true = does actions.Delete (without_entry input)
+number_ended input false = does actions.EndNumber (without_entry input)
 
 -- a key that changes a number makes its text longer or shorter; one that changes nothing is
 -- accepted too
@@ -95,7 +96,7 @@ abbrev pub number_becomes : Input → (before after : List Character) → Presse
 number_becomes input before after =
     if length after == 0 then number_ended input input.program_mode
     else if length before == 0 then number_begun input input.program_mode after
-    else if length after == length before then does actions.Nothing (typing input input.entry)
+    else if length after == length before then does actions.Nothing (with_entry input input.entry)
     else number_changed input input.program_mode after
 
 abbrev pub press_of_number : Input → (before after : List Character) → Pressed
@@ -113,7 +114,7 @@ sign_pressed input (entries.Number text) = number_typed input with_sign_turned
 sign_pressed input other = function_typed input functions.ChangeSign
 
 abbrev pub press_of_clear : Input → (program_mode : Bool) → Pressed
-press_of_clear input true = does actions.Delete (ended input)
+press_of_clear input true = does actions.Delete (without_entry input)
 press_of_clear input false = function_typed input functions.ClearX
 
 abbrev pub back_pressed : Input → TypedEntry → Pressed
@@ -122,7 +123,7 @@ back_pressed input other = press_of_clear input input.program_mode
 
 -- A TEXT FOR ALPHA. In program mode it is a line, which is replaced letter by letter up to 15 bytes
 abbrev pub text_line : Input → (List ℕ → Action) → List ℕ → Pressed
-text_line input act text = does (act text) (typing input (entries.TextLine text))
+text_line input act text = does (act text) (with_entry input (entries.TextLine text))
 
 abbrev pub inserts : List ℕ → Action
 inserts text = actions.Insert (lines.Text text)
@@ -137,15 +138,15 @@ changed_line input text = text_line input replaces text
 -- front
 abbrev pub letter_typed : Input → (program_mode : Bool) → TypedEntry → ℕ → Pressed
 letter_typed input false entries.Append letter =
-    does (actions.AddLetter letter) (typing input entries.Letters)
+    does (actions.AddLetter letter) (with_entry input entries.Letters)
 letter_typed input false entries.Letters letter =
-    does (actions.AddLetter letter) (typing input entries.Letters)
+    does (actions.AddLetter letter) (with_entry input entries.Letters)
 letter_typed input false other letter =
-    does (actions.BeginText letter) (typing input entries.Letters)
+    does (actions.BeginText letter) (with_entry input entries.Letters)
 letter_typed input true entries.Append letter = text_line input inserts (0x7F ∷ letter ∷ [])
 letter_typed input true (entries.TextLine text) letter =
     if nat_lt (length text) text_most then changed_line input (text ++ letter ∷ [])
-    else does actions.Nothing (typing input (entries.TextLine text))
+    else does actions.Nothing (with_entry input (entries.TextLine text))
 letter_typed input true other letter = text_line input inserts (letter ∷ [])
 
 -- whether a line has a letter, the append sign apart
@@ -157,47 +158,49 @@ has_letter others = true
 -- the line goes with its last letter
 abbrev pub text_shortened : Input → List ℕ → Pressed
 text_shortened input text =
-    if has_letter text then changed_line input text else does actions.Delete (ended input)
+    if has_letter text then changed_line input text else does actions.Delete (without_entry input)
 
 -- BACK: a letter goes. Where none was typed, ALPHA is cleared, or in program mode the shown line
 -- goes
 abbrev pub letter_taken : Input → (program_mode : Bool) → TypedEntry → Pressed
-letter_taken input false entries.Letters = does actions.TakeLetter (typing input entries.Letters)
-letter_taken input false other = does actions.ClearAlpha (ended input)
+letter_taken input false entries.Letters =
+    does actions.TakeLetter (with_entry input entries.Letters)
+letter_taken input false other = does actions.ClearAlpha (without_entry input)
 letter_taken input true (entries.TextLine text) = text_shortened input (without_last text)
-letter_taken input true other = does actions.Delete (ended input)
+letter_taken input true other = does actions.Delete (without_entry input)
 
 -- SHIFT XEQ: the next letter is appended. In program mode it ends a line's text; else it changes
 -- nothing in a text
 abbrev pub append_pressed : Input → (program_mode : Bool) → TypedEntry → Pressed
-append_pressed input false entries.Letters = does actions.Nothing (typing input entries.Letters)
-append_pressed input program_mode other = does actions.Nothing (typing input entries.Append)
+append_pressed input false entries.Letters = does actions.Nothing (with_entry input entries.Letters)
+append_pressed input program_mode other = does actions.Nothing (with_entry input entries.Append)
 
 -- A KEY WHERE NO PROMPT IS OPEN, by what it means
 -- R/S runs the program, or is the line STOP
 abbrev pub run_pressed : Input → (program_mode : Bool) → Pressed
 run_pressed input true = function_typed input functions.Stop
-run_pressed input false = does actions.Run (ended input)
+run_pressed input false = does actions.Run (without_entry input)
 
 -- SHIFT holds for the next key; a second takes it back
 abbrev pub with_shift_turned : Input → Input
 with_shift_turned input = record input { shift = not input.shift }
 
 abbrev pub program_mode_turned : Input → Input
-program_mode_turned input = record (ended input) { program_mode = not input.program_mode }
+program_mode_turned input = record (without_entry input) { program_mode = not input.program_mode }
 
 -- a prompt opens, and ends a number
 abbrev pub with_prompt : Input → PromptFunction → Input
 with_prompt input function =
-    record (typing input (without_number input.entry)) { prompt = Some (opened_prompt function) }
+    record (with_entry input (without_number input.entry))
+        { prompt = Some (opened_prompt function) }
 
 abbrev pub acts : Input → Meaning → Option Pressed
 acts input meanings.Nothing = None
 acts input meanings.Shift = Some (does actions.Nothing (with_shift_turned input))
-acts input meanings.Alpha = Some (does actions.ToggleAlpha (ended input))
+acts input meanings.Alpha = Some (does actions.ToggleAlpha (without_entry input))
 acts input meanings.Program = Some (does actions.Nothing (program_mode_turned input))
-acts input meanings.Step = Some (does actions.Step (ended input))
-acts input meanings.StepBack = Some (does actions.StepBack (ended input))
+acts input meanings.Step = Some (does actions.Step (without_entry input))
+acts input meanings.StepBack = Some (does actions.StepBack (without_entry input))
 acts input meanings.RunStop = Some (run_pressed input input.program_mode)
 acts input meanings.Back = Some (back_pressed input input.entry)
 acts input meanings.LetterBack = Some (letter_taken input input.program_mode input.entry)
@@ -215,13 +218,14 @@ acts input meanings.Append = Some (append_pressed input input.program_mode input
 abbrev pub prompt_ended : Input → Input
 prompt_ended input = record input { shift = false; prompt = None }
 
-abbrev pub stepped : Input → Option PromptStep → Option Pressed
-stepped input (Some (steps.Becomes prompt)) =
+abbrev pub press_of_step : Input → Option PromptStep → Option Pressed
+press_of_step input (Some (steps.Becomes prompt)) =
     Some (does actions.Nothing (record input { shift = false; prompt = Some prompt }))
-stepped input (Some steps.Cancels) = Some (does actions.Nothing (prompt_ended input))
-stepped input (Some (steps.Types line)) = Some (line_typed (prompt_ended input) line)
-stepped input (Some steps.GoesToEnd) = Some (does actions.GoToEnd (ended (prompt_ended input)))
-stepped input None = None
+press_of_step input (Some steps.Cancels) = Some (does actions.Nothing (prompt_ended input))
+press_of_step input (Some (steps.Types line)) = Some (line_typed (prompt_ended input) line)
+press_of_step input (Some steps.GoesToEnd) =
+    Some (does actions.GoToEnd (without_entry (prompt_ended input)))
+press_of_step input None = None
 
 -- in a name SHIFT holds for one key as elsewhere; else it is one of the keys of the prompt
 abbrev pub shifts_name : Typed → Meaning → Bool
@@ -231,7 +235,7 @@ shifts_name other meaning = false
 abbrev pub in_prompt : Input → Prompt → Key → Option Pressed
 in_prompt input prompt key =
     if shifts_name prompt.typed (row_of key).plain then acts input meanings.Shift
-    else stepped input (prompt_step prompt prompt.typed input.shift key)
+    else press_of_step input (prompt_step prompt prompt.typed input.shift key)
 
 -- A KEY
 abbrev pub by_prompt : Input → Option Prompt → (letters : Bool) → Key → Option Pressed
@@ -243,8 +247,8 @@ is_back keys.Back = true
 is_back other = false
 
 -- where nothing runs. Where a message is shown, BACK without SHIFT only takes it away
-abbrev pub idle : Input → Key → Flags → Option Pressed
-idle input key flags =
+abbrev pub press_in_idle : Input → Key → Flags → Option Pressed
+press_in_idle input key flags =
     if flags.message && not input.shift && is_back key then Some (does actions.Nothing input)
     else by_prompt input input.prompt flags.alpha key
 
@@ -260,7 +264,7 @@ while_in_microcode input meanings.Nothing = None
 while_in_microcode input other = Some (does actions.Nothing input)
 
 abbrev pub presses : Input → Key → Activity → Flags → Option Pressed
-presses input key modes.Idle flags = idle input key flags
+presses input key modes.Idle flags = press_in_idle input key flags
 presses input key modes.Run flags = while_running input (row_of key).plain
 presses input key modes.Micro flags = while_in_microcode input (row_of key).plain
 

@@ -5,7 +5,7 @@ use Rattle.h41_codes.specs.declared.functions.Function.{Function}
 use Rattle.h41_codes.specs.declared.functions.Function.TheVariants as functions
 use Rattle.h41_keys.specs.Keyboard.{KeyRow, row_of}
 use Rattle.h41_keys.specs.NumberTyping.{value_of, without_last}
-use Rattle.h41_keys.specs.Prompts.{prompt_row, wanted, takes_stack, parameter_line}
+use Rattle.h41_keys.specs.Prompts.{prompt_row, digits_wanted, takes_stack, parameter_line}
 use Rattle.h41_keys.specs.Prompts.{name_line}
 use Rattle.h41_keys.specs.Prompts.{stack_register}
 use Rattle.h41_keys.specs.declared.key.Digit.{Digit}
@@ -36,7 +36,7 @@ turns_indirect prompt = Some (steps.Becomes (record prompt { indirect = not prom
 -- a first digit: the only one, or one of two
 abbrev pub first_digit : Prompt → Digit → Option PromptStep
 first_digit prompt digit =
-    if wanted prompt.function prompt.indirect == 1 then ends_with prompt (value_of digit)
+    if digits_wanted prompt.function prompt.indirect == 1 then ends_with prompt (value_of digit)
     else goes_on prompt (typed.Digit digit)
 
 -- the point in front of all: a register of the stack comes, or the second point of GTO . .

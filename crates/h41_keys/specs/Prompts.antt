@@ -2,7 +2,7 @@
 -- it.
 use Rattle.std.specs.Prelude.{ℕ, ◌+◌, ◌-◌, nat_le, Bool, true, false, ◌&&◌, ◌==◌, List, [], ◌∷◌}
 use Rattle.std.specs.Prelude.{◌++◌, Option, Some, None, if◌then◌else◌, codes}
-use Rattle.h41_codes.specs.Canon.{canonical}
+use Rattle.h41_codes.specs.Canon.{canonical_line}
 use Rattle.h41_codes.specs.declared.functions.Branch.{Branch}
 use Rattle.h41_codes.specs.declared.functions.Branch.TheVariants as branches
 use Rattle.h41_codes.specs.declared.functions.NameFunction.TheVariants as namings
@@ -60,8 +60,8 @@ format function =
     }
 
 -- to labels
-abbrev pub branching : Branch → PromptRow
-branching branch =
+abbrev pub branch_row : Branch → PromptRow
+branch_row branch =
     record {
       lines = Branching branch;
       digits = 2;
@@ -72,8 +72,8 @@ branching branch =
 
 -- the table
 abbrev pub prompt_row : PromptFunction → PromptRow
-prompt_row prompts.Execute = branching branches.Execute
-prompt_row prompts.GoTo = branching branches.GoTo
+prompt_row prompts.Execute = branch_row branches.Execute
+prompt_row prompts.GoTo = branch_row branches.GoTo
 prompt_row prompts.Label =
     record {
       lines = Parameter functions.Label;
@@ -108,9 +108,9 @@ abbrev pub prompt_name : PromptFunction → List ℕ
 prompt_name function = lines_name (prompt_row function).lines
 
 -- how many digits the parameter has
-abbrev pub wanted : PromptFunction → Bool → ℕ
-wanted function true = 2
-wanted function false = (prompt_row function).digits
+abbrev pub digits_wanted : PromptFunction → Bool → ℕ
+digits_wanted function true = 2
+digits_wanted function false = (prompt_row function).digits
 
 -- whether the point names a register of the stack
 abbrev pub takes_stack : PromptFunction → Bool → Bool
@@ -120,10 +120,11 @@ takes_stack function false = (prompt_row function).registers
 -- the line of a function and a parameter, in its shortest spelling
 abbrev pub line_with : PromptLines → Bool → ℕ → Line
 line_with (Parameter function) false parameter =
-    canonical (lines.WithOperand function (Direct parameter))
+    canonical_line (lines.WithOperand function (Direct parameter))
 line_with (Parameter function) true parameter =
-    canonical (lines.WithOperand function (Indirect parameter))
-line_with (Branching branch) false parameter = canonical (lines.BranchTo branch 0 false parameter)
+    canonical_line (lines.WithOperand function (Indirect parameter))
+line_with (Branching branch) false parameter =
+    canonical_line (lines.BranchTo branch 0 false parameter)
 line_with (Branching branch) true parameter = lines.BranchIndirect branch parameter
 
 abbrev pub parameter_line : PromptFunction → Bool → ℕ → Line
@@ -163,7 +164,7 @@ stack_register letter =
 -- what is typed of the parameter, as the display shows it
 abbrev pub typed_text : PromptFunction → Bool → Typed → List ℕ
 typed_text function indirect typed.Nothing =
-    if wanted function indirect == 1 then codes " _" else codes " __"
+    if digits_wanted function indirect == 1 then codes " _" else codes " __"
 typed_text function indirect (typed.Digit digit) = 0x20 ∷ (0x30 + value_of digit) ∷ 0x5F ∷ []
 typed_text function indirect typed.Stack = codes " ST _"
 typed_text function indirect typed.Point = codes " ._"

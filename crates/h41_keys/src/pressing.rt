@@ -72,7 +72,7 @@ fn while_in_microcode(input: Input, meaning: Meaning) -> Option<Pressed>
 
 /// A key where nothing runs.
 fn idle(input: Input, key: Key, flags: Flags) -> Option<Pressed>
-    ensures { result ≡ spec.idle input key flags }
+    ensures { result ≡ spec.press_in_idle input key flags }
 {
     if flags.message && !input.shift && matches!(key, Key::Back) {
         return Some(does(Action::Nothing, input));
@@ -97,7 +97,7 @@ fn in_prompt(input: Input, prompt: Prompt, key: Key) -> Option<Pressed>
 
 /// What becomes of the keyboard with a prompt.
 fn stepped(input: Input, step: Option<PromptStep>) -> Option<Pressed>
-    ensures { result ≡ spec.stepped input step }
+    ensures { result ≡ spec.press_of_step input step }
 {
     match step {
         Some(PromptStep::Becomes(prompt)) => Some(does(

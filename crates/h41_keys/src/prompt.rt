@@ -231,7 +231,7 @@ impl PromptRow {
 
     /// The row of going or executing.
     fn branching(branch: Branch) -> Self
-        ensures { result ≡ spec.branching branch }
+        ensures { result ≡ spec.branch_row branch }
     {
         PromptRow {
             lines: PromptLines::Branching(branch),
@@ -313,11 +313,11 @@ fn is_local_letter(letter: u8) -> bool
 
 impl Prompt {
     ghost use Rattle.std.specs.Prelude.{◌≡◌};
-    ghost use Rattle.h41_keys.specs.Prompts.{prompt_text, wanted};
+    ghost use Rattle.h41_keys.specs.Prompts.{prompt_text, digits_wanted};
 
     /// How many digits the parameter has.
     pub(crate) fn digits(&self) -> u8
-        ensures { result ≡ wanted self.now.function self.now.indirect }
+        ensures { result ≡ digits_wanted self.now.function self.now.indirect }
     {
         if self.indirect {
             2

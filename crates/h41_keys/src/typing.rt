@@ -15,7 +15,7 @@ pub(crate) fn does(action: Action, input: Input) -> Pressed
 
 /// SHIFT is used up, and this is being typed.
 pub(crate) fn typing(input: Input, entry: TypedEntry) -> Input
-    ensures { result ≡ press.typing input entry }
+    ensures { result ≡ press.with_entry input entry }
 {
     Input {
         shift: false,
@@ -26,7 +26,7 @@ pub(crate) fn typing(input: Input, entry: TypedEntry) -> Input
 
 /// SHIFT is used up, and nothing is being typed any more.
 pub(crate) fn ended(input: Input) -> Input
-    ensures { result ≡ press.ended input }
+    ensures { result ≡ press.without_entry input }
 {
     typing(input, TypedEntry::Nothing)
 }

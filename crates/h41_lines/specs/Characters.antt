@@ -14,12 +14,12 @@ abbrev pub is_plain : ℕ → Bool
 is_plain character = nat_le 0x20 character && nat_le character 0x7E && not (character == 0x5C)
 
 -- a character as \ and its two hexadecimal digits
-abbrev pub escaped : ℕ → List ℕ
-escaped character = 0x5C ∷ hexadecimal_text 2 character
+abbrev pub escape_of : ℕ → List ℕ
+escape_of character = 0x5C ∷ hexadecimal_text 2 character
 
 -- a character as the display shows it
 abbrev pub character_text : ℕ → List ℕ
-character_text character = if is_plain character then character ∷ [] else escaped character
+character_text character = if is_plain character then character ∷ [] else escape_of character
 
 -- characters, one behind the other
 abbrev pub characters_text : List ℕ → List ℕ

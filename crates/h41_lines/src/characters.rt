@@ -94,7 +94,7 @@ pub fn character_text(character: u8) -> ArrayString<3>
 /// A character as `\` and its two hexadecimal digits.
 #[inline]
 pub fn escaped(character: u8) -> ArrayString<3>
-    ensures { result.bytes ≡ spec.escaped character }
+    ensures { result.bytes ≡ spec.escape_of character }
 {
     let mut text = ArrayString::new();
     text.push_str("\\");

@@ -11,7 +11,7 @@ use Rattle.h41_words.specs.Mnemonics.{address_text, instruction_text, long_jump_
 use Rattle.h41_words.specs.SecondWord.{second_of, second_number_of, SaidByWord}
 use Rattle.h41_words.specs.WordTable.{length_of, number_of, row_of, OneWordOfRow, WordOfRow}
 use Rattle.h41_dis.specs.declared.cut.Piece.{Piece}
-use Rattle.h41_dis.specs.Spelling.{alone, with_second, pieces, piece_text}
+use Rattle.h41_dis.specs.Spelling.{piece_of_one, with_second, pieces, piece_text}
 use Rattle.h41_asm.specs.Statements.{long_jump_words}
 use Rattle.h41_listings.proofs.ListingRows.{reads_immediate, reads_long_jump}
 use Rattle.h41_listings.proofs.ListingTable.{reads_word}
@@ -93,7 +93,7 @@ module _ (word_of_row : WordOfRow) (one_word_of_row : OneWordOfRow) (said_by_wor
   reads_pieces (first ∷ []) each = (reads_word word_of_row first each.0, tt)
   reads_pieces (first ∷ second ∷ rest) each =
       cond_both (length_of first == 2) (with_second first second ∷ pieces rest)
-      (alone first ∷ pieces (second ∷ rest)) (AllByRecursion ReadsPiece)
+      (piece_of_one first ∷ pieces (second ∷ rest)) (AllByRecursion ReadsPiece)
       (λ two. (reads_pair first second each.0 each.1.0 two, reads_pieces rest each.1.1))
       (λ one. (reads_word word_of_row first each.0, reads_pieces (second ∷ rest) each.1))
 
@@ -103,6 +103,6 @@ words_of_pieces [] = refl
 words_of_pieces (first ∷ []) = refl
 words_of_pieces (first ∷ second ∷ rest) =
     cond_both (length_of first == 2) (with_second first second ∷ pieces rest)
-    (alone first ∷ pieces (second ∷ rest)) (λ some. flat_map piece_words some ≡ first ∷ second ∷ rest)
+    (piece_of_one first ∷ pieces (second ∷ rest)) (λ some. flat_map piece_words some ≡ first ∷ second ∷ rest)
     (λ two. ap (λ words. first ∷ second ∷ words) (words_of_pieces rest))
     (λ one. ap (λ words. first ∷ words) (words_of_pieces (second ∷ rest)))

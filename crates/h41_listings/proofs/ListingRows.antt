@@ -17,7 +17,7 @@ use Rattle.h41_words.specs.declared.second_word.LongJumpKind.{LongJumpKind}
 use Rattle.h41_words.specs.Mnemonics.{field_text, operation_text, long_jump_text, short_jump_text, displacement_text, row_text}
 use Rattle.h41_words.specs.WordTable.{number_of}
 use Rattle.h41_asm.specs.Operands.{field_in, number_in}
-use Rattle.h41_asm.specs.Statements.{is_in_reach, long_jump_words, one_word, said, takes_number, takes_field, takes_displacement}
+use Rattle.h41_asm.specs.Statements.{is_in_reach, long_jump_words, one_word, value_statement, takes_number, takes_field, takes_displacement}
 use Rattle.h41_asm.specs.Statements.{takes_address, takes_immediate, takes_constant}
 use Rattle.h41_lines.proofs.HexadecimalDigits.{length-hexadecimal}
 use Rattle.h41_listings.proofs.ListingNumbers.{solid_hexadecimal, read_address, read_word, read_forward, read_backward}
@@ -128,7 +128,7 @@ reads_number : (name : List ℕ) (least count number : ℕ) (row : ℕ → Row) 
     → number < 16 → number_in least count (decimal number) ≡ Some number → Reads (name ++ 32 ∷ decimal number) (number_of (row number) ∷ [])
 reads_number name least count number row taken inside read =
     reads_operand name (decimal number) (number_of (row number) ∷ []) (takes_number least count row) taken (decimal_operand number inside)
-    (ap (said (λ n. one_word (row n))) read)
+    (ap (value_statement (λ n. one_word (row n))) read)
 
 pub reads_clear_status : (bit : ℕ) → bit < 14 → Reads (row_text (ClearStatus bit)) (number_of (ClearStatus bit) ∷ [])
 reads_clear_status bit inside =

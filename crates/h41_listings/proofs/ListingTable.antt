@@ -13,7 +13,7 @@ use Rattle.h41_words.specs.declared.rows.RegisterTransfer.{RegisterTransfer}
 use Rattle.h41_words.specs.declared.rows.RegisterTransfer.TheVariants.{CToG}
 use Rattle.h41_words.specs.Listing.{fields, operations, single_rows, displacements, families, listed_rows}
 use Rattle.h41_words.specs.Mnemonics.{row_text}
-use Rattle.h41_words.specs.WordTable.{number_of, numbered, row_in, row_of, word_table, WordOfRow}
+use Rattle.h41_words.specs.WordTable.{number_of, with_numbers, row_in, row_of, word_table, WordOfRow}
 use Rattle.h41_asm.specs.Statements.{singles, takers}
 use Rattle.h41_listings.proofs.ListingRows.{reads_constant, reads_arithmetic, reads_forward, reads_backward, reads_clear_status}
 use Rattle.h41_listings.proofs.ListingRows.{reads_set_status, reads_test_status, reads_test_pointer, reads_set_pointer, reads_rotate}
@@ -177,10 +177,10 @@ listed =
     )
 
 in_table : (some : List Row) (word : ℕ) → AllByRecursion ReadsRow some → ReadsRow (rows.Constant word)
-    → ReadsRow (row_in (numbered some) word)
+    → ReadsRow (row_in (with_numbers some) word)
 in_table [] word each none = none
 in_table (row ∷ some) word each none =
-    cond_both (number_of row == word) row (row_in (numbered some) word) ReadsRow (λ _. each.0) (λ _. in_table some word each.1 none)
+    cond_both (number_of row == word) row (row_in (with_numbers some) word) ReadsRow (λ _. each.0) (λ _. in_table some word each.1 none)
 
 constant : (word : ℕ) → word < 1024 → ReadsRow (rows.Constant word)
 unfolding number_of

@@ -16,7 +16,7 @@ use Rattle.h41_words.specs.declared.second_word.LongJumpKind.TheVariants.{Execut
 use Rattle.h41_words.specs.Mnemonics.{operation_text, long_jump_text, short_jump_text}
 use Rattle.h41_asm.specs.declared.fault.SourceFault.TheVariants.{BadOperand}
 use Rattle.h41_asm.specs.SourceLines.{line_of, words_of}
-use Rattle.h41_asm.specs.Statements.{Words, Taking, reading, not_single, single_or_not, single_among, singles, takers, takes_field}
+use Rattle.h41_asm.specs.Statements.{Words, Taking, reading_of, not_single, single_or_not, single_among, singles, takers, takes_field}
 use Rattle.h41_asm.specs.Statements.{takes_number, takes_address, takes_displacement, takes_immediate, takes_constant}
 use Rattle.h41_listings.proofs.ListingLines.{is_plain}
 use Rattle.h41_listings.proofs.ListingWords.{is_solid, words_of-operand}
@@ -25,13 +25,13 @@ use Rattle.h41_listings.proofs.ListingWords.{is_solid, words_of-operand}
 pub record Reads (text own : List ℕ) : Type 0 where
   pub plain : list_all is_plain text ≡ true
   pub unlabelled : (line_of (words_of text)).label ≡ None
-  pub said : reading (line_of (words_of text)).code ≡ Ok (Words own)
+  pub said : reading_of (line_of (words_of text)).code ≡ Ok (Words own)
 
 -- a mnemonic that takes a word as its operand
 pub record IsTaken (name : List ℕ) (takes : Taking) (word : List ℕ) : Type 0 where
   pub plain : list_all is_plain name ≡ true
   pub unlabelled : (line_of (words_of name ++ word ∷ [])).label ≡ None
-  pub said : reading (line_of (words_of name ++ word ∷ [])).code ≡ ok_or (takes word) BadOperand
+  pub said : reading_of (line_of (words_of name ++ word ∷ [])).code ≡ ok_or (takes word) BadOperand
 
 -- an operand's word
 pub record IsOperand (word : List ℕ) : Type 0 where
@@ -51,7 +51,7 @@ reads_operand name word own takes taken operand gives =
     record {
       plain = list_all-append is_plain name (32 ∷ word) ∙ and_from _ _ taken.plain (plain_from_solid word operand.solid);
       unlabelled = ap (λ parts. (line_of parts).label) words ∙ taken.unlabelled;
-      said = ap (λ parts. reading (line_of parts).code) words ∙ taken.said ∙ ap (λ statement. ok_or statement BadOperand) gives;
+      said = ap (λ parts. reading_of (line_of parts).code) words ∙ taken.said ∙ ap (λ statement. ok_or statement BadOperand) gives;
     }
 
 pub constant_taken : (word : List ℕ) → IsTaken (codes "CON") takes_constant word

@@ -3,7 +3,7 @@ use Rattle.std.proofs.Common.{◌≡◌, ℕ, ◌*◌, ◌^◌, sym, subst, ◌�
 use Rattle.h41_decimal.specs.Laws.{TypedIsDetermined}
 use Rattle.h41_decimal.specs.NearestDecimal.{Nearest}
 use Rattle.h41_decimal.specs.NumberEntry.{IsTyped}
-use Rattle.h41_decimal.specs.Signs.{signed}
+use Rattle.h41_decimal.specs.Signs.{with_sign}
 use Rattle.h41_decimal.specs.Units.{one}
 use Rattle.h41_decimal.specs.declared.parts.Exponent.{Exponent}
 use Rattle.h41_decimal.specs.declared.sign.Sign.{Sign}
@@ -19,7 +19,7 @@ typed_at sign digits places e f number same typed =
     record {
       answer = typed.answer;
       nearest =
-          subst (λ biased. Nearest (signed sign (digits * one * 10 ^ biased)) (10 ^ places * 10 ^ 99) typed.answer)
+          subst (λ biased. Nearest (with_sign sign (digits * one * 10 ^ biased)) (10 ^ places * 10 ^ 99) typed.answer)
           same typed.nearest;
       value = typed.value;
     }

@@ -4,7 +4,7 @@
 use Rattle.std.specs.Prelude.{◌≡◌, ℕ, Bool, true, false, List}
 use Rattle.h41_fields.specs.declared.field.Field.{Field}
 use Rattle.h41_fields.specs.Field.{first_place, last_place}
-use Rattle.h41_arith.specs.DigitRule.{SumInto, DifferenceInto, copied, shifted_left, shifted_right}
+use Rattle.h41_arith.specs.DigitRule.{SumInto, DifferenceInto, copy_of, shifted_left, shifted_right}
 use Rattle.h41_arith.specs.DigitRule.{is_less, is_different, is_nonzero, zeros}
 use Rattle.h41_words.specs.declared.operation.Operation.{Operation}
 use Rattle.h41_words.specs.declared.operation.Operation.TheVariants.{ClearA, ClearB, ClearC}
@@ -41,16 +41,19 @@ IntoC Rule s t = Rule t.c t.carry × (t ≡ record s { c = t.c; carry = t.carry 
 -- from a processor whose carry is clear to the one afterwards
 abbrev pub Operates : Operation → ℕ → ℕ → Processor → Processor → Type 0
 -- A=0, B=0, C=0
-Operates ClearA lo hi s t = t ≡ record s { a = copied s.a zeros lo hi }
-Operates ClearB lo hi s t = t ≡ record s { b = copied s.b zeros lo hi }
-Operates ClearC lo hi s t = t ≡ record s { c = copied s.c zeros lo hi }
+Operates ClearA lo hi s t = t ≡ record s { a = copy_of s.a zeros lo hi }
+Operates ClearB lo hi s t = t ≡ record s { b = copy_of s.b zeros lo hi }
+Operates ClearC lo hi s t = t ≡ record s { c = copy_of s.c zeros lo hi }
 -- A<>B, B=A, A<>C, C=B, B<>C, A=C
-Operates ExchangeAB lo hi s t = t ≡ record s { a = copied s.a s.b lo hi; b = copied s.b s.a lo hi }
-Operates AToB lo hi s t = t ≡ record s { b = copied s.b s.a lo hi }
-Operates ExchangeAC lo hi s t = t ≡ record s { a = copied s.a s.c lo hi; c = copied s.c s.a lo hi }
-Operates BToC lo hi s t = t ≡ record s { c = copied s.c s.b lo hi }
-Operates ExchangeBC lo hi s t = t ≡ record s { b = copied s.b s.c lo hi; c = copied s.c s.b lo hi }
-Operates CToA lo hi s t = t ≡ record s { a = copied s.a s.c lo hi }
+Operates ExchangeAB lo hi s t = t ≡ record s
+    { a = copy_of s.a s.b lo hi; b = copy_of s.b s.a lo hi }
+Operates AToB lo hi s t = t ≡ record s { b = copy_of s.b s.a lo hi }
+Operates ExchangeAC lo hi s t = t ≡ record s
+    { a = copy_of s.a s.c lo hi; c = copy_of s.c s.a lo hi }
+Operates BToC lo hi s t = t ≡ record s { c = copy_of s.c s.b lo hi }
+Operates ExchangeBC lo hi s t = t ≡ record s
+    { b = copy_of s.b s.c lo hi; c = copy_of s.c s.b lo hi }
+Operates CToA lo hi s t = t ≡ record s { a = copy_of s.a s.c lo hi }
 -- A=A+B, A=A+C, A=A+1, A=A-B, A=A-1, A=A-C
 Operates AddBToA lo hi s t = IntoA (SumInto (base_number s.base) s.a s.a s.b false lo hi) s t
 Operates AddCToA lo hi s t = IntoA (SumInto (base_number s.base) s.a s.a s.c false lo hi) s t

@@ -3,7 +3,7 @@ use Rattle.std.specs.Prelude.{ℕ, ◌+◌, ◌*◌, ◌/◌, Option}
 use Rattle.h41_pages.specs.PageMap.{PageMap, written}
 use Rattle.h41_ram.specs.RegisterMap.{RegisterMap, register_at, with_register}
 use Rattle.h41_nut.specs.declared.refusal.WordRefusal.{WordRefusal}
-use Rattle.h41_nut.specs.PageWords.{fetched, system_refusal, word_or_zero, write_refusal}
+use Rattle.h41_nut.specs.PageWords.{word_at, system_refusal, word_or_zero, write_refusal}
 use Rattle.h41_nut.specs.Processor.{Processor}
 use Rattle.h41_nut.specs.RegisterWords.{with_c, word_in_c, address_in_c, with_word_in_c}
 
@@ -39,7 +39,7 @@ with_c_in_block ram register s = with_c_at ram (block_address register s) s
 -- FETCH S&X: the word at the address in C; 000 where no page is plugged there (this project's
 -- choice)
 abbrev pub with_fetched_word : PageMap → Processor → Processor
-with_fetched_word pages s = with_word_in_c (word_or_zero (fetched pages (address_in_c s))) s
+with_fetched_word pages s = with_word_in_c (word_or_zero (word_at pages (address_in_c s))) s
 
 -- FETCH S&X reads no word of the system's pages (8), and WROM writes none that is not writable
 -- (12); both with C's address

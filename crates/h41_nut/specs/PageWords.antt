@@ -22,8 +22,8 @@ abbrev pub with_own_refusal : Result ℕ FetchRefusal → Result ℕ WordRefusal
 with_own_refusal (Ok word) = Ok word
 with_own_refusal (Err refusal) = Err (of_fetch refusal)
 
-abbrev pub fetched : pages.PageMap → ℕ → Result ℕ WordRefusal
-fetched all address = with_own_refusal (pages.fetched all address)
+abbrev pub word_at : pages.PageMap → ℕ → Result ℕ WordRefusal
+word_at all address = with_own_refusal (pages.fetched all address)
 
 -- the word that is fetched at an address, and 000 where none is
 abbrev pub word_or_zero : Result ℕ WordRefusal → ℕ

@@ -35,8 +35,8 @@ pub record Processor : Type 0 where
 
 -- the state before the first call: all zero, but for the address at which a function ends and the
 -- display, which is on
-abbrev pub initial : Processor
-initial = record {
+abbrev pub initial_state : Processor
+initial_state = record {
   a = replicate 14 0;
   b = replicate 14 0;
   c = replicate 14 0;
@@ -59,6 +59,7 @@ initial = record {
 -- the state in which a function begins at an address (this project's choice): all zero as at first,
 -- the newest return address that of a function's end, the other three 0000; the display stays as it
 -- is
-abbrev pub entered : Processor → ℕ → Processor
-entered s address =
-    record initial { pc = address; returns = end_of_function ∷ 0 ∷ 0 ∷ 0 ∷ []; display = s.display }
+abbrev pub at_function : Processor → ℕ → Processor
+at_function s address =
+    record initial_state { pc = address; returns = end_of_function ∷ 0 ∷ 0 ∷ 0 ∷ []; display =
+        s.display }

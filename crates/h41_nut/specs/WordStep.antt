@@ -20,7 +20,7 @@ use Rattle.h41_nut.specs.Arrivals.{next_address, address_after_both, arrival_ref
 use Rattle.h41_nut.specs.Arrivals.{gone_on}
 use Rattle.h41_nut.specs.Jumps as jumps
 use Rattle.h41_nut.specs.MemoryWords as memory
-use Rattle.h41_nut.specs.PageWords.{fetched, word_or_zero}
+use Rattle.h41_nut.specs.PageWords.{word_at, word_or_zero}
 use Rattle.h41_nut.specs.Pointers as pointers
 use Rattle.h41_nut.specs.Processor.{Processor}
 use Rattle.h41_nut.specs.RegisterWords as registers
@@ -39,10 +39,10 @@ nut_of processor ram pages keys =
 
 -- the word of the step, and the word after it
 abbrev pub word_of : Nut → ℕ
-word_of s = word_or_zero (fetched s.pages s.processor.pc)
+word_of s = word_or_zero (word_at s.pages s.processor.pc)
 
 abbrev pub second_word : Nut → ℕ
-second_word s = word_or_zero (fetched s.pages (next_address s.processor))
+second_word s = word_or_zero (word_at s.pages (next_address s.processor))
 
 -- where the step goes
 abbrev pub goes_to : Row → Nut → ℕ
@@ -143,8 +143,8 @@ keys_after rows.ClearKeyFlag s = record s.keys { flag = false }
 keys_after row s = s.keys
 
 -- all of it
-abbrev pub after : Row → Nut → Nut
-after row s = record {
+abbrev pub state_after : Row → Nut → Nut
+state_after row s = record {
   processor = at_address (goes_to row s) (answer row s) (registers_after row s);
   ram = ram_after row s;
   pages = pages_after row s;
@@ -157,7 +157,7 @@ abbrev pub WordEffect : Row → Nut → Nut → Type 0
 WordEffect (rows.Arithmetic operation field) s t =
     OperatesOn operation field (gone_on s.processor) t.processor
     × (t ≡ record s { processor = t.processor })
-WordEffect row s t = t ≡ after row s
+WordEffect row s t = t ≡ state_after row s
 
 -- why a word itself is refused, with its address: no instruction; a bank (7); a peripheral that is
 -- selected (10); the processor goes to sleep (11)
@@ -170,8 +170,8 @@ word_refusal row s = None
 
 -- an instruction of two words fetches the second, whether it needs it or not
 abbrev pub second_refusal : Row → Nut → Option WordRefusal
-second_refusal (rows.LongJump low_byte) s = result_err (fetched s.pages (next_address s.processor))
-second_refusal rows.LoadImmediate s = result_err (fetched s.pages (next_address s.processor))
+second_refusal (rows.LongJump low_byte) s = result_err (word_at s.pages (next_address s.processor))
+second_refusal rows.LoadImmediate s = result_err (word_at s.pages (next_address s.processor))
 second_refusal row s = None
 
 -- a read of the system's pages (8), and a write where none may be (12)
@@ -192,7 +192,7 @@ row_refusal row s =
 -- the first refusal of a step, or none: of the fetch of the word, of its row
 abbrev pub refused : Nut → Option WordRefusal
 refused s =
-    option_or (result_err (fetched s.pages s.processor.pc)) (row_refusal (row_of (word_of s)) s)
+    option_or (result_err (word_at s.pages s.processor.pc)) (row_refusal (row_of (word_of s)) s)
 
 -- the change that a step makes, which is there only where it is not refused
 pub record Micro (s t : Nut) : Type 0 where

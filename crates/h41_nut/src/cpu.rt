@@ -1,7 +1,7 @@
 //! The registers of the processor, its states at the start, and what its words do to them, family by family.
 
 ghost use Rattle.std.specs.Prelude.{◌≡◌, ◌^◌, ◌<◌, false, true};
-ghost use Rattle.h41_nut.specs.Processor.{initial, entered};
+ghost use Rattle.h41_nut.specs.Processor.{initial_state, at_function};
 ghost use Rattle.h41_nut.specs.RegisterWords.{with_display};
 
 use crate::addresses::END_OF_FUNCTION;
@@ -76,7 +76,7 @@ impl Model for Cpu {
 impl Cpu {
     /// The state before the first call: all zero, but for the address 00F0 and the display, which is on.
     pub fn new() -> Self
-        ensures { result ≡ initial }
+        ensures { result ≡ initial_state }
     {
         Cpu {
             a: Reg::zero(),
@@ -102,7 +102,7 @@ impl Cpu {
     /// The state in which a function begins at an address: all is zero as at first, the newest return address is 00F0,
     /// and the display stays as it is (this project's choice).
     pub fn enter(&mut self, address: u16)
-        ensures { self.new ≡ entered self.old address }
+        ensures { self.new ≡ at_function self.old address }
     {
         let display = self.display;
         *self = Cpu {

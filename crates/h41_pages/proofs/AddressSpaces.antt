@@ -15,7 +15,8 @@ use Rattle.h41_words.specs.declared.rows.Bank.TheVariants.{First}
 use Rattle.h41_pages.specs.Addresses.{page_count, page_size, page_of, offset_of, first_page, last_page, is_pluggable, is_system}
 use Rattle.h41_pages.specs.private.AddressSpace.{address_count, nothing, empty_space, with_page, number_of, IsSpaceOf, IsPages}
 use Rattle.h41_pages.specs.PageLaws.{address_in}
-use Rattle.h41_pages.specs.PageMap.{PageMap, IsPageMap, no_banks, no_pages, fetched, word_in, plugged, unplugged, written, chosen_at}
+use Rattle.h41_pages.specs.PageMap.{PageMap, IsPageMap, no_banks, no_pages, fetched, word_in, with_page_image, without_images, written}
+use Rattle.h41_pages.specs.PageMap.{chosen_at}
 use Rattle.h41_pages.specs.PageMap.{chosen_image, bank_place, bank_numbered, image_at, with_first_banks, plug_refusal, write_refusal}
 use Rattle.h41_pages.specs.declared.refusal.FetchRefusal.TheVariants.{SystemRom}
 use Rattle.h41_pages.proofs.OtherPages.{same_fetch, bank_below}
@@ -100,17 +101,18 @@ at_page address page here = omega (arith, here)
 plugged_at : (pages : PageMap) (numbers : List ℕ) (page number : ℕ) (writable : Bool) (words : List ℕ) (address : ℕ) → IsPageMap pages
     → IsSpaceOf pages numbers → length numbers ≡ address_count → length words ≡ page_size → first_page ≤ page → page ≤ last_page
     → bank_numbered number ≡ First → address < address_count → (page_of address ≡ page) ⊎ (page_of address ≢ page)
-    → slice_index (with_page numbers page words) address ≡ number_of (fetched (plugged pages page number writable words) address)
+    → slice_index (with_page numbers page words) address ≡ number_of (fetched (with_page_image pages page number writable words) address)
 plugged_at pages numbers page number writable words address is space whole size low high first below (inl here) =
     read_in_page numbers words page address whole size (omega (arith, high)) here
-    ∙ sym (ap number_of (ap (fetched (plugged pages page number writable words)) (at_page address page here)
+    ∙ sym (ap number_of (ap (fetched (with_page_image pages page number writable words)) (at_page address page here)
     ∙ word_plugged pages page number (offset_of address) writable words is low high (omega arith) (is.first page ∙ sym first)))
 plugged_at pages numbers page number writable words address is space whole size low high first below (inr apart) =
     read_elsewhere numbers words page address whole size (omega (arith, high)) apart ∙ space address below
     ∙ sym (ap number_of (others_plugged pages page number writable words address apart))
 
 pub space_plugged : (pages : PageMap) (numbers : List ℕ) (page number : ℕ) (writable : Bool) (words : List ℕ) → IsPages pages numbers
-    → plug_refusal pages page number words ≡ None → IsSpaceOf (plugged pages page number writable words) (with_page numbers page words)
+    → plug_refusal pages page number words ≡ None → IsSpaceOf (with_page_image pages page number writable words)
+        (with_page numbers page words)
 space_plugged pages numbers page number writable words is none address below =
     let held = plugged_held pages page number writable words none in
     let place = bank_place (bank_numbered number) in
@@ -122,11 +124,11 @@ space_plugged pages numbers page number writable words is none address below =
 unplugged_at : (pages : PageMap) (numbers : List ℕ) (page address : ℕ) → IsPageMap pages → IsSpaceOf pages numbers
     → length numbers ≡ address_count → first_page ≤ page → page ≤ last_page → address < address_count
     → (page_of address ≡ page) ⊎ (page_of address ≢ page)
-    → slice_index (with_page numbers page (replicate page_size nothing)) address ≡ number_of (fetched (unplugged pages page) address)
+    → slice_index (with_page numbers page (replicate page_size nothing)) address ≡ number_of (fetched (without_images pages page) address)
 unplugged_at pages numbers page address is space whole low high below (inl here) =
     read_in_page numbers (replicate page_size nothing) page address whole (length-replicate page_size nothing) (omega (arith, high)) here
     ∙ get_or-replicate page_size (offset_of address) nothing 0 (omega arith)
-    ∙ sym (ap number_of (ap (fetched (unplugged pages page)) (at_page address page here)
+    ∙ sym (ap number_of (ap (fetched (without_images pages page)) (at_page address page here)
     ∙ page_emptied pages page (offset_of address) is low high (omega arith)))
 unplugged_at pages numbers page address is space whole low high below (inr apart) =
     read_elsewhere numbers (replicate page_size nothing) page address whole (length-replicate page_size nothing) (omega (arith, high)) apart
@@ -134,7 +136,7 @@ unplugged_at pages numbers page address is space whole low high below (inr apart
     ∙ sym (ap number_of (others_unplugged pages page address apart))
 
 pub space_unplugged : (pages : PageMap) (numbers : List ℕ) (page : ℕ) → IsPages pages numbers → is_pluggable page ≡ true
-    → IsSpaceOf (unplugged pages page) (with_page numbers page (replicate page_size nothing))
+    → IsSpaceOf (without_images pages page) (with_page numbers page (replicate page_size nothing))
 space_unplugged pages numbers page is held address below =
     let both = and_parts (nat_le first_page page) (nat_le page last_page) held in
     unplugged_at pages numbers page address is.map is.space is.size
@@ -187,7 +189,8 @@ pub pages_at_start : IsPages no_pages empty_space
 pages_at_start = record { map = none_is_page_map; size = length-replicate address_count nothing; space = space_at_start }
 
 pub pages_plugged : (pages : PageMap) (numbers : List ℕ) (page number : ℕ) (writable : Bool) (words : List ℕ) → IsPages pages numbers
-    → plug_refusal pages page number words ≡ None → IsPages (plugged pages page number writable words) (with_page numbers page words)
+    → plug_refusal pages page number words ≡ None → IsPages (with_page_image pages page number writable words)
+        (with_page numbers page words)
 pages_plugged pages numbers page number writable words is none =
     let held = plugged_held pages page number writable words none in
     let place = bank_place (bank_numbered number) in
@@ -201,7 +204,7 @@ pages_plugged pages numbers page number writable words is none =
     }
 
 pub pages_unplugged : (pages : PageMap) (numbers : List ℕ) (page : ℕ) → IsPages pages numbers → is_pluggable page ≡ true → page < page_count
-    → IsPages (unplugged pages page) (with_page numbers page (replicate page_size nothing))
+    → IsPages (without_images pages page) (with_page numbers page (replicate page_size nothing))
 pages_unplugged pages numbers page is held below =
     let empty = page_changed pages page no_banks is.map below refl (none_held page) in
     record {
@@ -212,8 +215,8 @@ pages_unplugged pages numbers page is held below =
 
 pub pages_chosen : (pages : PageMap) (numbers : List ℕ) (page : ℕ) (bank : Bank) → IsPages pages numbers → page < page_count
     → is_some (image_at pages page bank) ≡ true → IsPages (record pages { chosen = slice_set pages.chosen page bank }) numbers
-pages_chosen pages numbers page bank is below plugged =
-    let first = plugged_is_first pages page bank is.map plugged in
+pages_chosen pages numbers page bank is below with_page_image =
+    let first = plugged_is_first pages page bank is.map with_page_image in
     let map =
     subst (λ b. IsPageMap (record pages { chosen = slice_set pages.chosen page b })) (sym first) (choice_changed pages page is.map below) in
     record {

@@ -1,11 +1,11 @@
 -- A name is read one word at a time.
 use Rattle.std.proofs.Common.{◌≡◌, ℕ, true, false, List, [], ◌∷◌, ◌++◌, Option, Some, None, cond, refl, ap, sym, ◌∙◌, append_assoc}
 use Rattle.std.specs.Option.{option_map}
-use Rattle.h41_pages.specs.FunctionTables.{character, is_last, spelled}
+use Rattle.h41_pages.specs.FunctionTables.{character, is_last, spelled_name}
 
 -- the characters read, and what the words that are left spell
 abbrev pub going_on : List ℕ → List ℕ → Option (List ℕ)
-going_on name words = option_map (λ rest. name ++ rest) (spelled words)
+going_on name words = option_map (λ rest. name ++ rest) (spelled_name words)
 
 same_name : (name : Option (List ℕ)) → name ≡ option_map (λ rest. [] ++ rest) name
 same_name None = refl
@@ -16,20 +16,22 @@ joined : (name : List ℕ) (next : ℕ) → (rest : Option (List ℕ))
 joined name next None = refl
 joined name next (Some rest) = ap Some (sym (append_assoc name (next ∷ []) rest))
 
-pub name_begins : (words : List ℕ) → spelled words ≡ going_on [] words
-name_begins words = same_name (spelled words)
+pub name_begins : (words : List ℕ) → spelled_name words ≡ going_on [] words
+name_begins words = same_name (spelled_name words)
 
 pub name_goes_on : (name : List ℕ) (word : ℕ) (words : List ℕ) → is_last word ≡ false
     → going_on name (word ∷ words) ≡ going_on (name ++ character word ∷ []) words
 name_goes_on name word words fails =
     ap (λ b.
-    option_map (λ rest. name ++ rest) (cond b (Some (character word ∷ [])) (option_map (λ rest. character word ∷ rest) (spelled words))))
+    option_map (λ rest. name ++ rest) (cond b (Some (character word ∷ []))
+        (option_map (λ rest. character word ∷ rest) (spelled_name words))))
     fails
-    ∙ joined name (character word) (spelled words)
+    ∙ joined name (character word) (spelled_name words)
 
 pub name_ends : (name : List ℕ) (word : ℕ) (words : List ℕ) → is_last word ≡ true
     → going_on name (word ∷ words) ≡ Some (name ++ character word ∷ [])
 name_ends name word words passes =
     ap (λ b.
-    option_map (λ rest. name ++ rest) (cond b (Some (character word ∷ [])) (option_map (λ rest. character word ∷ rest) (spelled words))))
+    option_map (λ rest. name ++ rest) (cond b (Some (character word ∷ []))
+        (option_map (λ rest. character word ∷ rest) (spelled_name words))))
     passes

@@ -13,7 +13,7 @@ use Rattle.h41_words.specs.declared.rows.Bank.{Bank}
 use Rattle.h41_words.specs.declared.rows.Bank.TheVariants.{First, Second, Third, Fourth}
 use Rattle.h41_pages.specs.Addresses.{page_size, page_of, offset_of, is_pluggable}
 use Rattle.h41_pages.specs.PageMap.{PageMap, PageImage, IsHeldImage, IsPageMap, no_banks, no_pages, banks_at, image_at, bank_place}
-use Rattle.h41_pages.specs.PageMap.{bank_numbered, chosen_at, chosen_image, is_held, is_image, is_writable, plug_refusal, plugged}
+use Rattle.h41_pages.specs.PageMap.{bank_numbered, chosen_at, chosen_image, is_held, is_image, is_writable, plug_refusal, with_page_image}
 use Rattle.h41_pages.specs.PageMap.{with_word, write_refusal, written}
 use Rattle.h41_pages.specs.declared.refusal.PlugRefusal.TheVariants as plugs
 use Rattle.h41_pages.proofs.OtherPages.{other_banks, own_banks, other_chosen, own_image, bank_below}
@@ -212,7 +212,7 @@ pub plugged_as : (images : List (List (Option PageImage))) (chosen : List Bank) 
     → from ≡ page → row ≡ slice_index_or images from [] → place ≡ bank_place (bank_numbered number)
     → image ≡ record { words = words; writable = writable }
     → record { images = slice_set images from (slice_set row place (Some image)); chosen = chosen }
-    ≡ plugged (record { images = images; chosen = chosen }) page number writable words
+    ≡ with_page_image (record { images = images; chosen = chosen }) page number writable words
 plugged_as images chosen page number writable words from place row image at read bank made =
     let here : row ≡ slice_index_or images page [] = read ∙ ap (λ i. slice_index_or images i []) at in
     ap (λ i. record { images = slice_set images i (slice_set row place (Some image)); chosen = chosen }) at

@@ -4,7 +4,8 @@ use Rattle.h41_words.specs.declared.rows.Bank.{Bank}
 use Rattle.h41_words.specs.declared.rows.Bank.TheVariants.{First, Second, Third, Fourth}
 use Rattle.h41_pages.specs.Addresses.{page_of}
 use Rattle.h41_pages.specs.PageLaws.{PluggedIsFetched, PluggingKeepsOthers, UnpluggedIsEmpty, UnpluggingKeepsOthers}
-use Rattle.h41_pages.specs.PageMap.{PageImage, banks_at, image_at, chosen_at, bank_numbered, bank_place, no_banks, plugged, unplugged}
+use Rattle.h41_pages.specs.PageMap.{PageImage, banks_at, image_at, chosen_at, bank_numbered, bank_place, no_banks, with_page_image}
+use Rattle.h41_pages.specs.PageMap.{without_images}
 use Rattle.h41_pages.proofs.OtherPages.{own_banks, own_image, bank_below, fetch_at, offset_in, same_fetch, other_banks, other_chosen}
 
 pub word_plugged : PluggedIsFetched
@@ -14,16 +15,17 @@ word_plugged pages page number offset writable words whole first last below chos
     let page_below : page < length pages.images = omega (arith, whole.images, last) in
     let bank_is_there : place < length (banks_at pages page) =
     omega (arith, whole.banks page (omega (arith, last)), bank_below (bank_numbered number)) in
-    let here = ap (image_at (plugged pages page number writable words) page) chosen
+    let here = ap (image_at (with_page_image pages page number writable words) page) chosen
     ∙ ap (λ banks. slice_index_or banks place None)
     (own_banks pages.images (slice_set (banks_at pages page) place (Some image)) page page_below)
     ∙ own_image (banks_at pages page) (Some image) place bank_is_there in
-    fetch_at (plugged pages page number writable words) page offset (Some image) first below here
+    fetch_at (with_page_image pages page number writable words) page offset (Some image) first below here
     ∙ ap (λ at. Ok (slice_index words at)) (offset_in page offset below)
 
 pub others_plugged : PluggingKeepsOthers
 others_plugged pages page number writable words address different =
-    same_fetch (plugged pages page number writable words) pages address (other_banks pages.images _ page (page_of address) different) refl
+    same_fetch (with_page_image pages page number writable words) pages address
+        (other_banks pages.images _ page (page_of address) different) refl
 
 none_of : (bank : Bank) → slice_index_or no_banks (bank_place bank) None ≡ None
 none_of First = refl
@@ -35,12 +37,12 @@ pub page_emptied : UnpluggedIsEmpty
 page_emptied pages page offset whole first last below =
     let page_below : page < length pages.images = omega (arith, whole.images, last) in
     let here =
-    ap (λ banks. slice_index_or banks (bank_place (chosen_at (unplugged pages page) page)) None)
+    ap (λ banks. slice_index_or banks (bank_place (chosen_at (without_images pages page) page)) None)
     (own_banks pages.images no_banks page page_below)
-    ∙ none_of (chosen_at (unplugged pages page) page) in
-    fetch_at (unplugged pages page) page offset None first below here
+    ∙ none_of (chosen_at (without_images pages page) page) in
+    fetch_at (without_images pages page) page offset None first below here
 
 pub others_unplugged : UnpluggingKeepsOthers
 others_unplugged pages page address different =
-    same_fetch (unplugged pages page) pages address
+    same_fetch (without_images pages page) pages address
     (other_banks pages.images _ page (page_of address) different) (other_chosen pages.chosen _ page (page_of address) different)

@@ -60,17 +60,17 @@ is_last word = word / 2 ^ 7 % 2 == 1
 
 -- the name that words spell: the characters up to the one that is marked as the last, and none
 -- where none is marked
-abbrev pub spelled : List ℕ → Option (List ℕ)
-spelled [] = None
-spelled (word ∷ words) =
+abbrev pub spelled_name : List ℕ → Option (List ℕ)
+spelled_name [] = None
+spelled_name (word ∷ words) =
     if is_last word then Some (character word ∷ [])
-    else option_map (λ name. character word ∷ name) (spelled words)
+    else option_map (λ name. character word ∷ name) (spelled_name words)
 
 -- the name of an entry: that before a microcode function; keystroke code has none yet
 abbrev pub entry_name : List ℕ → ℕ → Option (List ℕ)
 entry_name words entry =
     if is_keystroke words entry then None
-    else spelled (words_before words (entry_offset words entry))
+    else spelled_name (words_before words (entry_offset words entry))
 
 -- an entry as a function: its two numbers, and its name
 abbrev pub function_in : List ℕ → ℕ → ModuleFunction
@@ -105,8 +105,8 @@ numbers_of function = (function.number, function.entry)
 abbrev pub found_in : List ℕ → List ModuleFunction → Option (ℕ × ℕ)
 found_in name functions = option_map numbers_of (find (is_named name) functions)
 
-abbrev pub found : PageMap → List ℕ → Option (ℕ × ℕ)
-found pages name = found_in name (functions pages)
+abbrev pub function_of_name : PageMap → List ℕ → Option (ℕ × ℕ)
+function_of_name pages name = found_in name (functions pages)
 
 -- the numbers that a function can have: its module's is 1 to 31, its entry's 0 to 63
 abbrev pub AreNumbers : ℕ × ℕ → Type 0

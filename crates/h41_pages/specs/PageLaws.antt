@@ -4,7 +4,7 @@ use Rattle.std.specs.Prelude.{IfSome, None, Ok, Err}
 use Rattle.h41_words.specs.declared.rows.Bank.{Bank}
 use Rattle.h41_pages.specs.Addresses.{page_size, first_page, last_page, page_of}
 use Rattle.h41_pages.specs.PageMap.{PageMap, IsPageMap, image_at, chosen_at, bank_numbered}
-use Rattle.h41_pages.specs.PageMap.{is_image, plugged, unplugged, with_chosen, fetched}
+use Rattle.h41_pages.specs.PageMap.{is_image, with_page_image, without_images, with_chosen, fetched}
 use Rattle.h41_pages.specs.PageMap.{write_refusal, written}
 use Rattle.h41_pages.specs.Images.{image_bytes, words_in, read_refusal, IsImageAt}
 use Rattle.h41_pages.specs.declared.refusal.FetchRefusal.TheVariants.{EmptyPage}
@@ -36,7 +36,7 @@ PluggedIsFetched =
     (pages : PageMap) (page number offset : ℕ) (writable : Bool) (words : List ℕ) → IsPageMap pages
     → first_page ≤ page → page ≤ last_page → offset < page_size
     → chosen_at pages page ≡ bank_numbered number
-    → fetched (plugged pages page number writable words) (address_in page offset)
+    → fetched (with_page_image pages page number writable words) (address_in page offset)
     ≡ Ok (slice_index words offset)
 
 -- a page that is unplugged is empty
@@ -44,7 +44,7 @@ abbrev pub UnpluggedIsEmpty : Type 0
 UnpluggedIsEmpty =
     (pages : PageMap) (page offset : ℕ) → IsPageMap pages
     → first_page ≤ page → page ≤ last_page → offset < page_size
-    → fetched (unplugged pages page) (address_in page offset)
+    → fetched (without_images pages page) (address_in page offset)
     ≡ Err (EmptyPage (address_in page offset))
 
 -- a page that a call does not name stays
@@ -52,12 +52,12 @@ abbrev pub PluggingKeepsOthers : Type 0
 PluggingKeepsOthers =
     (pages : PageMap) (page number : ℕ) (writable : Bool) (words : List ℕ) (address : ℕ)
     → page_of address ≢ page
-    → fetched (plugged pages page number writable words) address ≡ fetched pages address
+    → fetched (with_page_image pages page number writable words) address ≡ fetched pages address
 
 abbrev pub UnpluggingKeepsOthers : Type 0
 UnpluggingKeepsOthers =
     (pages : PageMap) (page address : ℕ) → page_of address ≢ page
-    → fetched (unplugged pages page) address ≡ fetched pages address
+    → fetched (without_images pages page) address ≡ fetched pages address
 
 abbrev pub ChoosingKeepsOthers : Type 0
 ChoosingKeepsOthers =

@@ -117,8 +117,8 @@ RefusesPlug pages page number words refusal =
     ⊎ ((plug_refusal pages page number words ≡ None) × (refusal ≡ plugs.OutOfMemory))
 
 -- the pages with these words plugged at a page's bank
-abbrev pub plugged : PageMap → ℕ → ℕ → Bool → List ℕ → PageMap
-plugged pages page number writable words =
+abbrev pub with_page_image : PageMap → ℕ → ℕ → Bool → List ℕ → PageMap
+with_page_image pages page number writable words =
     with_image pages page (bank_numbered number)
     (Some (record { words = words; writable = writable }))
 
@@ -129,8 +129,8 @@ unplug_refusal pages page =
     (then_some (not (list_any (λ image. is_some image) (banks_at pages page))) unplugs.NotPlugged)
 
 -- the pages with all banks of a page taken out, which is as at the start then
-abbrev pub unplugged : PageMap → ℕ → PageMap
-unplugged pages page =
+abbrev pub without_images : PageMap → ℕ → PageMap
+without_images pages page =
     record {
       images = slice_set pages.images page no_banks;
       chosen = slice_set pages.chosen page First;
@@ -169,7 +169,7 @@ words_from pages address =
 
 -- whether microcode may write the words of an image: it is plugged, and as writable
 abbrev pub is_writable : Option PageImage → Bool
-is_writable image = option_map_or (λ plugged. plugged.writable) image false
+is_writable image = option_map_or (λ with_page_image. with_page_image.writable) image false
 
 -- a word is written where the chosen bank of its address's page is plugged as writable, and else
 -- refused as 12

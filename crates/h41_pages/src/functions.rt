@@ -88,7 +88,7 @@ impl Pages {
     /// The two numbers of the function with a name: the first that has it, by page, then entry. They are 1 to 31, and 0
     /// to 63.
     pub fn find(&self, name: &[u8]) -> Option<(u8, u8)>
-        ensures found { result ≡ spec.found self.now name.now }
+        ensures found { result ≡ spec.function_of_name self.now name.now }
         ensures bound { IfSome result spec.AreNumbers }
     {
         for page in 0..PAGES {
@@ -196,7 +196,7 @@ impl Image {
     /// The name that ends before an offset: read backwards, up to the character marked as the last.
     fn name_before(&self, offset: usize) -> Option<Name>
         requires { offset < page_size }
-        ensures { result ≡ spec.spelled (spec.words_before self.now.words offset) }
+        ensures { result ≡ spec.spelled_name (spec.words_before self.now.words offset) }
     {
         let mut name = Name::new();
         let count = offset.min(NAME_LENGTH);

@@ -7,7 +7,7 @@ ghost use Rattle.std.specs.Result.{result_err};
 ghost use Rattle.h41_words.specs.Counts.{word_count};
 ghost use Rattle.h41_pages.specs.Addresses.{first_address, page_size};
 ghost use Rattle.h41_pages.specs.PageMap as spec;
-ghost use Rattle.h41_pages.specs.PageMap.{plugged};
+ghost use Rattle.h41_pages.specs.PageMap.{with_page_image};
 
 use crate::address_space::AddressSpace;
 use crate::addresses::{FIRST_ADDRESS, PAGES, is_pluggable, offset_of, page_of};
@@ -69,7 +69,8 @@ impl Pages {
         words: &[u16],
     ) -> Result<(), PlugRefusal>
         ensures accepted { OnOk result (spec.plug_refusal self.old page bank words.now ≡ None) }
-        ensures change { OnOk result (self.new ≡ plugged self.old page bank writable words.now) }
+        ensures change { OnOk result (self.new
+            ≡ with_page_image self.old page bank writable words.now) }
         ensures unchanged { OnErr result (self.new ≡ self.old) }
         ensures refusal { IfErr result (spec.RefusesPlug self.old page bank words.now) }
     {
@@ -104,7 +105,7 @@ impl Pages {
     /// none of its banks is plugged.
     pub fn unplug(&mut self, page: u8) -> Result<(), UnplugRefusal>
         ensures refusal { result_err result ≡ spec.unplug_refusal self.old page }
-        ensures ok { OnOk result (self.new ≡ spec.unplugged self.old page) }
+        ensures ok { OnOk result (self.new ≡ spec.without_images self.old page) }
         ensures unchanged { OnErr result (self.new ≡ self.old) }
     {
         if !is_pluggable(page) {

@@ -11,13 +11,13 @@ use Rattle.h41_ram.specs.RegisterMap.{RegisterMap, is_sound}
 use Rattle.h41_program.specs.declared.listed_line.ListedLine.{ListedLine}
 use Rattle.h41_program.specs.declared.refusal.ProgramRefusal.{ProgramRefusal}
 use Rattle.h41_program.specs.declared.refusal.ProgramRefusal.TheVariants.{BrokenProgram}
-use Rattle.h41_program.specs.Edits.{lines_of, answered, before_end, close_behind, closed, is_open, Closes}
+use Rattle.h41_program.specs.Edits.{lines_of, memory_with_answer, before_end, close_behind, with_last_end, is_open, Closes}
 use Rattle.h41_program.specs.LastProgram.{CloseIsRead, ClosedIsNotOpen, LeavesClosed}
 use Rattle.h41_program.specs.Lines.{is_end, is_final_end}
 use Rattle.h41_program.specs.ProgramBytes.{program_bytes, final_position}
 use Rattle.h41_program.specs.ProgramLaws.{IsInner}
 use Rattle.h41_program.specs.ProgramLines.{LinesFrom}
-use Rattle.h41_program.specs.Rewriting.{written, HasOutcome}
+use Rattle.h41_program.specs.Rewriting.{with_program_lines, HasOutcome}
 use Rattle.h41_program.proofs.Inner.{before_inner, closed_inner, not_final}
 use Rattle.h41_program.proofs.Packings.{last_line-more}
 use Rattle.h41_program.proofs.RoundTrips.{first_inner, others_inner}
@@ -62,7 +62,7 @@ refused_is_not_done : (refusal : ProgramRefusal) → ◌≡◌ {A = Result (Unit
 refused_is_not_done refusal same = cc
 
 was_written : (old left : RegisterMap) (outcome : Result RegisterMap ProgramRefusal)
-    → HasOutcome {A = Unit {0}} old left (Ok tt) (answered tt outcome) → outcome ≡ Ok left
+    → HasOutcome {A = Unit {0}} old left (Ok tt) (memory_with_answer tt outcome) → outcome ≡ Ok left
 was_written old left (Ok memory) has = ap (λ (m : RegisterMap). Ok m) (sym has.1)
 was_written old left (Err refusal) has = absurd (refused_is_not_done refusal has.0)
 
@@ -70,13 +70,14 @@ module _ (again : ByteRoundTrip) (old left : RegisterMap) (lines before : List L
     (sound : is_sound old ≡ true) (from : LinesFrom old 0 lines)
     (own : before_end lines ≡ Some before) where
   leaves_lines : (b : Bool) → is_open (lines_of before) ≡ b
-      → HasOutcome {A = Unit {0}} old left (Ok tt) (if b then answered tt (written old (closed (lines_of before))) else Ok (old, tt))
+      → HasOutcome {A = Unit {0}} old left (Ok tt) (if b then memory_with_answer tt
+          (with_program_lines old (with_last_end (lines_of before))) else Ok (old, tt))
       → LeavesClosed old left
   leaves_lines true wants has =
-      let all = closed (lines_of before) in
+      let all = with_last_end (lines_of before) in
       let inner =
       closed_inner (lines_of before) (before_inner (program_bytes old) (final_position old) 0 lines before (from.sound sound) own) in
-      let read = written_read again old left all sound inner (was_written old left (written old all) has) in
+      let read = written_read again old left all sound inner (was_written old left (with_program_lines old all) has) in
       let after = ends_with all read.0 inner read.2 in
       record {
         lines = lines;
@@ -90,7 +91,7 @@ module _ (again : ByteRoundTrip) (old left : RegisterMap) (lines before : List L
         same = after.2;
       }
   leaves_lines false stands has =
-      let stays : closed (lines_of before) ≡ lines_of before = rw stands refl in
+      let stays : with_last_end (lines_of before) ≡ lines_of before = rw stands refl in
       record {
         lines = lines;
         before = before;

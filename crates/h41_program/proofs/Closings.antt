@@ -8,12 +8,12 @@ use Rattle.h41_program.specs.declared.listed_line.ListedLine.{ListedLine}
 use Rattle.h41_program.specs.declared.packer.Packer.{Packer}
 use Rattle.h41_program.specs.declared.refusal.ProgramRefusal.{ProgramRefusal}
 use Rattle.h41_program.specs.declared.refusal.ProgramRefusal.TheVariants.{BrokenProgram}
-use Rattle.h41_program.specs.Edits.{lines_of, answered, before_end, close_behind, close_outcome, closed, is_open, Closes}
+use Rattle.h41_program.specs.Edits.{lines_of, memory_with_answer, before_end, close_behind, close_outcome, with_last_end, is_open, Closes}
 use Rattle.h41_program.specs.LastProgram.{open_before}
 use Rattle.h41_program.specs.Lines.{is_end}
 use Rattle.h41_program.specs.private.LoadSteps.{WritesClosed}
 use Rattle.h41_program.specs.private.Packers.{Packs}
-use Rattle.h41_program.specs.Rewriting.{written, HasOutcome}
+use Rattle.h41_program.specs.Rewriting.{with_program_lines, HasOutcome}
 use Rattle.h41_program.proofs.Outcomes.{written_outcome}
 use Rattle.h41_program.proofs.Cases.{not_both, same_error}
 
@@ -43,9 +43,11 @@ pub closed_none : (old : RegisterMap) (lines : List Line) → is_open lines ≡ 
 closed_none old lines other = rw other (refl, refl)
 
 pub closed_some : (old left : RegisterMap) (result : Result (Unit {0}) ProgramRefusal) (lines : List Line) → is_open lines ≡ true
-    → HasOutcome old left result (answered tt (written old (closed lines))) → HasOutcome old left result (close_outcome old lines)
+    → HasOutcome old left result (memory_with_answer tt (with_program_lines old (with_last_end lines)))
+        → HasOutcome old left result (close_outcome old lines)
 closed_some old left result lines some has =
-    subst (λ (b : Bool). HasOutcome old left result (if b then answered tt (written old (closed lines)) else Ok (old, tt))) (sym some) has
+    subst (λ (b : Bool). HasOutcome old left result (if b then memory_with_answer tt (with_program_lines old (with_last_end lines)) else Ok
+        (old, tt))) (sym some) has
 
 pub close_ok : (old left : RegisterMap) (before : Option (List ListedLine))
     (first : Result Packer ProgramRefusal) (packer : Packer) (result : Result (Unit {0}) ProgramRefusal)
@@ -65,7 +67,7 @@ close_err old (Some listed) first refusal matches err =
 
 -- what is left is sound
 outcome_sound : (b : Bool) (old left : RegisterMap) (result : Result (Unit {0}) ProgramRefusal) (lines : List Line) → is_sound old ≡ true
-    → HasOutcome old left result (if b then answered tt (written old lines) else Ok (old, tt)) → is_sound left ≡ true
+    → HasOutcome old left result (if b then memory_with_answer tt (with_program_lines old lines) else Ok (old, tt)) → is_sound left ≡ true
 outcome_sound true old left result lines sound has = written_outcome old left result tt lines sound has
 outcome_sound false old left result lines sound has = subst (λ (m : RegisterMap). is_sound m ≡ true) (sym has.1) sound
 
@@ -73,7 +75,7 @@ behind_sound : (old left : RegisterMap) (result : Result (Unit {0}) ProgramRefus
     → is_sound old ≡ true → HasOutcome old left result (close_behind old before) → is_sound left ≡ true
 behind_sound old left result None sound has = subst (λ (m : RegisterMap). is_sound m ≡ true) (sym has.1) sound
 behind_sound old left result (Some lines) sound has =
-    outcome_sound (is_open (lines_of lines)) old left result (closed (lines_of lines)) sound has
+    outcome_sound (is_open (lines_of lines)) old left result (with_last_end (lines_of lines)) sound has
 
 pub close_sound : (old left : RegisterMap) (result : Result (Unit {0}) ProgramRefusal) → is_sound old ≡ true → Closes old left result
     → is_sound left ≡ true

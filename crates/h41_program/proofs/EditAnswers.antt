@@ -20,7 +20,7 @@ use Rattle.h41_program.specs.declared.refusal.ProgramRefusal.{ProgramRefusal}
 use Rattle.h41_program.specs.declared.refusal.ProgramRefusal.TheVariants.{BrokenProgram}
 use Rattle.h41_program.specs.Edits.{AnswersChanged, Edits, LeavesChanged, Stands, StandsBefore, StandsNew, before_end, changed_outcome}
 use Rattle.h41_program.specs.Edits.{count_before, edit_outcome, has_line_at, lines_of, position_in_front, position_behind}
-use Rattle.h41_program.specs.private.EditSteps.{Counts, changed, listed_of}
+use Rattle.h41_program.specs.private.EditSteps.{Counts, lines_of_change, listed_of}
 use Rattle.h41_program.specs.ProgramLaws.{IsInner}
 use Rattle.h41_program.specs.ProgramBytes.{program_bytes, final_position}
 use Rattle.h41_program.specs.ProgramLines.{FirstFrom, LinesFrom}
@@ -91,7 +91,7 @@ pub record PutsAt (line : Line) (change : ℕ → ListedLine → List Line) : Ty
   pub keeps : (place : ℕ) → Keeps place (change place)
   pub inner : (place : ℕ) → KeepsInner (change place)
 
-pub put_there : (line : Line) (placement : Placement) → IsInner line → PutsAt line (changed (Put line placement))
+pub put_there : (line : Line) (placement : Placement) → IsInner line → PutsAt line (lines_of_change (Put line placement))
 put_there line Before inner = record {
   begins = inserted_begins line;
   keeps = inserted_keeps line;

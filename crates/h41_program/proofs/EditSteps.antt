@@ -14,13 +14,14 @@ use Rattle.h41_program.specs.declared.listed_line.ListedLine.{ListedLine}
 use Rattle.h41_program.specs.declared.packer.Packer.{Packer}
 use Rattle.h41_program.specs.declared.refusal.ProgramRefusal.{ProgramRefusal}
 use Rattle.h41_program.specs.declared.refusal.ProgramRefusal.TheVariants.{BrokenProgram}
-use Rattle.h41_program.specs.Edits.{before_end, has_line_at, own_line, answered, changed_outcome, done, edit_outcome, Edits}
-use Rattle.h41_program.specs.private.EditSteps.{PacksChanged, Writes, changed, is_kept, new_part}
+use Rattle.h41_program.specs.Edits.{before_end, has_line_at, own_line, memory_with_answer, changed_outcome, without_answer, edit_outcome}
+use Rattle.h41_program.specs.Edits.{Edits}
+use Rattle.h41_program.specs.private.EditSteps.{PacksChanged, Writes, lines_of_change, is_kept, new_part}
 use Rattle.h41_program.specs.Lines.{is_final_end}
 use Rattle.h41_program.specs.private.Packers.{Packs, line_if}
 use Rattle.h41_program.specs.ProgramBytes.{final_position, program_bytes}
 use Rattle.h41_program.specs.ProgramLines.{AnswersFirst, FirstFrom, IsFirst, Reads, NoneFrom}
-use Rattle.h41_program.specs.Rewriting.{HasOutcome, written}
+use Rattle.h41_program.specs.Rewriting.{HasOutcome, with_program_lines}
 use Rattle.h41_program.proofs.Walks.{UpTo, ends_none, ends_final, before_end-none, before_end-final}
 use Rattle.h41_program.proofs.Cases.{not_both}
 
@@ -52,7 +53,8 @@ made (Put line Before) here listed = (if here then line ∷ [] else []) ++ own_l
 made (Put line Instead) here listed = if here then line ∷ [] else own_line listed
 made Delete here listed = if here then [] else own_line listed
 
-is_made : (change : Change) (place : ℕ) (listed : ListedLine) → changed change place listed ≡ made change (listed.position == place) listed
+is_made : (change : Change) (place : ℕ) (listed : ListedLine) → lines_of_change change place listed
+    ≡ made change (listed.position == place) listed
 is_made (Put line Before) place listed = refl
 is_made (Put line Instead) place listed = refl
 is_made Delete place listed = refl
@@ -78,26 +80,26 @@ made_final Delete false listed final = sym (own_line-final listed final)
 -- one more line, and .END.
 pub one_packs : (packer : Packer) (change : Change) (place : ℕ) (before : List ListedLine) (listed : ListedLine) (here kept : Bool)
     → here ≡ (listed.position == place) → kept ≡ is_kept here change → is_final_end listed.line ≡ false
-    → Packs packer ((flat_map (changed change place) before ++ new_part here change) ++ line_if kept listed.line)
-    → Packs packer (flat_map (changed change place) (before ++ listed ∷ []))
+    → Packs packer ((flat_map (lines_of_change change place) before ++ new_part here change) ++ line_if kept listed.line)
+    → Packs packer (flat_map (lines_of_change change place) (before ++ listed ∷ []))
 one_packs packer change place before listed here kept is keeps other packs =
     subst (λ (l : List Line). Packs packer l)
-    (append_assoc (flat_map (changed change place) before) (new_part here change) (line_if kept listed.line)
-    ∙ ap (λ (l : List Line). flat_map (changed change place) before ++ l)
+    (append_assoc (flat_map (lines_of_change change place) before) (new_part here change) (line_if kept listed.line)
+    ∙ ap (λ (l : List Line). flat_map (lines_of_change change place) before ++ l)
     (ap (λ (b : Bool). new_part here change ++ line_if b listed.line) keeps ∙ made_other change here listed other
     ∙ ap (λ (b : Bool). made change b listed) is ∙ sym (is_made change place listed))
-    ∙ sym (changed-more (changed change place) before listed))
+    ∙ sym (changed-more (lines_of_change change place) before listed))
     packs
 
 pub last_packs : (packer : Packer) (change : Change) (place : ℕ) (before : List ListedLine) (listed : ListedLine) (here : Bool)
     → here ≡ (listed.position == place) → is_final_end listed.line ≡ true
-    → Packs packer (flat_map (changed change place) before ++ new_part here change)
-    → Packs packer (flat_map (changed change place) (before ++ listed ∷ []))
+    → Packs packer (flat_map (lines_of_change change place) before ++ new_part here change)
+    → Packs packer (flat_map (lines_of_change change place) (before ++ listed ∷ []))
 last_packs packer change place before listed here is final packs =
     subst (λ (l : List Line). Packs packer l)
-    (ap (λ (l : List Line). flat_map (changed change place) before ++ l)
+    (ap (λ (l : List Line). flat_map (lines_of_change change place) before ++ l)
     (made_final change here listed final ∙ ap (λ (b : Bool). made change b listed) is ∙ sym (is_made change place listed))
-    ∙ sym (changed-more (changed change place) before listed))
+    ∙ sym (changed-more (lines_of_change change place) before listed))
     packs
 
 -- the list was read so far, and each line changed
@@ -141,7 +143,7 @@ changed_none bytes final at change place before lines upto none reads =
 pub changed_written : (old new : RegisterMap) (change : ListedLine → List Line) (place : ℕ) (lines : List ListedLine)
     (result : Result Packer ProgramRefusal) (packer : Packer) (wrote : Result (Unit {0}) ProgramRefusal) (b : Bool)
     → MatchBool b (IsOkAnd result (λ held. Packs held (flat_map change lines))) (result ≡ Err BrokenProgram) → result ≡ Ok packer
-    → ((all : List Line) → Packs packer all → HasOutcome old new wrote (answered tt (written old all)))
+    → ((all : List Line) → Packs packer all → HasOutcome old new wrote (memory_with_answer tt (with_program_lines old all)))
     → HasOutcome old new wrote (changed_outcome b old (flat_map change lines))
 changed_written old new change place lines result packer wrote true matches ok writes =
     writes (flat_map change lines)
@@ -164,8 +166,9 @@ changed_refused old change lines result refusal false matches err = (same_refusa
 -- the list is changed, or not
 module _ (old : RegisterMap) (change : ℕ → ListedLine → List Line) (at : ℕ) where
   pub edit_none : (result : Result ℕ ProgramRefusal) (refusal : ProgramRefusal) → AnswersFirst old at (Err refusal) → result ≡ Err refusal
-      → Edits old old change at (done result)
-  edit_none result refusal none is = (Err BrokenProgram, inr (none.1, refl), (ap done is ∙ ap (λ (r : ProgramRefusal). Err r) none.0, refl))
+      → Edits old old change at (without_answer result)
+  edit_none result refusal none is = (Err BrokenProgram, inr (none.1, refl),
+      (ap without_answer is ∙ ap (λ (r : ProgramRefusal). Err r) none.0, refl))
 
   module _ (first : ListedLine) (stands : FirstFrom (program_bytes old) (final_position old) at first)
       (packed : Result Packer ProgramRefusal)
@@ -174,13 +177,13 @@ module _ (old : RegisterMap) (change : ℕ → ListedLine → List Line) (at : �
     reached = is_some (before_end packs.0) && has_line_at first.position packs.0
 
     pub edit_refused : (result : Result ℕ ProgramRefusal) (refusal : ProgramRefusal) → packed ≡ Err refusal → result ≡ Err refusal
-        → Edits old old change at (done result)
+        → Edits old old change at (without_answer result)
     edit_refused result refusal err is = (
       edit_outcome old (change first.position) first.position packs.0,
       inl (first, stands, (packs.0, packs.1, refl)),
       subst (λ (r : Result (Unit {0}) ProgramRefusal).
           HasOutcome old old r (changed_outcome reached old (flat_map (change first.position) packs.0)))
-          (sym (ap done is))
+          (sym (ap without_answer is))
           (changed_refused old (change first.position) packs.0 packed refusal reached packs.2 err),
     )
 

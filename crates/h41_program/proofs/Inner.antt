@@ -11,7 +11,7 @@ use Rattle.h41_codes.specs.ByteGrammar.{IsLine}
 use Rattle.h41_codes.specs.declared.line.Line.{Line}
 use Rattle.h41_codes.specs.declared.line.Line.TheVariants.{End, FinalEnd, Null}
 use Rattle.h41_program.specs.declared.listed_line.ListedLine.{ListedLine}
-use Rattle.h41_program.specs.Edits.{own_line, with_inserted, with_replaced, without_deleted, lines_of, before_end, closed, is_open}
+use Rattle.h41_program.specs.Edits.{own_line, with_inserted, with_replaced, without_deleted, lines_of, before_end, with_last_end, is_open}
 use Rattle.h41_program.specs.Edits.{without_end}
 use Rattle.h41_program.specs.Lines.{is_end, is_final_end, is_inner}
 use Rattle.h41_program.specs.ProgramLaws.{IsInner}
@@ -88,7 +88,7 @@ module _ (bytes : List ℕ) (final : ℕ) where
 end_inner : IsInner (End 0 0)
 end_inner = record { valid = (omega arith, omega arith); inner = refl }
 
-pub closed_inner : (lines : List Line) → All IsInner lines → All IsInner (closed lines)
+pub closed_inner : (lines : List Line) → All IsInner lines → All IsInner (with_last_end lines)
 closed_inner lines inner = chosen (is_open lines)
   where
     chosen : (b : Bool) → All IsInner (if b then lines ++ End 0 0 ∷ [] else lines)

@@ -9,11 +9,11 @@ use Rattle.h41_program.specs.declared.listed_line.ListedLine.{ListedLine}
 use Rattle.h41_program.specs.declared.packer.Packer.{Packer}
 use Rattle.h41_program.specs.declared.refusal.ProgramRefusal.{ProgramRefusal}
 use Rattle.h41_program.specs.declared.refusal.ProgramRefusal.TheVariants.{BrokenProgram, NoRoom}
-use Rattle.h41_program.specs.Edits.{lines_of, closed, answered, load_outcome, loaded_of, LoadsBehind}
+use Rattle.h41_program.specs.Edits.{lines_of, with_last_end, memory_with_answer, load_outcome, loaded_of, LoadsBehind}
 use Rattle.h41_program.specs.private.Packers.{Packs}
-use Rattle.h41_program.specs.Packing.{packed, packing}
+use Rattle.h41_program.specs.Packing.{packed_lines, packing}
 use Rattle.h41_program.specs.ProgramLines.{Reads}
-use Rattle.h41_program.specs.Rewriting.{written, HasOutcome}
+use Rattle.h41_program.specs.Rewriting.{with_program_lines, HasOutcome}
 use Rattle.h41_program.proofs.Packings.{packed-less, length-packing, no_room}
 use Rattle.h41_program.proofs.Rooms.{written-none}
 use Rattle.h41_program.proofs.Cases.{not_both, same_error}
@@ -21,47 +21,50 @@ use Rattle.h41_program.proofs.Cases.{not_both, same_error}
 -- an answer in the place of another
 gives_ok : {A : Type 0} (old new : RegisterMap) (result : Result (Unit {0}) ProgramRefusal)
     (answer : A) (outcome : Result RegisterMap ProgramRefusal)
-    → result ≡ Ok tt → HasOutcome old new result (answered tt outcome) → HasOutcome old new (Ok answer) (answered answer outcome)
+    → result ≡ Ok tt → HasOutcome old new result (memory_with_answer tt outcome)
+        → HasOutcome old new (Ok answer) (memory_with_answer answer outcome)
 gives_ok old new result answer (Ok memory) ok gives = (refl, gives.1)
 gives_ok old new result answer (Err refusal) ok gives = absurd (not_both result tt refusal ok gives.0)
 
 gives_err : {A : Type 0} (old new : RegisterMap) (result : Result (Unit {0}) ProgramRefusal) (refusal : ProgramRefusal)
     (given : Result A ProgramRefusal) (answer : A) (outcome : Result RegisterMap ProgramRefusal)
-    → result ≡ Err refusal → given ≡ Err refusal → HasOutcome old new result (answered tt outcome)
-    → HasOutcome old new given (answered answer outcome)
+    → result ≡ Err refusal → given ≡ Err refusal → HasOutcome old new result (memory_with_answer tt outcome)
+    → HasOutcome old new given (memory_with_answer answer outcome)
 gives_err old new result refusal given answer (Ok memory) err same gives = absurd (not_both result tt refusal gives.0 err)
 gives_err old new result refusal given answer (Err other) err same gives =
     (same ∙ ap (λ (e : ProgramRefusal). Err e) (same_error result refusal other err gives.0), gives.1)
 
 -- lines of which the first ones are too many are refused
-too_many : (memory : RegisterMap) (lines more : List Line) → curtain_of memory ≤ main_start + 320 → 2237 < length (packed lines)
-    → written memory (lines ++ more) ≡ Err NoRoom
+too_many : (memory : RegisterMap) (lines more : List Line) → curtain_of memory ≤ main_start + 320 → 2237 < length (packed_lines lines)
+    → with_program_lines memory (lines ++ more) ≡ Err NoRoom
 too_many memory lines more small many =
     let less = packed-less lines more in
     let above =
-    no_room (length (packed (lines ++ more))) (length (packing (lines ++ more)))
+    no_room (length (packed_lines (lines ++ more))) (length (packing (lines ++ more)))
     (omega (arith, many, less)) (sym (length-packing (lines ++ more))) in
     written-none memory (lines ++ more) (omega (arith, small, above))
 
 -- where the lines begin that were loaded
 begins_there : (memory : RegisterMap) (packer : Packer) (lines more : List Line) (after : RegisterMap) (start : ℕ)
     → curtain_of memory ≤ main_start + 320 → Packs packer lines → start ≡ length packer.bytes.items
-    → written memory (lines ++ more) ≡ Ok after → start ≡ length (packed lines)
+    → with_program_lines memory (lines ++ more) ≡ Ok after → start ≡ length (packed_lines lines)
 begins_there memory packer lines more after start small packs is done = elim (cases_Bool packer.full) [
-  | inl mark ↦ absurd (not_both (written memory (lines ++ more)) after NoRoom done (too_many memory lines more small (packs.full mark)))
+  | inl mark ↦ absurd (not_both (with_program_lines memory (lines ++ more)) after NoRoom done
+      (too_many memory lines more small (packs.full mark)))
   | inr room ↦ is ∙ ap length (packs.held room)
 ]
 
 -- lines that are written
 was_written : (old new : RegisterMap) (result : Result (Unit {0}) ProgramRefusal) (outcome : Result RegisterMap ProgramRefusal)
-    → result ≡ Ok tt → HasOutcome old new result (answered tt outcome) → (after : RegisterMap) × (outcome ≡ Ok after)
+    → result ≡ Ok tt → HasOutcome old new result (memory_with_answer tt outcome) → (after : RegisterMap) × (outcome ≡ Ok after)
 was_written old new result (Ok memory) ok gives = (memory, refl)
 was_written old new result (Err refusal) ok gives = absurd (not_both result tt refusal ok gives.0)
 
 gives_start : (old new : RegisterMap) (result : Result (Unit {0}) ProgramRefusal)
     (start place : ℕ) (outcome : Result RegisterMap ProgramRefusal)
-    → result ≡ Ok tt → ((after : RegisterMap) → outcome ≡ Ok after → start ≡ place) → HasOutcome old new result (answered tt outcome)
-    → HasOutcome old new (Ok start) (answered place outcome)
+    → result ≡ Ok tt → ((after : RegisterMap) → outcome ≡ Ok after → start ≡ place)
+        → HasOutcome old new result (memory_with_answer tt outcome)
+    → HasOutcome old new (Ok start) (memory_with_answer place outcome)
 gives_start old new result start place (Ok memory) ok same gives = (ap (λ (n : ℕ). Ok n) (same memory refl), gives.1)
 gives_start old new result start place (Err refusal) ok same gives = absurd (not_both result tt refusal ok gives.0)
 
@@ -90,14 +93,14 @@ pub record Loading (before : Option (List ListedLine)) (loaded : Option (List Li
     (packer closed_packer new : Packer) (put : Result (Unit {0}) ProgramRefusal) : Type 0 where
   pub program : MatchOption before (first ≡ Err BrokenProgram) (λ listed. IsOkAnd first (λ held. Packs held (lines_of listed)))
   pub begun : first ≡ Ok packer
-  pub closes : (lines : List Line) → Packs packer lines → Packs closed_packer (closed lines)
+  pub closes : (lines : List Line) → Packs packer lines → Packs closed_packer (with_last_end lines)
   pub puts : (front : List Line) → Packs closed_packer front
       → MatchOption loaded (put ≡ Err BrokenProgram) (λ lines. (put ≡ Ok tt) × Packs new (front ++ lines))
 
 module _ (memory after : RegisterMap) (first : Result Packer ProgramRefusal)
     (packer closed_packer new : Packer) (put : Result (Unit {0}) ProgramRefusal) where
   packs_closed : (listed : List ListedLine) (loaded : Option (List Line)) → Loading (Some listed) loaded first packer closed_packer new put
-      → Packs closed_packer (closed (lines_of listed))
+      → Packs closed_packer (with_last_end (lines_of listed))
   packs_closed listed loaded is =
       let ok : IsOkAnd {E = ProgramRefusal} (Ok packer) (λ held. Packs held (lines_of listed)) =
       subst (λ (r : Result Packer ProgramRefusal). IsOkAnd r (λ held. Packs held (lines_of listed))) is.begun is.program in
@@ -112,24 +115,24 @@ module _ (memory after : RegisterMap) (first : Result Packer ProgramRefusal)
   load_refused (Some listed) None refusal answer is err same = (
     same
         ∙ ap (λ (e : ProgramRefusal). Err e)
-        (same_error put refusal BrokenProgram err (is.puts (closed (lines_of listed)) (packs_closed listed None is))),
+        (same_error put refusal BrokenProgram err (is.puts (with_last_end (lines_of listed)) (packs_closed listed None is))),
     refl,
   )
   load_refused (Some listed) (Some lines) refusal answer is err same =
-      absurd (not_both put tt refusal (is.puts (closed (lines_of listed)) (packs_closed listed (Some lines) is)).0 err)
+      absurd (not_both put tt refusal (is.puts (with_last_end (lines_of listed)) (packs_closed listed (Some lines) is)).0 err)
 
   -- the lines have no room
   pub load_unwritten : (before : Option (List ListedLine)) (loaded : Option (List Line))
       (wrote : Result (Unit {0}) ProgramRefusal) (refusal : ProgramRefusal) (answer : Result ℕ ProgramRefusal)
       → Loading before loaded first packer closed_packer new put → put ≡ Ok tt → wrote ≡ Err refusal → answer ≡ Err refusal
-      → ((lines : List Line) → Packs new lines → HasOutcome memory after wrote (answered tt (written memory lines)))
+      → ((lines : List Line) → Packs new lines → HasOutcome memory after wrote (memory_with_answer tt (with_program_lines memory lines)))
       → HasOutcome memory after answer (outcome_of memory before loaded)
   load_unwritten None loaded wrote refusal answer is ok err same writes = absurd (not_both first packer BrokenProgram is.begun is.program)
   load_unwritten (Some listed) None wrote refusal answer is ok err same writes =
-      absurd (not_both put tt BrokenProgram ok (is.puts (closed (lines_of listed)) (packs_closed listed None is)))
+      absurd (not_both put tt BrokenProgram ok (is.puts (with_last_end (lines_of listed)) (packs_closed listed None is)))
   load_unwritten (Some listed) (Some lines) wrote refusal answer is ok err same writes =
-      let all = closed (lines_of listed) in
-      gives_err memory after wrote refusal answer (length (packed all)) (written memory (all ++ lines)) err same
+      let all = with_last_end (lines_of listed) in
+      gives_err memory after wrote refusal answer (length (packed_lines all)) (with_program_lines memory (all ++ lines)) err same
       (writes (all ++ lines) (is.puts all (packs_closed listed (Some lines) is)).1)
 
   -- the lines were written
@@ -137,14 +140,14 @@ module _ (memory after : RegisterMap) (first : Result Packer ProgramRefusal)
       (wrote : Result (Unit {0}) ProgramRefusal) (start : ℕ)
       → Loading before loaded first packer closed_packer new put → put ≡ Ok tt → wrote ≡ Ok tt → start ≡ length closed_packer.bytes.items
       → curtain_of memory ≤ main_start + 320
-      → ((lines : List Line) → Packs new lines → HasOutcome memory after wrote (answered tt (written memory lines)))
+      → ((lines : List Line) → Packs new lines → HasOutcome memory after wrote (memory_with_answer tt (with_program_lines memory lines)))
       → HasOutcome memory after (Ok start) (outcome_of memory before loaded)
   load_written None loaded wrote start is ok done same small writes = absurd (not_both first packer BrokenProgram is.begun is.program)
   load_written (Some listed) None wrote start is ok done same small writes =
-      absurd (not_both put tt BrokenProgram ok (is.puts (closed (lines_of listed)) (packs_closed listed None is)))
+      absurd (not_both put tt BrokenProgram ok (is.puts (with_last_end (lines_of listed)) (packs_closed listed None is)))
   load_written (Some listed) (Some lines) wrote start is ok done same small writes =
-      let all = closed (lines_of listed) in
-      gives_start memory after wrote start (length (packed all)) (written memory (all ++ lines)) done
+      let all = with_last_end (lines_of listed) in
+      gives_start memory after wrote start (length (packed_lines all)) (with_program_lines memory (all ++ lines)) done
       (λ memory_after room.
       begins_there memory closed_packer all lines memory_after start small (packs_closed listed (Some lines) is) same room)
       (writes (all ++ lines) (is.puts all (packs_closed listed (Some lines) is)).1)
@@ -152,18 +155,21 @@ module _ (memory after : RegisterMap) (first : Result Packer ProgramRefusal)
   pub load_bound : (before : Option (List ListedLine)) (loaded : Option (List Line)) (wrote : Result (Unit {0}) ProgramRefusal) (start : ℕ)
       → Loading before loaded first packer closed_packer new put → put ≡ Ok tt → wrote ≡ Ok tt → start ≡ length closed_packer.bytes.items
       → curtain_of memory ≤ main_start + 320
-      → ((lines : List Line) → Packs new lines → HasOutcome memory after wrote (answered tt (written memory lines))) → start ≤ 2237
+      → ((lines : List Line) → Packs new lines → HasOutcome memory after wrote (memory_with_answer tt (with_program_lines memory lines)))
+          → start ≤ 2237
   load_bound None loaded wrote start is ok done same small writes = absurd (not_both first packer BrokenProgram is.begun is.program)
   load_bound (Some listed) None wrote start is ok done same small writes =
-      absurd (not_both put tt BrokenProgram ok (is.puts (closed (lines_of listed)) (packs_closed listed None is)))
+      absurd (not_both put tt BrokenProgram ok (is.puts (with_last_end (lines_of listed)) (packs_closed listed None is)))
   load_bound (Some listed) (Some lines) wrote start is ok done same small writes =
-      let all = closed (lines_of listed) in
+      let all = with_last_end (lines_of listed) in
       let begun = packs_closed listed (Some lines) is in
-      let after_all = was_written memory after wrote (written memory (all ++ lines)) done (writes (all ++ lines) (is.puts all begun).1) in
+      let after_all = was_written memory after wrote (with_program_lines memory (all ++ lines)) done
+          (writes (all ++ lines) (is.puts all begun).1) in
       let there = begins_there memory closed_packer all lines after_all.0 start small begun same after_all.1 in
       elim (cases_lt 2237 start) [
         | inl above ↦
-            let many : 2237 < length (packed all) = omega (arith, above, there) in
-            absurd (not_both (written memory (all ++ lines)) after_all.0 NoRoom after_all.1 (too_many memory all lines small many))
+            let many : 2237 < length (packed_lines all) = omega (arith, above, there) in
+            absurd (not_both (with_program_lines memory (all ++ lines)) after_all.0 NoRoom after_all.1
+                (too_many memory all lines small many))
         | inr below ↦ below
       ]

@@ -11,13 +11,14 @@ use Rattle.h41_ram.specs.RegisterMap.{RegisterMap, is_sound}
 use Rattle.h41_program.specs.declared.listed_line.ListedLine.{ListedLine}
 use Rattle.h41_program.specs.declared.refusal.ProgramRefusal.{ProgramRefusal}
 use Rattle.h41_program.specs.declared.refusal.ProgramRefusal.TheVariants.{BrokenProgram}
-use Rattle.h41_program.specs.Edits.{lines_of, before_end, closed, answered, changed_outcome, edit_outcome, end_of_lines, has_line_at}
+use Rattle.h41_program.specs.Edits.{lines_of, before_end, with_last_end, memory_with_answer, changed_outcome, edit_outcome, end_of_lines}
+use Rattle.h41_program.specs.Edits.{has_line_at}
 use Rattle.h41_program.specs.Edits.{LeavesChanged, load_outcome, loaded_of, without_end, Edits, Loads, LoadsBehind}
-use Rattle.h41_program.specs.Packing.{packed}
+use Rattle.h41_program.specs.Packing.{packed_lines}
 use Rattle.h41_program.specs.ProgramBytes.{program_bytes, final_position}
 use Rattle.h41_program.specs.ProgramLaws.{IsInner, HasLines, LeavesLoaded, LoadIsRead}
 use Rattle.h41_program.specs.ProgramLines.{FirstFrom, LinesFrom, Reads}
-use Rattle.h41_program.specs.Rewriting.{written, HasOutcome}
+use Rattle.h41_program.specs.Rewriting.{with_program_lines, HasOutcome}
 use Rattle.h41_program.proofs.Inner.{KeepsInner, before_inner, changed_inner, closed_inner, loaded_inner}
 use Rattle.h41_program.proofs.Written.{written_behind, written_read, written_sound}
 use Rattle.std.proofs.lemmas.Option.{none-some, same_Some}
@@ -29,16 +30,17 @@ refused_sound old new result refusal sound has = subst (λ (m : RegisterMap). is
 
 answered_sound : {A : Type 0} (old new : RegisterMap) (result : Result A ProgramRefusal)
     (answer : A) (outcome : Result RegisterMap ProgramRefusal)
-    → is_sound old ≡ true → ((m : RegisterMap) → outcome ≡ Ok m → is_sound m ≡ true) → HasOutcome old new result (answered answer outcome)
+    → is_sound old ≡ true → ((m : RegisterMap) → outcome ≡ Ok m → is_sound m ≡ true)
+        → HasOutcome old new result (memory_with_answer answer outcome)
     → is_sound new ≡ true
 answered_sound old new result answer (Ok memory) sound each has =
     subst (λ (m : RegisterMap). is_sound m ≡ true) (sym has.1) (each memory refl)
 answered_sound old new result answer (Err refusal) sound each has = refused_sound old new result refusal sound has
 
 pub written_outcome : {A : Type 0} (old new : RegisterMap) (result : Result A ProgramRefusal) (answer : A) (lines : List Line)
-    → is_sound old ≡ true → HasOutcome old new result (answered answer (written old lines)) → is_sound new ≡ true
+    → is_sound old ≡ true → HasOutcome old new result (memory_with_answer answer (with_program_lines old lines)) → is_sound new ≡ true
 written_outcome old new result answer lines sound has =
-    answered_sound old new result answer (written old lines) sound (λ m done. written_sound old m lines sound done) has
+    answered_sound old new result answer (with_program_lines old lines) sound (λ m done. written_sound old m lines sound done) has
 
 -- an edit
 changed_sound : (b : Bool) (old new : RegisterMap) (result : Result (Unit {0}) ProgramRefusal) (lines : List Line) → is_sound old ≡ true
@@ -64,7 +66,8 @@ loaded_sound : (old new : RegisterMap) (lines : List ListedLine) (loaded : Optio
     → is_sound old ≡ true → HasOutcome old new result (load_outcome old lines loaded) → is_sound new ≡ true
 loaded_sound old new lines None result sound has = refused_sound old new result BrokenProgram sound has
 loaded_sound old new lines (Some loaded) result sound has =
-    written_outcome old new result (length (packed (closed (lines_of lines)))) (closed (lines_of lines) ++ loaded) sound has
+    written_outcome old new result (length (packed_lines (with_last_end (lines_of lines)))) (with_last_end (lines_of lines) ++ loaded) sound
+        has
 
 behind_sound : (old new : RegisterMap) (bytes : List ℕ) (before : Option (List ListedLine))
     (outcome : Result (RegisterMap × ℕ) ProgramRefusal) (result : Result ℕ ProgramRefusal)
@@ -92,7 +95,7 @@ pair_of new other start begin same =
     (ap (λ (p : RegisterMap × ℕ). p.0) pair, ap (λ (p : RegisterMap × ℕ). p.1) pair)
 
 was_written : (new : RegisterMap) (start answer : ℕ) (outcome : Result RegisterMap ProgramRefusal)
-    → Ok (new, start) ≡ answered answer outcome → (outcome ≡ Ok new) × (answer ≡ start)
+    → Ok (new, start) ≡ memory_with_answer answer outcome → (outcome ≡ Ok new) × (answer ≡ start)
 was_written new start answer (Ok memory) same =
     let both = pair_of new memory start answer same in (ap (λ (m : RegisterMap). Ok m) both.0, both.1)
 was_written new start answer (Err refusal) same = absurd (refused_is_not_done new start refusal same)
@@ -115,8 +118,8 @@ module _ (again : ByteRoundTrip) (memory new : RegisterMap) (bytes : List ℕ) (
       → Ok (new, start) ≡ load_outcome memory before loaded → LeavesLoaded memory bytes new start
   leaves_joined lines before given None from own reads taken same = absurd (refused_is_not_done new start BrokenProgram same)
   leaves_joined lines before given (Some loaded) from own reads taken same =
-      let front = closed (lines_of before) in
-      let done = was_written new start (length (packed front)) (written memory (front ++ loaded)) same in
+      let front = with_last_end (lines_of before) in
+      let done = was_written new start (length (packed_lines front)) (with_program_lines memory (front ++ loaded)) same in
       let inner = inner_of bytes given loaded reads taken in
       let own_inner =
       closed_inner (lines_of before) (before_inner (program_bytes memory) (final_position memory) 0 lines before (from.sound sound) own) in
@@ -156,7 +159,8 @@ load_read again memory new bytes start loads = elim (cases_Bool (is_sound memory
 -- what an edit leaves
 written_reads : ByteRoundTrip
     → (old left : RegisterMap) (result : Result (Unit {0}) ProgramRefusal) (lines : List Line) (outcome : Result RegisterMap ProgramRefusal)
-    → is_sound old ≡ true → All IsInner lines → written old lines ≡ outcome → HasOutcome old left result (answered tt outcome)
+    → is_sound old ≡ true → All IsInner lines → with_program_lines old lines ≡ outcome
+        → HasOutcome old left result (memory_with_answer tt outcome)
     → OnOk result (HasLines left 0 lines)
 written_reads again old left result lines (Ok memory) sound inner is has =
     rw has.0 (written_read again old left lines sound inner (is ∙ ap (λ (m : RegisterMap). Ok m) (sym has.1)))
@@ -166,7 +170,7 @@ changed_reads : ByteRoundTrip → (b : Bool) (old left : RegisterMap) (result : 
     → is_sound old ≡ true → All IsInner lines → HasOutcome old left result (changed_outcome b old lines)
     → OnOk result (HasLines left 0 lines)
 changed_reads again true old left result lines sound inner has =
-    written_reads again old left result lines (written old lines) sound inner refl has
+    written_reads again old left result lines (with_program_lines old lines) sound inner refl has
 changed_reads again false old left result lines sound inner has = rw has.0 tt
 
 leaves : (old left : RegisterMap) (change : ℕ → ListedLine → List Line) (at : ℕ)

@@ -7,8 +7,8 @@ use Rattle.h41_codes.specs.ByteGrammar.{spelling}
 use Rattle.h41_codes.specs.declared.line.Line.{Line}
 use Rattle.h41_program.specs.declared.packer.Packer.{Packer}
 use Rattle.h41_program.specs.Lines.{is_number}
-use Rattle.h41_program.specs.Packing.{last_line, gap, packed, filler, written_end, packing}
-use Rattle.h41_program.specs.private.Packers.{Packs, Pushes, parting}
+use Rattle.h41_program.specs.Packing.{last_line, gap, packed_lines, filler, written_end, packing}
+use Rattle.h41_program.specs.private.Packers.{Packs, Pushes, null_between}
 
 pub last_line-more : (lines : List Line) (line : Line) → last_line (lines ++ line ∷ []) ≡ Some line
 last_line-more [] line = refl
@@ -17,7 +17,7 @@ last_line-more (one ∷ next ∷ lines) line = last_line-more (next ∷ lines) l
 
 -- one more line is parted from the last
 pub packed-more : (lines : List Line) (line : Line)
-    → packed (lines ++ line ∷ []) ≡ packed lines ++ parting (is_number line) (last_line lines) ++ spelling line
+    → packed_lines (lines ++ line ∷ []) ≡ packed_lines lines ++ null_between (is_number line) (last_line lines) ++ spelling line
 packed-more [] line = simp append-nil
 packed-more (one ∷ []) line = simp (append-nil, append_assoc)
 packed-more (one ∷ next ∷ lines) line =
@@ -26,7 +26,8 @@ packed-more (one ∷ next ∷ lines) line =
 
 -- lines behind others are parted from the last of them
 pub packed-join : (lines : List Line) (line : Line) (rest : List Line)
-    → packed (lines ++ line ∷ rest) ≡ packed lines ++ parting (is_number line) (last_line lines) ++ packed (line ∷ rest)
+    → packed_lines (lines ++ line ∷ rest) ≡ packed_lines lines ++ null_between (is_number line) (last_line lines)
+        ++ packed_lines (line ∷ rest)
 packed-join [] line rest = refl
 packed-join (one ∷ []) line rest = simp (append-nil, append_assoc)
 packed-join (one ∷ next ∷ lines) line rest =
@@ -34,33 +35,34 @@ packed-join (one ∷ next ∷ lines) line rest =
     ∙ simp append_assoc
 
 -- lines that are not followed have no more bytes
-pub packed-less : (lines others : List Line) → length (packed lines) ≤ length (packed (lines ++ others))
+pub packed-less : (lines others : List Line) → length (packed_lines lines) ≤ length (packed_lines (lines ++ others))
 packed-less [] others = omega arith
 packed-less (line ∷ []) others =
     omega (
       arith,
       length-append (spelling line ++ []) [],
       length-append (spelling line) [],
-      length-append (spelling line ++ gap line others) (packed others),
+      length-append (spelling line ++ gap line others) (packed_lines others),
       length-append (spelling line) (gap line others),
     )
 packed-less (line ∷ next ∷ lines) others =
     omega (
       arith,
       packed-less (next ∷ lines) others,
-      length-append (spelling line ++ gap line (next ∷ lines)) (packed (next ∷ lines)),
-      length-append (spelling line ++ gap line (next ∷ lines)) (packed ((next ∷ lines) ++ others)),
+      length-append (spelling line ++ gap line (next ∷ lines)) (packed_lines (next ∷ lines)),
+      length-append (spelling line ++ gap line (next ∷ lines)) (packed_lines ((next ∷ lines) ++ others)),
     )
 
 -- a line was put behind others
-pub puts : (old mid new : Packer) (line : Line) (lines : List Line) → Packs old lines → Pushes old mid (parting (is_number line) old.last)
+pub puts : (old mid new : Packer) (line : Line) (lines : List Line) → Packs old lines
+    → Pushes old mid (null_between (is_number line) old.last)
     → Pushes mid new (spelling line) → Packs (record { bytes = new.bytes; full = new.full; last = Some line }) (lines ++ line ∷ [])
 puts old mid new line lines packs parts pushes =
-    let front = packed lines in
-    let middle = parting (is_number line) (last_line lines) in
-    let same : parting (is_number line) old.last ≡ middle = ap (parting (is_number line)) packs.last in
+    let front = packed_lines lines in
+    let middle = null_between (is_number line) (last_line lines) in
+    let same : null_between (is_number line) old.last ≡ middle = ap (null_between (is_number line)) packs.last in
     let all = packed-more lines line in
-    let long : length (packed (lines ++ line ∷ [])) ≡ length front + length middle + length (spelling line) =
+    let long : length (packed_lines (lines ++ line ∷ [])) ≡ length front + length middle + length (spelling line) =
     ap length all ∙ length-append (front ++ middle) (spelling line) ∙ ap (λ n. n + length (spelling line)) (length-append front middle) in
     record {
       held = λ room.
@@ -68,7 +70,7 @@ puts old mid new line lines packs parts pushes =
           let first = parts.held second.0 in
           second.1
           ∙ ap (λ (bytes : List ℕ). bytes ++ spelling line)
-          (first.1 ∙ ap (λ (bytes : List ℕ). bytes ++ parting (is_number line) old.last) (packs.held first.0)
+          (first.1 ∙ ap (λ (bytes : List ℕ). bytes ++ null_between (is_number line) old.last) (packs.held first.0)
           ∙ ap (λ (bytes : List ℕ). front ++ bytes) same)
           ∙ sym all;
       full = λ mark. elim (cases_Bool mid.full) [
@@ -86,7 +88,7 @@ puts old mid new line lines packs parts pushes =
             let first = parts.held middle_room in
             let size = ap length (packs.held first.0) in
             let part = ap length same in
-            let both = ap length first.1 ∙ length-append old.bytes.items (parting (is_number line) old.last) in
+            let both = ap length first.1 ∙ length-append old.bytes.items (null_between (is_number line) old.last) in
             elim (pushes.full mark) [
               | inl middle_full ↦ absurd (true≢false (sym middle_full ∙ middle_room))
               | inr many ↦ omega (arith, many, long, size, part, both)
@@ -96,11 +98,11 @@ puts old mid new line lines packs parts pushes =
     }
 
 -- how many bytes a packing has
-pub length-packing : (lines : List Line) → length (packing lines) ≡ length (packed lines) + filler (length (packed lines)) + 3
+pub length-packing : (lines : List Line) → length (packing lines) ≡ length (packed_lines lines) + filler (length (packed_lines lines)) + 3
 length-packing lines =
-    length-append (packed lines ++ replicate (filler (length (packed lines))) 0) written_end
-    ∙ ap (λ n. n + 3) (length-append (packed lines) (replicate (filler (length (packed lines))) 0)
-    ∙ ap (λ n. length (packed lines) + n) (length-replicate (filler (length (packed lines))) 0))
+    length-append (packed_lines lines ++ replicate (filler (length (packed_lines lines))) 0) written_end
+    ∙ ap (λ n. n + 3) (length-append (packed_lines lines) (replicate (filler (length (packed_lines lines))) 0)
+    ∙ ap (λ n. length (packed_lines lines) + n) (length-replicate (filler (length (packed_lines lines))) 0))
 
 -- too many bytes have no room
 pub no_room : (count registers : ℕ) → 2237 < count → count + filler count + 3 ≡ registers → 320 < registers / 7

@@ -15,7 +15,7 @@ use Rattle.h41_program.specs.ProgramBytes.{byte_count, program_byte, program_byt
 use Rattle.h41_program.specs.ProgramLaws.{SizeKeepsLines}
 use Rattle.h41_program.specs.ProgramLines.{LinesFrom, Reads}
 use Rattle.h41_program.specs.Rewriting.{HasOutcome}
-use Rattle.h41_program.specs.Size.{moved_curtain, moved_end, moved_statistics, resized, resized_c, resized_register, size_outcome}
+use Rattle.h41_program.specs.Size.{moved_curtain, moved_end, moved_statistics, with_size, resized_c, resized_register, size_outcome}
 use Rattle.h41_program.proofs.Addresses.{c_long, c_there, length-three_places, sound_by, three_above, three_again, three_below}
 use Rattle.h41_program.proofs.Rewritten.{main_at}
 use Rattle.h41_program.proofs.Sound.{bounds, constant, ends}
@@ -31,7 +31,7 @@ fails a b test = grind (arith, nat_tests)
 module _ (memory : RegisterMap) (sound : is_sound memory ≡ true) (size : ℕ) (small : size < length memory.main)
     (room : main_start + curtain_of memory ≤ moved_curtain memory size + end_of memory) where
   abbrev new : RegisterMap
-  new = resized memory size
+  new = with_size memory size
 
   abbrev with_end : List ℕ
   with_end = with_three_places (c_of memory) 0 (moved_end memory size)
@@ -123,7 +123,7 @@ module _ (memory : RegisterMap) (sound : is_sound memory ≡ true) (size : ℕ) 
 pub record Fits (memory : RegisterMap) (size : ℕ) (after : RegisterMap) : Type 0 where
   pub small : size < length memory.main
   pub room : main_start + curtain_of memory ≤ moved_curtain memory size + end_of memory
-  pub same : after ≡ resized memory size
+  pub same : after ≡ with_size memory size
 
 refused_is_not_done : (after : RegisterMap × Unit {0}) (refusal : ProgramRefusal)
     → ◌≡◌ {A = Result (RegisterMap × Unit {0}) ProgramRefusal} (Err refusal) (Ok after) → ⊥
@@ -138,7 +138,7 @@ same_memory one other same =
 pub fits_outcome : (memory after : RegisterMap) (size : ℕ) → Fits memory size after
     → HasOutcome {A = Unit {0}} memory after (Ok tt) (size_outcome memory size)
 fits_outcome memory after size fits =
-    let done : size_outcome memory size ≡ Ok (resized memory size, tt) =
+    let done : size_outcome memory size ≡ Ok (with_size memory size, tt) =
     rw (
       below_test size (length memory.main) fits.small,
       above_test (moved_curtain memory size + end_of memory) (main_start + curtain_of memory) fits.room,
@@ -154,11 +154,11 @@ size_fits memory after size done = elim (cases_Bool (nat_lt size (length memory.
         let refused : size_outcome memory size ≡ Err NoRoom = rw (small, none) refl in
         absurd (refused_is_not_done (after, tt) NoRoom (sym refused ∙ done))
     | inr room ↦
-        let taken : size_outcome memory size ≡ Ok (resized memory size, tt) = rw (small, room) refl in
+        let taken : size_outcome memory size ≡ Ok (with_size memory size, tt) = rw (small, room) refl in
         record {
           small = holds size (length memory.main) small;
           room = fails (moved_curtain memory size + end_of memory) (main_start + curtain_of memory) room;
-          same = same_memory (resized memory size) after (sym taken ∙ done);
+          same = same_memory (with_size memory size) after (sym taken ∙ done);
         }
   ]
   | inr large ↦
@@ -181,7 +181,7 @@ resize_sound old left size result sound has = size_sound_by old left size result
 pub size_lines : SizeKeepsLines
 size_lines memory new size at lines sound done from =
     let fits = size_fits memory new size done in
-    let after = resized memory size in
+    let after = with_size memory size in
     let reads = subst (λ (n : ℕ). Reads (program_bytes after) n at lines) (sym (size_final memory sound size fits.small fits.room))
     (subst (λ (bytes : List ℕ). Reads bytes (final_position memory) at lines)
     (sym (size_bytes memory sound size fits.small fits.room)) (from.sound sound)) in

@@ -8,7 +8,7 @@ use Rattle.h41_digits.specs.Register.{byte_at}
 use Rattle.h41_ram.specs.RegisterMap.{RegisterMap, main_start, top_of, zeros, register_at, c_of, curtain_of, end_of, constant_of, is_sound}
 use Rattle.h41_ram.specs.RegisterMap.{is_final_end, three_digits, with_three_places}
 use Rattle.h41_program.specs.ProgramBytes.{byte_count, program_byte, program_bytes, final_position}
-use Rattle.h41_program.specs.Rewriting.{end_after, program_register, rewritten, rewritten_register}
+use Rattle.h41_program.specs.Rewriting.{end_after, program_register, with_program_bytes, rewritten_register}
 use Rattle.h41_program.proofs.Addresses.{c_long, c_there, sound_by, three_above, three_again}
 use Rattle.h41_program.proofs.Sound.{bounds, constant}
 use Rattle.h41_program.proofs.Cases.{above_test, below_test}
@@ -47,9 +47,9 @@ main_at memory address from =
     rw (status, main) refl
 
 main_register : (memory : RegisterMap) (bytes : List ℕ) (address : ℕ) → main_start ≤ address → address < top_of memory
-    → register_at (rewritten memory bytes) address ≡ rewritten_register memory bytes address
+    → register_at (with_program_bytes memory bytes) address ≡ rewritten_register memory bytes address
 main_register memory bytes address from below =
-    main_at (rewritten memory bytes) address from
+    main_at (with_program_bytes memory bytes) address from
     ∙ get_or-map-range_with_len (rewritten_register memory bytes) main_start (length memory.main)
     (address - main_start) address zeros (omega (arith, from, below)) (omega (arith, from))
 
@@ -58,7 +58,7 @@ module _ (memory : RegisterMap) (sound : is_sound memory ≡ true) (bytes : List
     (count : ℕ) (size : length bytes ≡ 7 * count) (some : 1 ≤ count)
     (room : main_start + count ≤ curtain_of memory) where
   abbrev new : RegisterMap
-  new = rewritten memory bytes
+  new = with_program_bytes memory bytes
 
   end : end_after memory bytes ≡ curtain_of memory - count
   end = let registers : length bytes / 7 ≡ count = omega (arith, size) in ap (λ n. curtain_of memory - n) registers

@@ -16,8 +16,8 @@ use Rattle.h41_codes.proofs.LineLengths.{spelling_least}
 use Rattle.h41_program.specs.declared.listed_line.ListedLine.{ListedLine}
 use Rattle.h41_program.specs.Edits.{lines_of}
 use Rattle.h41_program.specs.Lines.{is_number}
-use Rattle.h41_program.specs.Packing.{gap, last_line, packed, filler, packing, written_end}
-use Rattle.h41_program.specs.private.Packers.{parting}
+use Rattle.h41_program.specs.Packing.{gap, last_line, packed_lines, filler, packing, written_end}
+use Rattle.h41_program.specs.private.Packers.{null_between}
 use Rattle.h41_program.specs.ProgramLaws.{IsInner, PackingRoundTrip}
 use Rattle.h41_program.specs.ProgramLines.{line_bytes, FirstFrom, Reads, behind}
 use Rattle.h41_program.proofs.FirstLines.{line_bytes-below, line_bytes-at}
@@ -30,7 +30,7 @@ nulls_stop zero goes = goes
 nulls_stop (suc n) goes = absurd (omega (arith, goes.0))
 
 parts : (next : Line) (lines : List Line) (n : ℕ)
-    → packed (next ∷ lines) ++ replicate n 0 ≡ spelling next ++ (gap next lines ++ (packed lines ++ replicate n 0))
+    → packed_lines (next ∷ lines) ++ replicate n 0 ≡ spelling next ++ (gap next lines ++ (packed_lines lines ++ replicate n 0))
 parts next lines n = simp append_assoc
 
 abbrev one_null : Bool → List ℕ
@@ -93,10 +93,10 @@ number_stops next behind valid goes = elim (cases_Bool (is_number next)) [
 
 -- a line is whole before the lines that follow it
 follows_whole : (line : Line) (lines : List Line) (n : ℕ) → All IsInner lines
-    → IsWhole line (gap line lines ++ (packed lines ++ replicate n 0))
+    → IsWhole line (gap line lines ++ (packed_lines lines ++ replicate n 0))
 follows_whole (Number characters) [] n inner = λ goes. absurd (nulls_stop n goes)
 follows_whole (Number characters) (next ∷ lines) n inner =
-    λ goes. absurd (number_stops next (gap next lines ++ (packed lines ++ replicate n 0)) (first_inner next lines inner).valid
+    λ goes. absurd (number_stops next (gap next lines ++ (packed_lines lines ++ replicate n 0)) (first_inner next lines inner).valid
     (subst (λ (l : List ℕ). GoesOn ((if is_number next then 0 ∷ [] else []) ++ l)) (parts next lines n) goes))
 follows_whole line lines n inner = tt
 
@@ -126,7 +126,8 @@ module _ (again : ByteRoundTrip) where
   pub trip : (lines : List Line) (front : List ℕ) (at n : ℕ) → All IsInner lines → at ≤ length front
       → ((k : ℕ) → at ≤ k → k < length front → get_or front k 0 ≡ 0)
       → (listed : List ListedLine)
-      × Reads ((front ++ (packed lines ++ replicate n 0)) ++ written_end) (length (front ++ (packed lines ++ replicate n 0))) at listed
+      × Reads ((front ++ (packed_lines lines ++ replicate n 0)) ++ written_end) (length (front ++ (packed_lines lines ++ replicate n 0))) at
+          listed
       × (lines_of listed ≡ lines ++ FinalEnd 0 0 ∷ [])
   trip [] front at n inner inside nulls =
       let body = front ++ replicate n 0 in
@@ -144,8 +145,8 @@ module _ (again : ByteRoundTrip) where
       (last ∷ [], (first, refl), refl)
   trip (line ∷ lines) front at n inner inside nulls =
       let this = first_inner line lines inner in
-      let tail = packed lines ++ replicate n 0 in
-      let middle = packed (line ∷ lines) ++ replicate n 0 in
+      let tail = packed_lines lines ++ replicate n 0 in
+      let middle = packed_lines (line ∷ lines) ++ replicate n 0 in
       let next = front ++ spelling line ++ gap line lines in
       let least = spelling_least line this.valid in
       let size : length middle ≡ length (spelling line) + length (gap line lines ++ tail) =
@@ -183,41 +184,43 @@ module _ (again : ByteRoundTrip) where
 
   -- the lines behind others, from the byte behind these on
   pub reads_behind : (lines rest : List Line) → All IsInner rest → (listed : List ListedLine)
-      × Reads (packing (lines ++ rest)) (length (packing (lines ++ rest)) - 3) (length (packed lines)) listed
+      × Reads (packing (lines ++ rest)) (length (packing (lines ++ rest)) - 3) (length (packed_lines lines)) listed
       × (lines_of listed ≡ rest ++ FinalEnd 0 0 ∷ [])
   reads_behind lines [] inner =
-      let count = filler (length (packed lines)) in
+      let count = filler (length (packed_lines lines)) in
       let found =
-      trip [] (packed lines) (length (packed lines)) count inner (omega arith) (λ k low high. absurd (omega (arith, low, high))) in
+      trip [] (packed_lines lines) (length (packed_lines lines)) count inner (omega arith) (λ k low high. absurd (omega (arith, low, high)))
+          in
       let none : lines ++ [] ≡ lines = append-nil lines in
-      let size : length (packed lines ++ replicate count 0) ≡ length (packing lines) - 3 =
-      omega (arith, length-packing lines, length-append (packed lines) (replicate count 0), length-replicate {A = ℕ} count 0) in
-      let read = subst (λ (n : ℕ). Reads (packing lines) n (length (packed lines)) found.0) size found.1 in (
+      let size : length (packed_lines lines ++ replicate count 0) ≡ length (packing lines) - 3 =
+      omega (arith, length-packing lines, length-append (packed_lines lines) (replicate count 0), length-replicate {A = ℕ} count 0) in
+      let read = subst (λ (n : ℕ). Reads (packing lines) n (length (packed_lines lines)) found.0) size found.1 in (
         found.0,
-        subst (λ (all : List Line). Reads (packing all) (length (packing all) - 3) (length (packed lines)) found.0) (sym none) read,
+        subst (λ (all : List Line). Reads (packing all) (length (packing all) - 3) (length (packed_lines lines)) found.0) (sym none) read,
         found.2,
       )
   reads_behind lines (line ∷ rest) inner =
       let all = lines ++ line ∷ rest in
-      let count = filler (length (packed all)) in
-      let middle = parting (is_number line) (last_line lines) in
-      let front = packed lines ++ middle in
-      let ahead : length front ≡ length (packed lines) + length middle = length-append (packed lines) middle in
-      let found = trip (line ∷ rest) front (length (packed lines)) count inner (omega (arith, ahead))
-      (λ k low high. after_front (packed lines) middle k low
-      ∙ chosen_null (option_map_or is_number (last_line lines) false && is_number line) (k - length (packed lines))) in
-      let body : front ++ (packed (line ∷ rest) ++ replicate count 0) ≡ packed all ++ replicate count 0 =
-      sym (append_assoc front (packed (line ∷ rest)) (replicate count 0))
+      let count = filler (length (packed_lines all)) in
+      let middle = null_between (is_number line) (last_line lines) in
+      let front = packed_lines lines ++ middle in
+      let ahead : length front ≡ length (packed_lines lines) + length middle = length-append (packed_lines lines) middle in
+      let found = trip (line ∷ rest) front (length (packed_lines lines)) count inner (omega (arith, ahead))
+      (λ k low high. after_front (packed_lines lines) middle k low
+      ∙ chosen_null (option_map_or is_number (last_line lines) false && is_number line) (k - length (packed_lines lines))) in
+      let body : front ++ (packed_lines (line ∷ rest) ++ replicate count 0) ≡ packed_lines all ++ replicate count 0 =
+      sym (append_assoc front (packed_lines (line ∷ rest)) (replicate count 0))
       ∙ ap (λ (bytes : List ℕ). bytes ++ replicate count 0) (sym (packed-join lines line rest)) in
-      let size : length (packed all ++ replicate count 0) ≡ length (packing all) - 3 =
-      omega (arith, length-packing all, length-append (packed all) (replicate count 0), length-replicate {A = ℕ} count 0) in
-      let read = subst (λ (bytes : List ℕ). Reads (bytes ++ written_end) (length bytes) (length (packed lines)) found.0) body found.1 in
-      (found.0, subst (λ (n : ℕ). Reads (packing all) n (length (packed lines)) found.0) size read, found.2)
+      let size : length (packed_lines all ++ replicate count 0) ≡ length (packing all) - 3 =
+      omega (arith, length-packing all, length-append (packed_lines all) (replicate count 0), length-replicate {A = ℕ} count 0) in
+      let read = subst (λ (bytes : List ℕ). Reads (bytes ++ written_end) (length bytes) (length (packed_lines lines)) found.0) body found.1
+          in
+      (found.0, subst (λ (n : ℕ). Reads (packing all) n (length (packed_lines lines)) found.0) size read, found.2)
 
 pub reads_packing : ByteRoundTrip → PackingRoundTrip
 reads_packing again lines inner =
-    let count = filler (length (packed lines)) in
+    let count = filler (length (packed_lines lines)) in
     let found = trip again lines [] 0 count inner (omega arith) (λ k low high. absurd (omega (arith, high))) in
-    let size : length (packed lines ++ replicate count 0) ≡ length (packing lines) - 3 =
-    omega (arith, length-packing lines, length-append (packed lines) (replicate count 0), length-replicate {A = ℕ} count 0) in
+    let size : length (packed_lines lines ++ replicate count 0) ≡ length (packing lines) - 3 =
+    omega (arith, length-packing lines, length-append (packed_lines lines) (replicate count 0), length-replicate {A = ℕ} count 0) in
     (found.0, (subst (λ (n : ℕ). Reads (packing lines) n 0 found.0) size found.1, found.2))

@@ -8,11 +8,11 @@ use Rattle.h41_ram.specs.RegisterMap.{RegisterMap, main_start, curtain_of, is_so
 use Rattle.h41_program.specs.declared.listed_line.ListedLine.{ListedLine}
 use Rattle.h41_program.specs.declared.refusal.ProgramRefusal.{ProgramRefusal}
 use Rattle.h41_program.specs.declared.refusal.ProgramRefusal.TheVariants.{NoRoom}
-use Rattle.h41_program.specs.Packing.{packed, filler, packing, written_end}
+use Rattle.h41_program.specs.Packing.{packed_lines, filler, packing, written_end}
 use Rattle.h41_program.specs.ProgramBytes.{program_bytes, final_position}
 use Rattle.h41_program.specs.ProgramLaws.{IsInner, HasLines, PackingFills, PackingHasFewNulls, WrittenIsRead}
 use Rattle.h41_program.specs.ProgramLines.{Reads}
-use Rattle.h41_program.specs.Rewriting.{rewritten, written}
+use Rattle.h41_program.specs.Rewriting.{with_program_bytes, with_program_lines}
 use Rattle.h41_program.proofs.Packings.{length-packing}
 use Rattle.h41_program.proofs.Rewritten.{program_new, final_new, sound_new}
 use Rattle.h41_program.proofs.Rooms.{written-none, written-some}
@@ -22,7 +22,7 @@ use Rattle.h41_program.proofs.Walks.{from_reads}
 -- .END. ends a packing
 final_bytes : (lines : List Line) (k : ℕ) → get_or (packing lines) (length (packing lines) - 3 + k) 0 ≡ get_or written_end k 0
 final_bytes lines k =
-    let body = packed lines ++ replicate (filler (length (packed lines))) 0 in
+    let body = packed_lines lines ++ replicate (filler (length (packed_lines lines))) 0 in
     let size : length (packing lines) - 3 ≡ length body = omega (arith, length-append body written_end) in
     ap (λ n. get_or (packing lines) (n + k) 0) size ∙ get_or-append-add body written_end k 0
 
@@ -37,7 +37,7 @@ pub fills : PackingFills
 fills lines = (length (packing lines) / 7, registers_filled lines)
 
 pub few_nulls : PackingHasFewNulls
-few_nulls lines = (filler (length (packed lines)), omega arith, refl)
+few_nulls lines = (filler (length (packed_lines lines)), omega arith, refl)
 
 refused_is_not_done : (new : RegisterMap) → ◌≡◌ {A = Result RegisterMap ProgramRefusal} (Err NoRoom) (Ok new) → ⊥
 refused_is_not_done new same = cc
@@ -46,18 +46,20 @@ same_memory : (one other : RegisterMap) → ◌≡◌ {A = Result RegisterMap Pr
 same_memory one other same = cc
 
 -- lines that were written had room
-pub has_room : (memory new : RegisterMap) (lines : List Line) → written memory lines ≡ Ok new
+pub has_room : (memory new : RegisterMap) (lines : List Line) → with_program_lines memory lines ≡ Ok new
     → main_start + length (packing lines) / 7 ≤ curtain_of memory
 has_room memory new lines done = elim (cases_lt (curtain_of memory) (main_start + length (packing lines) / 7)) [
   | inl above ↦ absurd (refused_is_not_done new (sym (written-none memory lines above) ∙ done))
   | inr inside ↦ inside
 ]
 
-pub is_rewritten : (memory new : RegisterMap) (lines : List Line) → written memory lines ≡ Ok new → rewritten memory (packing lines) ≡ new
+pub is_rewritten : (memory new : RegisterMap) (lines : List Line) → with_program_lines memory lines ≡ Ok new
+    → with_program_bytes memory (packing lines) ≡ new
 is_rewritten memory new lines done =
-    same_memory (rewritten memory (packing lines)) new (sym (written-some memory lines (has_room memory new lines done)) ∙ done)
+    same_memory (with_program_bytes memory (packing lines)) new (sym (written-some memory lines (has_room memory new lines done)) ∙ done)
 
-module _ (memory new : RegisterMap) (lines : List Line) (sound : is_sound memory ≡ true) (done : written memory lines ≡ Ok new) where
+module _ (memory new : RegisterMap) (lines : List Line) (sound : is_sound memory ≡ true) (done : with_program_lines memory lines ≡ Ok new)
+    where
   abbrev count : ℕ
   count = length (packing lines) / 7
 
@@ -89,11 +91,11 @@ module _ (memory new : RegisterMap) (lines : List Line) (sound : is_sound memory
 
 -- lines behind others, from the byte behind these on
 pub written_behind : ByteRoundTrip → (memory new : RegisterMap) (lines rest : List Line) → is_sound memory ≡ true → All IsInner rest
-    → written memory (lines ++ rest) ≡ Ok new → HasLines new (length (packed lines)) rest
+    → with_program_lines memory (lines ++ rest) ≡ Ok new → HasLines new (length (packed_lines lines)) rest
 written_behind again memory new lines rest sound inner done =
     let found = reads_behind again lines rest inner in
-    let read = written_reads memory new (lines ++ rest) sound done (length (packed lines)) found.0 found.1 in
-    (found.0, from_reads new (length (packed lines)) found.0 (written_sound memory new (lines ++ rest) sound done) read, found.2)
+    let read = written_reads memory new (lines ++ rest) sound done (length (packed_lines lines)) found.0 found.1 in
+    (found.0, from_reads new (length (packed_lines lines)) found.0 (written_sound memory new (lines ++ rest) sound done) read, found.2)
 
 pub written_read : ByteRoundTrip → WrittenIsRead
 written_read again memory new lines sound inner done =

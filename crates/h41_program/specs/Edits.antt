@@ -14,10 +14,10 @@ use Rattle.h41_program.specs.declared.listed_line.ListedLine.{ListedLine}
 use Rattle.h41_program.specs.declared.refusal.ProgramRefusal.{ProgramRefusal}
 use Rattle.h41_program.specs.declared.refusal.ProgramRefusal.TheVariants.{BrokenProgram}
 use Rattle.h41_program.specs.Lines.{is_end, is_final_end}
-use Rattle.h41_program.specs.Packing.{last_line, packed}
+use Rattle.h41_program.specs.Packing.{last_line, packed_lines}
 use Rattle.h41_program.specs.ProgramBytes.{program_bytes, final_position}
 use Rattle.h41_program.specs.ProgramLines.{FirstFrom, HasNoLine, LinesFrom, Reads, behind}
-use Rattle.h41_program.specs.Rewriting.{written, HasOutcome}
+use Rattle.h41_program.specs.Rewriting.{with_program_lines, HasOutcome}
 use Rattle.h41_program.specs.Searches.{position_of}
 
 -- the lines alone, without their positions
@@ -36,8 +36,8 @@ abbrev pub is_open : List Line → Bool
 is_open lines = option_map_or (λ line. not (is_end line)) (last_line lines) false
 
 -- the lines with an END behind the last program, where it has lines
-abbrev pub closed : List Line → List Line
-closed lines = if is_open lines then lines ++ End 0 0 ∷ [] else lines
+abbrev pub with_last_end : List Line → List Line
+with_last_end lines = if is_open lines then lines ++ End 0 0 ∷ [] else lines
 
 -- lines to be loaded: an END or .END. at their end is dropped
 abbrev pub without_end : List Line → List Line
@@ -60,21 +60,23 @@ loaded_of bytes given =
     else None
 
 -- memory with these lines, and an answer, or the refusal
-abbrev pub answered : {A : Type 0} → A → Result RegisterMap ProgramRefusal
+abbrev pub memory_with_answer : {A : Type 0} → A → Result RegisterMap ProgramRefusal
     → Result (RegisterMap × A) ProgramRefusal
-answered answer (Ok memory) = Ok (memory, answer)
-answered answer (Err refusal) = Err refusal
+memory_with_answer answer (Ok memory) = Ok (memory, answer)
+memory_with_answer answer (Err refusal) = Err refusal
 
 -- lines loaded behind others: the answer is where the first of them begins
-abbrev pub joined : RegisterMap → List Line → List Line → Result (RegisterMap × ℕ) ProgramRefusal
-joined memory lines loaded =
-    answered (length (packed (closed lines))) (written memory (closed lines ++ loaded))
+abbrev pub load_behind : RegisterMap → List Line → List Line
+    → Result (RegisterMap × ℕ) ProgramRefusal
+load_behind memory lines loaded =
+    memory_with_answer (length (packed_lines (with_last_end lines)))
+        (with_program_lines memory (with_last_end lines ++ loaded))
 
 -- the same where the bytes have lines to be loaded
 abbrev pub load_outcome : RegisterMap → List ListedLine → Option (List Line)
     → Result (RegisterMap × ℕ) ProgramRefusal
 load_outcome memory lines None = Err BrokenProgram
-load_outcome memory lines (Some loaded) = joined memory (lines_of lines) loaded
+load_outcome memory lines (Some loaded) = load_behind memory (lines_of lines) loaded
 
 -- what loading bytes behind the lines before .END. gives: the bytes are looked at where the list
 -- reaches it
@@ -105,7 +107,8 @@ Loads old new bytes result =
 -- it is
 abbrev pub close_outcome : RegisterMap → List Line → Result (RegisterMap × Unit {0}) ProgramRefusal
 close_outcome memory lines =
-    if is_open lines then answered tt (written memory (closed lines)) else Ok (memory, tt)
+    if is_open lines then memory_with_answer tt (with_program_lines memory (with_last_end lines))
+        else Ok (memory, tt)
 
 abbrev pub close_behind : RegisterMap → Option (List ListedLine)
     → Result (RegisterMap × Unit {0}) ProgramRefusal
@@ -144,7 +147,7 @@ without_deleted position listed = if listed.position == position then [] else ow
 abbrev pub changed_outcome : Bool → RegisterMap → List Line
     → Result (RegisterMap × Unit {0}) ProgramRefusal
 changed_outcome changed memory lines =
-    if changed then answered tt (written memory lines) else Err BrokenProgram
+    if changed then memory_with_answer tt (with_program_lines memory lines) else Err BrokenProgram
 
 abbrev pub edit_outcome : RegisterMap → (ListedLine → List Line) → ℕ → List ListedLine
     → Result (RegisterMap × Unit {0}) ProgramRefusal
@@ -235,9 +238,10 @@ PlacesAreDetermined A =
     → result ≡ other
 
 -- whether a call was done, without its answer
-abbrev pub done : {A : Type 0} → Result A ProgramRefusal → Result (Unit {0}) ProgramRefusal
-done (Ok answer) = Ok tt
-done (Err refusal) = Err refusal
+abbrev pub without_answer : {A : Type 0} → Result A ProgramRefusal
+    → Result (Unit {0}) ProgramRefusal
+without_answer (Ok answer) = Ok tt
+without_answer (Err refusal) = Err refusal
 
 -- the list is changed at the line that a position stands for
 abbrev pub Edits : RegisterMap → RegisterMap → (ℕ → ListedLine → List Line) → ℕ

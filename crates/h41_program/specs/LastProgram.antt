@@ -5,7 +5,7 @@ use Rattle.h41_ram.specs.RegisterMap.{RegisterMap}
 use Rattle.h41_program.specs.declared.listed_line.ListedLine.{ListedLine}
 use Rattle.h41_program.specs.declared.refusal.ProgramRefusal.{ProgramRefusal}
 use Rattle.h41_program.specs.declared.refusal.ProgramRefusal.TheVariants.{BrokenProgram}
-use Rattle.h41_program.specs.Edits.{lines_of, before_end, closed, is_open, Closes}
+use Rattle.h41_program.specs.Edits.{lines_of, before_end, with_last_end, is_open, Closes}
 use Rattle.h41_program.specs.ProgramLines.{LinesFrom}
 
 -- whether the lines before .END. are open, where there is an .END.
@@ -19,7 +19,7 @@ open_in lines = open_before (before_end lines)
 
 -- closed lines are not open
 abbrev pub ClosedIsNotOpen : Type 0
-ClosedIsNotOpen = (lines : List Line) → is_open (closed lines) ≡ false
+ClosedIsNotOpen = (lines : List Line) → is_open (with_last_end lines) ≡ false
 
 -- memory has before .END. the lines of another, closed
 pub record LeavesClosed (memory new : RegisterMap) : Type 0 where
@@ -31,7 +31,7 @@ pub record LeavesClosed (memory new : RegisterMap) : Type 0 where
   pub own : before_end lines ≡ Some before
   pub read : LinesFrom new 0 listed
   pub all : before_end listed ≡ Some after
-  pub same : lines_of after ≡ closed (lines_of before)
+  pub same : lines_of after ≡ with_last_end (lines_of before)
 
 -- memory whose last program was closed is read so
 abbrev pub CloseIsRead : Type 0

@@ -19,9 +19,9 @@ gap line [] = []
 gap line (next ∷ lines) = if is_number line && is_number next then 0x00 ∷ [] else []
 
 -- the lines alone
-abbrev pub packed : List Line → List ℕ
-packed [] = []
-packed (line ∷ lines) = spelling line ++ gap line lines ++ packed lines
+abbrev pub packed_lines : List Line → List ℕ
+packed_lines [] = []
+packed_lines (line ∷ lines) = spelling line ++ gap line lines ++ packed_lines lines
 
 -- how many nulls behind so many bytes fill the registers, with three bytes for .END.
 abbrev pub filler : ℕ → ℕ
@@ -37,4 +37,4 @@ filled_up bytes = bytes ++ replicate (filler (length bytes)) 0x00 ++ written_end
 
 -- the lines so filled up
 abbrev pub packing : List Line → List ℕ
-packing lines = filled_up (packed lines)
+packing lines = filled_up (packed_lines lines)

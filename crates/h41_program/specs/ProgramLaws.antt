@@ -6,12 +6,13 @@ use Rattle.h41_codes.specs.declared.line.Line.{Line}
 use Rattle.h41_codes.specs.declared.line.Line.TheVariants.{FinalEnd}
 use Rattle.h41_ram.specs.RegisterMap.{RegisterMap, is_sound}
 use Rattle.h41_program.specs.declared.listed_line.ListedLine.{ListedLine}
-use Rattle.h41_program.specs.Edits.{lines_of, before_end, closed, loaded_of, EditGives, LoadGives}
+use Rattle.h41_program.specs.Edits.{lines_of, before_end, with_last_end, loaded_of, EditGives}
+use Rattle.h41_program.specs.Edits.{LoadGives}
 use Rattle.h41_program.specs.declared.refusal.ProgramRefusal.{ProgramRefusal}
 use Rattle.h41_program.specs.Lines.{is_inner}
-use Rattle.h41_program.specs.Packing.{packed, packing, written_end}
+use Rattle.h41_program.specs.Packing.{packed_lines, packing, written_end}
 use Rattle.h41_program.specs.ProgramLines.{FirstFrom, LinesFrom, Reads}
-use Rattle.h41_program.specs.Rewriting.{written}
+use Rattle.h41_program.specs.Rewriting.{with_program_lines}
 use Rattle.h41_program.specs.Size.{size_outcome}
 
 -- a line that has bytes, and is one that programs can have
@@ -38,7 +39,7 @@ PackingHasFewNulls =
     (lines : List Line)
     → (nulls : ℕ)
     × (nulls ≤ 6)
-    × (packing lines ≡ packed lines ++ replicate nulls 0x00 ++ written_end)
+    × (packing lines ≡ packed_lines lines ++ replicate nulls 0x00 ++ written_end)
 
 -- memory has these lines from a position on, and .END. behind them
 abbrev pub HasLines : RegisterMap → ℕ → List Line → Type 0
@@ -51,7 +52,7 @@ HasLines memory at lines =
 abbrev pub WrittenIsRead : Type 0
 WrittenIsRead =
     (memory new : RegisterMap) (lines : List Line) → IsTrue (is_sound memory) → All IsInner lines
-    → written memory lines ≡ Ok new
+    → with_program_lines memory lines ≡ Ok new
     → HasLines new 0 lines
 
 -- bytes that were loaded are read again: memory's lines, closed, and behind them those of the
@@ -66,7 +67,7 @@ pub record LeavesLoaded (memory : RegisterMap) (bytes : List ℕ)
   pub own : before_end lines ≡ Some before
   pub read : Reads bytes (length bytes) 0 given
   pub taken : loaded_of bytes given ≡ Some loaded
-  pub all : HasLines new 0 (closed (lines_of before) ++ loaded)
+  pub all : HasLines new 0 (with_last_end (lines_of before) ++ loaded)
   pub last : HasLines new start loaded
 
 abbrev pub LoadIsRead : Type 0

@@ -38,8 +38,8 @@ rewritten_register memory bytes address =
     else register_at memory address
 
 -- the memory with these bytes for its program
-abbrev pub rewritten : RegisterMap → List ℕ → RegisterMap
-rewritten memory bytes = record {
+abbrev pub with_program_bytes : RegisterMap → List ℕ → RegisterMap
+with_program_bytes memory bytes = record {
   status =
       slice_set memory.status c_address
       (with_three_places (c_of memory) 0 (end_after memory bytes));
@@ -47,10 +47,10 @@ rewritten memory bytes = record {
 }
 
 -- the memory with these lines for its program, where they do not pass below main memory
-abbrev pub written : RegisterMap → List Line → Result RegisterMap ProgramRefusal
-written memory lines =
+abbrev pub with_program_lines : RegisterMap → List Line → Result RegisterMap ProgramRefusal
+with_program_lines memory lines =
     if nat_lt (curtain_of memory) (main_start + length (packing lines) / 7) then Err NoRoom
-    else Ok (rewritten memory (packing lines))
+    else Ok (with_program_bytes memory (packing lines))
 
 -- a call gives the memory and the answer of an outcome; a refusal leaves memory as it was
 abbrev pub HasOutcome : {A : Type 0} → RegisterMap → RegisterMap → Result A ProgramRefusal

@@ -44,8 +44,8 @@ resized_c memory size =
     11
     (moved_statistics memory size)
 
-abbrev pub resized : RegisterMap → ℕ → RegisterMap
-resized memory size = record {
+abbrev pub with_size : RegisterMap → ℕ → RegisterMap
+with_size memory size = record {
   status = slice_set memory.status c_address (resized_c memory size);
   main = map (resized_register memory size) (addresses memory);
 }
@@ -57,5 +57,5 @@ size_outcome memory size =
     if nat_lt size (length memory.main) then
     (if nat_lt (moved_curtain memory size + end_of memory) (main_start + curtain_of memory)
     then Err NoRoom
-    else Ok (resized memory size, tt))
+    else Ok (with_size memory size, tt))
     else Err SizeTooLarge

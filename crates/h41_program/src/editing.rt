@@ -3,9 +3,11 @@ ghost use Rattle.std.specs.Prelude.{◌≡◌, ◌||◌, slice_get, IsTrue, IfOk
 ghost use Rattle.h41_codes.specs.ByteGrammar.{IsLine};
 ghost use Rattle.h41_ram.specs.RegisterMap.{is_sound};
 ghost use Rattle.h41_program.specs.Edits.{Edits, LeavesChanged, Stands, StandsBefore, StandsNew};
-ghost use Rattle.h41_program.specs.Edits.{count_before, done, front_behind, position_in_front};
+ghost use Rattle.h41_program.specs.Edits.{count_before, without_answer, front_behind};
+ghost use Rattle.h41_program.specs.Edits.{position_in_front};
 ghost use Rattle.h41_program.specs.Edits.{with_inserted, with_replaced, without_deleted};
-ghost use Rattle.h41_program.specs.private.EditSteps.{Counts, IsChange, PacksChanged, changed};
+ghost use Rattle.h41_program.specs.private.EditSteps.{Counts, IsChange, PacksChanged};
+ghost use Rattle.h41_program.specs.private.EditSteps.{lines_of_change};
 ghost use Rattle.h41_program.specs.private.EditSteps.{listed_of, new_part};
 ghost use Rattle.h41_program.specs.private.EditSteps as spec;
 ghost use Rattle.h41_program.specs.Lines.{is_inner};
@@ -60,7 +62,7 @@ pub fn insert<const REGS: usize>(
 ) -> Result<u16, ProgramRefusal>
     requires sound { IsTrue (is_sound ram.old) }
     requires inner { IsTrue (is_inner line) }
-    ensures lines { Edits ram.old ram.new (with_inserted line) before (done result) }
+    ensures lines { Edits ram.old ram.new (with_inserted line) before (without_answer result) }
     ensures sound { IsTrue (is_sound ram.new) }
     ensures read { OnOk result (LeavesChanged ram.old (with_inserted line) before ram.new) }
     ensures answer { IfOk result (StandsNew ram.old before ram.new) }
@@ -74,7 +76,7 @@ pub fn insert<const REGS: usize>(
 /// reach `.END.`, 16 where the program would pass below main memory.
 pub fn delete<const REGS: usize>(ram: &mut Ram<REGS>, at: u16) -> Result<InFront, ProgramRefusal>
     requires { IsTrue (is_sound ram.old) }
-    ensures lines { Edits ram.old ram.new without_deleted at (done result) }
+    ensures lines { Edits ram.old ram.new without_deleted at (without_answer result) }
     ensures sound { IsTrue (is_sound ram.new) }
     ensures read { OnOk result (LeavesChanged ram.old without_deleted at ram.new) }
     ensures answer { IfOk result (StandsBefore ram.old at ram.new) }
@@ -94,7 +96,7 @@ pub fn replace<const REGS: usize>(
 ) -> Result<u16, ProgramRefusal>
     requires sound { IsTrue (is_sound ram.old) }
     requires inner { IsTrue (is_inner line) }
-    ensures lines { Edits ram.old ram.new (with_replaced line) at (done result) }
+    ensures lines { Edits ram.old ram.new (with_replaced line) at (without_answer result) }
     ensures sound { IsTrue (is_sound ram.new) }
     ensures read { OnOk result (LeavesChanged ram.old (with_replaced line) at ram.new) }
     ensures answer { IfOk result (StandsNew ram.old at ram.new) }
@@ -112,9 +114,11 @@ fn put<const REGS: usize>(
 ) -> Result<u16, ProgramRefusal>
     requires sound { IsTrue (is_sound ram.old) }
     requires inner { IsTrue (is_inner line) }
-    ensures lines { Edits ram.old ram.new (changed (Put line placement)) at (done result) }
+    ensures lines { Edits ram.old ram.new (lines_of_change (Put line placement)) at
+        (without_answer result) }
     ensures sound { IsTrue (is_sound ram.new) }
-    ensures read { OnOk result (LeavesChanged ram.old (changed (Put line placement)) at ram.new) }
+    ensures read { OnOk result (LeavesChanged ram.old (lines_of_change (Put line placement)) at
+        ram.new) }
     ensures answer { IfOk result (StandsNew ram.old at ram.new) }
     ensures stands { IfOk result (Stands ram.new line) }
 {
@@ -133,7 +137,7 @@ fn change_at<const REGS: usize>(
 ) -> Result<u16, ProgramRefusal>
     requires sound { IsTrue (is_sound ram.old) }
     requires change { IsChange change }
-    ensures lines { Edits ram.old ram.new (changed change) at (done result) }
+    ensures lines { Edits ram.old ram.new (lines_of_change change) at (without_answer result) }
     ensures sound { IsTrue (is_sound ram.new) }
     ensures count { IfOk result (Counts ram.old at) }
 {
@@ -220,7 +224,7 @@ fn packed_changed<const REGS: usize>(
 ) -> Result<Packer, ProgramRefusal>
     requires sound { IsTrue (is_sound ram.now) }
     requires change { IsChange change.now }
-    ensures { PacksChanged ram.now (changed change.now place) place result }
+    ensures { PacksChanged ram.now (lines_of_change change.now place) place result }
 {
     let mut packer = Packer::new();
     let mut met = false;

@@ -4,10 +4,10 @@ ghost use Rattle.std.specs.Option.{option_map_or};
 ghost use Rattle.h41_program.specs.Lines.{is_number, is_end};
 ghost use Rattle.h41_codes.specs.ByteGrammar.{spelling, IsLine};
 ghost use Rattle.h41_codes.specs.declared.line.Line.{Line as Spoken};
-ghost use Rattle.h41_program.specs.Edits.{closed};
+ghost use Rattle.h41_program.specs.Edits.{with_last_end};
 ghost use Rattle.h41_program.specs.private.EditSteps.{Writes};
 ghost use Rattle.h41_ram.specs.RegisterMap.{curtain_of, is_sound, main_start};
-ghost use Rattle.h41_program.specs.private.Packers.{Packs, Pushes, Puts, parting};
+ghost use Rattle.h41_program.specs.private.Packers.{Packs, Pushes, Puts, null_between};
 ghost use Rattle.h41_program.specs.Packing.{filled_up};
 
 use crate::kinds::{is_end, is_number};
@@ -58,7 +58,7 @@ impl Packer {
 
     /// Pushes a null where the last line is a number and another number follows.
     fn part(&mut self, number: bool)
-        ensures { Pushes self.old self.new (parting number self.old.last) }
+        ensures { Pushes self.old self.new (null_between number self.old.last) }
     {
         if number && self.ends_with_number() {
             self.push(&[0x00]);
@@ -67,7 +67,8 @@ impl Packer {
 
     /// Puts an END behind the lines where the last of them is none.
     pub fn close(&mut self)
-        ensures { (lines : List Spoken) → Packs self.old lines → Packs self.new (closed lines) }
+        ensures { (lines : List Spoken) → Packs self.old lines
+            → Packs self.new (with_last_end lines) }
     {
         if self.is_open() {
             self.put(Line::End(Link::new(0), EndMarks::new(0)));

@@ -2,7 +2,7 @@
 ghost use Rattle.std.specs.Prelude.{◌≡◌, ◌<◌, length};
 ghost use Rattle.h41_ram.specs.RegisterMap.{IsMemory, top_of};
 ghost use Rattle.h41_program.specs.private.ProgramPlaces.{IsPlace};
-ghost use Rattle.h41_program.specs.Rewriting.{rewritten, rewritten_register};
+ghost use Rattle.h41_program.specs.Rewriting.{with_program_bytes, rewritten_register};
 ghost use Rattle.h41_program.specs.Rewriting as spec;
 
 use crate::registers::{C, END_PLACE, register_of, with_address};
@@ -14,7 +14,7 @@ use h41_ram::{MAIN_START, Ram};
 pub fn rewrite<const REGS: usize>(ram: &mut Ram<REGS>, bytes: &[u8], end: u16)
     requires place { IsPlace ram.old (length bytes.now) end }
     requires memory { IsMemory REGS ram.old }
-    ensures { ram.new ≡ rewritten ram.old bytes.now }
+    ensures { ram.new ≡ with_program_bytes ram.old bytes.now }
 {
     let c = with_address(ram.status(usize::from(C)), END_PLACE, end);
     let mut main = ram.main_memory();

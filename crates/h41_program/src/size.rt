@@ -3,7 +3,7 @@ ghost use Rattle.std.specs.Prelude.{◌≡◌, ◌-◌, ◌<◌, IsTrue};
 ghost use Rattle.h41_ram.specs.RegisterMap.{IsMemory, is_sound, top_of};
 ghost use Rattle.h41_program.specs.private.ProgramPlaces.{IsMove};
 ghost use Rattle.h41_program.specs.Rewriting.{HasOutcome};
-ghost use Rattle.h41_program.specs.Size.{resized, resized_c, resized_register, size_outcome};
+ghost use Rattle.h41_program.specs.Size.{with_size, resized_c, resized_register, size_outcome};
 
 use crate::refusal::ProgramRefusal;
 use crate::registers::{
@@ -38,7 +38,7 @@ pub fn set_size<const REGS: usize>(ram: &mut Ram<REGS>, size: u16) -> Result<(),
 fn resize<const REGS: usize>(ram: &mut Ram<REGS>, curtain: u16, end: u16)
     requires place { IsMove ram.old curtain end }
     requires memory { IsMemory REGS ram.old }
-    ensures { ram.new ≡ resized ram.old (top_of ram.old - curtain) }
+    ensures { ram.new ≡ with_size ram.old (top_of ram.old - curtain) }
 {
     let c = moved_addresses(ram, curtain, end);
     let mut main = ram.main_memory();

@@ -5,7 +5,7 @@ use Rattle.std.proofs.Math.Nat.{mul-lt-mul_of_pos_right, pow-le-pow_right}
 use Rattle.std.proofs.lemmas.Nat.{pow-add}
 use Rattle.std.proofs.lemmas.Bool.{cases_lt}
 use Rattle.std.proofs.lemmas.Int.{ints}
-use Rattle.h41_decimal.specs.Signs.{signed, sign_of}
+use Rattle.h41_decimal.specs.Signs.{with_sign, sign_of}
 use Rattle.h41_decimal.specs.Units.{one, size, units}
 use Rattle.h41_decimal.specs.WholeParts.{HasOnes, IsFraction}
 use Rattle.h41_decimal.specs.declared.parts.Magnitude.{Magnitude}
@@ -42,7 +42,7 @@ whole_worth log n p is fits =
     ap (λ (t : ℕ). n * p * 10 ^ t) (sym steps) ∙ filled_worth n (9 - log) 108 p is (omega arith)
 
 -- the size of a fraction
-signed_self : (z : ℤ) → z ≡ signed (sign_of z) (unsigned_abs z)
+signed_self : (z : ℤ) → z ≡ with_sign (sign_of z) (unsigned_abs z)
 signed_self (pos n) = refl
 signed_self (negsuc n) = refl
 
@@ -54,9 +54,9 @@ fraction_size z rest f =
     let n = unsigned_abs z in
     let r : ℕ = n - ones * 10 ^ 108 in
     let sum : r + ones * 10 ^ 108 ≡ n = omega arith in
-    let parts : z -ℤ f.part ≡ signed (sign_of z) n -ℤ signed (sign_of z) (ones * 10 ^ 108) =
-    ap (λ (t : ℤ). t -ℤ f.part) (signed_self z) ∙ ap (λ (t : ℤ). signed (sign_of z) n -ℤ t) f.integer.value in
-    let e : rest ≡ signed (sign_of z) r = f.rest ∙ (parts ∙ signed-sub (sign_of z) n (ones * 10 ^ 108) r sum) in
+    let parts : z -ℤ f.part ≡ with_sign (sign_of z) n -ℤ with_sign (sign_of z) (ones * 10 ^ 108) =
+    ap (λ (t : ℤ). t -ℤ f.part) (signed_self z) ∙ ap (λ (t : ℤ). with_sign (sign_of z) n -ℤ t) f.integer.value in
+    let e : rest ≡ with_sign (sign_of z) r = f.rest ∙ (parts ∙ signed-sub (sign_of z) n (ones * 10 ^ 108) r sum) in
     let same : r ≡ n % 10 ^ 108 = omega arith in
     ap unsigned_abs e ∙ (unsigned_abs-signed (sign_of z) r ∙ same)
 
@@ -81,7 +81,7 @@ small_size m s below rest =
 small_with_fraction : (number : Ten) → 0 < fraction_of (units number) → unsigned_abs (units number) < 10 ^ 9 * 10 ^ 108
 small_with_fraction Zero some = omega arith
 small_with_fraction (Nonzero sign x) some =
-    let e : unsigned_abs (signed sign (size x)) ≡ size x = unsigned_abs-signed sign (size x) in
+    let e : unsigned_abs (with_sign sign (size x)) ≡ size x = unsigned_abs-signed sign (size x) in
     let rest : 0 < size x % 10 ^ 108 = subst (λ (t : ℕ). 0 < t % 10 ^ 108) e some in
     subst (λ (t : ℕ). t < 10 ^ 9 * 10 ^ 108) (sym e) (small_size x.mantissa.digits x.exponent.biased x.mantissa.below rest)
 
@@ -89,45 +89,45 @@ pub few_ones : (number : Ten) (x : Magnitude) → size x ≡ fraction_of (units 
 few_ones number x same = small_with_fraction number (subst (λ (t : ℕ). 0 < t) same (size_pos x))
 
 -- a number with no fraction counts 1
-one_step : (s d : Sign) (q : ℕ) → with_ones (signed s q +ℤ signed d 1) 0 ≡ signed s (q * one) +ℤ signed d one
+one_step : (s d : Sign) (q : ℕ) → with_ones (with_sign s q +ℤ with_sign d 1) 0 ≡ with_sign s (q * one) +ℤ with_sign d one
 one_step Plus Plus q = omega (arith, ints)
 one_step Plus Minus zero = omega (arith, ints)
 one_step Plus Minus (suc q) =
-    let e : signed Plus (suc q) +ℤ signed Minus 1 ≡ pos q = omega (arith, ints) in
-    let f : with_ones (pos q) 0 ≡ signed Plus (suc q * one) +ℤ signed Minus one = omega (arith, ints) in
+    let e : with_sign Plus (suc q) +ℤ with_sign Minus 1 ≡ pos q = omega (arith, ints) in
+    let f : with_ones (pos q) 0 ≡ with_sign Plus (suc q * one) +ℤ with_sign Minus one = omega (arith, ints) in
     ap (λ (k : ℤ). with_ones k 0) e ∙ f
 one_step Minus Plus zero = omega (arith, ints)
 one_step Minus Plus (suc zero) =
-    let e : signed Minus (suc zero) +ℤ signed Plus 1 ≡ pos 0 = omega (arith, ints) in
-    let f : with_ones (pos 0) 0 ≡ signed Minus (suc zero * one) +ℤ signed Plus one = omega (arith, ints) in
+    let e : with_sign Minus (suc zero) +ℤ with_sign Plus 1 ≡ pos 0 = omega (arith, ints) in
+    let f : with_ones (pos 0) 0 ≡ with_sign Minus (suc zero * one) +ℤ with_sign Plus one = omega (arith, ints) in
     ap (λ (k : ℤ). with_ones k 0) e ∙ f
 one_step Minus Plus (suc (suc q)) =
-    let e : signed Minus (suc (suc q)) +ℤ signed Plus 1 ≡ negsuc q = omega (arith, ints) in
-    let f : with_ones (negsuc q) 0 ≡ signed Minus (suc (suc q) * one) +ℤ signed Plus one = omega (arith, ints) in
+    let e : with_sign Minus (suc (suc q)) +ℤ with_sign Plus 1 ≡ negsuc q = omega (arith, ints) in
+    let f : with_ones (negsuc q) 0 ≡ with_sign Minus (suc (suc q) * one) +ℤ with_sign Plus one = omega (arith, ints) in
     ap (λ (k : ℤ). with_ones k 0) e ∙ f
 one_step Minus Minus zero = omega (arith, ints)
 one_step Minus Minus (suc q) =
-    let e : signed Minus (suc q) +ℤ signed Minus 1 ≡ negsuc (suc q) = omega (arith, ints) in
-    let f : with_ones (negsuc (suc q)) 0 ≡ signed Minus (suc q * one) +ℤ signed Minus one = omega (arith, ints) in
+    let e : with_sign Minus (suc q) +ℤ with_sign Minus 1 ≡ negsuc (suc q) = omega (arith, ints) in
+    let f : with_ones (negsuc (suc q)) 0 ≡ with_sign Minus (suc q * one) +ℤ with_sign Minus one = omega (arith, ints) in
     ap (λ (k : ℤ). with_ones k 0) e ∙ f
 
-pub counts_whole : (z : ℤ) (d : Sign) → fraction_of z ≡ 0 → number_along d z ≡ z +ℤ signed d one
+pub counts_whole : (z : ℤ) (d : Sign) → fraction_of z ≡ 0 → number_along d z ≡ z +ℤ with_sign d one
 counts_whole z d none =
     let n = unsigned_abs z in
     let q : ℕ = n / 10 ^ 108 in
     let whole : q * 10 ^ 108 ≡ n = omega arith in
-    ap (λ (f : ℕ). with_ones (counter_of z +ℤ signed d (count_in f)) f) none
+    ap (λ (f : ℕ). with_ones (counter_of z +ℤ with_sign d (count_in f)) f) none
     ∙ (one_step (sign_of z) d q
-    ∙ (ap (λ (t : ℕ). signed (sign_of z) t +ℤ signed d one) whole ∙ ap (λ (t : ℤ). t +ℤ signed d one) (sym (signed_self z))))
+    ∙ (ap (λ (t : ℕ). with_sign (sign_of z) t +ℤ with_sign d one) whole ∙ ap (λ (t : ℤ). t +ℤ with_sign d one) (sym (signed_self z))))
 
 -- a number with a fraction, by its ones
 pub counts_ones : (z : ℤ) (s d : Sign) (ones count rest : ℕ) → s ≡ sign_of z → HasOnes (unsigned_abs z) ones → count ≡ count_in rest
-    → rest ≡ fraction_of z → with_ones (signed s ones +ℤ signed d count) rest ≡ number_along d z
+    → rest ≡ fraction_of z → with_ones (with_sign s ones +ℤ with_sign d count) rest ≡ number_along d z
 counts_ones z s d ones count rest sign has counts fraction =
     let low : ones * 10 ^ 108 ≤ unsigned_abs z = has.not_above in
     let high : unsigned_abs z < (ones + 1) * 10 ^ 108 = has.next_above in
     let q : ones ≡ unsigned_abs z / 10 ^ 108 = omega arith in
-    ap (λ (t : Sign). with_ones (signed t ones +ℤ signed d count) rest) sign
-    ∙ (ap (λ (t : ℕ). with_ones (signed (sign_of z) t +ℤ signed d count) rest) q
-    ∙ (ap (λ (t : ℕ). with_ones (counter_of z +ℤ signed d t) rest) counts
-    ∙ ap (λ (f : ℕ). with_ones (counter_of z +ℤ signed d (count_in f)) f) fraction))
+    ap (λ (t : Sign). with_ones (with_sign t ones +ℤ with_sign d count) rest) sign
+    ∙ (ap (λ (t : ℕ). with_ones (with_sign (sign_of z) t +ℤ with_sign d count) rest) q
+    ∙ (ap (λ (t : ℕ). with_ones (counter_of z +ℤ with_sign d t) rest) counts
+    ∙ ap (λ (f : ℕ). with_ones (counter_of z +ℤ with_sign d (count_in f)) f) fraction))

@@ -8,9 +8,9 @@ use Rattle.h41_decimal.specs.Laws.{FractionIsDetermined, IntegerPartIsDetermined
 use Rattle.h41_decimal.specs.Laws.{NearestRootIsDetermined, QuotientIsDetermined, RegisterIsDetermined, StepsAreDetermined}
 use Rattle.h41_decimal.specs.Laws.{UnitsAreInjective}
 use Rattle.h41_decimal.specs.NearestDecimal.{Nearest}
-use Rattle.h41_decimal.specs.NumberEntry.{greatest}
+use Rattle.h41_decimal.specs.NumberEntry.{size_of_greatest}
 use Rattle.h41_decimal.specs.Operations.{NearestModulo, RoundsTo, step_of}
-use Rattle.h41_decimal.specs.Signs.{signed}
+use Rattle.h41_decimal.specs.Signs.{with_sign}
 use Rattle.h41_decimal.specs.Units.{one, units}
 use Rattle.h41_decimal.specs.declared.fault.DecimalFault.{DecimalFault}
 use Rattle.h41_decimal.specs.declared.fault.DecimalFault.TheVariants.{Data, Range}
@@ -91,7 +91,7 @@ module _ (same_register : RegisterIsDetermined) where
       → Kept sign ignored answer a → Kept sign ignored answer b → a ≡ b
   same_kept sign ignored (Ok number) a b p q = same_held (units number) a b p q
   same_kept sign ignored (Err Data) a b p q = p ∙ sym q
-  same_kept sign true (Err Range) a b p q = same_held (signed sign greatest) a b p q
+  same_kept sign true (Err Range) a b p q = same_held (with_sign sign size_of_greatest) a b p q
   same_kept sign false (Err Range) a b p q = p ∙ sym q
 
 -- memory that holds nothing

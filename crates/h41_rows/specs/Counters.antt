@@ -3,7 +3,7 @@
 -- no loop uses is this project's choice.
 use Rattle.std.specs.Prelude.{ℕ, ◌+◌, ◌*◌, ◌/◌, ◌%◌, ◌^◌, ◌==◌, if◌then◌else◌, Bool, ℤ, pos, ◌+ℤ◌}
 use Rattle.std.specs.Prelude.{◌-ℤ◌, int_le, int_lt, unsigned_abs}
-use Rattle.h41_decimal.specs.Signs.{signed, sign_of}
+use Rattle.h41_decimal.specs.Signs.{with_sign, sign_of}
 use Rattle.h41_decimal.specs.Units.{one}
 
 -- which way is counted: ISG up, DSE down
@@ -13,7 +13,7 @@ pub data Way : Type 0 where
 
 -- i, with the number's sign, and the fraction of the number's size
 abbrev pub counter_of : ℤ → ℤ
-counter_of number = signed (sign_of number) (unsigned_abs number / one)
+counter_of number = with_sign (sign_of number) (unsigned_abs number / one)
 
 abbrev pub fraction_of : ℤ → ℕ
 fraction_of number = unsigned_abs number % one
@@ -37,7 +37,7 @@ counter_after Down number = counter_of number -ℤ pos (count_of number)
 -- the number with i so counted: its size has the same fraction, and its sign is that of i
 abbrev pub number_after : Way → ℤ → ℤ
 number_after way number =
-    signed (sign_of (counter_after way number))
+    with_sign (sign_of (counter_after way number))
     (unsigned_abs (counter_after way number) * one + fraction_of number)
 
 -- whether the loop goes on: ISG until i is above fff, DSE while it is

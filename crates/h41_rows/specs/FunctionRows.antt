@@ -6,8 +6,9 @@ use Rattle.h41_decimal.specs.Units.{size_of}
 use Rattle.h41_ram.specs.NamedFlags.{alpha_mode, grads, radians}
 use Rattle.h41_rows.specs.Places.{T, Z, Y, X, LastX}
 use Rattle.h41_rows.specs.Rows.{Row, Becomes, LosesSix, FlagChange, In, Nought, Same, Differ, Below}
-use Rattle.h41_rows.specs.Rows.{AtMost, Returns, NoText, AlphaText, Stops, TurnsOff, Off, nothing}
-use Rattle.h41_rows.specs.Rows.{silent, copy, compute, of_x, of_y_and_x, coming_in, test}
+use Rattle.h41_rows.specs.Rows.{AtMost, Returns, NoText, AlphaText, Stops, TurnsOff, Off}
+use Rattle.h41_rows.specs.Rows.{lifting_row}
+use Rattle.h41_rows.specs.Rows.{silent_row, copy, compute, of_x, of_y_and_x, coming_in, test}
 use Rattle.h41_rows.specs.Values as values
 
 -- 3.141592654, in units: the exponent 0 is 99 steps above the lowest
@@ -16,7 +17,7 @@ pi = size_of 3141592654 99
 
 -- two flags tell the unit of angles: the one GRAD, the other RAD, none DEG
 abbrev pub angles : (for_grads for_radians : FlagChange) → Row
-angles for_grads for_radians = record nothing { flags = for_grads ∷ for_radians ∷ [] }
+angles for_grads for_radians = record lifting_row { flags = for_grads ∷ for_radians ∷ [] }
 
 -- a function that is carried out has a row
 abbrev pub function_row : Function → Option Row
@@ -32,13 +33,14 @@ function_row functions.Modulo = Some (of_y_and_x (values.Remainder Y X))
 -- Y stays, for the sum that comes next
 function_row functions.Percent =
     Some
-    (record nothing { value = Some (values.Percentage Y X); takes = compute X ∷ copy LastX X ∷ [] })
+    (record lifting_row { value = Some (values.Percentage Y X); takes = compute X ∷ copy LastX X
+        ∷ [] })
 -- X alone: L keeps it
 function_row functions.Square = Some (of_x (values.Product X X))
 function_row functions.SquareRoot = Some (of_x (values.Root X))
 -- L stays
 function_row functions.ChangeSign =
-    Some (record nothing { value = Some (values.Negative X); takes = compute X ∷ [] })
+    Some (record lifting_row { value = Some (values.Negative X); takes = compute X ∷ [] })
 function_row functions.Reciprocal = Some (of_x (values.Inverse X))
 function_row functions.AbsoluteValue = Some (of_x (values.AbsoluteValue X))
 function_row functions.TestXNotZero = Some (test (Differ (In X) Nought))
@@ -49,31 +51,31 @@ function_row functions.IntegerPart = Some (of_x (values.IntegerPart X))
 function_row functions.FractionPart = Some (of_x (values.Fraction X))
 function_row functions.Round = Some (of_x (values.Displayed X))
 -- the stack
-function_row functions.ExchangeXY = Some (record nothing { takes = copy X Y ∷ copy Y X ∷ [] })
+function_row functions.ExchangeXY = Some (record lifting_row { takes = copy X Y ∷ copy Y X ∷ [] })
 function_row functions.Pi =
     Some (record (coming_in (compute X)) { value = Some (values.Given (pos pi)) })
 function_row functions.ClearStack =
-    Some (record nothing {
+    Some (record lifting_row {
       value = Some (values.Given (pos 0));
       takes = compute T ∷ compute Z ∷ compute Y ∷ compute X ∷ [];
     })
 function_row functions.RollUp =
-    Some (record nothing { takes = copy X T ∷ copy Y X ∷ copy Z Y ∷ copy T Z ∷ [] })
+    Some (record lifting_row { takes = copy X T ∷ copy Y X ∷ copy Z Y ∷ copy T Z ∷ [] })
 function_row functions.RollDown =
-    Some (record nothing { takes = copy X Y ∷ copy Y Z ∷ copy Z T ∷ copy T X ∷ [] })
+    Some (record lifting_row { takes = copy X Y ∷ copy Y Z ∷ copy Z T ∷ copy T X ∷ [] })
 function_row functions.LastX = Some (coming_in (copy X LastX))
 -- the next number takes the place of this zero
 function_row functions.ClearX =
     Some
-    (record nothing { value = Some (values.Given (pos 0)); takes = compute X ∷ []; lift = Off })
+    (record lifting_row { value = Some (values.Given (pos 0)); takes = compute X ∷ []; lift = Off })
 function_row functions.TestXEqualsY = Some (test (Same (In X) (In Y)))
 function_row functions.TestXDiffersFromY = Some (test (Differ (In X) (In Y)))
 -- 0 for what is no number
 function_row functions.Signum = Some (of_x (values.Unit X))
 function_row functions.TestXAtMostZero = Some (test (AtMost (In X) Nought))
 -- the display
-function_row functions.ViewAlpha = Some (record nothing { shows = AlphaText })
-function_row functions.ClearDisplay = Some (record nothing { shows = NoText })
+function_row functions.ViewAlpha = Some (record lifting_row { shows = AlphaText })
+function_row functions.ClearDisplay = Some (record lifting_row { shows = NoText })
 function_row functions.Degrees =
     Some (angles (record { flag = grads; on = false }) (record { flag = radians; on = false }))
 function_row functions.Radians =
@@ -82,23 +84,23 @@ function_row functions.Grads =
     Some (angles (record { flag = grads; on = true }) (record { flag = radians; on = false }))
 -- X stays, and the next number takes its place
 function_row functions.Enter =
-    Some (record nothing { takes = copy T Z ∷ copy Z Y ∷ copy Y X ∷ []; lift = Off })
-function_row functions.Stop = Some (record silent { ends = Stops })
-function_row functions.Return = Some (record silent { goes = Returns })
+    Some (record lifting_row { takes = copy T Z ∷ copy Z Y ∷ copy Y X ∷ []; lift = Off })
+function_row functions.Stop = Some (record silent_row { ends = Stops })
+function_row functions.Return = Some (record silent_row { goes = Returns })
 -- a sound, a pause and paper are nothing here
-function_row functions.Beep = Some nothing
-function_row functions.Pause = Some nothing
-function_row functions.Advance = Some nothing
+function_row functions.Beep = Some lifting_row
+function_row functions.Pause = Some lifting_row
+function_row functions.Advance = Some lifting_row
 -- ALPHA
-function_row functions.ClearAlpha = Some (record nothing { alpha = Some (Becomes []) })
-function_row functions.ShiftAlpha = Some (record nothing { alpha = Some LosesSix })
-function_row functions.ClearRegisters = Some (record nothing { clears_data = true })
+function_row functions.ClearAlpha = Some (record lifting_row { alpha = Some (Becomes []) })
+function_row functions.ShiftAlpha = Some (record lifting_row { alpha = Some LosesSix })
+function_row functions.ClearRegisters = Some (record lifting_row { clears_data = true })
 -- ALPHA comes into the display, or goes
 function_row functions.AlphaOff =
-    Some (record nothing { flags = record { flag = alpha_mode; on = false } ∷ [] })
+    Some (record lifting_row { flags = record { flag = alpha_mode; on = false } ∷ [] })
 function_row functions.AlphaOn =
-    Some (record nothing { flags = record { flag = alpha_mode; on = true } ∷ [] })
-function_row functions.TurnOff = Some (record nothing { ends = TurnsOff })
-function_row functions.Prompt = Some (record nothing { shows = AlphaText; ends = Stops })
+    Some (record lifting_row { flags = record { flag = alpha_mode; on = true } ∷ [] })
+function_row functions.TurnOff = Some (record lifting_row { ends = TurnsOff })
+function_row functions.Prompt = Some (record lifting_row { shows = AlphaText; ends = Stops })
 -- the others are not carried out
 function_row other = None

@@ -20,8 +20,9 @@ use Rattle.h41_rows.specs.FunctionRows.{function_row}
 use Rattle.h41_rows.specs.Operands.{Meant, Count, Name}
 use Rattle.h41_rows.specs.Places.{X, Named}
 use Rattle.h41_rows.specs.Rows.{Row, FlagChange, Becomes, Appends, AppendsNamed, Counts, Flag}
-use Rattle.h41_rows.specs.Rows.{Loops, NamedText, Returns, SixCharacters, ToLabel, ToName, nothing}
-use Rattle.h41_rows.specs.Rows.{silent, copy, compute, coming_in, test}
+use Rattle.h41_rows.specs.Rows.{Loops, NamedText, Returns, SixCharacters, ToLabel, ToName}
+use Rattle.h41_rows.specs.Rows.{lifting_row}
+use Rattle.h41_rows.specs.Rows.{silent_row, copy, compute, coming_in, test}
 use Rattle.h41_rows.specs.Values as values
 
 -- RCL and STO
@@ -29,15 +30,15 @@ abbrev pub recall : Row
 recall = coming_in (copy X Named)
 
 abbrev pub store : Row
-store = record nothing { takes = copy Named X ∷ [] }
+store = record lifting_row { takes = copy Named X ∷ [] }
 
 -- arithmetic in a register: it takes a value of itself and X; X and L stay
 abbrev pub into_register : values.Value → Row
-into_register value = record nothing { value = Some value; takes = compute Named ∷ [] }
+into_register value = record lifting_row { value = Some value; takes = compute Named ∷ [] }
 
 -- ISG and DSE
 abbrev pub loop : Way → Row
-loop way = record nothing {
+loop way = record lifting_row {
   value = Some (values.Counted way Named);
   takes = compute Named ∷ [];
   goes = Counts (Loops way Named);
@@ -50,7 +51,7 @@ change flag on = record { flag = flag; on = on }
 -- the display format: the digit in flags 36 to 39, 36 weighing 8, and the notation in flags 40
 -- (FIX) and 41 (ENG)
 abbrev pub format : ℕ → (fixed engineering : Bool) → Row
-format n fixed engineering = record nothing {
+format n fixed engineering = record lifting_row {
   flags =
       change flags.digits_8 (n / 8 % 2 == 1) ∷ change flags.digits_4 (n / 4 % 2 == 1)
       ∷ change flags.digits_2 (n / 2 % 2 == 1) ∷ change flags.digits_1 (n % 2 == 1)
@@ -62,8 +63,8 @@ abbrev pub count_row : ParameterFunction → ℕ → Row
 count_row functions.Fixed n = format n true false
 count_row functions.Scientific n = format n false false
 count_row functions.Engineering n = format n false true
-count_row functions.SetFlag n = record nothing { flags = change n true ∷ [] }
-count_row functions.ClearFlag n = record nothing { flags = change n false ∷ [] }
+count_row functions.SetFlag n = record lifting_row { flags = change n true ∷ [] }
+count_row functions.ClearFlag n = record lifting_row { flags = change n false ∷ [] }
 count_row functions.TestSet n = test (Flag n true)
 count_row functions.TestClear n = test (Flag n false)
 -- these test the flag and then clear it
@@ -71,9 +72,9 @@ count_row functions.TestSetAndClear n = record (test (Flag n true)) { flags = ch
 count_row functions.TestClearAndClear n =
     record (test (Flag n false)) { flags = change n false ∷ [] }
 -- a sound is nothing here
-count_row functions.Tone n = nothing
+count_row functions.Tone n = lifting_row
 -- the others have no number
-count_row function n = nothing
+count_row function n = lifting_row
 
 -- functions of a register
 abbrev pub register_row : ParameterFunction → Row
@@ -85,14 +86,14 @@ register_row functions.StoreMultiply = into_register (values.Product Named X)
 register_row functions.StoreDivide = into_register (values.Quotient Named X)
 register_row functions.IncrementSkip = loop Up
 register_row functions.DecrementSkip = loop Down
-register_row functions.View = record nothing { shows = NamedText }
+register_row functions.View = record lifting_row { shows = NamedText }
 register_row functions.StoreAlpha =
-    record nothing { takes = record { place = Named; source = SixCharacters } ∷ [] }
-register_row functions.RecallAlpha = record nothing { alpha = Some AppendsNamed }
-register_row functions.Exchange = record nothing { takes = copy X Named ∷ copy Named X ∷ [] }
-register_row functions.Label = silent
+    record lifting_row { takes = record { place = Named; source = SixCharacters } ∷ [] }
+register_row functions.RecallAlpha = record lifting_row { alpha = Some AppendsNamed }
+register_row functions.Exchange = record lifting_row { takes = copy X Named ∷ copy Named X ∷ [] }
+register_row functions.Label = silent_row
 -- the others have no register
-register_row function = silent
+register_row function = silent_row
 
 abbrev pub operand_row : ParameterFunction → Meant → Row
 operand_row function (Count n) = count_row function n
@@ -104,47 +105,47 @@ short_row StoreRegister = store
 
 -- GTO and XEQ
 abbrev pub to_label : Branch → ℕ → Row
-to_label branch label = record silent { goes = ToLabel branch label }
+to_label branch label = record silent_row { goes = ToLabel branch label }
 
 abbrev pub to_name : Branch → List ℕ → Row
-to_name branch name = record silent { goes = ToName branch name }
+to_name branch name = record silent_row { goes = ToName branch name }
 
 abbrev pub to_meant : Branch → Meant → Row
 to_meant branch (Count label) = to_label branch label
 to_meant branch (Name name) = to_name branch name
-to_meant branch meant = silent
+to_meant branch meant = silent_row
 
 abbrev pub named_row : NameFunction → List ℕ → Row
 named_row GoToName name = to_name GoTo name
 named_row ExecuteName name = to_name Execute name
-named_row Wordless name = silent
+named_row Wordless name = silent_row
 
 -- a text is put into ALPHA; one that begins with the append sign comes behind what it holds, and
 -- one of no character does nothing
 abbrev pub text_row : List ℕ → Row
-text_row [] = nothing
+text_row [] = lifting_row
 text_row (character ∷ text) =
-    record nothing {
+    record lifting_row {
       alpha = Some (if character == 0x7F then Appends text else Becomes (character ∷ text));
     }
 
 -- the row of a line
 abbrev pub row_of : Line → Meant → Row
-row_of lines.Null meant = nothing
-row_of (lines.LocalLabel label) meant = silent
+row_of lines.Null meant = lifting_row
+row_of (lines.LocalLabel label) meant = silent_row
 row_of (lines.Number characters) meant =
     record (coming_in (compute X)) { value = Some (values.Written characters) }
 row_of (lines.Named function name) meant = named_row function name
 row_of (lines.Register function register) meant = short_row function
-row_of (lines.Plain function) meant = option_map_or (λ row. row) (function_row function) nothing
+row_of (lines.Plain function) meant = option_map_or (λ row. row) (function_row function) lifting_row
 row_of (lines.WithOperand function operand) meant = operand_row function meant
 -- the calculator calls the function
-row_of (lines.Module number entry) meant = silent
+row_of (lines.Module number entry) meant = silent_row
 row_of (lines.BranchIndirect branch register) meant = to_meant branch meant
 row_of (lines.ShortGoTo label distance) meant = to_label GoTo label
-row_of (lines.GlobalLabel link key name) meant = silent
+row_of (lines.GlobalLabel link key name) meant = silent_row
 -- an END returns as RTN does
-row_of (lines.End link marks) meant = record silent { goes = Returns }
-row_of (lines.FinalEnd link marks) meant = record silent { goes = Returns }
+row_of (lines.End link marks) meant = record silent_row { goes = Returns }
+row_of (lines.FinalEnd link marks) meant = record silent_row { goes = Returns }
 row_of (lines.BranchTo branch distance backwards label) meant = to_label branch label
 row_of (lines.Text characters) meant = text_row characters

@@ -110,8 +110,8 @@ pub record Row : Type 0 where
   pub ends : RowEnding
 
 -- the row of a line that does nothing but turn lift on
-abbrev pub nothing : Row
-nothing = record {
+abbrev pub lifting_row : Row
+lifting_row = record {
   value = None;
   lifts = false;
   takes = [];
@@ -125,8 +125,8 @@ nothing = record {
 }
 
 -- the row of a line that does nothing, and leaves lift
-abbrev pub silent : Row
-silent = record nothing { lift = AsItWas }
+abbrev pub silent_row : Row
+silent_row = record lifting_row { lift = AsItWas }
 
 -- a place takes the register of another, the computed value, or six characters
 abbrev pub copy : RowPlace → RowPlace → Takes
@@ -137,22 +137,22 @@ compute place = record { place = place; source = Result }
 
 -- X takes a value of X, and L what X held
 abbrev pub of_x : Value → Row
-of_x value = record nothing { value = Some value; takes = compute X ∷ copy LastX X ∷ [] }
+of_x value = record lifting_row { value = Some value; takes = compute X ∷ copy LastX X ∷ [] }
 
 -- X takes a value of Y and X, L what X held, and the stack drops: T stays
 abbrev pub of_y_and_x : Value → Row
-of_y_and_x value = record nothing {
+of_y_and_x value = record lifting_row {
   value = Some value;
   takes = compute X ∷ copy Y Z ∷ copy Z T ∷ copy LastX X ∷ [];
 }
 
 -- X takes what comes in, and the stack is lifted first
 abbrev pub coming_in : Takes → Row
-coming_in taken = record nothing { lifts = true; takes = taken ∷ [] }
+coming_in taken = record lifting_row { lifts = true; takes = taken ∷ [] }
 
 -- a test
 abbrev pub test : Condition → Row
-test condition = record nothing { goes = Tests condition }
+test condition = record lifting_row { goes = Tests condition }
 
 -- The places that must hold numbers: those of the value, and those of the condition
 

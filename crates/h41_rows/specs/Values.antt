@@ -6,9 +6,9 @@ use Rattle.std.specs.Option.{option_map_or}
 use Rattle.h41_codes.specs.declared.characters.Character.{Character}
 use Rattle.h41_decimal.specs.Holding.{Number, holding_of, worth}
 use Rattle.h41_decimal.specs.NearestDecimal.{Nearest, NearestRoot}
-use Rattle.h41_decimal.specs.NumberEntry.{greatest}
+use Rattle.h41_decimal.specs.NumberEntry.{size_of_greatest}
 use Rattle.h41_decimal.specs.Operations.{NearestModulo, NearestQuotient, RoundsTo, step_of}
-use Rattle.h41_decimal.specs.Signs.{sign_of, signed}
+use Rattle.h41_decimal.specs.Signs.{sign_of, with_sign}
 use Rattle.h41_decimal.specs.Units.{one, units}
 use Rattle.h41_decimal.specs.WholeParts.{IsFraction, IsIntegerPart}
 use Rattle.h41_decimal.specs.declared.fault.DecimalFault.{DecimalFault}
@@ -73,7 +73,7 @@ places_of format = places_of_notation format.notation format.digits
 
 -- 1 with a number's sign
 abbrev pub unit_of : ℤ → ℤ
-unit_of number = signed (sign_of number) one
+unit_of number = with_sign (sign_of number) one
 
 -- the answer for a value: its nearest decimal, or why there is none. A zero divisor and the root of
 -- a negative number are DATA ERROR:
@@ -142,7 +142,7 @@ abbrev pub Kept : Sign → Bool → Result Ten DecimalFault → Result (List ℕ
 Kept sign ignored (Ok number) result = IsOkAnd result (IsRegisterOf (units number))
 Kept sign ignored (Err Data) result = result ≡ Err DataError
 Kept sign ignored (Err Range) result =
-    MatchBool ignored (IsOkAnd result (IsRegisterOf (signed sign greatest)))
+    MatchBool ignored (IsOkAnd result (IsRegisterOf (with_sign sign size_of_greatest)))
     (result ≡ Err OutOfRange)
 
 -- a value is computed: the register of it, or the fault

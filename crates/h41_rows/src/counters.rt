@@ -3,7 +3,7 @@
 ghost use Rattle.std.specs.Prelude.{◌≡◌, ℕ, ◌+◌, ◌*◌, ◌<◌, ◌≤◌, ◌/◌, ◌%◌, ◌^◌, ◌==◌, ◌+ℤ◌, ◌-ℤ◌};
 ghost use Rattle.std.specs.Prelude.{if◌then◌else◌, int_le, int_lt, pos, unsigned_abs};
 ghost use Rattle.h41_decimal.specs.NearestDecimal.{Nearest};
-ghost use Rattle.h41_decimal.specs.Signs.{signed};
+ghost use Rattle.h41_decimal.specs.Signs.{with_sign};
 ghost use Rattle.h41_decimal.specs.Units.{one, size, units};
 ghost use Rattle.h41_rows.specs.Computing.{amount_at};
 ghost use Rattle.h41_rows.specs.Counters.{Down, Up, fraction_of, goes_on, number_after};
@@ -122,7 +122,7 @@ fn is_at_most(sign: Sign, ones: u64, count: u64, last: u64) -> bool
     requires ones { ones ≤ 10 ^ 10 }
     requires count { count < 100 }
     requires last { last < 1000 }
-    ensures { result ≡ int_le (signed sign ones +ℤ pos count) (pos last) }
+    ensures { result ≡ int_le (with_sign sign ones +ℤ pos count) (pos last) }
 {
     match sign {
         Sign::Plus => ones + count <= last,
@@ -135,7 +135,7 @@ fn is_above(sign: Sign, ones: u64, count: u64, last: u64) -> bool
     requires ones { ones ≤ 10 ^ 10 }
     requires count { count < 100 }
     requires last { last < 1000 }
-    ensures { result ≡ int_lt (pos last) (signed sign ones -ℤ pos count) }
+    ensures { result ≡ int_lt (pos last) (with_sign sign ones -ℤ pos count) }
 {
     match sign {
         Sign::Plus => last + count < ones,
@@ -161,7 +161,7 @@ fn counted(number: Ten, direction: Sign) -> Result<Ten, DecimalFault>
 
 /// 1 with a sign.
 fn single(sign: Sign) -> Ten
-    ensures { units result ≡ signed sign one }
+    ensures { units result ≡ with_sign sign one }
 {
     let mantissa = Mantissa {
         digits: 1_000_000_000,
@@ -197,7 +197,7 @@ fn stepped(
 /// The number of ones and a fraction, with a sign.
 fn joined(sign: Sign, ones: u64, fraction: Magnitude) -> Result<Ten, DecimalFault>
     requires { ones < 10 ^ 10 }
-    ensures { Nearest (signed sign (ones * one + size fraction)) 1 result }
+    ensures { Nearest (with_sign sign (ones * one + size fraction)) 1 result }
 {
     whole_number(sign, ones).add(Ten::Nonzero(sign, fraction))
 }
@@ -205,7 +205,7 @@ fn joined(sign: Sign, ones: u64, fraction: Magnitude) -> Result<Ten, DecimalFaul
 /// A whole number of up to ten digits with a sign.
 fn whole_number(sign: Sign, ones: u64) -> Ten
     requires { ones < 10 ^ 10 }
-    ensures { units result ≡ signed sign (ones * one) }
+    ensures { units result ≡ with_sign sign (ones * one) }
 {
     if ones == 0 {
         return Ten::Zero;

@@ -3,7 +3,7 @@ use Rattle.std.specs.Prelude.{◌≡◌, ℕ, zero, suc, ◌+◌, ◌-◌, ◌*�
 use Rattle.std.proofs.Common.{ap, sym, ◌∙◌, arith, subst, inl, inr}
 use Rattle.std.proofs.lemmas.Nat.{div_below}
 use Rattle.std.proofs.lemmas.Bool.Decides.{nat_tests}
-use Rattle.h41_decimal.specs.Signs.{signed}
+use Rattle.h41_decimal.specs.Signs.{with_sign}
 use Rattle.h41_decimal.specs.declared.sign.Sign.{Sign}
 use Rattle.h41_decimal.specs.declared.sign.Sign.TheVariants.{Plus, Minus}
 use Rattle.h41_show.specs.Rounding.{nearest, exponent_of, rounded_size}
@@ -91,7 +91,7 @@ zero_in_powers format notation is = elim is [
 
 -- a sign and a size
 pub number_text-signed : (format : Format) (sign : Sign) (size : ℕ) → 0 < size
-    → sign_text sign ++ notation_text format.notation format size ≡ number_text format (signed sign size)
+    → sign_text sign ++ notation_text format.notation format size ≡ number_text format (with_sign sign size)
 unfolding number_text
 number_text-signed format Plus size some = refl
 number_text-signed format Minus zero some = absurd (omega arith)

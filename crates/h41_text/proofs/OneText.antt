@@ -14,7 +14,7 @@ use Rattle.h41_codes.specs.declared.line.Line.{Line}
 use Rattle.h41_codes.specs.declared.line.Line.TheVariants.{Null, WithOperand, ShortGoTo, GlobalLabel, End, FinalEnd, BranchTo}
 use Rattle.h41_codes.specs.ByteGrammar.{IsOperand}
 use Rattle.h41_codes.specs.ByteLaws.{CanonicalIsShortest}
-use Rattle.h41_codes.specs.Canon.{canonical, shortest_function, shortest_branch}
+use Rattle.h41_codes.specs.Canon.{canonical_line, shortest_function, shortest_branch}
 use Rattle.h41_text.specs.LineText.{line_text}
 use Rattle.h41_text.specs.LineReading.{HasText, IsTextOf}
 use Rattle.h41_text.specs.TextLaws.{LineTextRoundTrip, OneLineOfText, CanonicalIsShortestOfText}
@@ -24,7 +24,7 @@ use Rattle.h41_text.proofs.Reading.{reading_again}
 
 -- a line with a text that is its own canonical line
 IsRead : Line → Type 0
-IsRead line = HasText line × (canonical line ≡ line)
+IsRead line = HasText line × (canonical_line line ≡ line)
 
 function_read : (function : ParameterFunction) (operand : Operand) → IsOperand operand → IsRead (shortest_function function operand)
 unfolding IsRead
@@ -46,7 +46,7 @@ branch_read GoTo label inside =
     (λ long. (record { valid = (omega arith, inside); shown = λ same. cc }, cond-false (nat_lt label 15) _ _ long))
 branch_read Execute label inside = (record { valid = (omega arith, inside); shown = λ same. cc }, refl)
 
-canonical_read : (line : Line) → HasText line → IsRead (canonical line)
+canonical_read : (line : Line) → HasText line → IsRead (canonical_line line)
 unfolding IsRead
 canonical_read (WithOperand function operand) has = function_read function operand has.valid
 canonical_read (BranchTo branch distance backwards label) has = branch_read branch label has.valid.1
@@ -66,9 +66,9 @@ round_trip line has =
     record { has = read.0; shortest = read.1; same = same_text line }
 
 -- what a line's text is read as
-read_of : (text : List ℕ) (line : Line) → IsTextOf text line → option_map canonical (candidate_line text) ≡ Some line
+read_of : (text : List ℕ) (line : Line) → IsTextOf text line → option_map canonical_line (candidate_line text) ≡ Some line
 read_of text line of =
-    ap (λ t. option_map canonical (candidate_line t)) (sym of.same) ∙ reading_again line of.has ∙ ap Some of.shortest
+    ap (λ t. option_map canonical_line (candidate_line t)) (sym of.same) ∙ reading_again line of.has ∙ ap Some of.shortest
 
 pub one_line : OneLineOfText
 one_line text line other of also = same_Some line other (sym (read_of text line of) ∙ read_of text other also)
@@ -77,27 +77,27 @@ one_line text line other of also = same_Some line other (sym (read_of text line 
 pub shortest_of_text : CanonicalIsShortest → CanonicalIsShortestOfText
 shortest_of_text shortest line other has also same =
     let own = round_trip line has in
-    let others = subst (λ (text : List ℕ). IsTextOf text (canonical other)) (sym same) (round_trip other also) in
-    shortest line other (one_line (line_text line) (canonical other) (canonical line) others own)
+    let others = subst (λ (text : List ℕ). IsTextOf text (canonical_line other)) (sym same) (round_trip other also) in
+    shortest line other (one_line (line_text line) (canonical_line other) (canonical_line line) others own)
 
 -- a line that has the text
-pub read_is : (text : List ℕ) (line : Line) → line_text line ≡ text → HasText line → IsTextOf text (canonical line)
-read_is text line same has = subst (λ (t : List ℕ). IsTextOf t (canonical line)) same (round_trip line has)
+pub read_is : (text : List ℕ) (line : Line) → line_text line ≡ text → HasText line → IsTextOf text (canonical_line line)
+read_is text line same has = subst (λ (t : List ℕ). IsTextOf t (canonical_line line)) same (round_trip line has)
 
-pub read_line_is : {E : Type 0} (text : List ℕ) (line read : Line) → line_text line ≡ text → HasText line → read ≡ canonical line
+pub read_line_is : {E : Type 0} (text : List ℕ) (line read : Line) → line_text line ≡ text → HasText line → read ≡ canonical_line line
     → (other : Line) → (◌≡◌ {A = Result Line E} (Ok read) (Ok other)) ↔ IsTextOf text other
 read_line_is text line read same has is other =
     let of = read_is text line same has in (
-      λ equal. let e : canonical line ≡ other = cc in subst (λ (l : Line). IsTextOf text l) e of,
-      λ also. ap Ok (is ∙ one_line text (canonical line) other of also),
+      λ equal. let e : canonical_line line ≡ other = cc in subst (λ (l : Line). IsTextOf text l) e of,
+      λ also. ap Ok (is ∙ one_line text (canonical_line line) other of also),
     )
 
 -- no line has the text where the only one that can has another
 pub other_text : (text : List ℕ) (line : Line) → Some line ≡ candidate_line text → (line_text line ≡ text → ⊥) → (other : Line)
     → IsTextOf text other → ⊥
 other_text text line found differs other of =
-    let read : Some (canonical line) ≡ Some other = ap (option_map canonical) found ∙ read_of text other of in
-    differs (sym (same_text line) ∙ ap line_text (same_Some (canonical line) other read) ∙ of.same)
+    let read : Some (canonical_line line) ≡ Some other = ap (option_map canonical_line) found ∙ read_of text other of in
+    differs (sym (same_text line) ∙ ap line_text (same_Some (canonical_line line) other read) ∙ of.same)
 
 pub no_text : (text : List ℕ) → None ≡ candidate_line text → (other : Line) → IsTextOf text other → ⊥
-no_text text none other of = none-some other (ap (option_map canonical) none ∙ read_of text other of)
+no_text text none other of = none-some other (ap (option_map canonical_line) none ∙ read_of text other of)

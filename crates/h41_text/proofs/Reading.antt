@@ -23,8 +23,8 @@ use Rattle.h41_codes.specs.declared.line.Line.{Line}
 use Rattle.h41_codes.specs.declared.line.Line.TheVariants.{Null, LocalLabel, Number, Named, Register, Plain, WithOperand, Module}
 use Rattle.h41_codes.specs.declared.line.Line.TheVariants.{BranchIndirect, ShortGoTo, GlobalLabel, End, FinalEnd, BranchTo, Text}
 use Rattle.h41_codes.specs.ByteGrammar.{IsBytes, IsLine, IsOperand}
-use Rattle.h41_codes.specs.Canon.{canonical}
-use Rattle.h41_lines.specs.Characters.{two_digits, is_plain, escaped, character_text}
+use Rattle.h41_codes.specs.Canon.{canonical_line}
+use Rattle.h41_lines.specs.Characters.{two_digits, is_plain, escape_of, character_text}
 use Rattle.h41_lines.proofs.HexadecimalDigits.{read_hexadecimal}
 use Rattle.h41_text.specs.declared.words.LeadingWord.{LeadingWord}
 use Rattle.h41_text.specs.declared.words.LeadingWord.TheVariants as word
@@ -40,7 +40,7 @@ use Rattle.h41_text.proofs.Finding.{is_found, parameter_found, number_none}
 use Rattle.h41_text.proofs.Unquoting.{unquoted_more, unquoted_end}
 
 -- a character within quotes
-escaped_again : (byte : ℕ) (rest : List ℕ) → byte < 256 → first_character (escaped byte ++ rest) ≡ Some (byte, rest)
+escaped_again : (byte : ℕ) (rest : List ℕ) → byte < 256 → first_character (escape_of byte ++ rest) ≡ Some (byte, rest)
 escaped_again byte rest inside = ap (option_map (λ character. (character, rest))) (read_hexadecimal 2 byte (omega arith) inside)
 
 plain_again : (byte : ℕ) (rest : List ℕ) → (byte == 0x22) ≡ false → is_plain byte ≡ true → first_character (byte ∷ rest) ≡ Some (byte, rest)
@@ -51,13 +51,13 @@ plain_again byte rest quote plain =
 shown_again : (byte : ℕ) (rest : List ℕ) → byte < 256 → (byte == 0x22) ≡ false
     → first_character (character_text byte ++ rest) ≡ Some (byte, rest)
 shown_again byte rest inside quote =
-    cond_both (is_plain byte) (byte ∷ []) (escaped byte)
+    cond_both (is_plain byte) (byte ∷ []) (escape_of byte)
     (λ text. first_character (text ++ rest) ≡ Some (byte, rest)) (plain_again byte rest quote)
     (λ other. escaped_again byte rest inside)
 
 first_again : (byte : ℕ) (rest : List ℕ) → byte < 256 → first_character (character_quoted byte ++ rest) ≡ Some (byte, rest)
 first_again byte rest inside =
-    cond_both (byte == 0x22) (escaped byte) (character_text byte) (λ text. first_character (text ++ rest) ≡ Some (byte, rest))
+    cond_both (byte == 0x22) (escape_of byte) (character_text byte) (λ text. first_character (text ++ rest) ≡ Some (byte, rest))
     (λ quote. escaped_again byte rest inside) (shown_again byte rest inside)
 
 -- all characters within quotes
@@ -278,7 +278,7 @@ longest_again (BranchTo Execute distance backwards label) has = branch_again Exe
 longest_again (Text characters) has = text_again characters has.valid.fits has.valid.bytes
 
 -- and its canonical line is that of the line
-longest_canonical : (line : Line) → IsLine line → canonical (longest line) ≡ canonical line
+longest_canonical : (line : Line) → IsLine line → canonical_line (longest line) ≡ canonical_line line
 unfolding longest
 longest_canonical (LocalLabel label) valid = cond-true (nat_lt label 15) _ _ (lt-ltb label 15 valid)
 longest_canonical (Register RecallRegister register) valid = cond-true (nat_lt register 16) _ _ (lt-ltb register 16 valid)
@@ -287,5 +287,5 @@ longest_canonical (ShortGoTo label distance) valid = cond-true (nat_lt label 15)
 longest_canonical Null valid = refl
 longest_canonical line valid = refl
 
-pub reading_again : (line : Line) → HasText line → option_map canonical (candidate_line (line_text line)) ≡ Some (canonical line)
-reading_again line has = ap (option_map canonical) (longest_again line has) ∙ ap Some (longest_canonical line has.valid)
+pub reading_again : (line : Line) → HasText line → option_map canonical_line (candidate_line (line_text line)) ≡ Some (canonical_line line)
+reading_again line has = ap (option_map canonical_line) (longest_again line has) ∙ ap Some (longest_canonical line has.valid)

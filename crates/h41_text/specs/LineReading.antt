@@ -3,7 +3,7 @@ use Rattle.std.specs.Prelude.{◌≡◌, ◌≢◌, ℕ, List}
 use Rattle.h41_codes.specs.declared.line.Line.{Line}
 use Rattle.h41_codes.specs.declared.line.Line.TheVariants.{Null}
 use Rattle.h41_codes.specs.ByteGrammar.{IsLine}
-use Rattle.h41_codes.specs.Canon.{canonical}
+use Rattle.h41_codes.specs.Canon.{canonical_line}
 use Rattle.h41_text.specs.LineText.{line_text}
 
 -- the lines that have a text: all but the null
@@ -14,5 +14,5 @@ pub record HasText (line : Line) : Type 0 where
 -- a text is that of a line: the line is canonical, and its text is this one
 pub record IsTextOf (text : List ℕ) (line : Line) : Type 0 where
   pub has : HasText line
-  pub shortest : canonical line ≡ line
+  pub shortest : canonical_line line ≡ line
   pub same : line_text line ≡ text

@@ -13,7 +13,7 @@ use Rattle.h41_codes.specs.declared.line.Line.TheVariants.{BranchIndirect, Short
 use Rattle.h41_codes.specs.declared.line.Line.TheVariants.{End, FinalEnd, BranchTo, Text}
 use Rattle.h41_codes.specs.declared.characters.Character.{Character}
 use Rattle.h41_codes.specs.declared.characters.Character.TheVariants.{Minus}
-use Rattle.h41_lines.specs.Characters.{two_digits, escaped, character_text}
+use Rattle.h41_lines.specs.Characters.{two_digits, escape_of, character_text}
 use Rattle.h41_text.specs.Names.{function_name, parameter_function_name, register_function_name}
 use Rattle.h41_text.specs.Names.{name_function_name, branch_name, character_byte}
 
@@ -36,7 +36,7 @@ parameter_text number =
 -- a character within quotes: as the display shows it, but " too is \ and two hexadecimal digits
 abbrev pub character_quoted : ℕ → List ℕ
 character_quoted character =
-    if character == 0x22 then escaped character else character_text character
+    if character == 0x22 then escape_of character else character_text character
 
 -- a text in its quotes
 abbrev pub quoted_text : List ℕ → List ℕ

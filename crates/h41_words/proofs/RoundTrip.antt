@@ -21,17 +21,17 @@ use Rattle.h41_words.specs.declared.rows.Bank.TheVariants.{First, Second, Third,
 use Rattle.h41_words.specs.declared.rows.Condition.{Condition}
 use Rattle.h41_words.specs.declared.rows.Condition.TheVariants.{NoCarry, Carry}
 use Rattle.h41_words.specs.Listing.{fields, operations, displacements, families, listed_rows}
-use Rattle.h41_words.specs.WordTable.{field_number, operation_number, number_of, numbered, row_in, row_of, word_table, IsRow, WordOfRow}
+use Rattle.h41_words.specs.WordTable.{field_number, operation_number, number_of, with_numbers, row_in, row_of, word_table, IsRow, WordOfRow}
 use Rattle.h41_words.specs.WordTable.{OneWordOfRow}
 use Rattle.h41_words.specs.Unassigned.{unassigned_words}
 use Rattle.h41_words.proofs.Members.{in_flat_map, in_map, in_range, at_member}
 
 -- the row that a table gives for a word has the number of that word
-row_in_number : (rows : List Row) (word : ℕ) → number_of (row_in (numbered rows) word) ≡ word
+row_in_number : (rows : List Row) (word : ℕ) → number_of (row_in (with_numbers rows) word) ≡ word
 unfolding number_of
 row_in_number [] word = refl
 row_in_number (row ∷ rows) word =
-    cond_both (number_of row == word) row (row_in (numbered rows) word) (λ found. number_of found ≡ word)
+    cond_both (number_of row == word) row (row_in (with_numbers rows) word) (λ found. number_of found ≡ word)
     (λ same. eqb-true (number_of row) word same) (λ other. row_in_number rows word)
 
 -- whether no number stands twice in a list
@@ -55,7 +55,7 @@ absent number (suc k) row (first ∷ rest) inside same none =
 
 -- a table whose numbers are distinct gives each of its rows for the row's number
 row_in_at : (k : ℕ) (row : Row) (rows : List Row) → k < length rows → get_or rows k row ≡ row
-    → are_distinct (map number_of rows) ≡ true → row_in (numbered rows) (number_of row) ≡ row
+    → are_distinct (map number_of rows) ≡ true → row_in (with_numbers rows) (number_of row) ≡ row
 row_in_at k row [] inside same distinct = absurd (omega arith)
 row_in_at zero row (first ∷ rest) inside same distinct =
     cond-true (number_of first == number_of row) first _ (eq-eqb _ _ (ap number_of same)) ∙ same
@@ -67,7 +67,7 @@ row_in_at (suc k) row (first ∷ rest) inside same distinct =
 
 -- and CON for a word that is none of its rows'
 row_in_none : (word : ℕ) (rows : List Row) → list_any (λ other. other == word) (map number_of rows) ≡ false
-    → row_in (numbered rows) word ≡ Constant word
+    → row_in (with_numbers rows) word ≡ Constant word
 row_in_none word [] none = refl
 row_in_none word (first ∷ rest) none =
     let parts = or_parts (number_of first == word) (list_any (λ other. other == word) (map number_of rest)) none in

@@ -201,12 +201,12 @@ number_of rows.SelectPeripheral = 0x3F0
 number_of (rows.Transfer transfer) = transfer_number transfer
 
 -- rows with the numbers of their words
-abbrev pub numbered : List Row → List (ℕ × Row)
-numbered some = map (λ row. (number_of row, row)) some
+abbrev pub with_numbers : List Row → List (ℕ × Row)
+with_numbers some = map (λ row. (number_of row, row)) some
 
 -- the table: each row of the listing beside its word
 unfoldable pub word_table : List (ℕ × Row)
-word_table = numbered listed_rows
+word_table = with_numbers listed_rows
 
 -- the row of a word in a table, and CON where it has none there
 abbrev pub row_in : List (ℕ × Row) → ℕ → Row

@@ -18,7 +18,7 @@ use Rattle.h41_keys.specs.declared.action.Action.TheVariants as actions
 use Rattle.h41_keys.specs.declared.input.Input.{Input}
 use Rattle.h41_keys.specs.declared.input.Pressed.{Pressed}
 use Rattle.h41_keys.specs.declared.key.Key.{Key}
-use Rattle.h41_pages.specs.FunctionTables.{found}
+use Rattle.h41_pages.specs.FunctionTables.{function_of_name}
 use Rattle.h41_pages.specs.PageMap.{PageMap}
 use Rattle.h41_program.specs.SearchLaws.{AnswersAreDetermined}
 use Rattle.h41_program.specs.Searches.{named_in, position_of}
@@ -33,8 +33,9 @@ use Rattle.h41_xrom.proofs.StepLaws.{line_determined, same_function}
 use Rattle.h41_xrom.specs.Calculator.{CalculatorState, machine_of}
 use Rattle.h41_xrom.specs.CalculatorLaws.{KeyIsDetermined}
 use Rattle.h41_xrom.specs.KeyActions.{Acts, BeginsNumber, Carries, ChangesNumber, Edits, KeyOutcome, IsStoredAs, KeyMakes, Leaves}
-use Rattle.h41_xrom.specs.KeyActions.{StoredElsewhere, StoredFunction, StoredName, StoresLine, begun, changed, edit_effect, finished}
-use Rattle.h41_xrom.specs.KeyActions.{key_refusal, line_effect, pressed, told}
+use Rattle.h41_xrom.specs.KeyActions.{StoredElsewhere, StoredFunction, StoredName, StoresLine, with_line_begun, with_line_changed}
+use Rattle.h41_xrom.specs.KeyActions.{edit_effect, after_outcome}
+use Rattle.h41_xrom.specs.KeyActions.{key_refusal, line_effect, press_of, with_key_told}
 use Rattle.h41_xrom.specs.declared.lines.LineSource.{LineSource}
 use Rattle.h41_xrom.specs.declared.lines.LineSource.TheVariants as sources
 use Rattle.h41_xrom.specs.declared.refusal.CalculatorRefusal.{CalculatorRefusal}
@@ -61,12 +62,14 @@ module _ (same_value : ValuesAreDetermined) where
   same_beginning : (text : List Character) (machine : Machine) (a b : Made) → BeginsNumber text machine a → BeginsNumber text machine b
       → a ≡ b
   same_beginning text machine a b (p, p_computes, p_is) (q, q_computes, q_is) =
-      p_is ∙ ap (λ (of : List ℕ). Ok (Leaves (begun machine of))) (same_written text machine.memory p q p_computes q_computes) ∙ sym q_is
+      p_is ∙ ap (λ (of : List ℕ). Ok (Leaves (with_line_begun machine of))) (same_written text machine.memory p q p_computes q_computes)
+          ∙ sym q_is
 
   same_change : (text : List Character) (machine : Machine) (a b : Made) → ChangesNumber text machine a → ChangesNumber text machine b
       → a ≡ b
   same_change text machine a b (p, p_computes, p_is) (q, q_computes, q_is) =
-      p_is ∙ ap (λ (of : List ℕ). Ok (Leaves (changed machine of))) (same_written text machine.memory p q p_computes q_computes) ∙ sym q_is
+      p_is ∙ ap (λ (of : List ℕ). Ok (Leaves (with_line_changed machine of))) (same_written text machine.memory p q p_computes q_computes)
+          ∙ sym q_is
 
 module _ (same_step : StepIsDetermined) (same_typing : TypedIsDetermined) (same_failure : FailureIsDetermined)
     (same_passing : PassingIsDetermined) (one_line : OneLineOfText) where
@@ -95,7 +98,7 @@ module _ (same_step : StepIsDetermined) (same_typing : TypedIsDetermined) (same_
   same_stored_name : (label : Option ℕ) (pages : PageMap) (line : Line) (name : List ℕ) (a b : Line)
       → StoredName pages line name label a → StoredName pages line name label b → a ≡ b
   same_stored_name (Some position) pages line name a b p q = p ∙ sym q
-  same_stored_name None pages line name a b p q = same_elsewhere (found pages name) line name a b p q
+  same_stored_name None pages line name a b p q = same_elsewhere (function_of_name pages name) line name a b p q
 
   module _ (same_search : AnswersAreDetermined (Option ℕ)) where
     same_stored : (line : Line) (pages : PageMap) (memory : RegisterMap) (a b : Line) → IsStoredAs pages memory line a
@@ -164,14 +167,17 @@ module _ (same_step : StepIsDetermined) (same_typing : TypedIsDetermined) (same_
       same_made : (why : Option CalculatorRefusal) (s : CalculatorState) (key : Key)
           (action : Action) (input : Input) (a b : Result CalculatorState CalculatorRefusal)
           → MatchOption why
-          ((effect : Made) × Acts s.nut.pages input.program_mode action (machine_of s) effect × (a ≡ finished (told key input s) effect))
+          ((effect : Made) × Acts s.nut.pages input.program_mode action (machine_of s) effect
+              × (a ≡ after_outcome (with_key_told key input s) effect))
           (λ why. a ≡ Err why)
           → MatchOption why
-          ((effect : Made) × Acts s.nut.pages input.program_mode action (machine_of s) effect × (b ≡ finished (told key input s) effect))
+          ((effect : Made) × Acts s.nut.pages input.program_mode action (machine_of s) effect
+              × (b ≡ after_outcome (with_key_told key input s) effect))
           (λ why. b ≡ Err why)
           → a ≡ b
       same_made None s key action input a b p q =
-          p.2 ∙ ap (finished (told key input s)) (same_act action s.nut.pages input.program_mode (machine_of s) p.0 q.0 p.1 q.1) ∙ sym q.2
+          p.2 ∙ ap (after_outcome (with_key_told key input s))
+              (same_act action s.nut.pages input.program_mode (machine_of s) p.0 q.0 p.1 q.1) ∙ sym q.2
       same_made (Some why) s key action input a b p q = p ∙ sym q
 
       same_key : (of : Option Pressed) (s : CalculatorState) (key : Key) (a b : Result CalculatorState CalculatorRefusal)
@@ -181,7 +187,7 @@ module _ (same_step : StepIsDetermined) (same_typing : TypedIsDetermined) (same_
 
       pub key_determined : KeyIsDetermined
       key_determined key s t u a b p q =
-          let made : p.0 ≡ q.0 = same_key (pressed s key) s key p.0 q.0 p.1 q.1 in (
+          let made : p.0 ≡ q.0 = same_key (press_of s key) s key p.0 q.0 p.1 q.1 in (
             p.2.0 ∙ ap (λ (of : Result CalculatorState CalculatorRefusal). result_unwrap_or of s) made ∙ sym q.2.0,
             p.2.1 ∙ ap result_err made ∙ sym q.2.1,
           )

@@ -11,7 +11,7 @@ use Rattle.h41_ram.specs.RegisterMap.{RegisterMap}
 use Rattle.h41_xrom.specs.declared.refusal.CalculatorRefusal.{CalculatorRefusal}
 use Rattle.h41_xrom.specs.declared.refusal.CalculatorRefusal.TheVariants.{Program}
 use Rattle.h41_xrom.specs.Calculator.{CalculatorState, not_typing, with_machine}
-use Rattle.h41_xrom.specs.Programs.{Becomes, Loads, change_refusal, resized, size_makes, with_memory, with_program}
+use Rattle.h41_xrom.specs.Programs.{Becomes, Loads, change_refusal, after_size, size_makes, with_memory, with_program}
 
 -- a load that is refused before program memory is asked
 pub load_refused : (bytes : List ℕ) (s : CalculatorState) (why : CalculatorRefusal) → Some why ≡ change_refusal s
@@ -62,7 +62,8 @@ load_done bytes from s memory position after is place accepted loads =
 -- a new size that program memory refuses
 size_refused : (from : CalculatorState) (memory : RegisterMap) (why : program.ProgramRefusal)
     (outcome : Result (RegisterMap × Unit {0}) program.ProgramRefusal)
-    → HasOutcome from.nut.ram memory (Err why) outcome → Becomes (resized from outcome) from (with_memory memory from) (Some (Program why))
+    → HasOutcome from.nut.ram memory (Err why) outcome → Becomes (after_size from outcome) from (with_memory memory from)
+        (Some (Program why))
 size_refused from memory why (Ok made) gives =
     let never : ◌≡◌ {A = Result (Unit {0}) program.ProgramRefusal} (Err why) (Ok made.1) = gives.0 in cc
 size_refused from memory why (Err other) gives =

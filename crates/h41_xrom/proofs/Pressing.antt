@@ -13,7 +13,7 @@ use Rattle.h41_keys.specs.declared.key.Key.{Key}
 use Rattle.h41_keys.specs.declared.meaning.Meaning.{Meaning}
 use Rattle.h41_keys.specs.declared.meaning.Meaning.TheVariants as means
 use Rattle.h41_xrom.specs.Calculator.{CalculatorState}
-use Rattle.h41_xrom.specs.KeyActions.{Presses, flags_of, pressed, waiting}
+use Rattle.h41_xrom.specs.KeyActions.{Presses, flags_of, press_of, activity_of}
 use Rattle.h41_xrom.specs.private.PrivateCalls.{Accepts, IsQuiet}
 use Rattle.h41_xrom.specs.declared.calculator.Mode.{Mode}
 use Rattle.h41_xrom.specs.declared.calculator.Mode.TheVariants as modes
@@ -77,32 +77,33 @@ quiet_in_micro caller (means.Letter it) input action after is = quiet_by (modes.
 quiet_in_micro caller means.Append input action after is = quiet_by (modes.Micro caller) actions.Nothing action input after tt is
 
 quiet : (mode : Mode) (input : Input) (key : Key) (flags : Flags) (action : Action) (after : Input)
-    → presses input key (waiting mode) flags ≡ Some (does action after) → IsQuiet mode action
+    → presses input key (activity_of mode) flags ≡ Some (does action after) → IsQuiet mode action
 quiet modes.Idle input key flags action after is = tt
 quiet modes.Run input key flags action after is = quiet_in_run (row_of key).plain input action after is
 quiet (modes.Micro caller) input key flags action after is = quiet_in_micro caller (row_of key).plain input action after is
 
 -- what the keyboard was asked
-asked : (from s : CalculatorState) (key : Key) (mode : Activity) (flags : Flags) → from ≡ s → mode ≡ waiting s.mode
-    → flags ≡ flags_of s → presses from.input key mode flags ≡ pressed s key
+asked : (from s : CalculatorState) (key : Key) (mode : Activity) (flags : Flags) → from ≡ s → mode ≡ activity_of s.mode
+    → flags ≡ flags_of s → presses from.input key mode flags ≡ press_of s key
 asked from s key mode flags is waits held = λ i. presses (is i).input key (waits i) (held i)
 
 pub key_quiet : (input : Input) (s : CalculatorState) (key : Key)
     (mode : Activity) (flags : Flags) (action : Action) (after : Input)
-    → mode ≡ waiting s.mode → keyboard.Accepts input key mode flags action after → IsQuiet s.mode action
+    → mode ≡ activity_of s.mode → keyboard.Accepts input key mode flags action after → IsQuiet s.mode action
 key_quiet input s key mode flags action after waits accepts =
     quiet s.mode input key flags action after (ap (λ (of : Activity). presses input key of flags) (sym waits) ∙ accepts)
 
 -- it has no meaning
 pub key_unknown : (from s : CalculatorState) (key : Key) (mode : Activity) (flags : Flags) (why : CalculatorRefusal) → from ≡ s
-    → mode ≡ waiting s.mode → flags ≡ flags_of s → presses from.input key mode flags ≡ None → why ≡ KeyNotHeld → Presses key s s (Some why)
+    → mode ≡ activity_of s.mode → flags ≡ flags_of s → presses from.input key mode flags ≡ None → why ≡ KeyNotHeld
+        → Presses key s s (Some why)
 key_unknown from s key mode flags why is waits held none same =
     (Err KeyNotHeld, rw (sym (asked from s key mode flags is waits held) ∙ none) refl, (refl, ap Some same))
 
 -- it has one
 pub key_known : (from s t : CalculatorState) (key : Key) (mode : Activity)
     (flags : Flags) (action : Action) (after : Input) (refusal : Option CalculatorRefusal)
-    → from ≡ s → mode ≡ waiting s.mode → flags ≡ flags_of s → keyboard.Accepts from.input key mode flags action after
+    → from ≡ s → mode ≡ activity_of s.mode → flags ≡ flags_of s → keyboard.Accepts from.input key mode flags action after
     → Accepts key after action s t refusal → Presses key s t refusal
 key_known from s t key mode flags action after refusal is waits held accepts (made, makes, becomes) =
     (made, rw (sym (asked from s key mode flags is waits held) ∙ accepts) makes, becomes)

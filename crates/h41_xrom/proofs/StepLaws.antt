@@ -12,7 +12,7 @@ use Rattle.h41_focal.specs.Outcomes as answers
 use Rattle.h41_focal.specs.declared.refusal.FocalRefusal.{FocalRefusal}
 use Rattle.h41_focal.specs.declared.refusal.FocalRefusal.TheVariants as lines
 use Rattle.h41_nut.specs.ProcessorLaws.{MicroIsDetermined}
-use Rattle.h41_pages.specs.FunctionTables.{entry_at, found}
+use Rattle.h41_pages.specs.FunctionTables.{entry_at, function_of_name}
 use Rattle.h41_pages.specs.PageMap.{PageMap}
 use Rattle.h41_pages.specs.declared.functions.Entry.{Entry}
 use Rattle.h41_program.specs.declared.refusal.ProgramRefusal as program
@@ -30,10 +30,10 @@ use Rattle.h41_xrom.specs.Calculator.{machine_of, not_typing}
 use Rattle.h41_xrom.specs.CalculatorLaws as CalculatorLaws
 use Rattle.h41_xrom.specs.CalculatorLaws.{LoadIsDetermined, StepRefusalIsDetermined}
 use Rattle.h41_xrom.specs.Lines.{CallsEntry, CallsName, CarriesFrom, CarriesLine, CarriesNamed, Ended, Fails, FailsFrom, GoesOn, GoesOnFrom}
-use Rattle.h41_xrom.specs.Lines.{IsNamed, PassesFrom, answered, begun_at, of_line}
+use Rattle.h41_xrom.specs.Lines.{IsNamed, PassesFrom, end_of_answer, begun_at, of_line}
 use Rattle.h41_xrom.specs.declared.lines.LineSource.{LineSource}
 use Rattle.h41_xrom.specs.declared.lines.LineSource.TheVariants as sources
-use Rattle.h41_xrom.specs.Programs.{change_refusal, loaded}
+use Rattle.h41_xrom.specs.Programs.{change_refusal, after_load}
 
 -- a function begins
 abbrev Begun : LineSource → ℕ → Machine → Result Ended FocalRefusal → Type 0
@@ -75,7 +75,7 @@ module _ (same_step : StepIsDetermined) (same_typing : TypedIsDetermined) (same_
   same_failed : (source : LineSource) (machine : Machine) (a b : Result Ended FocalRefusal) → Fails source machine a
       → Fails source machine b → a ≡ b
   same_failed source machine a b (p, p_fails, p_is) (q, q_fails, q_is) =
-      p_is ∙ ap answered (same_failing source machine p q p_fails q_fails) ∙ sym q_is
+      p_is ∙ ap end_of_answer (same_failing source machine p q p_fails q_fails) ∙ sym q_is
 
   same_begun : (keystroke : Bool) (source : LineSource) (address : ℕ) (machine : Machine) (a b : Result Ended FocalRefusal)
       → MatchBool keystroke (a ≡ Err lines.NotInProfile) (Begun source address machine a)
@@ -99,7 +99,7 @@ module _ (same_step : StepIsDetermined) (same_typing : TypedIsDetermined) (same_
   same_named : (source : LineSource) (function : Option Function) (machine : Machine) (a b : Result Ended FocalRefusal)
       → CarriesNamed source function machine a → CarriesNamed source function machine b → a ≡ b
   same_named source (Some function) machine a b (p, p_steps, p_is) (q, q_steps, q_is) =
-      p_is ∙ ap answered (same_carried source (Some function) machine p q p_steps q_steps) ∙ sym q_is
+      p_is ∙ ap end_of_answer (same_carried source (Some function) machine p q p_steps q_steps) ∙ sym q_is
   same_named source None machine a b p q = same_failed source machine a b p q
 
   same_name : (source : LineSource) (numbers : Option (ℕ × ℕ)) (pages : PageMap)
@@ -115,7 +115,8 @@ module _ (same_step : StepIsDetermined) (same_typing : TypedIsDetermined) (same_
       → GoesOn source pages machine left answer a → GoesOn source pages machine left answer b → a ≡ b
   same_going source (answers.Calls number entry) pages machine left a b p q =
       same_entry source (entry_at pages number entry) machine a b p q
-  same_going source (answers.Seeks name) pages machine left a b p q = same_name source (found pages name) pages name machine a b p q
+  same_going source (answers.Seeks name) pages machine left a b p q =
+      same_name source (function_of_name pages name) pages name machine a b p q
   same_going source answers.Done pages machine left a b p q = p ∙ sym q
   same_going source answers.Stopped pages machine left a b p q = p ∙ sym q
   same_going source answers.TurnedOff pages machine left a b p q = p ∙ sym q
@@ -177,13 +178,13 @@ module _ (same_step : StepIsDetermined) (same_typing : TypedIsDetermined) (same_
 module _ (same_load : LoadsAreDetermined) where
   same_made_by : (why : Option CalculatorRefusal) (s : CalculatorState) (bytes : List ℕ) (a b : Result CalculatorState CalculatorRefusal)
       → MatchOption why
-      ((outcome : Result (RegisterMap × ℕ) program.ProgramRefusal) × LoadGives s.nut.ram bytes outcome × (a ≡ loaded s outcome))
+      ((outcome : Result (RegisterMap × ℕ) program.ProgramRefusal) × LoadGives s.nut.ram bytes outcome × (a ≡ after_load s outcome))
       (λ why. a ≡ Err why)
       → MatchOption why
-      ((outcome : Result (RegisterMap × ℕ) program.ProgramRefusal) × LoadGives s.nut.ram bytes outcome × (b ≡ loaded s outcome))
+      ((outcome : Result (RegisterMap × ℕ) program.ProgramRefusal) × LoadGives s.nut.ram bytes outcome × (b ≡ after_load s outcome))
       (λ why. b ≡ Err why)
       → a ≡ b
-  same_made_by None s bytes a b p q = p.2 ∙ ap (loaded s) (same_load s.nut.ram bytes p.0 q.0 p.1 q.1) ∙ sym q.2
+  same_made_by None s bytes a b p q = p.2 ∙ ap (after_load s) (same_load s.nut.ram bytes p.0 q.0 p.1 q.1) ∙ sym q.2
   same_made_by (Some why) s bytes a b p q = p ∙ sym q
 
   pub load_determined : LoadIsDetermined

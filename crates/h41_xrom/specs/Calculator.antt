@@ -16,7 +16,7 @@ use Rattle.h41_keys.specs.KeyPress as keyboard
 use Rattle.h41_keys.specs.declared.input.TypedEntry.TheVariants as entries
 use Rattle.h41_keys.specs.declared.input.Input.{Input}
 use Rattle.h41_ram.specs.RegisterMap as ram
-use Rattle.h41_nut.specs.Processor.{initial, entered}
+use Rattle.h41_nut.specs.Processor.{initial_state, at_function}
 use Rattle.h41_nut.specs.Addresses.{end_of_function}
 use Rattle.h41_nut.specs.declared.keys.Keys.{Keys}
 use Rattle.h41_pages.specs.Addresses.{first_address}
@@ -58,7 +58,7 @@ no_key = record { ky = 0; flag = false }
 -- program, at whose line 00 the calculator stands
 abbrev pub start : CalculatorState
 start = record {
-  nut = nut_of initial (ram.start registers) pages.no_pages no_key;
+  nut = nut_of initial_state (ram.start registers) pages.no_pages no_key;
   focal = focal.start;
   input = keyboard.start;
   message = None;
@@ -92,15 +92,15 @@ abbrev pub not_typing : CalculatorState → CalculatorState
 not_typing s = record s { input = record s.input { entry = entries.Nothing } }
 
 -- the function at an address runs
-abbrev pub entering : ℕ → CalculatorState → CalculatorState
-entering address s = record s {
-  nut = record s.nut { processor = entered s.nut.processor address };
+abbrev pub with_function : ℕ → CalculatorState → CalculatorState
+with_function address s = record s {
+  nut = record s.nut { processor = at_function s.nut.processor address };
   mode = modes.Micro (caller_in s.mode);
 }
 
 -- by a call
-abbrev pub called : ℕ → CalculatorState → CalculatorState
-called address s = entering address (not_typing s)
+abbrev pub after_call : ℕ → CalculatorState → CalculatorState
+after_call address s = with_function address (not_typing s)
 
 -- this is why words are not plugged; memory that was refused comes last
 abbrev pub RefusesPage : CalculatorState → ℕ → ℕ → List ℕ → PlugRefusal → Type 0
@@ -117,15 +117,15 @@ with_pages all s = record s { nut = record s.nut { pages = all } }
 -- the words plugged there
 abbrev pub with_page : ℕ → ℕ → Bool → List ℕ → CalculatorState → CalculatorState
 with_page page bank writable words s =
-    with_pages (pages.plugged s.nut.pages page bank writable words) s
+    with_pages (pages.with_page_image s.nut.pages page bank writable words) s
 
 -- all banks of a page taken out
 abbrev pub without_page : ℕ → CalculatorState → CalculatorState
-without_page page s = with_pages (pages.unplugged s.nut.pages page) s
+without_page page s = with_pages (pages.without_images s.nut.pages page) s
 
 -- as at the start, but for the pages, which stay plugged; bank 1 is chosen at each
-abbrev pub restarted : CalculatorState → CalculatorState
-restarted s = with_pages (pages.with_first_banks s.nut.pages) start
+abbrev pub after_reset : CalculatorState → CalculatorState
+after_reset s = with_pages (pages.with_first_banks s.nut.pages) start
 
 -- what lines work on, memory with it
 abbrev pub machine_of : CalculatorState → Machine
@@ -160,7 +160,7 @@ after_answer answer s = record (with_shown answer s) { mode = mode_after answer 
 -- the calculator after a line was carried out, by how it ended; or a module's function runs
 abbrev pub after_line : CalculatorState → Ended → CalculatorState
 after_line s (Answers left) = after_answer left.answer (with_machine left.machine s)
-after_line s (Begins machine address) = entering address (with_machine machine s)
+after_line s (Begins machine address) = with_function address (with_machine machine s)
 
 -- one line, or why it is refused
 abbrev pub CarriesHere : LineSource → CalculatorState → Result Ended FocalRefusal → Type 0

@@ -26,7 +26,7 @@ use Rattle.h41_keys.specs.declared.input.Activity.TheVariants as waits
 use Rattle.h41_keys.specs.declared.input.Pressed.{Pressed}
 use Rattle.h41_keys.specs.declared.key.Key.{Key}
 use Rattle.h41_nut.specs.RegisterWords.{with_display}
-use Rattle.h41_pages.specs.FunctionTables.{found}
+use Rattle.h41_pages.specs.FunctionTables.{function_of_name}
 use Rattle.h41_pages.specs.PageMap.{PageMap}
 use Rattle.h41_program.specs.ProgramLines.{AnswersOf}
 use Rattle.h41_program.specs.Searches.{named_in, position_of}
@@ -105,7 +105,8 @@ StoredElsewhere line name None stored =
 
 abbrev pub StoredName : PageMap → Line → List ℕ → Option ℕ → Line → Type 0
 StoredName pages line name (Some position) stored = stored ≡ line
-StoredName pages line name None stored = StoredElsewhere line name (found pages name) stored
+StoredName pages line name None stored =
+    StoredElsewhere line name (function_of_name pages name) stored
 
 abbrev pub IsStoredAs : PageMap → RegisterMap → Line → Line → Type 0
 IsStoredAs pages memory (lines.Named ExecuteName name) stored =
@@ -126,8 +127,8 @@ abbrev pub taken_in : RegisterMap → Bool → List ℕ → RegisterMap
 taken_in memory lift register =
     with_taken memory 0 register (takes_of (coming_in (compute X)) lift) memory
 
-abbrev pub begun : Machine → List ℕ → Machine
-begun machine register =
+abbrev pub with_line_begun : Machine → List ℕ → Machine
+with_line_begun machine register =
     with_lift true (with_memory
     (with_flag (taken_in machine.memory machine.focal.lift register) number_entry true) machine)
 
@@ -135,16 +136,16 @@ abbrev pub BeginsNumber : List Character → Machine → Result KeyOutcome Calcu
 BeginsNumber text machine effect =
     (register : List ℕ)
     × Computes (Written text) machine.memory 0 (Ok register)
-    × (effect ≡ Ok (Leaves (begun machine register)))
+    × (effect ≡ Ok (Leaves (with_line_begun machine register)))
 
-abbrev pub changed : Machine → List ℕ → Machine
-changed machine register = with_memory (taken_in machine.memory false register) machine
+abbrev pub with_line_changed : Machine → List ℕ → Machine
+with_line_changed machine register = with_memory (taken_in machine.memory false register) machine
 
 abbrev pub ChangesNumber : List Character → Machine → Result KeyOutcome CalculatorRefusal → Type 0
 ChangesNumber text machine effect =
     (register : List ℕ)
     × Computes (Written text) machine.memory 0 (Ok register)
-    × (effect ≡ Ok (Leaves (changed machine register)))
+    × (effect ≡ Ok (Leaves (with_line_changed machine register)))
 
 -- ALPHA: its 24 bytes end with what it holds, behind nulls
 abbrev pub with_text : RegisterMap → List ℕ → RegisterMap
@@ -192,24 +193,24 @@ Acts pages program_mode actions.ClearAlpha machine effect =
     effect ≡ leaves_memory (with_text machine.memory []) machine
 
 -- A KEY. What of the calculator decides what it means, beside what the keyboard keeps
-abbrev pub waiting : Mode → keyboard.Activity
-waiting modes.Idle = waits.Idle
-waiting modes.Run = waits.Run
-waiting (modes.Micro caller) = waits.Micro
+abbrev pub activity_of : Mode → keyboard.Activity
+activity_of modes.Idle = waits.Idle
+activity_of modes.Run = waits.Run
+activity_of (modes.Micro caller) = waits.Micro
 
 abbrev pub flags_of : CalculatorState → Flags
 flags_of s = record { alpha = flag_of s.nut.ram alpha_mode; message = is_some s.message }
 
-abbrev pub pressed : CalculatorState → Key → Option Pressed
-pressed s key = presses s.input key (waiting s.mode) (flags_of s)
+abbrev pub press_of : CalculatorState → Key → Option Pressed
+press_of s key = presses s.input key (activity_of s.mode) (flags_of s)
 
 -- a key that is accepted tells its code, sets the key flag and turns the display on; where nothing
 -- runs the message goes
 abbrev pub message_told : Mode → Option (List ℕ) → Option (List ℕ)
 message_told mode message = if is_idle mode then None else message
 
-abbrev pub told : Key → Input → CalculatorState → CalculatorState
-told key input s = record s {
+abbrev pub with_key_told : Key → Input → CalculatorState → CalculatorState
+with_key_told key input s = record s {
   nut = record s.nut {
     keys = record { ky = code_of key; flag = true };
     processor = with_display true s.nut.processor;
@@ -225,10 +226,10 @@ after_key s (LineEnds ended) = after_line s ended
 after_key s (Stops machine) = record (with_machine machine s) { mode = modes.Idle }
 after_key s (Starts machine) = record (with_machine machine s) { mode = modes.Run }
 
-abbrev pub finished : CalculatorState → Result KeyOutcome CalculatorRefusal
+abbrev pub after_outcome : CalculatorState → Result KeyOutcome CalculatorRefusal
     → Result CalculatorState CalculatorRefusal
-finished s (Ok effect) = Ok (after_key s effect)
-finished s (Err refusal) = Err refusal
+after_outcome s (Ok effect) = Ok (after_key s effect)
+after_outcome s (Err refusal) = Err refusal
 
 -- a key that has a meaning: 15 where nothing runs and memory is not sound, and then as its action:
 -- 14, 13, 16
@@ -241,18 +242,18 @@ ActionMakes s key action input made =
     MatchOption (key_refusal s)
     ((effect : Result KeyOutcome CalculatorRefusal)
     × Acts s.nut.pages input.program_mode action (machine_of s) effect
-    × (made ≡ finished (told key input s) effect))
+    × (made ≡ after_outcome (with_key_told key input s) effect))
     (λ why. made ≡ Err why)
 
 -- 18 where it has none
 abbrev pub KeyMakes : CalculatorState → Key → Option Pressed
     → Result CalculatorState CalculatorRefusal → Type 0
 KeyMakes s key None made = made ≡ Err KeyNotHeld
-KeyMakes s key (Some pressed) made = ActionMakes s key pressed.action pressed.input made
+KeyMakes s key (Some press_of) made = ActionMakes s key press_of.action press_of.input made
 
 -- a key is accepted, or refused and nothing changes
 abbrev pub Presses : Key → CalculatorState → CalculatorState → Option CalculatorRefusal → Type 0
 Presses key s t refusal =
     (made : Result CalculatorState CalculatorRefusal)
-    × KeyMakes s key (pressed s key) made
+    × KeyMakes s key (press_of s key) made
     × Becomes made s t refusal

@@ -9,7 +9,7 @@ use Rattle.h41_focal.specs.Outcomes.{Answer}
 use Rattle.h41_focal.specs.Outcomes as answers
 use Rattle.h41_focal.specs.declared.refusal.FocalRefusal.{FocalRefusal}
 use Rattle.h41_focal.specs.declared.refusal.FocalRefusal.TheVariants as lines
-use Rattle.h41_pages.specs.FunctionTables.{entry_at, found}
+use Rattle.h41_pages.specs.FunctionTables.{entry_at, function_of_name}
 use Rattle.h41_pages.specs.PageMap.{PageMap}
 use Rattle.h41_pages.specs.declared.functions.Entry.{Entry}
 use Rattle.h41_program.specs.declared.refusal.ProgramRefusal.TheVariants as program
@@ -34,9 +34,9 @@ pub data Ended : Type 0 where
   Begins : Machine → ℕ → Ended
 
 -- a line that answers, and one that is passed for a function at an address; or why not
-abbrev pub answered : Result Left FocalRefusal → Result Ended FocalRefusal
-answered (Ok left) = Ok (Answers left)
-answered (Err refusal) = Err refusal
+abbrev pub end_of_answer : Result Left FocalRefusal → Result Ended FocalRefusal
+end_of_answer (Ok left) = Ok (Answers left)
+end_of_answer (Err refusal) = Err refusal
 
 abbrev pub begun_at : ℕ → Result Machine FocalRefusal → Result Ended FocalRefusal
 begun_at address (Ok machine) = Ok (Begins machine address)
@@ -61,7 +61,7 @@ PassesFrom (sources.Keys line) machine after = after ≡ Ok machine
 
 abbrev pub Fails : LineSource → Machine → Result Ended FocalRefusal → Type 0
 Fails source machine ended =
-    (left : Result Left FocalRefusal) × FailsFrom source machine left × (ended ≡ answered left)
+    (left : Result Left FocalRefusal) × FailsFrom source machine left × (ended ≡ end_of_answer left)
 
 -- a function in microcode begins where it stands; one in keystrokes is 13, until such programs are
 -- carried out
@@ -88,7 +88,7 @@ abbrev pub CarriesNamed : LineSource → Option Function → Machine → Result 
 CarriesNamed source (Some function) machine ended =
     (left : Result Left FocalRefusal)
     × CarriesFrom source (Some function) machine left
-    × (ended ≡ answered left)
+    × (ended ≡ end_of_answer left)
 CarriesNamed source None machine ended = Fails source machine ended
 
 -- what has a name: where a module has a function of it, the entry of that function's two numbers;
@@ -104,7 +104,8 @@ CallsName source None pages name machine ended =
 
 -- a name is looked up so
 abbrev pub Seeks : LineSource → PageMap → List ℕ → Machine → Result Ended FocalRefusal → Type 0
-Seeks source pages name machine ended = CallsName source (found pages name) pages name machine ended
+Seeks source pages name machine ended = CallsName source (function_of_name pages name) pages name
+    machine ended
 
 -- by what the line answers
 abbrev pub GoesOn : LineSource → PageMap → Machine → Left → Answer → Result Ended FocalRefusal

@@ -32,15 +32,15 @@ with_program memory start s =
 
 -- what a change of program memory makes of the calculator, where no number and no text is being
 -- typed any more; or why it is refused
-abbrev pub loaded : CalculatorState → Result (RegisterMap × ℕ) program.ProgramRefusal
+abbrev pub after_load : CalculatorState → Result (RegisterMap × ℕ) program.ProgramRefusal
     → Result CalculatorState CalculatorRefusal
-loaded s (Ok outcome) = Ok (with_program outcome.0 outcome.1 (not_typing s))
-loaded s (Err why) = Err (Program why)
+after_load s (Ok outcome) = Ok (with_program outcome.0 outcome.1 (not_typing s))
+after_load s (Err why) = Err (Program why)
 
-abbrev pub resized : CalculatorState → Result (RegisterMap × Unit {0}) program.ProgramRefusal
+abbrev pub after_size : CalculatorState → Result (RegisterMap × Unit {0}) program.ProgramRefusal
     → Result CalculatorState CalculatorRefusal
-resized s (Ok outcome) = Ok (with_memory outcome.0 (not_typing s))
-resized s (Err why) = Err (Program why)
+after_size s (Ok outcome) = Ok (with_memory outcome.0 (not_typing s))
+after_size s (Err why) = Err (Program why)
 
 -- bytes are loaded behind the programs of memory, or refused: 24, 15, and then as their lines are,
 -- 14 or 16
@@ -49,7 +49,7 @@ LoadMakes s bytes made =
     MatchOption (change_refusal s)
     ((outcome : Result (RegisterMap × ℕ) program.ProgramRefusal)
     × LoadGives s.nut.ram bytes outcome
-    × (made ≡ loaded s outcome))
+    × (made ≡ after_load s outcome))
     (λ why. made ≡ Err why)
 
 -- what is made, unless there is a refusal
@@ -60,7 +60,7 @@ unless_refused (Some why) made = Err why
 
 -- memory is given so many data registers, or it is refused: 24, 15, and then 17 or 16
 abbrev pub size_makes : CalculatorState → ℕ → Result CalculatorState CalculatorRefusal
-size_makes s count = unless_refused (change_refusal s) (resized s (size_outcome s.nut.ram count))
+size_makes s count = unless_refused (change_refusal s) (after_size s (size_outcome s.nut.ram count))
 
 -- the calculator becomes what was made of it, or stays and there is a refusal
 abbrev pub Becomes : Result CalculatorState CalculatorRefusal → CalculatorState → CalculatorState

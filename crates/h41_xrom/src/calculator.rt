@@ -5,9 +5,11 @@ ghost use Rattle.std.specs.Result.{result_err};
 ghost use Rattle.h41_pages.specs.PageMap.{unplug_refusal};
 ghost use Rattle.h41_xrom.specs.Calculator.{RefusesLine, RefusesPage, RefusesStep, RefusesStepIn};
 ghost use Rattle.h41_xrom.specs.Calculator.{Step, StepIn, StepsByLine, TakesPage, after_answer};
-ghost use Rattle.h41_xrom.specs.Calculator.{call_refusal, called, caller_in, entering, machine_of};
+ghost use Rattle.h41_xrom.specs.Calculator.{call_refusal, after_call, caller_in, with_function};
+ghost use Rattle.h41_xrom.specs.Calculator.{machine_of};
 ghost use Rattle.h41_xrom.specs.Calculator.{mode_after, mode_behind_word, mode_of, not_typing};
-ghost use Rattle.h41_xrom.specs.Calculator.{restarted, start, with_page, with_shown, without_page};
+ghost use Rattle.h41_xrom.specs.Calculator.{after_reset, start, with_page, with_shown};
+ghost use Rattle.h41_xrom.specs.Calculator.{without_page};
 ghost use Rattle.h41_xrom.specs.KeyActions as keys;
 ghost use Rattle.h41_xrom.specs.private.PrivateCalls.{Accepts, IsAccepted, after_effect, after_end};
 ghost use Rattle.h41_keys.specs.declared.input.TypedEntry.TheVariants as entries;
@@ -189,7 +191,7 @@ impl Calculator {
     /// them: a call is no arrival. Nothing is changed then.
     pub fn call(&mut self, address: u16) -> Result<(), CalculatorRefusal>
         ensures refusal { result_err result ≡ call_refusal self.old address }
-        ensures change { OnOk result (self.new ≡ called address self.old) }
+        ensures change { OnOk result (self.new ≡ after_call address self.old) }
         ensures unchanged { OnErr result (self.new ≡ self.old) }
     {
         if self.mode != Mode::Idle {
@@ -212,7 +214,7 @@ impl Calculator {
 
     /// The function at an address runs.
     fn enter(&mut self, address: u16)
-        ensures { self.new ≡ entering address self.old }
+        ensures { self.new ≡ with_function address self.old }
     {
         self.cpu.enter(address);
         self.mode = Mode::Micro(Caller::in_mode(self.mode));
@@ -335,7 +337,7 @@ impl Calculator {
 
     /// What runs, as the keyboard needs to know it.
     fn waits(&self) -> h41_keys::Activity
-        ensures { result ≡ keys.waiting self.now.mode }
+        ensures { result ≡ keys.activity_of self.now.mode }
     {
         match self.mode {
             Mode::Idle => h41_keys::Activity::Idle,
@@ -356,7 +358,7 @@ impl Calculator {
 
     /// A key that is accepted tells its code, sets the key flag and turns the display on; while nothing runs the message goes.
     fn tell(&mut self, key: Key, input: Input)
-        ensures { self.new ≡ keys.told key input self.old }
+        ensures { self.new ≡ keys.with_key_told key input self.old }
     {
         self.keys = Keys {
             ky: key.code(),
@@ -474,7 +476,7 @@ impl Calculator {
 
     /// All as at the start, but for the pages: they stay plugged, and bank 1 is chosen at each.
     pub fn reset(&mut self)
-        ensures { self.new ≡ restarted self.old }
+        ensures { self.new ≡ after_reset self.old }
     {
         self.cpu = Cpu::new();
         self.machine = Machine::new();

@@ -5,7 +5,7 @@ ghost use Rattle.std.specs.Prelude.{◌≡◌, ◌++◌, [], IfOk, OnOk};
 ghost use Rattle.h41_codes.specs.ByteGrammar.{IsLine, spelling};
 ghost use Rattle.h41_commands.specs.Contents.{values_in};
 ghost use Rattle.h41_program.specs.Lines as lines;
-ghost use Rattle.h41_commands.specs.ProgramTexts.{IsPacked, PushesLine, parting, texts_left};
+ghost use Rattle.h41_commands.specs.ProgramTexts.{IsPacked, PushesLine, null_between, texts_left};
 ghost use Rattle.h41_commands.specs.ProgramBlocks.{TextSpells, texts_of};
 
 use crate::refusal::LineRefusal;
@@ -115,7 +115,7 @@ fn is_number(line: &Line) -> bool
 
 /// What parts a line from those before it: a null between two numbers.
 fn gap(ends_with_number: bool, is_number: bool) -> &'static [u8]
-    ensures { result.now ≡ parting ends_with_number is_number }
+    ensures { result.now ≡ null_between ends_with_number is_number }
 {
     if ends_with_number && is_number {
         &[0]

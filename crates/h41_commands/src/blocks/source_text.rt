@@ -3,7 +3,7 @@
 ghost use Rattle.std.specs.Prelude.{◌≡◌, ◌≤◌, IfOk, vec_len};
 ghost use Rattle.h41_pages.specs.Addresses.{page_size};
 ghost use Rattle.h41_commands.specs.Contents.{values_in};
-ghost use Rattle.h41_commands.specs.PageBlocks.{fitting};
+ghost use Rattle.h41_commands.specs.PageBlocks.{words_of_page};
 
 use crate::blocks::page_words::PAGE_WORDS;
 use crate::blocks::program_text::program_bytes;
@@ -85,7 +85,7 @@ impl SourceText {
 
 /// The numbers of words for a page. Refused as 4 where there are more than it has. 21 where memory is refused.
 fn page_numbers(alloc: Global, words: &[Word]) -> Result<Result<Vec<u16>, LineRefusal>, AllocError>
-    ensures fitting { IfOk result (λ made. values_in made ≡ fitting words.now) }
+    ensures fitting { IfOk result (λ made. values_in made ≡ words_of_page words.now) }
     ensures bound { IfOk result (λ made. IfOk made (λ words. vec_len words ≤ page_size)) }
 {
     if words.len() > PAGE_WORDS {

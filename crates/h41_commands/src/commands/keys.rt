@@ -18,7 +18,7 @@ pub struct PressedKeys {
 
 impl Model for PressedKeys {
     ghost use Rattle.std.specs.Prelude.{List, length, take};
-    ghost use Rattle.h41_codes.specs.Cells.{filled, Keeps, filled_again, count_again};
+    ghost use Rattle.h41_codes.specs.Cells.{with_cells, Keeps, filled_again, count_again};
     ghost use Rattle.h41_commands.specs.DeckLines.{most_keys};
     ghost use Rattle.h41_keys.specs.declared.key.Key.{Key as AnyKey};
     ghost use Rattle.h41_keys.specs.declared.key.Key.TheVariants.{On};
@@ -29,7 +29,8 @@ impl Model for PressedKeys {
 
     ghost invariant = { λ keys. Keeps On most_keys keys.count keys.cells };
 
-    ghost inverse = { λ keys. record { cells = filled On most_keys keys; count = length keys } };
+    ghost inverse = { λ keys. record { cells = with_cells On most_keys keys; count = length keys }
+        };
 
     ghost inverse_ok = { λ keys h i. record {
       cells = filled_again On most_keys keys.count keys.cells h.0 h.1 h.2 i;

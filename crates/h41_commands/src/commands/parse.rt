@@ -4,7 +4,8 @@ ghost use Rattle.std.specs.Prelude.{◌≡◌, ◌≤◌, ◌+◌, ◌*◌, leng
 ghost use Rattle.h41_commands.specs.Commands.{break_location, call_command, location_by};
 ghost use Rattle.h41_commands.specs.Commands.{placed_command, read_plain, key_command};
 ghost use Rattle.h41_commands.specs.Commands.{load_command, reset_command, size_command};
-ghost use Rattle.h41_commands.specs.Commands.{unplug_command, is_opening, opening_command, parsed};
+ghost use Rattle.h41_commands.specs.Commands.{unplug_command, is_opening, opening_command};
+ghost use Rattle.h41_commands.specs.Commands.{command_of};
 ghost use Rattle.h41_commands.specs.Commands.{plain_command, counted_command, plug_at};
 ghost use Rattle.h41_commands.specs.Commands.{plug_command, show_command, step_command, view_named};
 ghost use Rattle.h41_commands.specs.Commands.{view_of, list_command};
@@ -38,7 +39,7 @@ const MOST_WORDS: u32 = 4_096;
 /// wrong. The line is not too long.
 pub fn parse(line: &[u8]) -> Result<Command, LineRefusal>
     requires { length line.now ≤ longest_line }
-    ensures { result ≡ parsed (words_of line.now) }
+    ensures { result ≡ command_of (words_of line.now) }
 {
     let mut words = LineWords::new(line);
     let Some(name) = words.next() else {

@@ -2,6 +2,6 @@
 use Rattle.std.specs.Prelude.{ℕ, zero, suc, ◌+◌, ◌*◌, ◌/◌, ◌%◌}
 
 -- so many of them, the lowest in the lowest bits
-abbrev pub packed : ℕ → ℕ → ℕ
-packed zero number = 0
-packed (suc count) number = number % 10 + 16 * packed count (number / 10)
+abbrev pub word_of_digits : ℕ → ℕ → ℕ
+word_of_digits zero number = 0
+word_of_digits (suc count) number = number % 10 + 16 * word_of_digits count (number / 10)

@@ -2,8 +2,9 @@
 use Rattle.std.specs.Prelude.{◌≡◌, List, [], ◌∷◌, reverse}
 use Rattle.h41_codes.specs.declared.functions.Branch.{Branch}
 use Rattle.h41_codes.specs.declared.functions.Branch.TheVariants.{GoTo, Execute}
-use Rattle.h41_focal.specs.Destinations.{pushed}
-use Rattle.h41_focal.specs.LineStep.{FocalState, Machine, at_position, halted, placed, returning}
+use Rattle.h41_focal.specs.Destinations.{with_return}
+use Rattle.h41_focal.specs.LineStep.{FocalState, Machine, at_position, at_halt, at_line}
+use Rattle.h41_focal.specs.LineStep.{with_returns}
 use Rattle.h41_focal.specs.declared.origin.Origin.{Origin}
 use Rattle.h41_focal.specs.declared.origin.Origin.TheVariants.{Program, Typed}
 use Rattle.h41_focal.specs.declared.outcome.BriefOutcome.{BriefOutcome}
@@ -20,7 +21,7 @@ from_of Typed position = position
 abbrev pub focal_at : Origin → Branch → Position → FocalState → FocalState
 focal_at origin GoTo position focal = at_position position focal
 focal_at (Program next) Execute position focal =
-    record (at_position position focal) { returns = pushed focal.returns next }
+    record (at_position position focal) { returns = with_return focal.returns next }
 focal_at Typed Execute position focal = record (at_position position focal) { returns = [] }
 
 abbrev pub answer_at : Origin → Branch → BriefOutcome
@@ -32,9 +33,9 @@ answer_at Typed Execute = briefs.Runs
 abbrev pub GoesBackFrom : List Position → (old new : Machine) → BriefOutcome → Type 0
 GoesBackFrom [] old new brief =
     (start : Position) × StartOf old.memory old.focal.position start
-    × (new ≡ halted start old) × (brief ≡ briefs.Stopped)
+    × (new ≡ at_halt start old) × (brief ≡ briefs.Stopped)
 GoesBackFrom (latest ∷ others) old new brief =
-    (new ≡ placed latest (returning (reverse others) old)) × (brief ≡ briefs.Done)
+    (new ≡ at_line latest (with_returns (reverse others) old)) × (brief ≡ briefs.Done)
 
 abbrev pub ReturnsFrom : (old new : Machine) → BriefOutcome → Type 0
 ReturnsFrom old new brief = GoesBackFrom (reverse old.focal.returns) old new brief

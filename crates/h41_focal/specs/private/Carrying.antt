@@ -61,10 +61,10 @@ pub record IsReady (origin : Origin) (machine : Machine) : Type 0 where
   pub next : KnowsNext origin machine
 
 -- on to the next line; a typed line stays
-abbrev pub advanced : Origin → Lift → FocalState → FocalState
-advanced (Program next) lift focal =
+abbrev pub on_to_next : Origin → Lift → FocalState → FocalState
+on_to_next (Program next) lift focal =
     record (at_position next focal) { lift = lift_after lift focal.lift }
-advanced Typed lift focal = record focal { lift = lift_after lift focal.lift }
+on_to_next Typed lift focal = record focal { lift = lift_after lift focal.lift }
 
 -- what a line calls that memory does not have: a function of a module, or a name. Lines that call
 -- nothing have no use for it.
@@ -119,9 +119,9 @@ Leads (Program next) memory holds (Err refusal) =
 Leads Typed memory holds lead = lead ≡ Ok Typed
 
 -- what a test answers: where it was typed, whether it holds
-abbrev pub told : Origin → Bool → BriefOutcome
-told (Program next) holds = briefs.Done
-told Typed holds = briefs.Answered holds
+abbrev pub test_answer : Origin → Bool → BriefOutcome
+test_answer (Program next) holds = briefs.Done
+test_answer Typed holds = briefs.Answered holds
 
 -- a line was taken, or refused
 abbrev pub TakesAs : Origin → Line → (old new : Machine) → Result LineOutcome FocalRefusal → Type 0

@@ -11,8 +11,8 @@ use Rattle.h41_rows.specs.LineRows.{register_row, store}
 use Rattle.h41_rows.specs.Operands.{DigitKind, FlagKind, LabelKind, RegisterKind, kind_of}
 use Rattle.h41_rows.specs.Places.{T, Z, Y, X, LastX, Named}
 use Rattle.h41_rows.specs.Rows.{Row, AlphaText, AppendsNamed, Becomes, Flag, LosesSix, NamedText}
-use Rattle.h41_rows.specs.Rows.{NoText, Off, Returns, SixCharacters, Stops, TurnsOff, nothing}
-use Rattle.h41_rows.specs.Rows.{silent, copy, compute, of_x, of_y_and_x, coming_in, test}
+use Rattle.h41_rows.specs.Rows.{NoText, Off, Returns, SixCharacters, Stops, TurnsOff, lifting_row}
+use Rattle.h41_rows.specs.Rows.{silent_row, copy, compute, of_x, of_y_and_x, coming_in, test}
 use Rattle.h41_rows.specs.Values as values
 use Rattle.h41_focal.specs.declared.works.Movement.{Movement}
 use Rattle.h41_focal.specs.declared.works.Movement.TheVariants as moves
@@ -33,34 +33,37 @@ use Rattle.h41_focal.specs.declared.uses.OperandUse.TheVariants as uses
 
 -- what moves in the stack
 abbrev pub move_row : Movement → Row
-move_row moves.Exchange = record nothing { takes = copy X Y ∷ copy Y X ∷ [] }
-move_row moves.RollUp = record nothing { takes = copy X T ∷ copy Y X ∷ copy Z Y ∷ copy T Z ∷ [] }
-move_row moves.RollDown = record nothing { takes = copy X Y ∷ copy Y Z ∷ copy Z T ∷ copy T X ∷ [] }
+move_row moves.Exchange = record lifting_row { takes = copy X Y ∷ copy Y X ∷ [] }
+move_row moves.RollUp = record lifting_row
+    { takes = copy X T ∷ copy Y X ∷ copy Z Y ∷ copy T Z ∷ [] }
+move_row moves.RollDown = record lifting_row
+    { takes = copy X Y ∷ copy Y Z ∷ copy Z T ∷ copy T X ∷ [] }
 move_row moves.LastX = coming_in (copy X LastX)
-move_row moves.Enter = record nothing { takes = copy T Z ∷ copy Z Y ∷ copy Y X ∷ []; lift = Off }
+move_row moves.Enter = record lifting_row
+    { takes = copy T Z ∷ copy Z Y ∷ copy Y X ∷ []; lift = Off }
 move_row moves.Pi = record (coming_in (compute X)) { value = Some (values.Given (pos pi)) }
 move_row moves.ClearStack =
-    record nothing {
+    record lifting_row {
       value = Some (values.Given (pos 0));
       takes = compute T ∷ compute Z ∷ compute Y ∷ compute X ∷ [];
     }
 move_row moves.ClearX =
-    record nothing { value = Some (values.Given (pos 0)); takes = compute X ∷ []; lift = Off }
+    record lifting_row { value = Some (values.Given (pos 0)); takes = compute X ∷ []; lift = Off }
 
 -- what becomes of ALPHA, and of its mode
 abbrev pub alpha_row : AlphaWork → Row
-alpha_row alphas.Clear = record nothing { alpha = Some (Becomes []) }
-alpha_row alphas.Shift = record nothing { alpha = Some LosesSix }
+alpha_row alphas.Clear = record lifting_row { alpha = Some (Becomes []) }
+alpha_row alphas.Shift = record lifting_row { alpha = Some LosesSix }
 alpha_row (alphas.Mode on) =
-    record nothing { flags = record { flag = flags_named.alpha_mode; on = on } ∷ [] }
+    record lifting_row { flags = record { flag = flags_named.alpha_mode; on = on } ∷ [] }
 
 -- what the display shows, and whether the program goes on
 abbrev pub display_row : DisplayWork → Row
-display_row displays.ViewAlpha = record nothing { shows = AlphaText }
-display_row displays.Clear = record nothing { shows = NoText }
-display_row displays.Prompt = record nothing { shows = AlphaText; ends = Stops }
-display_row displays.Stop = record silent { ends = Stops }
-display_row displays.TurnOff = record nothing { ends = TurnsOff }
+display_row displays.ViewAlpha = record lifting_row { shows = AlphaText }
+display_row displays.Clear = record lifting_row { shows = NoText }
+display_row displays.Prompt = record lifting_row { shows = AlphaText; ends = Stops }
+display_row displays.Stop = record silent_row { ends = Stops }
+display_row displays.TurnOff = record lifting_row { ends = TurnsOff }
 
 -- the row of each work
 abbrev pub row_of_work : FunctionWork → Row
@@ -68,9 +71,10 @@ row_of_work (works.OfYAndX value) = of_y_and_x (value_of_two value Y X)
 row_of_work (works.OfX value) = of_x (value_of_one value X)
 row_of_work works.Square = of_x (values.Product X X)
 row_of_work works.Percent =
-    record nothing { value = Some (values.Percentage Y X); takes = compute X ∷ copy LastX X ∷ [] }
+    record lifting_row { value = Some (values.Percentage Y X); takes = compute X ∷ copy LastX X
+        ∷ [] }
 row_of_work works.ChangeSign =
-    record nothing { value = Some (values.Negative X); takes = compute X ∷ [] }
+    record lifting_row { value = Some (values.Negative X); takes = compute X ∷ [] }
 row_of_work (works.Ask asked) = test (condition_of asked)
 row_of_work (works.Move movement) = move_row movement
 row_of_work (works.Alpha work) = alpha_row work
@@ -79,9 +83,9 @@ row_of_work (works.Angles grads radians) =
     angles
     (record { flag = flags_named.grads; on = grads })
     (record { flag = flags_named.radians; on = radians })
-row_of_work works.ClearRegisters = record nothing { clears_data = true }
-row_of_work works.Return = record silent { goes = Returns }
-row_of_work works.Nothing = nothing
+row_of_work works.ClearRegisters = record lifting_row { clears_data = true }
+row_of_work works.Return = record silent_row { goes = Returns }
+row_of_work works.Nothing = lifting_row
 
 -- functions of a register
 abbrev pub register_use_row : RegisterUse → Row
@@ -90,20 +94,21 @@ register_use_row registers.Store = store
 register_use_row (registers.Combine value) = into_register (value_of_two value Named X)
 register_use_row registers.CountUp = loop Up
 register_use_row registers.CountDown = loop Down
-register_use_row registers.View = record nothing { shows = NamedText }
+register_use_row registers.View = record lifting_row { shows = NamedText }
 register_use_row registers.StoreAlpha =
-    record nothing { takes = record { place = Named; source = SixCharacters } ∷ [] }
-register_use_row registers.RecallAlpha = record nothing { alpha = Some AppendsNamed }
-register_use_row registers.Exchange = record nothing { takes = copy X Named ∷ copy Named X ∷ [] }
+    record lifting_row { takes = record { place = Named; source = SixCharacters } ∷ [] }
+register_use_row registers.RecallAlpha = record lifting_row { alpha = Some AppendsNamed }
+register_use_row registers.Exchange = record lifting_row
+    { takes = copy X Named ∷ copy Named X ∷ [] }
 
 -- functions of a number of digits
 abbrev pub digits_use_row : DigitsUse → ℕ → Row
 digits_use_row (digits.Format fixed engineering) n = format n fixed engineering
-digits_use_row digits.Tone n = nothing
+digits_use_row digits.Tone n = lifting_row
 
 -- functions of a flag, and the highest that they take
 abbrev pub flag_use_row : FlagUse → ℕ → Row
-flag_use_row (flags.Change on) n = record nothing { flags = change n on ∷ [] }
+flag_use_row (flags.Change on) n = record lifting_row { flags = change n on ∷ [] }
 flag_use_row (flags.Ask on) n = test (Flag n on)
 flag_use_row (flags.AskAndClear on) n = record (test (Flag n on)) { flags = change n false ∷ [] }
 
@@ -121,4 +126,4 @@ IsUse function (uses.Digits taken) =
 IsUse function (uses.Flag taken) =
     (kind_of function ≡ FlagKind (highest_of taken))
     × ((n : ℕ) → count_row function n ≡ flag_use_row taken n)
-IsUse function uses.Label = (kind_of function ≡ LabelKind) × (register_row function ≡ silent)
+IsUse function uses.Label = (kind_of function ≡ LabelKind) × (register_row function ≡ silent_row)

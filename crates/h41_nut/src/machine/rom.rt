@@ -3,7 +3,7 @@
 ghost use Rattle.std.specs.Prelude.{◌≡◌, ◌≤◌, IfOk, OnOk, OnErr};
 ghost use Rattle.std.specs.Result.{result_err};
 ghost use Rattle.h41_pages.specs.Addresses.{first_address};
-ghost use Rattle.h41_nut.specs.PageWords.{fetched, system_refusal, word_or_zero};
+ghost use Rattle.h41_nut.specs.PageWords.{word_at, system_refusal, word_or_zero};
 ghost use Rattle.h41_nut.specs.MemoryWords as spec;
 ghost use Rattle.h41_nut.specs.private.ProcessorSteps.{FetchesWord, WritesWord};
 
@@ -15,17 +15,17 @@ use h41_words::Word;
 /// The word at an address. Refused as 8 in pages 0 to 3, as 9 where the chosen bank of its page is not plugged.
 #[inline(always)]
 pub fn fetch(pages: &Pages, address: u16) -> Result<Word, WordRefusal>
-    ensures word { result ≡ fetched pages.now address }
+    ensures word { result ≡ word_at pages.now address }
     ensures held { OnOk result (first_address ≤ address) }
 {
     Ok(pages.fetch(address)?)
 }
 
 /// The word at an address, and 000 where nothing is plugged (this project's choice). Refused as 8 in pages 0 to 3.
-#[tactic(auto, unfolding(h41_pages::specs::PageMap::fetched))]
+#[tactic(auto, unfolding(h41_pages::specs::PageMap::word_at))]
 fn fetch_or_zero(pages: &Pages, address: u16) -> Result<Word, WordRefusal>
     ensures refusal { result_err result ≡ system_refusal address }
-    ensures word { IfOk result (λ word. word ≡ word_or_zero (fetched pages.now address)) }
+    ensures word { IfOk result (λ word. word ≡ word_or_zero (word_at pages.now address)) }
 {
     match pages.fetch(address) {
         Ok(word) => Ok(word),

@@ -14,24 +14,25 @@ use Rattle.h41_program.specs.declared.packer.Packer.{Packer}
 use Rattle.h41_program.specs.declared.reading.Found.{Found}
 use Rattle.h41_program.specs.declared.refusal.ProgramRefusal.{ProgramRefusal}
 use Rattle.h41_program.specs.declared.refusal.ProgramRefusal.TheVariants.{BrokenProgram}
-use Rattle.h41_program.specs.Edits.{answered, before_end, count_before, has_line_at, with_inserted}
+use Rattle.h41_program.specs.Edits.{memory_with_answer, before_end, count_before, has_line_at}
+use Rattle.h41_program.specs.Edits.{with_inserted}
 use Rattle.h41_program.specs.Edits.{with_replaced, without_deleted}
 use Rattle.h41_program.specs.private.Packers.{Packs, line_if}
 use Rattle.h41_program.specs.ProgramBytes.{final_position, program_bytes}
 use Rattle.h41_program.specs.ProgramLines.{FirstFrom, LinesFrom}
-use Rattle.h41_program.specs.Rewriting.{written, HasOutcome}
+use Rattle.h41_program.specs.Rewriting.{with_program_lines, HasOutcome}
 
 -- the lines of a packer are written into memory
 abbrev pub Writes : Packer → RegisterMap → RegisterMap → Result (Unit {0}) ProgramRefusal → Type 0
 Writes packer old new result =
     (lines : List Line) → Packs packer lines
-    → HasOutcome old new result (answered tt (written old lines))
+    → HasOutcome old new result (memory_with_answer tt (with_program_lines old lines))
 
 -- what a change makes of each line of the list
-abbrev pub changed : Change → ℕ → ListedLine → List Line
-changed (Put line Before) = with_inserted line
-changed (Put line Instead) = with_replaced line
-changed Delete = without_deleted
+abbrev pub lines_of_change : Change → ℕ → ListedLine → List Line
+lines_of_change (Put line Before) = with_inserted line
+lines_of_change (Put line Instead) = with_replaced line
+lines_of_change Delete = without_deleted
 
 -- its new line is a line
 abbrev pub IsChange : Change → Type 0

@@ -5,7 +5,7 @@ use Rattle.std.specs.Option.{option_map_or}
 use Rattle.h41_program.specs.Lines.{is_number}
 use Rattle.h41_codes.specs.declared.line.Line.{Line}
 use Rattle.h41_program.specs.declared.packer.Packer.{Packer}
-use Rattle.h41_program.specs.Packing.{last_line, packed}
+use Rattle.h41_program.specs.Packing.{last_line, packed_lines}
 
 -- the most bytes that lines can have: .END. needs three of the largest memory
 abbrev pub packed_most : ℕ
@@ -13,8 +13,8 @@ packed_most = 2237
 
 -- the bytes of these lines, or the mark that they are too many, and the last line
 pub record Packs (packer : Packer) (lines : List Line) : Type 0 where
-  pub held : IsFalse packer.full → packer.bytes.items ≡ packed lines
-  pub full : IsTrue packer.full → packed_most < length (packed lines)
+  pub held : IsFalse packer.full → packer.bytes.items ≡ packed_lines lines
+  pub full : IsTrue packer.full → packed_most < length (packed_lines lines)
   pub last : packer.last ≡ last_line lines
 
 -- bytes were pushed: they stand behind the others, or the mark says that all would be too many
@@ -25,8 +25,8 @@ pub record Pushes (old new : Packer) (more : List ℕ) : Type 0 where
   pub last : new.last ≡ old.last
 
 -- what stands between the last of lines and one that is a number or not
-abbrev pub parting : Bool → Option Line → List ℕ
-parting number last = if option_map_or is_number last false && number then 0x00 ∷ [] else []
+abbrev pub null_between : Bool → Option Line → List ℕ
+null_between number last = if option_map_or is_number last false && number then 0x00 ∷ [] else []
 
 -- lines were put behind others
 abbrev pub Puts : Packer → Packer → List Line → Type 0

@@ -3,9 +3,9 @@ use Rattle.std.specs.Prelude.{◌≡◌, ℕ, ◌*◌, Option, Some, None, Resul
 use Rattle.std.specs.Prelude.{List, ℤ, pos, neg_ℤ, ◌+ℤ◌, ◌-ℤ◌, ◌*ℤ◌, unsigned_abs}
 use Rattle.h41_decimal.specs.Holding.{holding_of, worth}
 use Rattle.h41_decimal.specs.NearestDecimal.{Nearest, NearestRoot}
-use Rattle.h41_decimal.specs.NumberEntry.{greatest}
+use Rattle.h41_decimal.specs.NumberEntry.{size_of_greatest}
 use Rattle.h41_decimal.specs.Operations.{NearestModulo, NearestQuotient, RoundsTo, step_of}
-use Rattle.h41_decimal.specs.Signs.{sign_of, signed}
+use Rattle.h41_decimal.specs.Signs.{sign_of, with_sign}
 use Rattle.h41_decimal.specs.Units.{one, units}
 use Rattle.h41_decimal.specs.WholeParts.{IsFraction, IsIntegerPart}
 use Rattle.h41_decimal.specs.declared.fault.DecimalFault.{DecimalFault}
@@ -77,7 +77,7 @@ sign_of_two twos.Percentage x y = sign_of (x *ℤ y)
 abbrev pub KeptRange : RegisterMap → Sign → Result (List ℕ) LineFault → Type 0
 KeptRange memory sign result =
     MatchBool (flag_of memory range_ignore)
-    (IsOkAnd result (IsRegisterOf (signed sign greatest))) (result ≡ Err OutOfRange)
+    (IsOkAnd result (IsRegisterOf (with_sign sign size_of_greatest))) (result ≡ Err OutOfRange)
 
 -- the register of an answer for one number, or for two
 pub record KeptOne (value : ValueOfOne) (memory : RegisterMap)

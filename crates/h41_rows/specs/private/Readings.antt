@@ -2,7 +2,7 @@
 use Rattle.std.specs.Prelude.{◌≡◌, ℕ, ◌+ℤ◌, Result}
 use Rattle.std.specs.Result.{result_map_both}
 use Rattle.h41_decimal.specs.NearestDecimal.{Nearest}
-use Rattle.h41_decimal.specs.Signs.{signed}
+use Rattle.h41_decimal.specs.Signs.{with_sign}
 use Rattle.h41_decimal.specs.declared.fault.DecimalFault.{DecimalFault}
 use Rattle.h41_decimal.specs.declared.sign.Sign.{Sign}
 use Rattle.h41_decimal.specs.declared.ten.Ten.{Ten}
@@ -33,4 +33,4 @@ LeadsTo target result = result_map_both meant_by (λ fault. fault) result ≡ ta
 abbrev pub IsCounted : (sign : Sign) (ones : ℕ) (direction : Sign) (count fraction : ℕ)
     → Result Ten DecimalFault → Type 0
 IsCounted sign ones direction count fraction result =
-    Nearest (with_ones (signed sign ones +ℤ signed direction count) fraction) 1 result
+    Nearest (with_ones (with_sign sign ones +ℤ with_sign direction count) fraction) 1 result

@@ -20,7 +20,7 @@ use Rattle.h41_program.specs.ProgramLines.{AnswersOf}
 use Rattle.h41_program.specs.Searches.{named_in, position_of}
 use Rattle.h41_program.specs.declared.refusal.ProgramRefusal.{ProgramRefusal}
 use Rattle.h41_ram.specs.RegisterMap.{RegisterMap, is_sound}
-use Rattle.h41_xrom.specs.Calculator.{CalculatorState, after_answer, entering}
+use Rattle.h41_xrom.specs.Calculator.{CalculatorState, after_answer, with_function}
 use Rattle.h41_xrom.specs.KeyActions as spec
 use Rattle.h41_xrom.specs.Lines.{Answers, Begins, CarriesFrom, Ended}
 use Rattle.h41_xrom.specs.Programs.{Becomes}
@@ -89,7 +89,7 @@ IsActed action memory = IsTrue (is_sound memory)
 -- line and behind an effect
 abbrev pub after_end : LineEnd → CalculatorState → CalculatorState
 after_end (ends.Answers outcome) s = after_answer (answer_of outcome) s
-after_end (ends.Begins address) s = entering address s
+after_end (ends.Begins address) s = with_function address s
 
 abbrev pub after_effect : KeyEffect → CalculatorState → CalculatorState
 after_effect effects.Nothing s = s

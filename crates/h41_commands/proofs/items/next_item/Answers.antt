@@ -1,5 +1,5 @@
 use Rattle.std.proofs.Common.{◌≡◌, ◌∷◌, sym, ap, ◌∙◌}
-use Rattle.h41_commands.specs.Entries.{given}
+use Rattle.h41_commands.specs.Entries.{what_is_spelled}
 use Rattle.h41_commands.specs.Items as deck
 use Rattle.h41_lines.specs.Lines.{lines}
 use Rattle.h41_commands.proofs.DeckItems.{commands-opening, commands-line}
@@ -10,7 +10,8 @@ pub returns-in-Some-clause-item : goal.returns-in-Some-clause-item
 returns-in-Some-clause-item c =
     let line = c.in-Some.line.now in
     let rest = lines c.next.new.self.rest.now in
-    let first : deck.commands (line ∷ rest) ≡ given c.if-is_opening.item ∷ deck.commands (lines c.if-is_opening.rest.rest.now) = elim
+    let first : deck.commands (line ∷ rest) ≡ what_is_spelled c.if-is_opening.item ∷ deck.commands (lines c.if-is_opening.rest.rest.now) =
+        elim
     c.if-is_opening.branch [
       | then-is_opening+in_ok-item w ↦
           rw (w.item-is, w.rest-is)

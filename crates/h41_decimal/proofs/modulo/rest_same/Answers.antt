@@ -1,6 +1,6 @@
 use Rattle.std.proofs.Common.{◌≡◌, ◌+◌, ◌-◌, ◌*◌, ◌/◌, ◌%◌, ◌^◌, ◌<◌, ◌≤◌, ap, ◌∙◌, refl, arith, Ok}
 use Rattle.std.proofs.Math.Nat.{zero-mul}
-use Rattle.h41_decimal.specs.Signs.{signed}
+use Rattle.h41_decimal.specs.Signs.{with_sign}
 use Rattle.h41_decimal.specs.Units.{size}
 use Rattle.h41_decimal.specs.declared.ten.Ten.TheVariants.{Zero, Nonzero}
 use Rattle.h41_decimal.proofs.Signed.{nearest_of_zero, signed-zero}
@@ -31,7 +31,7 @@ returns-then-rest-eq0 c =
     let none : c.remainder-rest.result * 10 ^ s ≡ 0 = ap (λ k. k * 10 ^ s) c.if-rest-eq0.true ∙ zero-mul (10 ^ s) in
     let e : size y ≡ (n * 10 ^ (t - s) / m) * size x + c.remainder-rest.result * 10 ^ s = d.0 in
     rest_of_same c.args.sign (size y) (size x) (n * 10 ^ (t - s) / m) 0 (Ok Zero) (omega arith) (size_pos x)
-    (nearest_of_zero (signed c.args.sign 0) 1 (Ok Zero) (signed-zero c.args.sign 0 refl) refl)
+    (nearest_of_zero (with_sign c.args.sign 0) 1 (Ok Zero) (signed-zero c.args.sign 0 refl) refl)
 
 pub returns : goal.returns
 returns c =

@@ -1,5 +1,5 @@
 use Rattle.std.proofs.Common.{◌≡◌, ◌-◌, ◌*◌, ◌/◌, ◌%◌, ◌≤◌, ◌^◌, ap, ◌∙◌, refl, arith}
-use Rattle.h41_decimal.specs.Signs.{signed}
+use Rattle.h41_decimal.specs.Signs.{with_sign}
 use Rattle.h41_decimal.specs.Units.{size}
 use Rattle.h41_decimal.proofs.Nearest.{ten_pow_pos}
 use Rattle.h41_decimal.proofs.Tens.{size_pos}
@@ -43,4 +43,4 @@ returns c =
     let same : c.digits.result % p * 10 ^ c.steps-steps.result ≡ m % p * 10 ^ s = cc in
     fraction_of c.args.sign (size c.args.x) (m / p) (m % p * 10 ^ s) _
     (size_pos c.args.x) (ones_cut m s k p c.power_of_ten.ensures (omega arith))
-    (split_at_ones m s k p c.power_of_ten.ensures (omega arith)) (c.decimal.ensures ∙ ap (signed c.args.sign) same)
+    (split_at_ones m s k p c.power_of_ten.ensures (omega arith)) (c.decimal.ensures ∙ ap (with_sign c.args.sign) same)

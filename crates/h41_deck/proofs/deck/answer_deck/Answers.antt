@@ -1,7 +1,7 @@
 use Rattle.std.proofs.Common.{◌≡◌, true, false, sym, ◌∙◌, rules}
 use Rattle.std.proofs.KnownBytes.{Appends-kept}
 use Rattle.std.proofs.lemmas.Result.{err_from_is_err_and}
-use Rattle.h41_commands.specs.Entries.{given}
+use Rattle.h41_commands.specs.Entries.{what_is_spelled}
 use Rattle.h41_commands.specs.Items.{commands, is_open}
 use Rattle.h41_lines.specs.Lines.{lines}
 use Rattle.h41_deck.proofs.AnswersInTurn.{answered-none, answered-some, told_all, told_fault, told_left, told_next, told_none}
@@ -16,13 +16,13 @@ use Rattle.h41_deck.proofs.deck.answer_deck.Goals.{else-not-is_whole-via-else-no
 pub loop-bench-preserved : goal.loop-bench-preserved
 loop-bench-preserved g c =
     let first = rw c.in-Some.is at c.in_ok-item.ensures.item in
-    let shut : c.args.is_whole ≡ false → is_open (given c.in-Some.item) ≡ false = elim c.else-not-is_whole.branch [
+    let shut : c.args.is_whole ≡ false → is_open (what_is_spelled c.in-Some.item) ≡ false = elim c.else-not-is_whole.branch [
       | else-not-is_whole-via-then-not-is_whole+else-is_open w ↦ λ cut. sym (w.is_open.ensures) ∙ w.if-is_open.false
       | else-not-is_whole-via-else-not-is_whole w ↦ λ cut. let both : true ≡ false = sym w.if-not-is_whole.false ∙ cut in cc
     ] in
     let told = told_next _ _ _ c.args.is_whole (commands (lines c.args.deck.now)) (commands (lines c.loop-bench.rest.rest.now)) _
     c.loop-bench.bench c.answer.new.bench c.loop-bench.outcome c.in_ok-next.next
-    (given c.in-Some.item) c.loop-bench.invariant.told first shut c.in_ok-next.ensures.reply in
+    (what_is_spelled c.in-Some.item) c.loop-bench.invariant.told first shut c.in_ok-next.ensures.reply in
     record { told = rw c.and-outcome.ensures told; clear = search rules }
 
 pub returns-clause-answers : goal.returns-clause-answers
@@ -55,14 +55,15 @@ pub returns-in_err-next-clause-left : goal.returns-in_err-next-clause-left
 returns-in_err-next-clause-left g c =
     let failed = err_from_is_err_and c.from_residual-in_err-next.result c.from_residual-in_err-next.ensures.1 in
     let first = rw c.in-Some.is at c.in_ok-item.ensures.item in
-    let shut : c.args.is_whole ≡ false → is_open (given c.in-Some.item) ≡ false = elim c.else-not-is_whole.branch [
+    let shut : c.args.is_whole ≡ false → is_open (what_is_spelled c.in-Some.item) ≡ false = elim c.else-not-is_whole.branch [
       | else-not-is_whole-via-then-not-is_whole+else-is_open w ↦ λ cut. sym (w.is_open.ensures) ∙ w.if-is_open.false
       | else-not-is_whole-via-else-not-is_whole w ↦ λ cut. let both : true ≡ false = sym w.if-not-is_whole.false ∙ cut in cc
     ] in
     rw (failed.1, failed.2)
     (told_fault g.W.Sink.contents c.args.writer.now c.loop-bench.writer c.answer.new.writer
     _ _ _ c.loop-bench.bench c.answer.new.bench c.loop-bench.outcome
-    (given c.in-Some.item) _ c.loop-bench.invariant.told (answered-some c.args.is_whole _ _ _ first shut) c.in_err-next.ensures.reply)
+    (what_is_spelled c.in-Some.item) _ c.loop-bench.invariant.told (answered-some c.args.is_whole _ _ _ first shut)
+        c.in_err-next.ensures.reply)
 
 pub returns-in_err-flush-clause-left : goal.returns-in_err-flush-clause-left
 returns-in_err-flush-clause-left g c =

@@ -1,11 +1,11 @@
 use Rattle.std.proofs.Common.{◌≡◌, ◌∙◌}
-use Rattle.h41_commands.specs.Blocks.{filled}
+use Rattle.h41_commands.specs.Blocks.{page_of_words}
 use Rattle.h41_deck.proofs.Plugging.{plugs_done, plugs_refused, resized}
 use Rattle.h41_deck.proofs.replies.plug_words.Goals as goal
 
 pub returns-in-Ok-clause-plugs : goal.returns-in-Ok-clause-plugs
 returns-in-Ok-clause-plugs c =
-    let words : c.deref.result.now ≡ filled c.args.words.items =
+    let words : c.deref.result.now ≡ page_of_words c.args.words.items =
     c.deref.ensures.value ∙ resized c.args.words.items _ _ c.args.words.ok.0 c.requires c.in_ok-resize.ensures.items in
     plugs_done c.args.bench.now c.args.page c.args.writable c.args.words.items c.deref.result.now
     c.calculator_mut.result.now c.plug.new.self c.calculator_mut.ensures.value words
@@ -13,7 +13,7 @@ returns-in-Ok-clause-plugs c =
 
 pub returns : goal.returns
 returns c =
-    let words : c.deref.result.now ≡ filled c.args.words.items =
+    let words : c.deref.result.now ≡ page_of_words c.args.words.items =
     c.deref.ensures.value ∙ resized c.args.words.items _ _ c.args.words.ok.0 c.requires c.in_ok-resize.ensures.items in
     record {
       plugs =

@@ -1,6 +1,6 @@
 use Rattle.std.proofs.Common.{ap}
 use Rattle.h41_focal.proofs.LabelsMet.{goes_back, goes_to_line_00}
-use Rattle.h41_focal.specs.LineStep.{joined}
+use Rattle.h41_focal.specs.LineStep.{machine_with}
 use Rattle.h41_focal.specs.declared.machine.Machine.TheInside.{Inside}
 use Rattle.h41_focal.proofs.labels.go_back.Goals as goal
 
@@ -13,7 +13,7 @@ returns-in-Program g c = λ named.
 pub returns-in-Typed : goal.returns-in-Typed
 returns-in-Typed g c = λ named.
     rw (c.in-Typed.is, c.halt_at.ensures, ← c.machine.view_is)
-    (goes_to_line_00 (joined c.machine.inside.ram c.machine.inside.focal) c.start_of-start.result named
+    (goes_to_line_00 (machine_with c.machine.inside.ram c.machine.inside.focal) c.start_of-start.result named
     (let found = c.start_of-start.ensures in
     rw (
       ap (λ (inside : Inside g.row.REGS). inside.ram) c.machine-inside.view_is,

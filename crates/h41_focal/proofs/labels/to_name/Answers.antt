@@ -1,7 +1,7 @@
 use Rattle.std.proofs.Common.{None, subst}
 use Rattle.h41_focal.proofs.Briefly.{failure_calling}
 use Rattle.h41_focal.proofs.RowApplied.{opened_row}
-use Rattle.h41_focal.specs.LineStep.{Machine, joined}
+use Rattle.h41_focal.specs.LineStep.{Machine, machine_with}
 use Rattle.h41_program.specs.ProgramLines.{AnswersOf}
 use Rattle.h41_program.specs.Searches.{named_in, position_of}
 use Rattle.h41_focal.specs.Outcomes.{Seeks}
@@ -15,7 +15,7 @@ returns-in-Some-default g c = λ named.
     rw c.arrive.ensures.focal
     (opened_row _ (to_name c.args.branch c.args.name) named _ _ _ _ c.machine.view_is c.requires.next
     (λ knows. name_found c.args.origin c.args.branch c.args.name named
-    (joined c.machine.inside.ram c.machine.inside.focal) c.in-Some-default.byte c.arrive.result knows
+    (machine_with c.machine.inside.ram c.machine.inside.focal) c.in-Some-default.byte c.arrive.result knows
     (let found = c.global.ensures in rw (c.in-Some-default.is-0, c.characters.ensures.value) at found) c.arrive.ensures.answer))
 
 pub returns-in-None-GoTo : goal.returns-in-None-GoTo

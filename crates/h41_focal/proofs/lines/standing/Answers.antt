@@ -1,11 +1,11 @@
 use Rattle.std.proofs.Common.{ap, subst, ◌∙◌}
 use Rattle.h41_focal.specs.private.Carrying.{Stands}
-use Rattle.h41_focal.specs.LineStep.{Machine, joined}
+use Rattle.h41_focal.specs.LineStep.{Machine, machine_with}
 use Rattle.h41_focal.specs.declared.machine.Machine.TheInside.{Inside}
 use Rattle.h41_focal.proofs.lines.standing.Goals as goal
 
 pub returns : goal.returns
 returns g c =
     subst (λ (machine : Machine). Stands machine c.standing_at.result)
-    (ap (λ (inside : Inside g.row.REGS). joined inside.ram inside.focal) c.machine-inside.view_is ∙ c.machine.view_is)
+    (ap (λ (inside : Inside g.row.REGS). machine_with inside.ram inside.focal) c.machine-inside.view_is ∙ c.machine.view_is)
     c.standing_at.ensures

@@ -1,6 +1,6 @@
 use Rattle.std.proofs.Common.{ap, refl, ◌∙◌}
 use Rattle.h41_focal.specs.declared.machine.Machine.TheInside.{Inside}
-use Rattle.h41_focal.specs.LineStep.{joined}
+use Rattle.h41_focal.specs.LineStep.{machine_with}
 use Rattle.h41_focal.proofs.RowDone.{row_done}
 use Rattle.h41_rows.specs.Places.{Named}
 use Rattle.h41_focal.specs.private.Works.{register_use_row}
@@ -11,6 +11,6 @@ use Rattle.h41_focal.proofs.register_lines.recall.Goals as goal
 
 pub returns : goal.returns
 returns g c =
-    let opened = ap (λ (inside : Inside g.row.REGS). joined inside.ram inside.focal) c.machine-inside.view_is ∙ c.machine.view_is in
+    let opened = ap (λ (inside : Inside g.row.REGS). machine_with inside.ram inside.focal) c.machine-inside.view_is ∙ c.machine.view_is in
     row_done _ (register_use_row registers.Recall) c.args.address _ _ _ zeros briefs.Done _ _ opened c.requires.next refl refl refl
     (c.bring_in_from.ensures c.args.address Named zeros refl) c.go_on_lifting.ensures

@@ -2,7 +2,7 @@ use Rattle.std.proofs.Common.{◌≡◌, ℕ, ap, refl, ◌∙◌}
 use Rattle.h41_focal.specs.declared.machine.Machine.TheInside.{Inside}
 use Rattle.h41_focal.proofs.RowDone.{row_done}
 use Rattle.h41_focal.proofs.stack_lines.move_stack.Goals as goal
-use Rattle.h41_focal.specs.LineStep.{answered, joined}
+use Rattle.h41_focal.specs.LineStep.{answer_of_showing, machine_with}
 use Rattle.h41_focal.specs.Outcomes as answers
 use Rattle.h41_rows.specs.Rows as rows
 use Rattle.h41_focal.specs.private.Works.{move_row}
@@ -24,7 +24,7 @@ goes_on moves.ClearX = refl
 
 -- and answers nothing
 answers_done : (memory : RegisterMap) (movement : Movement) (named : ℕ)
-    → answers.Done ≡ answered memory named (move_row movement).shows (move_row movement).ends
+    → answers.Done ≡ answer_of_showing memory named (move_row movement).shows (move_row movement).ends
 answers_done memory moves.Exchange named = refl
 answers_done memory moves.RollUp named = refl
 answers_done memory moves.RollDown named = refl
@@ -37,6 +37,6 @@ answers_done memory moves.ClearX named = refl
 pub returns : goal.returns
 returns g c = λ named.
     let moved = c.move_registers.ensures named in
-    let opened = ap (λ (inside : Inside g.row.REGS). joined inside.ram inside.focal) c.machine-inside.view_is ∙ c.machine.view_is in
+    let opened = ap (λ (inside : Inside g.row.REGS). machine_with inside.ram inside.focal) c.machine-inside.view_is ∙ c.machine.view_is in
     row_done _ (move_row c.args.movement) named _ _ _ moved.0 briefs.Done _ _ opened c.requires.next
     (goes_on c.args.movement) moved.1 (answers_done _ c.args.movement named) moved.2 c.go_on_behind.ensures

@@ -1,7 +1,7 @@
 use Rattle.std.proofs.Common.{◌≡◌, refl, sym, ◌∙◌, ap, subst, Ok, Err}
 use Rattle.std.proofs.lemmas.Result.{err_from_is_err_and}
-use Rattle.h41_program.specs.Edits.{done}
-use Rattle.h41_program.specs.private.EditSteps.{changed}
+use Rattle.h41_program.specs.Edits.{without_answer}
+use Rattle.h41_program.specs.private.EditSteps.{lines_of_change}
 use Rattle.h41_program.specs.ProgramLines.{AnswersFirst}
 use Rattle.h41_program.proofs.EditSteps.{edit_none, edit_refused, edit_written}
 use Rattle.h41_program.proofs.Outcomes.{edit_sound}
@@ -9,7 +9,7 @@ use Rattle.h41_program.proofs.editing.change_at.Goals as goal
 
 pub returns-in_err-place-clause-lines : goal.returns-in_err-place-clause-lines
 returns-in_err-place-clause-lines g c =
-    edit_none c.args.ram.now (changed c.args.change) c.args.at c.from_residual.result c.in_err-place.field-0.0
+    edit_none c.args.ram.now (lines_of_change c.args.change) c.args.at c.from_residual.result c.in_err-place.field-0.0
     (subst (λ r. AnswersFirst c.args.ram.now c.args.at r) c.in_err-place.was c.line_at.ensures)
     (let p = err_from_is_err_and c.from_residual.result c.from_residual.ensures.1 in rw (p.1, p.2) refl)
 
@@ -17,7 +17,7 @@ pub returns-in_err-packed_changed-clause-lines : goal.returns-in_err-packed_chan
 returns-in_err-packed_changed-clause-lines g c =
     let first = c.in_ok-place.field-0 in
     let stands = subst (λ r. AnswersFirst c.args.ram.now c.args.at r) c.in_ok-place.was c.line_at.ensures in
-    edit_refused c.args.ram.now (changed c.args.change) c.args.at first stands c.packed_changed.result c.packed_changed.ensures
+    edit_refused c.args.ram.now (lines_of_change c.args.change) c.args.at first stands c.packed_changed.result c.packed_changed.ensures
     c.from_residual-in_err-packed_changed.result c.in_err-packed_changed.field-0.0 c.in_err-packed_changed.was
     (let p =
     err_from_is_err_and c.from_residual-in_err-packed_changed.result c.from_residual-in_err-packed_changed.ensures.1 in
@@ -29,23 +29,23 @@ returns-in_err-write-clause-lines g c =
     let stands = subst (λ r. AnswersFirst c.args.ram.now c.args.at r) c.in_ok-place.was c.line_at.ensures in
     let err : c.from_residual-in_err-write.result ≡ Err c.in_err-write.field-0.0 =
     (let p = err_from_is_err_and c.from_residual-in_err-write.result c.from_residual-in_err-write.ensures.1 in rw (p.1, p.2) refl) in
-    edit_written c.args.ram.now (changed c.args.change) c.args.at first stands c.packed_changed.result c.packed_changed.ensures
+    edit_written c.args.ram.now (lines_of_change c.args.change) c.args.at first stands c.packed_changed.result c.packed_changed.ensures
     c.write.new.ram c.in_ok-packed_changed.field-0 c.write.result
-    (done c.from_residual-in_err-write.result) c.in_ok-packed_changed.was c.write.ensures.lines
-    (c.in_err-write.was ∙ sym (ap done err))
+    (without_answer c.from_residual-in_err-write.result) c.in_ok-packed_changed.was c.write.ensures.lines
+    (c.in_err-write.was ∙ sym (ap without_answer err))
 
 pub returns-clause-lines : goal.returns-clause-lines
 returns-clause-lines g c =
     let first = c.in_ok-place.field-0 in
     let stands = subst (λ r. AnswersFirst c.args.ram.now c.args.at r) c.in_ok-place.was c.line_at.ensures in
-    edit_written c.args.ram.now (changed c.args.change) c.args.at first stands c.packed_changed.result c.packed_changed.ensures
+    edit_written c.args.ram.now (lines_of_change c.args.change) c.args.at first stands c.packed_changed.result c.packed_changed.ensures
     c.write.new.ram c.in_ok-packed_changed.field-0 c.write.result (Ok tt) c.in_ok-packed_changed.was c.write.ensures.lines c.in_ok-write.was
 
 pub returns-in_err-write-clause-sound : goal.returns-in_err-write-clause-sound
 returns-in_err-write-clause-sound g c =
-    edit_sound c.args.ram.now c.write.new.ram (changed c.args.change) c.args.at
-    (done c.from_residual-in_err-write.result) c.requires.sound (returns-in_err-write-clause-lines g c)
+    edit_sound c.args.ram.now c.write.new.ram (lines_of_change c.args.change) c.args.at
+    (without_answer c.from_residual-in_err-write.result) c.requires.sound (returns-in_err-write-clause-lines g c)
 
 pub returns-clause-sound : goal.returns-clause-sound
 returns-clause-sound g c =
-    edit_sound c.args.ram.now c.write.new.ram (changed c.args.change) c.args.at (Ok tt) c.requires.sound (returns-clause-lines g c)
+    edit_sound c.args.ram.now c.write.new.ram (lines_of_change c.args.change) c.args.at (Ok tt) c.requires.sound (returns-clause-lines g c)

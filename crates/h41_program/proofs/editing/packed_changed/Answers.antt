@@ -1,7 +1,7 @@
 use Rattle.std.proofs.Common.{Err, Ok, [], ◌∷◌, ◌++◌, refl, sym, ◌∙◌, ap}
 use Rattle.std.specs.Prelude.{◌||◌, ◌==◌}
 use Rattle.std.specs.List.{flat_map}
-use Rattle.h41_program.specs.private.EditSteps.{changed}
+use Rattle.h41_program.specs.private.EditSteps.{lines_of_change}
 use Rattle.h41_program.specs.declared.refusal.ProgramRefusal.TheVariants.{BrokenProgram}
 use Rattle.h41_program.specs.ProgramBytes.{program_bytes, final_position}
 use Rattle.h41_program.proofs.EditSteps.{changed_final, changed_none, has_line_at-more, last_packs, one_packs}
@@ -34,7 +34,7 @@ loop-found-preserved g c =
         packs =
             one_packs c.put_if.new.packer c.args.change.now c.args.place before.0
             found.listed here c.is_kept.result refl c.is_kept.ensures running
-            (c.put_if.ensures _ (c.put_new.ensures (flat_map (changed c.args.change.now c.args.place) before.0) before.1.packs));
+            (c.put_if.ensures _ (c.put_new.ensures (flat_map (lines_of_change c.args.change.now c.args.place) before.0) before.1.packs));
         found = met ∙ sym (has_line_at-more c.args.place before.0 found.listed);
       },
     )
@@ -54,10 +54,10 @@ returns-then-met g c =
       lines,
       from_reads memory 0 lines c.requires.sound reads,
       changed_final (program_bytes memory) (final_position memory) c.loop-found.at found.behind c.put_new.new.packer
-          c.is_met-met.result (changed c.args.change.now c.args.place) c.args.place before.0 lines found.listed
+          c.is_met-met.result (lines_of_change c.args.change.now c.args.place) c.args.place before.0 lines found.listed
           before.1.read c.in-Some.ensures.first final
           (last_packs c.put_new.new.packer c.args.change.now c.args.place before.0 found.listed here refl final
-          (c.put_new.ensures (flat_map (changed c.args.change.now c.args.place) before.0) before.1.packs))
+          (c.put_new.ensures (flat_map (lines_of_change c.args.change.now c.args.place) before.0) before.1.packs))
           (met ∙ sym (has_line_at-more c.args.place before.0 found.listed)) reads (Ok c.put_new.new.packer) (rw c.if-met.true refl),
     )
 
@@ -76,10 +76,10 @@ returns-else-met g c =
       lines,
       from_reads memory 0 lines c.requires.sound reads,
       changed_final (program_bytes memory) (final_position memory) c.loop-found.at found.behind c.put_new.new.packer
-          c.is_met-met.result (changed c.args.change.now c.args.place) c.args.place before.0 lines found.listed
+          c.is_met-met.result (lines_of_change c.args.change.now c.args.place) c.args.place before.0 lines found.listed
           before.1.read c.in-Some.ensures.first final
           (last_packs c.put_new.new.packer c.args.change.now c.args.place before.0 found.listed here refl final
-          (c.put_new.ensures (flat_map (changed c.args.change.now c.args.place) before.0) before.1.packs))
+          (c.put_new.ensures (flat_map (lines_of_change c.args.change.now c.args.place) before.0) before.1.packs))
           (met ∙ sym (has_line_at-more c.args.place before.0 found.listed)) reads (Err BrokenProgram) (rw c.if-met.false refl),
     )
 
@@ -91,6 +91,6 @@ returns g c =
     all_none (program_bytes memory) (final_position memory) 0 c.loop-found.at before.0 before.1.read c.in_default.ensures.none in (
       before.0,
       from_reads memory 0 before.0 c.requires.sound reads,
-      changed_none (program_bytes memory) (final_position memory) c.loop-found.at (changed c.args.change.now c.args.place)
+      changed_none (program_bytes memory) (final_position memory) c.loop-found.at (lines_of_change c.args.change.now c.args.place)
           c.args.place before.0 before.0 before.1.read c.in_default.ensures.none reads,
     )

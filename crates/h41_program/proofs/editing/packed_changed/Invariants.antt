@@ -1,6 +1,6 @@
 use Rattle.std.proofs.Common.{List, length, ◌-◌}
 use Rattle.h41_program.specs.declared.listed_line.ListedLine.{ListedLine}
-use Rattle.h41_program.specs.private.EditSteps.{changed}
+use Rattle.h41_program.specs.private.EditSteps.{lines_of_change}
 use Rattle.h41_program.specs.ProgramBytes.{program_bytes, final_position}
 use Rattle.h41_program.proofs.EditSteps.{Changed}
 use Rattle.h41_program.proofs.editing.packed_changed.Given as goal
@@ -9,7 +9,7 @@ use Rattle.h41_program.proofs.editing.packed_changed.Given as goal
 abbrev pub invariant-loop-found : goal.invariant-loop-found
 invariant-loop-found g l =
     (before : List ListedLine)
-    × Changed (program_bytes l.ram) (final_position l.ram) l.packer l.met (changed l.change l.place) l.place l.at before
+    × Changed (program_bytes l.ram) (final_position l.ram) l.packer l.met (lines_of_change l.change l.place) l.place l.at before
 
 -- the bytes that are left
 abbrev pub decreases-loop-found : goal.decreases-loop-found

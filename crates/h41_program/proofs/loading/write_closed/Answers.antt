@@ -1,5 +1,5 @@
 use Rattle.std.proofs.Common.{sym, ◌∙◌}
-use Rattle.h41_program.specs.Edits.{closed}
+use Rattle.h41_program.specs.Edits.{with_last_end}
 use Rattle.h41_program.proofs.Closings.{closed_none, closed_some, open_test}
 use Rattle.h41_program.proofs.loading.write_closed.Goals as goal
 
@@ -11,4 +11,4 @@ pub returns : goal.returns
 returns g c lines packs =
     closed_some c.args.ram.now c.write.new.ram c.write.result lines
     (sym (open_test c.args.packer lines c.is_open.result packs c.is_open.ensures) ∙ c.if-not-is_open.false)
-    (c.write.ensures.lines (closed lines) (c.close.ensures lines packs))
+    (c.write.ensures.lines (with_last_end lines) (c.close.ensures lines packs))

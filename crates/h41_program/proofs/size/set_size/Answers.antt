@@ -1,6 +1,6 @@
 use Rattle.std.proofs.Common.{◌≡◌, ◌+◌, ◌-◌, ◌<◌, ◌≤◌, Ok, length, sym, ◌∙◌, ap, arith}
 use Rattle.h41_ram.specs.RegisterMap.{curtain_of, end_of, main_start, top_of}
-use Rattle.h41_program.specs.Size.{moved_curtain, resized}
+use Rattle.h41_program.specs.Size.{moved_curtain, with_size}
 use Rattle.h41_program.proofs.Resized.{Fits, fits_outcome, resize_sound}
 use Rattle.h41_program.proofs.size.set_size.Goals as goal
 
@@ -13,7 +13,7 @@ returns-clause-size g c =
     omega (arith, long, c.if-new_curtain-end.false, c.curtain-curtain.ensures.value, c.end_register-end.ensures) in
     let size : c.args.size ≡ top_of memory - (main_start + g.row.REGS - c.args.size) = omega (arith, long, small) in
     let fits : Fits memory c.args.size c.resize.new.ram =
-    record { small = small; room = room; same = c.resize.ensures ∙ ap (resized memory) (sym size) } in
+    record { small = small; room = room; same = c.resize.ensures ∙ ap (with_size memory) (sym size) } in
     fits_outcome memory c.resize.new.ram c.args.size fits
 
 pub returns-clause-sound : goal.returns-clause-sound

@@ -1,5 +1,5 @@
 use Rattle.std.proofs.Common.{ap}
-use Rattle.h41_decimal.specs.Signs.{signed}
+use Rattle.h41_decimal.specs.Signs.{with_sign}
 use Rattle.h41_rows.proofs.Counts.{filled, log_few, whole_worth}
 use Rattle.h41_rows.proofs.counters.whole_number.Goals as goal
 
@@ -17,4 +17,4 @@ pub returns : goal.returns
 returns c =
     let log = c.ilog10-log.result in
     let fits = log_few log c.args.ones c.ilog10-log.ensures.power_le c.requires in
-    ap (signed c.args.sign) (whole_worth log c.args.ones c.pow.result c.pow.ensures fits)
+    ap (with_sign c.args.sign) (whole_worth log c.args.ones c.pow.result c.pow.ensures fits)

@@ -1,7 +1,7 @@
 use Rattle.std.proofs.Common.{Ok, ap, ◌∙◌}
 use Rattle.h41_focal.specs.LineStep.{Machine}
 use Rattle.h41_ram.specs.RegisterMap.{RegisterMap}
-use Rattle.h41_xrom.specs.KeyActions.{Leaves, changed}
+use Rattle.h41_xrom.specs.KeyActions.{Leaves, with_line_changed}
 use Rattle.h41_xrom.proofs.typing.change_number.Goals as goal
 
 pub returns-clause-number : goal.returns-clause-number
@@ -9,5 +9,5 @@ returns-clause-number g c = (
   c.written.result,
   c.written.ensures c.args.machine.now.memory 0,
   ap (λ (of : RegisterMap). Ok (Leaves (record { memory = of; focal = c.machine.inside.focal }))) (c.bring_in.ensures 0)
-      ∙ ap (λ (of : Machine). Ok (Leaves (changed of c.written.result))) c.machine.view_is,
+      ∙ ap (λ (of : Machine). Ok (Leaves (with_line_changed of c.written.result))) c.machine.view_is,
 )

@@ -1,6 +1,6 @@
 use Rattle.std.proofs.Common.{ap, sym, subst, Ok}
 use Rattle.std.specs.Prelude.{pos}
-use Rattle.h41_decimal.specs.Signs.{signed}
+use Rattle.h41_decimal.specs.Signs.{with_sign}
 use Rattle.h41_decimal.specs.Units.{size, units}
 use Rattle.h41_decimal.specs.Operations.{NearestModulo}
 use Rattle.h41_decimal.specs.declared.ten.Ten.{Ten}
@@ -21,4 +21,4 @@ returns-in-Nonzero-Nonzero c =
     let a = c.in-Nonzero-Nonzero in
     let P : Ten → Type 0 = λ t. NearestModulo c.args.self t c.modulo.result in
     subst P (sym a.is-1)
-    (modulo_by c.args.self a.x_sign a.x (signed a.y_sign (size a.y)) c.modulo.result (ap units a.is-0) c.modulo.ensures)
+    (modulo_by c.args.self a.x_sign a.x (with_sign a.y_sign (size a.y)) c.modulo.result (ap units a.is-0) c.modulo.ensures)

@@ -1,6 +1,6 @@
 use Rattle.std.proofs.Common.{refl}
 use Rattle.std.proofs.lemmas.Result.{err_from_is_err_and}
-use Rattle.h41_focal.specs.LineStep.{joined}
+use Rattle.h41_focal.specs.LineStep.{machine_with}
 use Rattle.h41_focal.proofs.LinesTaken.{lift_kept, line_passed, pass_refused}
 use Rattle.h41_focal.proofs.machine.Machine.pass.Goals as goal
 
@@ -11,14 +11,15 @@ returns-in_err-line-clause-line g c =
 
 pub returns-in-Module-clause-line : goal.returns-in-Module-clause-line
 returns-in-Module-clause-line g c =
-    line_passed c.args.self.now (joined c.self.inside.ram c.go_on_lifting.new.focal) c.in_ok-line.line c.in_ok-line.next
+    line_passed c.args.self.now (machine_with c.self.inside.ram c.go_on_lifting.new.focal) c.in_ok-line.line c.in_ok-line.next
     c.in_ok-line.ensures
     (rw (← c.self.view_is, c.go_on_lifting.ensures, c.in-Module.is) refl)
 
 pub returns-in_default : goal.returns-in_default
 returns-in_default g c = record {
   line =
-      line_passed c.args.self.now (joined c.self.inside.ram c.go_on.new.focal) c.in_ok-line.line c.in_ok-line.next c.in_ok-line.ensures
+      line_passed c.args.self.now (machine_with c.self.inside.ram c.go_on.new.focal) c.in_ok-line.line c.in_ok-line.next
+          c.in_ok-line.ensures
       (rw (← c.self.view_is, c.go_on.ensures, lift_kept c.in_ok-line.line c.self.inside.focal.lift c.in_default.not-Module) refl);
   unchanged = tt;
 }

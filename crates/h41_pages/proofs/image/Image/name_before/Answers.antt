@@ -1,6 +1,6 @@
 use Rattle.std.proofs.Common.{◌≡◌, ◌<◌, ◌≤◌, ◌+◌, ℕ, List, Some, false, true, [], ◌∷◌, ◌++◌, length, min, map, arith, ap, sym, ◌∙◌}
 use Rattle.std.proofs.lemmas.Grind.{common_steps}
-use Rattle.h41_pages.specs.FunctionTables.{spelled, word_before, character, is_last}
+use Rattle.h41_pages.specs.FunctionTables.{spelled_name, word_before, character, is_last}
 use Rattle.h41_pages.proofs.Names.{going_on, name_begins, name_goes_on, name_ends}
 use Rattle.h41_pages.proofs.Ranges.{up_to, up_to-zero, map-step, map-none}
 use Rattle.h41_pages.proofs.image.Image.name_before.Goals as goal
@@ -16,7 +16,7 @@ loop-distance-init c =
     let none : c.new-name.result ≡ [] = c.new-name.ensures in
     record {
       length = ap length none;
-      name = ap (λ places. spelled (map (word_before words offset) places)) (up_to-zero (min offset 11))
+      name = ap (λ places. spelled_name (map (word_before words offset) places)) (up_to-zero (min offset 11))
           ∙ name_begins (map (word_before words offset) (up_to 0 (min offset 11)))
           ∙ ap (λ name. going_on name (map (word_before words offset) (up_to 0 (min offset 11)))) (sym none);
     }

@@ -58,7 +58,7 @@ typed_fails : (flag : Bool) (machine : Machine) (fault : LineFault) (left : Left
 typed_fails true machine fault left is = ap (λ (of : Left). is_elsewhere of.answer) is
 typed_fails false machine fault left is = ap (λ (of : Left). is_elsewhere of.answer) is
 
-fails : (how : Manner) (machine : Machine) (fault : LineFault) (left : Left) → Fails how machine fault left
+pub fails : (how : Manner) (machine : Machine) (fault : LineFault) (left : Left) → Fails how machine fault left
     → is_elsewhere left.answer ≡ false
 fails Stepped machine fault left failing = stepped_fails (flag_of machine.memory 25) machine fault left failing
 fails Typed machine fault left failing = typed_fails (flag_of machine.memory 25) machine fault left failing
@@ -141,7 +141,7 @@ takes_by : (out : Bool) (how : Manner) (line : Line) (machine : Machine) (left :
 takes_by true how line machine left is elsewhere = cc
 takes_by false how line machine left carries elsewhere = carries_out how line machine left carries elsewhere
 
-elsewhere_keeps : (how : Manner) (line : Line) (machine : Machine) (left : Left) → TakesLine how line machine (Ok left)
+pub elsewhere_keeps : (how : Manner) (line : Line) (machine : Machine) (left : Left) → TakesLine how line machine (Ok left)
     → is_elsewhere left.answer ≡ true → left.machine ≡ machine
 elsewhere_keeps how line machine left takes elsewhere = takes_by (is_left_out line) how line machine left takes elsewhere
 

@@ -1,3 +1,4 @@
+mod Briefly
 mod Elsewhere
 mod LabelsMet
 mod LinesTaken

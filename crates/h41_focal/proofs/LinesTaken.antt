@@ -6,14 +6,14 @@ use Rattle.h41_codes.specs.declared.functions.RegisterFunction.{RegisterFunction
 use Rattle.h41_codes.specs.declared.line.Line.{Line}
 use Rattle.h41_codes.specs.declared.line.Line.TheVariants as lines
 use Rattle.h41_codes.specs.declared.line.Operand.{Operand}
-use Rattle.h41_focal.specs.private.Carrying.{CarriesFound, CarriesRow, FailsAs, Stands, TakesAs, UsesDigits, UsesFlag, UsesAddress}
-use Rattle.h41_focal.specs.MachineCalls.{carried_as, left_of}
+use Rattle.h41_focal.specs.private.Carrying.{CarriesFound, CarriesRow, FailsAs, Stands, TakesBriefly, UsesDigits, UsesFlag, UsesAddress}
+use Rattle.h41_focal.specs.private.Carrying.{ended, manner_of}
 use Rattle.h41_focal.specs.LineStep.{FailsLine, FailsWith, Left, Machine, PassesLine, PassesWith, StepsAs, StepsLine, lift_behind, line_as}
-use Rattle.h41_focal.specs.LineStep.{with_line_passed}
+use Rattle.h41_focal.specs.LineStep.{TakesLine, with_line_passed}
 use Rattle.h41_focal.specs.private.Works.{digits_use_row, flag_use_row, highest_of, register_use_row, row_of_work}
 use Rattle.h41_focal.specs.declared.origin.Origin.{Origin}
 use Rattle.h41_focal.specs.declared.origin.Origin.TheVariants.{Program}
-use Rattle.h41_focal.specs.declared.outcome.LineOutcome.{LineOutcome}
+use Rattle.h41_focal.specs.declared.outcome.BriefOutcome.{BriefOutcome}
 use Rattle.h41_focal.specs.declared.refusal.FocalRefusal.{FocalRefusal}
 use Rattle.h41_focal.specs.declared.refusal.FocalRefusal.TheVariants.{BrokenProgram, MemoryLost, NotInProfile}
 use Rattle.h41_focal.specs.declared.uses.DigitsUse.{DigitsUse}
@@ -35,31 +35,31 @@ use Rattle.h41_rows.specs.declared.fault.LineFault.{LineFault}
 
 -- a function, by its work
 pub plain_taken :
-    (origin : Origin) (function : Function) (work : FunctionWork) (old new : Machine) (result : Result LineOutcome FocalRefusal)
+    (origin : Origin) (function : Function) (work : FunctionWork) (old new : Machine) (result : Result BriefOutcome FocalRefusal)
     → Some (row_of_work work) ≡ function_row function
     → CarriesRow origin (row_of_work work) 0 old new result
-    → TakesAs origin (lines.Plain function) old new result
+    → TakesBriefly origin (lines.Plain function) old new result
 plain_taken origin function work old new result row carries = rw (← row) carries
 
 -- and one without
 pub plain_left_out :
     (origin : Origin) (function : Function) (machine : Machine)
     → None ≡ function_row function
-    → TakesAs origin (lines.Plain function) machine machine (Err NotInProfile)
+    → TakesBriefly origin (lines.Plain function) machine machine (Err NotInProfile)
 plain_left_out origin function machine none = rw (← none) refl
 
 -- a function with an operand that is left out
 pub operand_left_out :
     (origin : Origin) (function : ParameterFunction) (operand : Operand) (machine : Machine)
     → is_use_left_out function operand ≡ true
-    → TakesAs origin (lines.WithOperand function operand) machine machine (Err NotInProfile)
+    → TakesBriefly origin (lines.WithOperand function operand) machine machine (Err NotInProfile)
 operand_left_out origin function operand machine out = rw out refl
 
 -- with a register
 pub register_taken : (origin : Origin) (function : ParameterFunction) (operand : Operand)
-    (taken : RegisterUse) (old new : Machine) (result : Result LineOutcome FocalRefusal)
+    (taken : RegisterUse) (old new : Machine) (result : Result BriefOutcome FocalRefusal)
     → is_use_left_out function operand ≡ false → kind_of function ≡ RegisterKind → register_row function ≡ register_use_row taken
-    → UsesAddress origin taken operand old new result → TakesAs origin (lines.WithOperand function operand) old new result
+    → UsesAddress origin taken operand old new result → TakesBriefly origin (lines.WithOperand function operand) old new result
 register_taken origin function operand taken old new result held kind row (Ok address, meant, carries) =
     rw (held, kind, ← meant, row) carries
 register_taken origin function operand taken old new result held kind row (Err fault, meant, fails) =
@@ -67,9 +67,9 @@ register_taken origin function operand taken old new result held kind row (Err f
 
 -- with a number of digits
 pub digits_taken : (origin : Origin) (function : ParameterFunction) (operand : Operand)
-    (taken : DigitsUse) (old new : Machine) (result : Result LineOutcome FocalRefusal)
+    (taken : DigitsUse) (old new : Machine) (result : Result BriefOutcome FocalRefusal)
     → is_use_left_out function operand ≡ false → kind_of function ≡ DigitKind → ((n : ℕ) → count_row function n ≡ digits_use_row taken n)
-    → UsesDigits origin taken operand old new result → TakesAs origin (lines.WithOperand function operand) old new result
+    → UsesDigits origin taken operand old new result → TakesBriefly origin (lines.WithOperand function operand) old new result
 digits_taken origin function operand taken old new result held kind row (Ok digits, meant, carries) =
     rw (held, kind, ← meant, row digits) carries
 digits_taken origin function operand taken old new result held kind row (Err fault, meant, fails) =
@@ -77,10 +77,10 @@ digits_taken origin function operand taken old new result held kind row (Err fau
 
 -- with a flag
 pub flag_taken : (origin : Origin) (function : ParameterFunction) (operand : Operand)
-    (taken : FlagUse) (old new : Machine) (result : Result LineOutcome FocalRefusal)
+    (taken : FlagUse) (old new : Machine) (result : Result BriefOutcome FocalRefusal)
     → is_use_left_out function operand ≡ false → kind_of function ≡ FlagKind (highest_of taken)
     → ((n : ℕ) → count_row function n ≡ flag_use_row taken n) → UsesFlag origin taken operand old new result
-    → TakesAs origin (lines.WithOperand function operand) old new result
+    → TakesBriefly origin (lines.WithOperand function operand) old new result
 flag_taken origin function operand taken old new result held kind row (Ok flag, meant, carries) =
     rw (held, kind, ← meant, row flag) carries
 flag_taken origin function operand taken old new result held kind row (Err fault, meant, fails) =
@@ -88,30 +88,30 @@ flag_taken origin function operand taken old new result held kind row (Err fault
 
 -- a label
 pub label_taken :
-    (origin : Origin) (function : ParameterFunction) (operand : Operand) (old new : Machine) (result : Result LineOutcome FocalRefusal)
+    (origin : Origin) (function : ParameterFunction) (operand : Operand) (old new : Machine) (result : Result BriefOutcome FocalRefusal)
     → is_use_left_out function operand ≡ false
     → kind_of function ≡ LabelKind
     → register_row function ≡ silent_row
     → CarriesRow origin silent_row 0 old new result
-    → TakesAs origin (lines.WithOperand function operand) old new result
+    → TakesBriefly origin (lines.WithOperand function operand) old new result
 label_taken origin function operand old new result held kind row carries = rw (held, kind, row) carries
 
 -- RCL and STO of the first registers
 pub short_taken : (origin : Origin) (function : RegisterFunction) (register : ℕ)
-    (found : Result ℕ LineFault) (old new : Machine) (result : Result LineOutcome FocalRefusal)
+    (found : Result ℕ LineFault) (old new : Machine) (result : Result BriefOutcome FocalRefusal)
     → found ≡ data_register old.memory register
     → CarriesFound origin (λ address. short_row function) (λ address. address) found old new result
-    → TakesAs origin (lines.Register function register) old new result
+    → TakesBriefly origin (lines.Register function register) old new result
 short_taken origin function register (Ok address) old new result found carries = rw (← found) carries
 short_taken origin function register (Err fault) old new result found fails = rw (← found) fails
 
 -- the line at a position is stepped, or a function in its place
 pub step_taken :
-    (function : Option Function) (old new : Machine) (line : Line) (next : Position) (result : Result LineOutcome FocalRefusal)
+    (function : Option Function) (old : Machine) (line : Line) (next : Position) (carried : Result Left FocalRefusal)
     → Stands old (Ok (line, next))
-    → TakesAs (Program next) (line_as function line) old new result
-    → StepsLine function old (carried_as new result)
-step_taken function old new line next result (sound, (first, answers, is), knows) takes =
+    → TakesLine (manner_of (Program next)) (line_as function line) old carried
+    → StepsLine function old carried
+step_taken function old line next carried (sound, (first, answers, is), knows) takes =
     rw sound (Ok first, answers, rw is takes)
 
 -- or refused
@@ -134,12 +134,12 @@ step_refused function machine refusal stands = refused_by (is_sound machine.memo
 
 -- or fails
 pub line_fails :
-    (fault : LineFault) (old new : Machine) (line : Line) (next : Position) (outcome : LineOutcome)
+    (fault : LineFault) (old new : Machine) (line : Line) (next : Position) (brief : BriefOutcome)
     → Stands old (Ok (line, next))
-    → FailsAs (Program next) fault old new outcome
-    → FailsLine fault old (carried_as new (Ok outcome))
-line_fails fault old new line next outcome (sound, (first, answers, is), knows) fails =
-    rw sound (Ok first, answers, (left_of new outcome, fails, refl))
+    → FailsAs (Program next) fault old new brief
+    → FailsLine fault old (Ok (ended new brief))
+line_fails fault old new line next brief (sound, (first, answers, is), knows) fails =
+    rw sound (Ok first, answers, (ended new brief, fails, refl))
 
 fail_refused_by : (sound : Bool) (fault : LineFault) (machine : Machine) (refusal : FocalRefusal) (carried : Result Left FocalRefusal)
     → carried ≡ Err refusal

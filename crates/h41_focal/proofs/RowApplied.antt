@@ -1,8 +1,7 @@
 -- A row whose line goes on to the next one is applied: by what it computes, what it makes of memory, and where the line then is.
 use Rattle.std.proofs.Common.{◌≡◌, ℕ, List, Ok, Err, Result, refl, subst}
-use Rattle.h41_focal.specs.private.Carrying.{KnowsNext, Leaves, on_to_next, manner_of}
-use Rattle.h41_focal.specs.MachineCalls.{left_of}
-use Rattle.h41_focal.specs.Outcomes.{answer_of}
+use Rattle.h41_focal.specs.private.Carrying.{KnowsNext, Leaves, on_to_next, ended, manner_of, nowhere}
+use Rattle.h41_focal.specs.BriefOutcomes.{brief_answer}
 use Rattle.h41_focal.specs.Destinations as destinations
 use Rattle.h41_focal.specs.LineStep.{Applies, Fails, FocalState, Left, Machine, Works, answer_of_showing, machine_with}
 use Rattle.h41_rows.specs.RowEffects.{memory_after}
@@ -11,7 +10,7 @@ use Rattle.h41_rows.specs.Rows as rows
 use Rattle.h41_rows.specs.declared.fault.LineFault.{LineFault}
 use Rattle.h41_focal.specs.declared.origin.Origin.{Origin}
 use Rattle.h41_focal.specs.declared.origin.Origin.TheVariants.{Program, Typed}
-use Rattle.h41_focal.specs.declared.outcome.LineOutcome.{LineOutcome}
+use Rattle.h41_focal.specs.declared.outcome.BriefOutcome.{BriefOutcome}
 use Rattle.h41_focal.specs.declared.refusal.FocalRefusal.{FocalRefusal}
 use Rattle.h41_ram.specs.RegisterMap.{RegisterMap}
 
@@ -24,15 +23,16 @@ applied_to origin row named register machine = record {
 
 -- it is done
 pub row_applied :
-    (origin : Origin) (row : Row) (named : ℕ) (machine : Machine) (register : List ℕ) (outcome : LineOutcome)
+    (origin : Origin) (row : Row) (named : ℕ) (machine : Machine) (register : List ℕ) (brief : BriefOutcome)
     → KnowsNext origin machine
     → row.goes ≡ rows.Next
     → Works machine.memory named row (Ok register)
-    → answer_of outcome ≡ answer_of_showing machine.memory named row.shows row.ends
-    → Leaves origin row named machine (applied_to origin row named register machine) outcome
-row_applied (Program next) row named machine register outcome knows goes works answers =
+    → brief_answer nowhere (memory_after row named register machine.focal.lift machine.memory) brief
+    ≡ answer_of_showing machine.memory named row.shows row.ends
+    → Leaves origin row named machine (applied_to origin row named register machine) brief
+row_applied (Program next) row named machine register brief knows goes works answers =
     (Ok register, works, (destinations.Arrives next machine.focal.returns, (next, knows, rw goes refl), rw answers refl))
-row_applied Typed row named machine register outcome knows goes works answers =
+row_applied Typed row named machine register brief knows goes works answers =
     (Ok register, works, (destinations.Stays, rw goes refl, rw answers refl))
 
 -- it is applied to a machine whose memory and what else lines work on are looked at apart
@@ -50,11 +50,11 @@ opened_row origin row named machine memory focal carried opened knows applies =
 -- it has a fault: by memory and what else lines work on
 pub row_failed :
     (origin : Origin) (row : Row) (named : ℕ) (machine new : Machine) (memory : RegisterMap) (focal : FocalState) (fault : LineFault)
-    (outcome : LineOutcome)
+    (brief : BriefOutcome)
     → machine_with memory focal ≡ machine
     → Works memory named row (Err fault)
-    → Fails (manner_of origin) machine fault (left_of new outcome)
-    → Leaves origin row named machine new outcome
-row_failed origin row named machine new memory focal fault outcome opened works fails =
+    → Fails (manner_of origin) machine fault (ended new brief)
+    → Leaves origin row named machine new brief
+row_failed origin row named machine new memory focal fault brief opened works fails =
     let P : Machine → Type 0 = λ old. Works old.memory named row (Err fault) in
-    (Err fault, subst P opened works, (left_of new outcome, fails, refl))
+    (Err fault, subst P opened works, (ended new brief, fails, refl))

@@ -4,7 +4,6 @@ use Rattle.std.proofs.Common.{inr}
 use Rattle.h41_decimal.specs.Holding.{number_in}
 use Rattle.h41_focal.proofs.RowApplied.{applied_to}
 use Rattle.h41_focal.specs.private.Carrying.{CarriesRow, KnowsNext, Leads, manner_of, test_answer}
-use Rattle.h41_focal.specs.Outcomes.{answer_of}
 use Rattle.h41_rows.specs.Computing.{WorksOn}
 use Rattle.h41_rows.specs.Computing as computing
 use Rattle.h41_rows.specs.Counters.{Way}
@@ -12,7 +11,6 @@ use Rattle.h41_focal.specs.Destinations as destinations
 use Rattle.h41_focal.specs.Destinations.{Destination, Arrives, Asks, HasNoLine, Stays, StepsFrom, Tells}
 use Rattle.h41_rows.specs.LineRows.{loop}
 use Rattle.h41_focal.specs.LineStep.{Applies, Machine, Works}
-use Rattle.h41_focal.specs.Outcomes as answers
 use Rattle.h41_rows.specs.Places.{Named, are_numbers, register_in}
 use Rattle.h41_rows.specs.RowEffects.{holds_in}
 use Rattle.h41_rows.specs.Rows.{Condition, Row}
@@ -22,7 +20,8 @@ use Rattle.h41_rows.specs.declared.fault.LineFault.{LineFault}
 use Rattle.h41_rows.specs.declared.fault.LineFault.TheVariants.{AlphaData}
 use Rattle.h41_focal.specs.declared.origin.Origin.{Origin}
 use Rattle.h41_focal.specs.declared.origin.Origin.TheVariants.{Program, Typed}
-use Rattle.h41_focal.specs.declared.outcome.LineOutcome.{LineOutcome}
+use Rattle.h41_focal.specs.declared.outcome.BriefOutcome.{BriefOutcome}
+use Rattle.h41_focal.specs.declared.outcome.BriefOutcome.TheVariants as briefs
 use Rattle.h41_focal.specs.declared.refusal.FocalRefusal.{FocalRefusal}
 use Rattle.h41_program.specs.Positions.{NextAt}
 use Rattle.h41_program.specs.declared.position.Position.{Position}
@@ -46,52 +45,52 @@ has_no_line holds memory next returns fails broken = rw fails (inr (broken, refl
 
 -- the program goes on from a line that asks, where its row goes by a condition
 program_leads : (next : Position) (lead : Origin) (row : Row) (condition : Condition) (holds : Bool)
-    (named : ℕ) (machine : Machine) (register : List ℕ) (outcome : LineOutcome)
+    (named : ℕ) (machine : Machine) (register : List ℕ) (brief : BriefOutcome)
     → KnowsNext (Program next) machine
     → ((to : Destination) → Asks (holds_in machine.memory named condition) machine.memory next machine.focal.returns to
     → StepsFrom row.goes machine.memory named machine.focal.position next machine.focal.returns to)
     → row.shows ≡ rows.AsBefore → row.ends ≡ rows.GoesOn → Works machine.memory named row (Ok register)
     → holds ≡ holds_in machine.memory named condition → Leads (Program next) machine.memory holds (Ok lead)
-    → answer_of outcome ≡ answers.Done
-    → CarriesRow (Program next) row named machine (applied_to lead row named register machine) (Ok outcome)
-program_leads next (Program position) row condition holds named machine register outcome knows goes shows ends works is leads answers =
+    → brief ≡ briefs.Done
+    → CarriesRow (Program next) row named machine (applied_to lead row named register machine) (Ok brief)
+program_leads next (Program position) row condition holds named machine register brief knows goes shows ends works is leads answers =
     let asks : Asks (holds_in machine.memory named condition) machine.memory
     next machine.focal.returns (Arrives leads.0 machine.focal.returns) =
     subst (λ (b : Bool). Asks b machine.memory next machine.focal.returns (Arrives leads.0 machine.focal.returns))
     is (arrives holds machine.memory next leads.0 machine.focal.returns leads.2) in
     let same : position ≡ leads.0 = cc leads.1 in
     (Ok register, works, (Arrives leads.0 machine.focal.returns, (next, knows, goes _ asks), rw (answers, shows, ends, same) refl))
-program_leads next Typed row condition holds named machine register outcome knows goes shows ends works is leads answers =
+program_leads next Typed row condition holds named machine register brief knows goes shows ends works is leads answers =
     absurd (cc leads.1)
 
 -- a test is done
 pub test_leads : (origin lead : Origin) (row : Row) (condition : Condition) (holds : Bool)
-    (named : ℕ) (machine : Machine) (register : List ℕ) (outcome : LineOutcome)
+    (named : ℕ) (machine : Machine) (register : List ℕ) (brief : BriefOutcome)
     → KnowsNext origin machine → row.goes ≡ rows.Tests condition → row.shows ≡ rows.AsBefore → row.ends ≡ rows.GoesOn
     → Works machine.memory named row (Ok register) → holds ≡ holds_in machine.memory named condition
-    → Leads origin machine.memory holds (Ok lead) → answer_of outcome ≡ test_answer origin holds
-    → CarriesRow origin row named machine (applied_to lead row named register machine) (Ok outcome)
-test_leads (Program next) lead row condition holds named machine register outcome knows goes shows ends works is leads answers =
-    program_leads next lead row condition holds named machine register outcome
+    → Leads origin machine.memory holds (Ok lead) → brief ≡ test_answer origin holds
+    → CarriesRow origin row named machine (applied_to lead row named register machine) (Ok brief)
+test_leads (Program next) lead row condition holds named machine register brief knows goes shows ends works is leads answers =
+    program_leads next lead row condition holds named machine register brief
     knows (λ to asks. rw goes asks) shows ends works is leads answers
-test_leads Typed (Program position) row condition holds named machine register outcome knows goes shows ends works is leads answers =
+test_leads Typed (Program position) row condition holds named machine register brief knows goes shows ends works is leads answers =
     absurd (cc leads)
-test_leads Typed Typed row condition holds named machine register outcome knows goes shows ends works is leads answers =
+test_leads Typed Typed row condition holds named machine register brief knows goes shows ends works is leads answers =
     (Ok register, works, (Tells holds, rw goes (ap (λ (b : Bool). Tells b) is), rw answers refl))
 
 -- a loop counted
 pub loop_leads : (origin lead : Origin) (row : Row) (condition : Condition) (holds : Bool)
-    (named : ℕ) (machine : Machine) (register : List ℕ) (outcome : LineOutcome)
+    (named : ℕ) (machine : Machine) (register : List ℕ) (brief : BriefOutcome)
     → KnowsNext origin machine → row.goes ≡ rows.Counts condition → row.shows ≡ rows.AsBefore → row.ends ≡ rows.GoesOn
     → Works machine.memory named row (Ok register) → holds ≡ holds_in machine.memory named condition
-    → Leads origin machine.memory holds (Ok lead) → answer_of outcome ≡ answers.Done
-    → CarriesRow origin row named machine (applied_to lead row named register machine) (Ok outcome)
-loop_leads (Program next) lead row condition holds named machine register outcome knows goes shows ends works is leads answers =
-    program_leads next lead row condition holds named machine register outcome
+    → Leads origin machine.memory holds (Ok lead) → brief ≡ briefs.Done
+    → CarriesRow origin row named machine (applied_to lead row named register machine) (Ok brief)
+loop_leads (Program next) lead row condition holds named machine register brief knows goes shows ends works is leads answers =
+    program_leads next lead row condition holds named machine register brief
     knows (λ to asks. rw goes asks) shows ends works is leads answers
-loop_leads Typed (Program position) row condition holds named machine register outcome knows goes shows ends works is leads answers =
+loop_leads Typed (Program position) row condition holds named machine register brief knows goes shows ends works is leads answers =
     absurd (cc leads)
-loop_leads Typed Typed row condition holds named machine register outcome knows goes shows ends works is leads answers =
+loop_leads Typed Typed row condition holds named machine register brief knows goes shows ends works is leads answers =
     (Ok register, works, (Stays, rw goes refl, rw (answers, shows, ends) refl))
 
 -- the line that would be passed over is none

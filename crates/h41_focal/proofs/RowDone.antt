@@ -2,9 +2,8 @@
 use Rattle.std.proofs.Common.{arith, ◌≡◌, ◌≢◌, ℕ, ◌≤◌, false, nat_eq, List, [], ◌∷◌, length, drop, slice_index, Some, Result, Ok, refl}
 use Rattle.std.proofs.lemmas.Bool.Decides.{nat_tests}
 use Rattle.h41_focal.proofs.RowApplied.{opened_row, row_applied}
-use Rattle.h41_focal.specs.private.Carrying.{KnowsNext, Leaves, on_to_next}
-use Rattle.h41_focal.specs.MachineCalls.{left_of}
-use Rattle.h41_focal.specs.Outcomes.{answer_of}
+use Rattle.h41_focal.specs.private.Carrying.{KnowsNext, Leaves, on_to_next, ended, nowhere}
+use Rattle.h41_focal.specs.BriefOutcomes.{brief_answer}
 use Rattle.h41_rows.specs.Computing.{WorksOn, value_of_two}
 use Rattle.h41_rows.specs.LineRows.{text_row}
 use Rattle.h41_focal.specs.LineStep.{FocalState, Machine, Works, answer_of_showing, machine_with}
@@ -15,8 +14,8 @@ use Rattle.h41_rows.specs.Rows as rows
 use Rattle.h41_focal.specs.private.Works.{register_use_row}
 use Rattle.h41_rows.specs.declared.fault.LineFault.{LineFault}
 use Rattle.h41_focal.specs.declared.origin.Origin.{Origin}
-use Rattle.h41_focal.specs.declared.outcome.LineOutcome.{LineOutcome}
-use Rattle.h41_focal.specs.declared.outcome.LineOutcome.TheVariants as outcomes
+use Rattle.h41_focal.specs.declared.outcome.BriefOutcome.{BriefOutcome}
+use Rattle.h41_focal.specs.declared.outcome.BriefOutcome.TheVariants as briefs
 use Rattle.h41_focal.specs.declared.uses.RegisterUse.TheVariants as registers
 use Rattle.h41_rows.specs.declared.values.ValueOfTwo.{ValueOfTwo}
 use Rattle.h41_rows.specs.declared.values.ValueOfTwo.TheVariants as twos
@@ -25,18 +24,19 @@ use Rattle.h41_ram.specs.RegisterMap.{RegisterMap, zeros}
 -- with what it computes: by memory and what else lines work on, before and afterwards
 pub row_done :
     (origin : Origin) (row : Row) (named : ℕ) (machine : Machine) (memory : RegisterMap) (focal : FocalState) (register : List ℕ)
-    (outcome : LineOutcome) (new : RegisterMap) (after : FocalState)
+    (brief : BriefOutcome) (new : RegisterMap) (after : FocalState)
     → machine_with memory focal ≡ machine
     → KnowsNext origin machine
     → row.goes ≡ rows.Next
     → Works memory named row (Ok register)
-    → answer_of outcome ≡ answer_of_showing memory named row.shows row.ends
+    → brief_answer nowhere new brief ≡ answer_of_showing memory named row.shows row.ends
     → new ≡ memory_after row named register focal.lift memory
     → after ≡ on_to_next origin row.lift focal
-    → Leaves origin row named machine (machine_with new after) outcome
-row_done origin row named machine memory focal register outcome new after opened knows goes works answers makes ends =
-    opened_row origin row named machine memory focal (Ok (left_of (machine_with new after) outcome)) opened knows
-    (λ next. rw (makes, ends) (row_applied origin row named (machine_with memory focal) register outcome next goes works answers))
+    → Leaves origin row named machine (machine_with new after) brief
+row_done origin row named machine memory focal register brief new after opened knows goes works answers makes ends =
+    opened_row origin row named machine memory focal (Ok (ended (machine_with new after) brief)) opened knows
+    (λ next. rw (makes, ends) (row_applied origin row named (machine_with memory focal) register brief next goes works
+        (rw makes at answers)))
 
 -- arithmetic in a register works on the numbers of its value alone
 pub works_in_register :
@@ -58,11 +58,11 @@ pub text_done :
     → KnowsNext origin machine
     → new ≡ with_alpha_change memory named (text_row characters).alpha memory
     → after ≡ on_to_next origin rows.On focal
-    → Leaves origin (text_row characters) named machine (machine_with new after) outcomes.Done
+    → Leaves origin (text_row characters) named machine (machine_with new after) briefs.Done
 text_done [] origin named machine memory focal new after opened knows makes ends =
-    row_done origin (text_row []) named machine memory focal zeros outcomes.Done new after opened knows refl refl refl makes ends
+    row_done origin (text_row []) named machine memory focal zeros briefs.Done new after opened knows refl refl refl makes ends
 text_done (character ∷ text) origin named machine memory focal new after opened knows makes ends =
-    row_done origin (text_row (character ∷ text)) named machine memory focal zeros outcomes.Done new after opened knows refl refl refl
+    row_done origin (text_row (character ∷ text)) named machine memory focal zeros briefs.Done new after opened knows refl refl refl
     makes ends
 
 -- what a text does to ALPHA, by its first character

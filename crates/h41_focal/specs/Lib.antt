@@ -1,3 +1,4 @@
+pub mod BriefOutcomes
 pub mod Destinations
 pub mod LineLaws
 pub mod LineStep

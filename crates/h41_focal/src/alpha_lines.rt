@@ -9,7 +9,7 @@ ghost use Rattle.h41_focal.specs.declared.works.FunctionWork.TheVariants.{Alpha}
 use crate::course::go_on_lifting;
 use crate::machine::Machine;
 use crate::origin::Origin;
-use crate::outcome::LineOutcome;
+use crate::outcome::BriefOutcome;
 use crate::works::AlphaWork;
 use h41_codes::Text;
 use h41_ram::Ram;
@@ -24,7 +24,7 @@ pub fn change_alpha<const REGS: usize>(
     machine: &mut Machine<REGS>,
     origin: Origin,
     work: AlphaWork,
-) -> LineOutcome
+) -> BriefOutcome
     requires { IsReady origin machine.old }
     ensures { DoesWork origin (Alpha work) machine.old machine.new result }
 {
@@ -32,17 +32,17 @@ pub fn change_alpha<const REGS: usize>(
         AlphaWork::Clear => {
             replace_text(&mut machine.ram, &[]);
             go_on_lifting(&mut machine.focal, origin);
-            LineOutcome::Done
+            BriefOutcome::Done
         }
         AlphaWork::Shift => {
             shift_six(&mut machine.ram);
             go_on_lifting(&mut machine.focal, origin);
-            LineOutcome::Done
+            BriefOutcome::Done
         }
         AlphaWork::Mode(on) => {
             machine.ram.set_flag(ALPHA_MODE, on);
             go_on_lifting(&mut machine.focal, origin);
-            LineOutcome::Done
+            BriefOutcome::Done
         }
     }
 }
@@ -53,13 +53,13 @@ pub fn text_line<const REGS: usize>(
     machine: &mut Machine<REGS>,
     origin: Origin,
     text: &Text<15>,
-) -> LineOutcome
+) -> BriefOutcome
     requires { IsReady origin machine.old }
     ensures { DoesLine origin (lines.Text text.now) machine.old machine.new result }
 {
     put_text(&mut machine.ram, text.characters());
     go_on_lifting(&mut machine.focal, origin);
-    LineOutcome::Done
+    BriefOutcome::Done
 }
 
 /// A text comes into ALPHA: behind what ALPHA holds where it begins with the append sign, else in its place. A text of no

@@ -8,7 +8,7 @@ ghost use Rattle.h41_focal.specs.declared.works.FunctionWork.TheVariants.{Percen
 use crate::course::{fail, go_on_lifting};
 use crate::machine::Machine;
 use crate::origin::Origin;
-use crate::outcome::LineOutcome;
+use crate::outcome::BriefOutcome;
 use h41_ram::StatusRegister;
 use h41_rows::{ValueOfOne, ValueOfTwo, compute_of_one, compute_of_two, drop_into, keep_last};
 
@@ -23,7 +23,7 @@ pub fn of_y_and_x<const REGS: usize>(
     machine: &mut Machine<REGS>,
     origin: Origin,
     value: ValueOfTwo,
-) -> LineOutcome
+) -> BriefOutcome
     requires { IsReady origin machine.old }
     ensures { DoesWork origin (OfYAndX value) machine.old machine.new result }
 {
@@ -31,7 +31,7 @@ pub fn of_y_and_x<const REGS: usize>(
         Ok(register) => {
             drop_into(&mut machine.ram, register);
             go_on_lifting(&mut machine.focal, origin);
-            LineOutcome::Done
+            BriefOutcome::Done
         }
         Err(fault) => fail(machine, origin, fault),
     }
@@ -42,7 +42,7 @@ pub fn of_x<const REGS: usize>(
     machine: &mut Machine<REGS>,
     origin: Origin,
     value: ValueOfOne,
-) -> LineOutcome
+) -> BriefOutcome
     requires { IsReady origin machine.old }
     ensures { DoesWork origin (OfX value) machine.old machine.new result }
 {
@@ -50,14 +50,14 @@ pub fn of_x<const REGS: usize>(
         Ok(register) => {
             keep_last(&mut machine.ram, register);
             go_on_lifting(&mut machine.focal, origin);
-            LineOutcome::Done
+            BriefOutcome::Done
         }
         Err(fault) => fail(machine, origin, fault),
     }
 }
 
 /// X takes its square, and LAST X what X held.
-pub fn square<const REGS: usize>(machine: &mut Machine<REGS>, origin: Origin) -> LineOutcome
+pub fn square<const REGS: usize>(machine: &mut Machine<REGS>, origin: Origin) -> BriefOutcome
     requires { IsReady origin machine.old }
     ensures { DoesWork origin Square machine.old machine.new result }
 {
@@ -65,14 +65,14 @@ pub fn square<const REGS: usize>(machine: &mut Machine<REGS>, origin: Origin) ->
         Ok(register) => {
             keep_last(&mut machine.ram, register);
             go_on_lifting(&mut machine.focal, origin);
-            LineOutcome::Done
+            BriefOutcome::Done
         }
         Err(fault) => fail(machine, origin, fault),
     }
 }
 
 /// X takes so many hundredths of Y, and LAST X what X held; Y stays.
-pub fn percent<const REGS: usize>(machine: &mut Machine<REGS>, origin: Origin) -> LineOutcome
+pub fn percent<const REGS: usize>(machine: &mut Machine<REGS>, origin: Origin) -> BriefOutcome
     requires { IsReady origin machine.old }
     ensures { DoesWork origin Percent machine.old machine.new result }
 {
@@ -80,14 +80,14 @@ pub fn percent<const REGS: usize>(machine: &mut Machine<REGS>, origin: Origin) -
         Ok(register) => {
             keep_last(&mut machine.ram, register);
             go_on_lifting(&mut machine.focal, origin);
-            LineOutcome::Done
+            BriefOutcome::Done
         }
         Err(fault) => fail(machine, origin, fault),
     }
 }
 
 /// X changes its sign; LAST X stays.
-pub fn change_sign<const REGS: usize>(machine: &mut Machine<REGS>, origin: Origin) -> LineOutcome
+pub fn change_sign<const REGS: usize>(machine: &mut Machine<REGS>, origin: Origin) -> BriefOutcome
     requires { IsReady origin machine.old }
     ensures { DoesWork origin ChangeSign machine.old machine.new result }
 {
@@ -95,7 +95,7 @@ pub fn change_sign<const REGS: usize>(machine: &mut Machine<REGS>, origin: Origi
         Ok(register) => {
             machine.ram.set_status_register(StatusRegister::X, register);
             go_on_lifting(&mut machine.focal, origin);
-            LineOutcome::Done
+            BriefOutcome::Done
         }
         Err(fault) => fail(machine, origin, fault),
     }

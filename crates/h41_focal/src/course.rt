@@ -7,7 +7,7 @@ ghost use Rattle.h41_rows.specs.Rows.{AsItWas, Off, On};
 use crate::focal::Focal;
 use crate::machine::Machine;
 use crate::origin::Origin;
-use crate::outcome::LineOutcome;
+use crate::outcome::BriefOutcome;
 use h41_ram::flags::ERROR_IGNORE;
 use h41_rows::LineFault;
 
@@ -42,17 +42,17 @@ pub fn fail<const REGS: usize>(
     machine: &mut Machine<REGS>,
     origin: Origin,
     fault: LineFault,
-) -> LineOutcome
+) -> BriefOutcome
     requires { IsReady origin machine.old }
     ensures { FailsAs origin fault machine.old machine.new result }
 {
     if machine.ram.flag(ERROR_IGNORE) {
         machine.ram.set_flag(ERROR_IGNORE, false);
         go_on(&mut machine.focal, origin);
-        return LineOutcome::Done;
+        return BriefOutcome::Done;
     }
     if let Origin::Program(_) = origin {
         machine.focal.is_at_line_00 = false;
     }
-    LineOutcome::Failed(fault)
+    BriefOutcome::Failed(fault)
 }

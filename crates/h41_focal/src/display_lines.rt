@@ -7,39 +7,38 @@ ghost use Rattle.h41_focal.specs.declared.works.FunctionWork.TheVariants.{Displa
 use crate::course::{go_on, go_on_lifting};
 use crate::machine::Machine;
 use crate::origin::Origin;
-use crate::outcome::LineOutcome;
+use crate::outcome::BriefOutcome;
 use crate::works::DisplayWork;
-use h41_show::alpha_text;
 
 /// The display shows something, or the program stops. Only `STOP` leaves lift as it was.
 pub fn show<const REGS: usize>(
     machine: &mut Machine<REGS>,
     origin: Origin,
     work: DisplayWork,
-) -> LineOutcome
+) -> BriefOutcome
     requires { IsReady origin machine.old }
     ensures { DoesWork origin (Display work) machine.old machine.new result }
 {
     match work {
         DisplayWork::ViewAlpha => {
             go_on_lifting(&mut machine.focal, origin);
-            LineOutcome::Viewed(alpha_text(&machine.ram))
+            BriefOutcome::ViewedAlpha
         }
         DisplayWork::Clear => {
             go_on_lifting(&mut machine.focal, origin);
-            LineOutcome::Cleared
+            BriefOutcome::Cleared
         }
         DisplayWork::Prompt => {
             go_on_lifting(&mut machine.focal, origin);
-            LineOutcome::Prompted(alpha_text(&machine.ram))
+            BriefOutcome::Prompted
         }
         DisplayWork::Stop => {
             go_on(&mut machine.focal, origin);
-            LineOutcome::Stopped
+            BriefOutcome::Stopped
         }
         DisplayWork::TurnOff => {
             go_on_lifting(&mut machine.focal, origin);
-            LineOutcome::TurnedOff
+            BriefOutcome::TurnedOff
         }
     }
 }

@@ -9,7 +9,7 @@ ghost use Rattle.h41_ram.specs.RegisterMap.{flag_of};
 use crate::course::go_on_lifting;
 use crate::machine::Machine;
 use crate::origin::Origin;
-use crate::outcome::LineOutcome;
+use crate::outcome::BriefOutcome;
 use crate::questions::{answer, lead};
 use crate::refusal::FocalRefusal;
 use crate::uses::FlagUse;
@@ -30,14 +30,14 @@ fn change_flag<const REGS: usize>(
     origin: Origin,
     flag: u8,
     on: bool,
-) -> LineOutcome
+) -> BriefOutcome
     requires flag { flag < 56 }
     requires ready { IsReady origin machine.old }
     ensures { LeavesFlag origin (Change on) flag machine.old machine.new result }
 {
     machine.ram.set_flag(usize::from(flag), on);
     go_on_lifting(&mut machine.focal, origin);
-    LineOutcome::Done
+    BriefOutcome::Done
 }
 
 /// `FS?` and `FC?`: the program goes on with the next line where a flag, 0 to 55, is set or clear as asked, else with the
@@ -48,7 +48,7 @@ fn ask_flag<const REGS: usize>(
     origin: Origin,
     flag: u8,
     on: bool,
-) -> Result<LineOutcome, FocalRefusal>
+) -> Result<BriefOutcome, FocalRefusal>
     requires flag { flag < 56 }
     requires ready { IsReady origin machine.old }
     ensures carried { CarriesFlag origin (Ask on) flag machine.old machine.new result }
@@ -66,7 +66,7 @@ fn ask_and_clear_flag<const REGS: usize>(
     origin: Origin,
     flag: u8,
     on: bool,
-) -> Result<LineOutcome, FocalRefusal>
+) -> Result<BriefOutcome, FocalRefusal>
     requires flag { flag < 56 }
     requires ready { IsReady origin machine.old }
     ensures carried { ClearsFlag origin on flag machine.old machine.new result }
@@ -86,7 +86,7 @@ pub fn use_flag<const REGS: usize>(
     origin: Origin,
     taken: FlagUse,
     flag: u8,
-) -> Result<LineOutcome, FocalRefusal>
+) -> Result<BriefOutcome, FocalRefusal>
     requires flag { flag < 56 }
     requires ready { IsReady origin machine.old }
     ensures carried { CarriesFlag origin taken flag machine.old machine.new result }

@@ -1,7 +1,7 @@
 //! Functions without an operand.
 
 ghost use Rattle.std.specs.Prelude.{ℕ, ◌≡◌, OnErr};
-ghost use Rattle.h41_focal.specs.private.Carrying.{CarriesWork, IsReady, TakesAs};
+ghost use Rattle.h41_focal.specs.private.Carrying.{CarriesWork, IsReady, TakesBriefly};
 ghost use Rattle.h41_codes.specs.declared.line.Line.TheVariants.{Plain};
 
 use crate::alpha_lines::change_alpha;
@@ -11,7 +11,7 @@ use crate::labels::go_back;
 use crate::machine::Machine;
 use crate::mode_lines::set_angle_unit;
 use crate::origin::Origin;
-use crate::outcome::LineOutcome;
+use crate::outcome::BriefOutcome;
 use crate::questions::ask;
 use crate::refusal::FocalRefusal;
 use crate::stack_lines::{clear_registers, do_nothing, move_stack};
@@ -23,9 +23,9 @@ pub fn plain<const REGS: usize>(
     machine: &mut Machine<REGS>,
     origin: Origin,
     function: Function,
-) -> Result<LineOutcome, FocalRefusal>
+) -> Result<BriefOutcome, FocalRefusal>
     requires { IsReady origin machine.old }
-    ensures taken { TakesAs origin (Plain function) machine.old machine.new result }
+    ensures taken { TakesBriefly origin (Plain function) machine.old machine.new result }
     ensures unchanged { OnErr result (machine.new ≡ machine.old) }
 {
     match work_of(function) {
@@ -39,7 +39,7 @@ fn perform<const REGS: usize>(
     machine: &mut Machine<REGS>,
     origin: Origin,
     work: FunctionWork,
-) -> Result<LineOutcome, FocalRefusal>
+) -> Result<BriefOutcome, FocalRefusal>
     requires { IsReady origin machine.old }
     ensures carried { CarriesWork origin work machine.old machine.new result }
     ensures unchanged { OnErr result (machine.new ≡ machine.old) }

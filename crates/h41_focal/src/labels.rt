@@ -3,7 +3,6 @@
 ghost use Rattle.std.specs.Prelude.{◌≡◌, ℕ, IsTrue};
 ghost use Rattle.h41_focal.specs.private.Arrivals.{ReturnsFrom, answer_at, focal_at, from_of};
 ghost use Rattle.h41_focal.specs.private.Carrying.{DoesWork, IsReady, GoesToLabel, GoesToName};
-ghost use Rattle.h41_focal.specs.Outcomes.{answer_of};
 ghost use Rattle.h41_focal.specs.Destinations.{with_return};
 ghost use Rattle.h41_focal.specs.declared.works.FunctionWork.TheVariants.{Return};
 ghost use Rattle.h41_ram.specs.RegisterMap.{is_sound};
@@ -12,7 +11,7 @@ use crate::course::fail;
 use crate::focal::{Focal, RETURNS};
 use crate::machine::Machine;
 use crate::origin::Origin;
-use crate::outcome::LineOutcome;
+use crate::outcome::BriefOutcome;
 use arrayvec::ArrayVec;
 use h41_codes::{Branch, Parameter, Text};
 use h41_program::{Position, global, local, start_of};
@@ -24,7 +23,7 @@ pub fn to_label<const REGS: usize>(
     origin: Origin,
     branch: Branch,
     label: Parameter,
-) -> LineOutcome
+) -> BriefOutcome
     requires { IsReady origin machine.old }
     ensures { GoesToLabel origin branch label machine.old machine.new result }
 {
@@ -50,7 +49,7 @@ pub fn to_name<const REGS: usize>(
     origin: Origin,
     branch: Branch,
     name: Text<15>,
-) -> LineOutcome
+) -> BriefOutcome
     requires { IsReady origin machine.old }
     ensures { GoesToName origin branch name machine.old machine.new result }
 {
@@ -60,25 +59,25 @@ pub fn to_name<const REGS: usize>(
             arrive(&mut machine.focal, origin, branch, label)
         }
         (None, Branch::GoTo) => fail(machine, origin, LineFault::Nonexistent),
-        (None, Branch::Execute) => LineOutcome::Seeks(name),
+        (None, Branch::Execute) => BriefOutcome::Elsewhere,
     }
 }
 
 /// The label was found. XEQ returns to the next line; typed, it has the program run, with nowhere to return to.
-fn arrive(focal: &mut Focal, origin: Origin, branch: Branch, position: Position) -> LineOutcome
+fn arrive(focal: &mut Focal, origin: Origin, branch: Branch, position: Position) -> BriefOutcome
     ensures focal { focal.new ≡ focal_at origin branch position focal.old }
-    ensures answer { answer_of result ≡ answer_at origin branch }
+    ensures answer { result ≡ answer_at origin branch }
 {
     focal.go_to(position);
     match (branch, origin) {
-        (Branch::GoTo, _) => LineOutcome::Done,
+        (Branch::GoTo, _) => BriefOutcome::Done,
         (Branch::Execute, Origin::Program(next)) => {
             push_return(&mut focal.returns, next);
-            LineOutcome::Done
+            BriefOutcome::Done
         }
         (Branch::Execute, Origin::Typed) => {
             focal.returns.clear();
-            LineOutcome::Runs
+            BriefOutcome::Runs
         }
     }
 }
@@ -87,14 +86,16 @@ fn arrive(focal: &mut Focal, origin: Origin, branch: Branch, position: Position)
 fn push_return(returns: &mut ArrayVec<Position, RETURNS>, position: Position)
     ensures { returns.new.items ≡ with_return returns.old.items position }
 {
-    if returns.is_full() {
-        returns.remove(0);
+    match returns.as_slice() {
+        [_, second, third, fourth, fifth, sixth] => {
+            *returns = ArrayVec::from([*second, *third, *fourth, *fifth, *sixth, position]);
+        }
+        _ => returns.push(position),
     }
-    returns.push(position);
 }
 
 /// Back to the latest position to return to. Where there is none, and where the line is typed, to line 00 of the program.
-pub fn go_back<const REGS: usize>(machine: &mut Machine<REGS>, origin: Origin) -> LineOutcome
+pub fn go_back<const REGS: usize>(machine: &mut Machine<REGS>, origin: Origin) -> BriefOutcome
     requires { IsReady origin machine.old }
     ensures { DoesWork origin Return machine.old machine.new result }
 {
@@ -103,25 +104,25 @@ pub fn go_back<const REGS: usize>(machine: &mut Machine<REGS>, origin: Origin) -
         Origin::Typed => {
             let start = start_of(&machine.ram, machine.focal.position);
             machine.focal.halt_at(start);
-            LineOutcome::Done
+            BriefOutcome::Done
         }
     }
 }
 
 /// Back to the latest position to return to, or to line 00 of the program, where it stops.
-fn return_from<const REGS: usize>(machine: &mut Machine<REGS>) -> LineOutcome
+fn return_from<const REGS: usize>(machine: &mut Machine<REGS>) -> BriefOutcome
     requires { IsTrue (is_sound machine.old.memory) }
     ensures { ReturnsFrom machine.old machine.new result }
 {
     match machine.focal.returns.pop() {
         Some(position) => {
             machine.focal.go_to(position);
-            LineOutcome::Done
+            BriefOutcome::Done
         }
         None => {
             let start = start_of(&machine.ram, machine.focal.position);
             machine.focal.halt_at(start);
-            LineOutcome::Stopped
+            BriefOutcome::Stopped
         }
     }
 }

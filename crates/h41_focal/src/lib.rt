@@ -3,6 +3,7 @@
 
 mod alpha_lines;
 mod arithmetic;
+mod called;
 mod calls;
 mod course;
 mod display_lines;
@@ -30,5 +31,5 @@ pub use calls::{key_line, step_as, step_line};
 pub use focal::{Focal, RETURNS};
 pub use h41_rows::LineFault;
 pub use machine::Machine;
-pub use outcome::{DisplayText, LineOutcome};
+pub use outcome::{BriefOutcome, DisplayText, LineOutcome};
 pub use refusal::FocalRefusal;

@@ -2,17 +2,18 @@
 
 ghost use Rattle.std.specs.Prelude.{◌≡◌, ℕ, OnErr};
 ghost use Rattle.h41_focal.specs.private.Carrying.{GoesToTarget, IsReady, Stands, StandsAt};
-ghost use Rattle.h41_focal.specs.private.Carrying.{TakesAs};
+ghost use Rattle.h41_focal.specs.private.Carrying.{TakesAs, TakesBriefly};
 ghost use Rattle.h41_focal.specs.private.Carrying.{TakesBranch, TakesNamed, TakesShort};
 
 use crate::alpha_lines::text_line;
+use crate::called::outcome_of;
 use crate::course::fail;
 use crate::functions::plain;
 use crate::labels::{go_back, to_label, to_name};
 use crate::machine::Machine;
 use crate::operand_lines::{is_parameter_out, with_operand};
 use crate::origin::Origin;
-use crate::outcome::LineOutcome;
+use crate::outcome::{BriefOutcome, LineOutcome};
 use crate::refusal::FocalRefusal;
 use crate::register_lines::{recall, store};
 use crate::stack_lines::{be_silent, do_nothing, number_line};
@@ -58,6 +59,20 @@ pub fn carry_out<const REGS: usize>(
     ensures taken { TakesAs origin line.now machine.old machine.new result }
     ensures unchanged { OnErr result (machine.new ≡ machine.old) }
 {
+    let brief = carry_briefly(machine, origin, line)?;
+    Ok(outcome_of(&machine.ram, line, brief))
+}
+
+/// The same, but for the texts of the outcome.
+pub fn carry_briefly<const REGS: usize>(
+    machine: &mut Machine<REGS>,
+    origin: Origin,
+    line: &Line,
+) -> Result<BriefOutcome, FocalRefusal>
+    requires { IsReady origin machine.old }
+    ensures taken { TakesBriefly origin line.now machine.old machine.new result }
+    ensures unchanged { OnErr result (machine.new ≡ machine.old) }
+{
     match line {
         Line::Null => Ok(do_nothing(machine, origin)),
         Line::LocalLabel(_) => Ok(be_silent(machine, origin)),
@@ -67,7 +82,7 @@ pub fn carry_out<const REGS: usize>(
         Line::Register(function, register) => short(machine, origin, *function, *register),
         Line::Plain(function) => plain(machine, origin, *function),
         Line::WithOperand(function, operand) => with_operand(machine, origin, *function, operand),
-        Line::Module(number, entry) => Ok(LineOutcome::Calls(*number, *entry)),
+        Line::Module(_, _) => Ok(BriefOutcome::Elsewhere),
         Line::BranchIndirect(branch, register) => indirect(machine, origin, *branch, *register),
         Line::ShortGoTo(label, _) => {
             Ok(to_label(
@@ -90,7 +105,7 @@ fn named<const REGS: usize>(
     origin: Origin,
     function: NameFunction,
     name: Text<15>,
-) -> Result<LineOutcome, FocalRefusal>
+) -> Result<BriefOutcome, FocalRefusal>
     requires { IsReady origin machine.old }
     ensures taken { TakesNamed origin function name machine.old machine.new result }
     ensures unchanged { OnErr result (machine.new ≡ machine.old) }
@@ -108,7 +123,7 @@ fn short<const REGS: usize>(
     origin: Origin,
     function: RegisterFunction,
     register: ShortRegister,
-) -> Result<LineOutcome, FocalRefusal>
+) -> Result<BriefOutcome, FocalRefusal>
     requires { IsReady origin machine.old }
     ensures taken { TakesShort origin function register machine.old machine.new result }
     ensures unchanged { OnErr result (machine.new ≡ machine.old) }
@@ -129,7 +144,7 @@ fn indirect<const REGS: usize>(
     origin: Origin,
     branch: Branch,
     register: Parameter,
-) -> Result<LineOutcome, FocalRefusal>
+) -> Result<BriefOutcome, FocalRefusal>
     requires { IsReady origin machine.old }
     ensures taken { TakesBranch origin branch register machine.old machine.new result }
     ensures unchanged { OnErr result (machine.new ≡ machine.old) }
@@ -149,7 +164,7 @@ fn to_target<const REGS: usize>(
     origin: Origin,
     branch: Branch,
     target: BranchTarget,
-) -> LineOutcome
+) -> BriefOutcome
     requires { IsReady origin machine.old }
     ensures { GoesToTarget origin branch target machine.old machine.new result }
 {

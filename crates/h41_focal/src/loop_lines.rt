@@ -7,7 +7,7 @@ ghost use Rattle.h41_focal.specs.declared.uses.RegisterUse.TheVariants.{CountDow
 use crate::course::{fail, go_on_lifting};
 use crate::machine::Machine;
 use crate::origin::Origin;
-use crate::outcome::LineOutcome;
+use crate::outcome::BriefOutcome;
 use crate::questions::lead;
 use crate::refusal::FocalRefusal;
 use h41_rows::{ValueOfOne, compute_of_one, goes_on_down, goes_on_up};
@@ -18,7 +18,7 @@ pub fn count_up<const REGS: usize>(
     machine: &mut Machine<REGS>,
     origin: Origin,
     address: u16,
-) -> Result<LineOutcome, FocalRefusal>
+) -> Result<BriefOutcome, FocalRefusal>
     requires { IsReady origin machine.old }
     ensures carried { DoesUse origin CountUp address machine.old machine.new result }
     ensures unchanged { OnErr result (machine.new ≡ machine.old) }
@@ -28,7 +28,7 @@ pub fn count_up<const REGS: usize>(
             let lead = lead(&machine.ram, origin, goes_on_up(&machine.ram, address))?;
             machine.ram.write(address, register);
             go_on_lifting(&mut machine.focal, lead);
-            Ok(LineOutcome::Done)
+            Ok(BriefOutcome::Done)
         }
         Err(fault) => Ok(fail(machine, origin, fault)),
     }
@@ -40,7 +40,7 @@ pub fn count_down<const REGS: usize>(
     machine: &mut Machine<REGS>,
     origin: Origin,
     address: u16,
-) -> Result<LineOutcome, FocalRefusal>
+) -> Result<BriefOutcome, FocalRefusal>
     requires { IsReady origin machine.old }
     ensures carried { DoesUse origin CountDown address machine.old machine.new result }
     ensures unchanged { OnErr result (machine.new ≡ machine.old) }
@@ -50,7 +50,7 @@ pub fn count_down<const REGS: usize>(
             let lead = lead(&machine.ram, origin, goes_on_down(&machine.ram, address))?;
             machine.ram.write(address, register);
             go_on_lifting(&mut machine.focal, lead);
-            Ok(LineOutcome::Done)
+            Ok(BriefOutcome::Done)
         }
         Err(fault) => Ok(fail(machine, origin, fault)),
     }

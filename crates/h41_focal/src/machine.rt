@@ -1,6 +1,8 @@
 //! Memory and what lines work on beside it, as one value: what lines, edits and keys change.
 
-ghost use Rattle.std.specs.Prelude.{◌≡◌, ◌≤◌, ℕ, None, Some, OnErr};
+ghost use Rattle.std.specs.Prelude.{◌≡◌, ◌≤◌, ℕ, None, Ok, Some, OnErr};
+ghost use Rattle.h41_focal.specs.BriefOutcomes.{StepsBriefly};
+ghost use Rattle.h41_focal.specs.declared.outcome.BriefOutcome.TheVariants.{Elsewhere};
 ghost use Rattle.h41_focal.specs.MachineCalls.{Fails, FailsTyped, KeepsElsewhere, Passes, Steps};
 ghost use Rattle.h41_focal.specs.MachineCalls.{Types};
 ghost use Rattle.h41_focal.specs.LineStep.{machine_with, start};
@@ -8,9 +10,9 @@ ghost use Rattle.h41_ram.specs.RegisterMap as registers;
 
 use crate::course::{fail, go_on, go_on_lifting};
 use crate::focal::Focal;
-use crate::lines::{carry_out, standing};
+use crate::lines::{carry_briefly, carry_out, standing};
 use crate::origin::Origin;
-use crate::outcome::LineOutcome;
+use crate::outcome::{BriefOutcome, LineOutcome};
 use crate::refusal::FocalRefusal;
 use h41_codes::{Function, Line};
 use h41_ram::Ram;
@@ -59,6 +61,18 @@ impl<const REGS: usize> Machine<REGS> {
         carry_out(self, Origin::Program(next), &line)
     }
 
+    /// The line at the position is carried out as by `step`, and refused as there, but for the texts of its outcome. A line that
+    /// calls what memory does not have changes nothing; `step` tells what it calls.
+    #[inline(always)]
+    pub fn step_briefly(&mut self) -> Result<BriefOutcome, FocalRefusal>
+        ensures line { StepsBriefly self.old self.new result }
+        ensures unchanged { OnErr result (self.new ≡ self.old) }
+        ensures elsewhere { result ≡ Ok Elsewhere → self.new ≡ self.old }
+    {
+        let (line, next) = standing(self)?;
+        carry_briefly(self, Origin::Program(next), &line)
+    }
+
     /// A function is carried out in place of the line at the position, whatever that is, as for an XEQ that names it: refused as
     /// in `step`.
     pub fn step_as(&mut self, function: Function) -> Result<LineOutcome, FocalRefusal>
@@ -76,7 +90,7 @@ impl<const REGS: usize> Machine<REGS> {
         ensures unchanged { OnErr result (self.new ≡ self.old) }
     {
         let (_, next) = standing(self)?;
-        Ok(fail(self, Origin::Program(next), fault))
+        Ok(fail(self, Origin::Program(next), fault).outcome(&self.ram))
     }
 
     /// A typed line fails, as where what it calls is nowhere: its fault is answered, or flag 25 is cleared. 15 as in `step`.
@@ -87,7 +101,7 @@ impl<const REGS: usize> Machine<REGS> {
         if !self.ram.is_sound() {
             return Err(FocalRefusal::MemoryLost);
         }
-        Ok(fail(self, Origin::Typed, fault))
+        Ok(fail(self, Origin::Typed, fault).outcome(&self.ram))
     }
 
     /// The line at the position is passed, since what it calls is carried out elsewhere: on to the next line, with lift behind an

@@ -7,7 +7,7 @@ ghost use Rattle.h41_focal.specs.declared.works.FunctionWork.TheVariants.{Angles
 use crate::course::go_on_lifting;
 use crate::machine::Machine;
 use crate::origin::Origin;
-use crate::outcome::LineOutcome;
+use crate::outcome::BriefOutcome;
 use crate::uses::DigitsUse;
 use h41_rows::{set_angles, set_format};
 
@@ -17,13 +17,13 @@ pub fn set_angle_unit<const REGS: usize>(
     origin: Origin,
     grads: bool,
     radians: bool,
-) -> LineOutcome
+) -> BriefOutcome
     requires { IsReady origin machine.old }
     ensures { DoesWork origin (Angles grads radians) machine.old machine.new result }
 {
     set_angles(&mut machine.ram, grads, radians);
     go_on_lifting(&mut machine.focal, origin);
-    LineOutcome::Done
+    BriefOutcome::Done
 }
 
 /// What is done with a number of digits, 0 to 9: a tone sounds nowhere, and changes nothing here.
@@ -32,7 +32,7 @@ pub fn use_digits<const REGS: usize>(
     origin: Origin,
     taken: DigitsUse,
     digits: u8,
-) -> LineOutcome
+) -> BriefOutcome
     requires ready { IsReady origin machine.old }
     requires few { digits < 10 }
     ensures { LeavesDigits origin taken digits machine.old machine.new result }
@@ -41,11 +41,11 @@ pub fn use_digits<const REGS: usize>(
         DigitsUse::Format(fixed, engineering) => {
             set_format(&mut machine.ram, digits, fixed, engineering);
             go_on_lifting(&mut machine.focal, origin);
-            LineOutcome::Done
+            BriefOutcome::Done
         }
         DigitsUse::Tone => {
             go_on_lifting(&mut machine.focal, origin);
-            LineOutcome::Done
+            BriefOutcome::Done
         }
     }
 }

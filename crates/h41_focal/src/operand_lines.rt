@@ -11,7 +11,7 @@ use crate::flag_lines::use_flag;
 use crate::machine::Machine;
 use crate::mode_lines::use_digits;
 use crate::origin::Origin;
-use crate::outcome::LineOutcome;
+use crate::outcome::BriefOutcome;
 use crate::refusal::FocalRefusal;
 use crate::register_uses::use_register;
 use crate::stack_lines::be_silent;
@@ -25,7 +25,7 @@ pub fn with_operand<const REGS: usize>(
     origin: Origin,
     function: ParameterFunction,
     operand: &Operand,
-) -> Result<LineOutcome, FocalRefusal>
+) -> Result<BriefOutcome, FocalRefusal>
     requires { IsReady origin machine.old }
     ensures taken { TakenBy origin function operand.now machine.old machine.new result }
     ensures unchanged { OnErr result (machine.new ≡ machine.old) }
@@ -76,7 +76,7 @@ fn with_register<const REGS: usize>(
     origin: Origin,
     taken: RegisterUse,
     operand: &Operand,
-) -> Result<LineOutcome, FocalRefusal>
+) -> Result<BriefOutcome, FocalRefusal>
     requires ready { IsReady origin machine.old }
     requires held { is_operand_left_out operand.now ≡ false }
     ensures used { UsesAddress origin taken operand.now machine.old machine.new result }
@@ -94,7 +94,7 @@ fn with_digits<const REGS: usize>(
     origin: Origin,
     taken: DigitsUse,
     operand: &Operand,
-) -> Result<LineOutcome, FocalRefusal>
+) -> Result<BriefOutcome, FocalRefusal>
     requires ready { IsReady origin machine.old }
     requires held { is_operand_left_out operand.now ≡ false }
     ensures used { UsesDigits origin taken operand.now machine.old machine.new result }
@@ -112,7 +112,7 @@ fn with_flag<const REGS: usize>(
     origin: Origin,
     taken: FlagUse,
     operand: &Operand,
-) -> Result<LineOutcome, FocalRefusal>
+) -> Result<BriefOutcome, FocalRefusal>
     requires ready { IsReady origin machine.old }
     requires held { is_operand_left_out operand.now ≡ false }
     ensures used { UsesFlag origin taken operand.now machine.old machine.new result }

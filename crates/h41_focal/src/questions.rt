@@ -2,14 +2,13 @@
 
 ghost use Rattle.std.specs.Prelude.{◌≡◌, ℕ, IsTrue, OnErr};
 ghost use Rattle.h41_focal.specs.private.Carrying.{CarriesWork, IsReady, Leads, test_answer};
-ghost use Rattle.h41_focal.specs.Outcomes.{answer_of};
 ghost use Rattle.h41_focal.specs.declared.works.FunctionWork.TheVariants.{Ask};
 ghost use Rattle.h41_ram.specs.RegisterMap.{is_sound};
 
 use crate::course::{fail, go_on_lifting};
 use crate::machine::Machine;
 use crate::origin::Origin;
-use crate::outcome::LineOutcome;
+use crate::outcome::BriefOutcome;
 use crate::refusal::FocalRefusal;
 use h41_program::next;
 use h41_ram::Ram;
@@ -36,12 +35,12 @@ pub fn lead<const REGS: usize>(
 }
 
 /// What a test answers: where it was typed, whether it holds.
-pub fn answer(origin: Origin, holds: bool) -> LineOutcome
-    ensures { answer_of result ≡ test_answer origin holds }
+pub fn answer(origin: Origin, holds: bool) -> BriefOutcome
+    ensures { result ≡ test_answer origin holds }
 {
     match origin {
-        Origin::Program(_) => LineOutcome::Done,
-        Origin::Typed => LineOutcome::Answered(holds),
+        Origin::Program(_) => BriefOutcome::Done,
+        Origin::Typed => BriefOutcome::Answered(holds),
     }
 }
 
@@ -51,7 +50,7 @@ pub fn ask<const REGS: usize>(
     machine: &mut Machine<REGS>,
     origin: Origin,
     test: Test,
-) -> Result<LineOutcome, FocalRefusal>
+) -> Result<BriefOutcome, FocalRefusal>
     requires { IsReady origin machine.old }
     ensures carried { CarriesWork origin (Ask test) machine.old machine.new result }
     ensures unchanged { OnErr result (machine.new ≡ machine.old) }

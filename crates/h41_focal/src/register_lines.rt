@@ -8,11 +8,10 @@ ghost use Rattle.h41_focal.specs.declared.uses.RegisterUse.TheVariants.{StoreAlp
 use crate::course::{fail, go_on_lifting};
 use crate::machine::Machine;
 use crate::origin::Origin;
-use crate::outcome::LineOutcome;
+use crate::outcome::BriefOutcome;
 use h41_rows::{
     ValueOfTwo, append_register, bring_in_from, compute_of_two, exchange, first_six, store_x,
 };
-use h41_show::{Format, register_text};
 
 /// The address of X.
 const X: u16 = 3;
@@ -22,13 +21,13 @@ pub fn recall<const REGS: usize>(
     machine: &mut Machine<REGS>,
     origin: Origin,
     address: u16,
-) -> LineOutcome
+) -> BriefOutcome
     requires { IsReady origin machine.old }
     ensures { UsesAt origin Recall address machine.old machine.new result }
 {
     bring_in_from(&mut machine.ram, address, machine.focal.lift);
     go_on_lifting(&mut machine.focal, origin);
-    LineOutcome::Done
+    BriefOutcome::Done
 }
 
 /// The register takes X.
@@ -36,13 +35,13 @@ pub fn store<const REGS: usize>(
     machine: &mut Machine<REGS>,
     origin: Origin,
     address: u16,
-) -> LineOutcome
+) -> BriefOutcome
     requires { IsReady origin machine.old }
     ensures { UsesAt origin Store address machine.old machine.new result }
 {
     store_x(&mut machine.ram, address);
     go_on_lifting(&mut machine.focal, origin);
-    LineOutcome::Done
+    BriefOutcome::Done
 }
 
 /// The register takes a value of itself and X; X and LAST X stay.
@@ -51,7 +50,7 @@ pub fn combine<const REGS: usize>(
     origin: Origin,
     value: ValueOfTwo,
     address: u16,
-) -> LineOutcome
+) -> BriefOutcome
     requires { IsReady origin machine.old }
     ensures { UsesAt origin (Combine value) address machine.old machine.new result }
 {
@@ -59,7 +58,7 @@ pub fn combine<const REGS: usize>(
         Ok(register) => {
             machine.ram.write(address, register);
             go_on_lifting(&mut machine.focal, origin);
-            LineOutcome::Done
+            BriefOutcome::Done
         }
         Err(fault) => fail(machine, origin, fault),
     }
@@ -70,12 +69,12 @@ pub fn view<const REGS: usize>(
     machine: &mut Machine<REGS>,
     origin: Origin,
     address: u16,
-) -> LineOutcome
+) -> BriefOutcome
     requires { IsReady origin machine.old }
     ensures { UsesAt origin View address machine.old machine.new result }
 {
     go_on_lifting(&mut machine.focal, origin);
-    LineOutcome::Viewed(register_text(machine.ram.read(address), Format::from_flags(&machine.ram)))
+    BriefOutcome::ViewedRegister(address)
 }
 
 /// The register takes ALPHA's first six characters; ALPHA stays.
@@ -83,14 +82,14 @@ pub fn store_alpha<const REGS: usize>(
     machine: &mut Machine<REGS>,
     origin: Origin,
     address: u16,
-) -> LineOutcome
+) -> BriefOutcome
     requires { IsReady origin machine.old }
     ensures { UsesAt origin StoreAlpha address machine.old machine.new result }
 {
     let characters = first_six(&machine.ram);
     machine.ram.write(address, characters);
     go_on_lifting(&mut machine.focal, origin);
-    LineOutcome::Done
+    BriefOutcome::Done
 }
 
 /// The text of the register comes behind what ALPHA holds.
@@ -98,13 +97,13 @@ pub fn recall_alpha<const REGS: usize>(
     machine: &mut Machine<REGS>,
     origin: Origin,
     address: u16,
-) -> LineOutcome
+) -> BriefOutcome
     requires { IsReady origin machine.old }
     ensures { UsesAt origin RecallAlpha address machine.old machine.new result }
 {
     append_register(&mut machine.ram, address);
     go_on_lifting(&mut machine.focal, origin);
-    LineOutcome::Done
+    BriefOutcome::Done
 }
 
 /// X and the register change places.
@@ -112,11 +111,11 @@ pub fn exchange_x<const REGS: usize>(
     machine: &mut Machine<REGS>,
     origin: Origin,
     address: u16,
-) -> LineOutcome
+) -> BriefOutcome
     requires { IsReady origin machine.old }
     ensures { UsesAt origin Exchange address machine.old machine.new result }
 {
     exchange(&mut machine.ram, address);
     go_on_lifting(&mut machine.focal, origin);
-    LineOutcome::Done
+    BriefOutcome::Done
 }

@@ -6,7 +6,7 @@ ghost use Rattle.h41_focal.specs.private.Carrying.{DoesUse, IsReady};
 use crate::loop_lines::{count_down, count_up};
 use crate::machine::Machine;
 use crate::origin::Origin;
-use crate::outcome::LineOutcome;
+use crate::outcome::BriefOutcome;
 use crate::refusal::FocalRefusal;
 use crate::register_lines::{combine, exchange_x, recall, recall_alpha, store, store_alpha, view};
 use crate::uses::RegisterUse;
@@ -17,7 +17,7 @@ pub fn use_register<const REGS: usize>(
     origin: Origin,
     taken: RegisterUse,
     address: u16,
-) -> Result<LineOutcome, FocalRefusal>
+) -> Result<BriefOutcome, FocalRefusal>
     requires { IsReady origin machine.old }
     ensures carried { DoesUse origin taken address machine.old machine.new result }
     ensures unchanged { OnErr result (machine.new ≡ machine.old) }

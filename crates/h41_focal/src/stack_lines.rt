@@ -13,7 +13,7 @@ use crate::course::{go_on, go_on_lifting, go_on_replacing};
 use crate::focal::Focal;
 use crate::machine::Machine;
 use crate::origin::Origin;
-use crate::outcome::LineOutcome;
+use crate::outcome::BriefOutcome;
 use crate::works::Movement;
 use h41_codes::Number;
 use h41_ram::{Ram, StatusRegister};
@@ -33,13 +33,13 @@ pub fn move_stack<const REGS: usize>(
     machine: &mut Machine<REGS>,
     origin: Origin,
     movement: Movement,
-) -> LineOutcome
+) -> BriefOutcome
     requires { IsReady origin machine.old }
     ensures { DoesWork origin (Move movement) machine.old machine.new result }
 {
     move_registers(&mut machine.ram, movement, machine.focal.lift);
     go_on_behind(&mut machine.focal, origin, movement);
-    LineOutcome::Done
+    BriefOutcome::Done
 }
 
 /// The registers of the stack move; what comes in lifts them where lift is on.
@@ -78,42 +78,42 @@ pub fn number_line<const REGS: usize>(
     machine: &mut Machine<REGS>,
     origin: Origin,
     number: &Number,
-) -> LineOutcome
+) -> BriefOutcome
     requires { IsReady origin machine.old }
     ensures { DoesLine origin (lines.Number number.now) machine.old machine.new result }
 {
     bring_in(&mut machine.ram, written(number), machine.focal.lift);
     go_on_lifting(&mut machine.focal, origin);
-    LineOutcome::Done
+    BriefOutcome::Done
 }
 
 /// All data registers become zero.
 pub fn clear_registers<const REGS: usize>(
     machine: &mut Machine<REGS>,
     origin: Origin,
-) -> LineOutcome
+) -> BriefOutcome
     requires { IsReady origin machine.old }
     ensures { DoesWork origin ClearRegisters machine.old machine.new result }
 {
     clear_data(&mut machine.ram);
     go_on_lifting(&mut machine.focal, origin);
-    LineOutcome::Done
+    BriefOutcome::Done
 }
 
 /// A line that does nothing but turn lift on.
-pub fn do_nothing<const REGS: usize>(machine: &mut Machine<REGS>, origin: Origin) -> LineOutcome
+pub fn do_nothing<const REGS: usize>(machine: &mut Machine<REGS>, origin: Origin) -> BriefOutcome
     requires { IsReady origin machine.old }
     ensures { LeavesRow origin lifting_row machine.old machine.new result }
 {
     go_on_lifting(&mut machine.focal, origin);
-    LineOutcome::Done
+    BriefOutcome::Done
 }
 
 /// A line that does nothing, and leaves lift.
-pub fn be_silent<const REGS: usize>(machine: &mut Machine<REGS>, origin: Origin) -> LineOutcome
+pub fn be_silent<const REGS: usize>(machine: &mut Machine<REGS>, origin: Origin) -> BriefOutcome
     requires { IsReady origin machine.old }
     ensures { LeavesRow origin silent_row machine.old machine.new result }
 {
     go_on(&mut machine.focal, origin);
-    LineOutcome::Done
+    BriefOutcome::Done
 }

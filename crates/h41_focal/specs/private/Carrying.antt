@@ -1,5 +1,5 @@
 -- What private functions promise one another.
-use Rattle.std.specs.Prelude.{◌≡◌, ◌≤◌, ℕ, length, Some, Bool, false, IsTrue, List, MatchBool}
+use Rattle.std.specs.Prelude.{◌≡◌, ◌≤◌, ℕ, length, Some, Bool, false, IsTrue, List, [], MatchBool}
 use Rattle.std.specs.Prelude.{Result, Ok, Err, ⊤}
 use Rattle.h41_codes.specs.declared.functions.Branch.{Branch}
 use Rattle.h41_codes.specs.declared.functions.NameFunction.{NameFunction}
@@ -11,12 +11,13 @@ use Rattle.h41_codes.specs.declared.line.Operand.{Operand}
 use Rattle.h41_rows.specs.Results.{result_map}
 use Rattle.h41_focal.specs.Destinations.{Manner}
 use Rattle.h41_focal.specs.Destinations as destinations
-use Rattle.h41_focal.specs.MachineCalls.{Call, carried_as, left_of}
-use Rattle.h41_focal.specs.LineStep.{Applies, Fails, FailsIn, FocalState, Machine, TakesLine}
-use Rattle.h41_focal.specs.LineStep.{at_position}
-use Rattle.h41_rows.specs.Operands.{Address, Count, DigitKind, FlagKind, NoOperand, RegisterKind}
-use Rattle.h41_rows.specs.Operands.{meant_as}
-use Rattle.h41_focal.specs.Outcomes.{Answer, answer_of}
+use Rattle.h41_focal.specs.BriefOutcomes.{briefly, briefly_as}
+use Rattle.h41_focal.specs.MachineCalls.{carried_as}
+use Rattle.h41_focal.specs.LineStep.{Applies, Fails, FailsIn, FocalState, Left, Machine}
+use Rattle.h41_focal.specs.LineStep.{TakesLine, at_position}
+use Rattle.h41_rows.specs.Operands.{Address, Count, DigitKind, FlagKind, Meant, Name, NoOperand}
+use Rattle.h41_rows.specs.Operands.{RegisterKind, meant_as, meant_of}
+use Rattle.h41_focal.specs.Outcomes.{Answer}
 use Rattle.h41_focal.specs.Outcomes as answers
 use Rattle.h41_rows.specs.Computing.{meant_by}
 use Rattle.h41_rows.specs.RowEffects.{lift_after, with_alpha_change}
@@ -30,6 +31,8 @@ use Rattle.h41_rows.specs.declared.operands.BranchTarget.{BranchTarget}
 use Rattle.h41_rows.specs.declared.fault.LineFault.{LineFault}
 use Rattle.h41_focal.specs.declared.origin.Origin.{Origin}
 use Rattle.h41_focal.specs.declared.origin.Origin.TheVariants.{Program, Typed}
+use Rattle.h41_focal.specs.declared.outcome.BriefOutcome.{BriefOutcome}
+use Rattle.h41_focal.specs.declared.outcome.BriefOutcome.TheVariants as briefs
 use Rattle.h41_focal.specs.declared.outcome.LineOutcome.{LineOutcome}
 use Rattle.h41_focal.specs.declared.refusal.FocalRefusal.{FocalRefusal}
 use Rattle.h41_focal.specs.declared.refusal.FocalRefusal.TheVariants.{BrokenProgram, MemoryLost}
@@ -63,16 +66,44 @@ on_to_next (Program next) lift focal =
     record (at_position next focal) { lift = lift_after lift focal.lift }
 on_to_next Typed lift focal = record focal { lift = lift_after lift focal.lift }
 
+-- what a line calls that memory does not have: a function of a module, or a name. Lines that call
+-- nothing have no use for it.
+abbrev pub nowhere : Answer
+nowhere = answers.Seeks []
+
+abbrev pub name_meant : Result Meant LineFault → List ℕ
+name_meant (Ok (Name name)) = name
+name_meant meant = []
+
+abbrev pub called_by : RegisterMap → Line → Answer
+called_by memory (lines.Module number entry) = answers.Calls number entry
+called_by memory (lines.Named function name) = answers.Seeks name
+called_by memory (lines.BranchIndirect branch register) =
+    answers.Seeks (name_meant (meant_of memory (lines.BranchIndirect branch register)))
+called_by memory line = nowhere
+
+-- what a line leaves that calls nothing so
+abbrev pub ended : Machine → BriefOutcome → Left
+ended new brief = briefly nowhere new brief
+
+abbrev pub ended_as : Machine → Result BriefOutcome FocalRefusal → Result Left FocalRefusal
+ended_as new result = briefly_as nowhere new result
+
 -- a row was applied to a machine
-abbrev pub Leaves : Origin → Row → ℕ → (old new : Machine) → LineOutcome → Type 0
-Leaves origin row named old new outcome =
-    Applies (manner_of origin) row named old (Ok (left_of new outcome))
+abbrev pub Leaves : Origin → Row → ℕ → (old new : Machine) → BriefOutcome → Type 0
+Leaves origin row named old new brief =
+    Applies (manner_of origin) row named old (Ok (ended new brief))
+
+-- the same of a line that may call what memory does not have
+abbrev pub LeavesCalling : Answer → Origin → Row → ℕ → (old new : Machine) → BriefOutcome → Type 0
+LeavesCalling called origin row named old new brief =
+    Applies (manner_of origin) row named old (Ok (briefly called new brief))
 
 -- a row was applied to a machine, or the line refused
-abbrev pub CarriesRow : Origin → Row → ℕ → (old new : Machine) → Result LineOutcome FocalRefusal
+abbrev pub CarriesRow : Origin → Row → ℕ → (old new : Machine) → Result BriefOutcome FocalRefusal
     → Type 0
 CarriesRow origin row named old new result =
-    Applies (manner_of origin) row named old (carried_as new result)
+    Applies (manner_of origin) row named old (ended_as new result)
 
 -- where a line that asks goes on: the next line where the answer is yes, else the one behind it; a
 -- typed line stays
@@ -88,26 +119,34 @@ Leads (Program next) memory holds (Err refusal) =
 Leads Typed memory holds lead = lead ≡ Ok Typed
 
 -- what a test answers: where it was typed, whether it holds
-abbrev pub test_answer : Origin → Bool → Answer
-test_answer (Program next) holds = answers.Done
-test_answer Typed holds = answers.Answered holds
+abbrev pub test_answer : Origin → Bool → BriefOutcome
+test_answer (Program next) holds = briefs.Done
+test_answer Typed holds = briefs.Answered holds
 
 -- a line was taken, or refused
 abbrev pub TakesAs : Origin → Line → (old new : Machine) → Result LineOutcome FocalRefusal → Type 0
 TakesAs origin line old new result =
     TakesLine (manner_of origin) line old (carried_as new result)
 
+-- what a call takes, then what it leaves, and its brief outcome
+abbrev pub BriefCall : Type 1
+BriefCall = (old new : Machine) → Result BriefOutcome FocalRefusal → Type 0
+
+abbrev pub TakesBriefly : Origin → Line → BriefCall
+TakesBriefly origin line old new result =
+    TakesLine (manner_of origin) line old (briefly_as (called_by old.memory line) new result)
+
 -- a row was applied to what an operand means, of which this was found, or its fault
 abbrev pub CarriesFound : {A : Type 0} → Origin → (A → Row) → (A → ℕ) → Result A LineFault
-    → (old new : Machine) → Result LineOutcome FocalRefusal → Type 0
+    → (old new : Machine) → Result BriefOutcome FocalRefusal → Type 0
 CarriesFound origin row named (Ok found) old new result =
     CarriesRow origin (row found) (named found) old new result
 CarriesFound origin row named (Err fault) old new result =
-    FailsIn (manner_of origin) old fault (carried_as new result)
+    FailsIn (manner_of origin) old fault (ended_as new result)
 
 -- with a register, a number of digits, a flag
 abbrev pub UsesAddress : Origin → RegisterUse → Operand → (old new : Machine)
-    → Result LineOutcome FocalRefusal → Type 0
+    → Result BriefOutcome FocalRefusal → Type 0
 UsesAddress origin taken operand old new result =
     (found : Result ℕ LineFault)
     × (result_map Address found ≡ meant_as RegisterKind old.memory operand)
@@ -115,13 +154,13 @@ UsesAddress origin taken operand old new result =
     (λ address. address) found old new result
 
 abbrev pub UsesDigits : Origin → DigitsUse → Operand → (old new : Machine)
-    → Result LineOutcome FocalRefusal → Type 0
+    → Result BriefOutcome FocalRefusal → Type 0
 UsesDigits origin taken operand old new result =
     (found : Result ℕ LineFault) × (result_map Count found ≡ meant_as DigitKind old.memory operand)
     × CarriesFound origin (digits_use_row taken) (λ digits. 0) found old new result
 
 abbrev pub UsesFlag : Origin → FlagUse → Operand → (old new : Machine)
-    → Result LineOutcome FocalRefusal → Type 0
+    → Result BriefOutcome FocalRefusal → Type 0
 UsesFlag origin taken operand old new result =
     (found : Result ℕ LineFault)
     × (result_map Count found ≡ meant_as (FlagKind (highest_of taken)) old.memory operand)
@@ -143,81 +182,84 @@ Stands machine result = StandsAt machine.memory machine.focal.position result
 
 -- the same of a row that names no register, of a line without an operand, of the work of a
 -- function, of the use of a register or a flag
-abbrev pub LeavesRow : Origin → Row → (old new : Machine) → LineOutcome → Type 0
-LeavesRow origin row old new outcome = (named : ℕ) → Leaves origin row named old new outcome
+abbrev pub LeavesRow : Origin → Row → (old new : Machine) → BriefOutcome → Type 0
+LeavesRow origin row old new brief = (named : ℕ) → Leaves origin row named old new brief
 
-abbrev pub DoesLine : Origin → Line → (old new : Machine) → LineOutcome → Type 0
-DoesLine origin line old new outcome = LeavesRow origin (row_of line NoOperand) old new outcome
+abbrev pub DoesLine : Origin → Line → (old new : Machine) → BriefOutcome → Type 0
+DoesLine origin line old new brief = LeavesRow origin (row_of line NoOperand) old new brief
 
-abbrev pub DoesWork : Origin → FunctionWork → (old new : Machine) → LineOutcome → Type 0
-DoesWork origin work old new outcome = LeavesRow origin (row_of_work work) old new outcome
+abbrev pub DoesWork : Origin → FunctionWork → (old new : Machine) → BriefOutcome → Type 0
+DoesWork origin work old new brief = LeavesRow origin (row_of_work work) old new brief
 
 abbrev pub CarriesWork : Origin → FunctionWork → (old new : Machine)
-    → Result LineOutcome FocalRefusal → Type 0
+    → Result BriefOutcome FocalRefusal → Type 0
 CarriesWork origin work old new result =
     (named : ℕ) → CarriesRow origin (row_of_work work) named old new result
 
-abbrev pub UsesAt : Origin → RegisterUse → ℕ → (old new : Machine) → LineOutcome → Type 0
-UsesAt origin taken address old new outcome =
-    Leaves origin (register_use_row taken) address old new outcome
+abbrev pub UsesAt : Origin → RegisterUse → ℕ → (old new : Machine) → BriefOutcome → Type 0
+UsesAt origin taken address old new brief =
+    Leaves origin (register_use_row taken) address old new brief
 
 abbrev pub DoesUse : Origin → RegisterUse → ℕ → (old new : Machine)
-    → Result LineOutcome FocalRefusal → Type 0
+    → Result BriefOutcome FocalRefusal → Type 0
 DoesUse origin taken address old new result =
     CarriesRow origin (register_use_row taken) address old new result
 
 abbrev pub CarriesFlag : Origin → FlagUse → ℕ → (old new : Machine)
-    → Result LineOutcome FocalRefusal → Type 0
+    → Result BriefOutcome FocalRefusal → Type 0
 CarriesFlag origin taken flag old new result =
     (named : ℕ) → CarriesRow origin (flag_use_row taken flag) named old new result
 
-abbrev pub LeavesFlag : Origin → FlagUse → ℕ → (old new : Machine) → LineOutcome → Type 0
-LeavesFlag origin taken flag old new outcome =
-    LeavesRow origin (flag_use_row taken flag) old new outcome
+abbrev pub LeavesFlag : Origin → FlagUse → ℕ → (old new : Machine) → BriefOutcome → Type 0
+LeavesFlag origin taken flag old new brief =
+    LeavesRow origin (flag_use_row taken flag) old new brief
 
-abbrev pub LeavesDigits : Origin → DigitsUse → ℕ → (old new : Machine) → LineOutcome → Type 0
-LeavesDigits origin taken digits old new outcome =
-    LeavesRow origin (digits_use_row taken digits) old new outcome
+abbrev pub LeavesDigits : Origin → DigitsUse → ℕ → (old new : Machine) → BriefOutcome → Type 0
+LeavesDigits origin taken digits old new brief =
+    LeavesRow origin (digits_use_row taken digits) old new brief
 
 -- of a branch to a label, or to a name
-abbrev pub GoesToLabel : Origin → Branch → ℕ → (old new : Machine) → LineOutcome → Type 0
-GoesToLabel origin branch label old new outcome =
-    LeavesRow origin (to_label branch label) old new outcome
+abbrev pub GoesToLabel : Origin → Branch → ℕ → (old new : Machine) → BriefOutcome → Type 0
+GoesToLabel origin branch label old new brief =
+    LeavesRow origin (to_label branch label) old new brief
 
-abbrev pub GoesToName : Origin → Branch → List ℕ → (old new : Machine) → LineOutcome → Type 0
-GoesToName origin branch name old new outcome =
-    LeavesRow origin (to_name branch name) old new outcome
+abbrev pub GoesToName : Origin → Branch → List ℕ → (old new : Machine) → BriefOutcome → Type 0
+GoesToName origin branch name old new brief =
+    (named : ℕ)
+    → LeavesCalling (answers.Seeks name) origin (to_name branch name) named old new brief
 
 -- of a fault
-abbrev pub FailsAs : Origin → LineFault → (old new : Machine) → LineOutcome → Type 0
-FailsAs origin fault old new outcome = Fails (manner_of origin) old fault (left_of new outcome)
+abbrev pub FailsAs : Origin → LineFault → (old new : Machine) → BriefOutcome → Type 0
+FailsAs origin fault old new brief = Fails (manner_of origin) old fault (ended new brief)
 
 -- lines of each kind are taken
-abbrev pub TakesNamed : Origin → NameFunction → List ℕ → Call
+abbrev pub TakesNamed : Origin → NameFunction → List ℕ → BriefCall
 TakesNamed origin function name old new result =
-    TakesAs origin (lines.Named function name) old new result
+    TakesBriefly origin (lines.Named function name) old new result
 
-abbrev pub TakesShort : Origin → RegisterFunction → ℕ → Call
+abbrev pub TakesShort : Origin → RegisterFunction → ℕ → BriefCall
 TakesShort origin function register old new result =
-    TakesAs origin (lines.Register function register) old new result
+    TakesBriefly origin (lines.Register function register) old new result
 
-abbrev pub TakenBy : Origin → ParameterFunction → Operand → Call
+abbrev pub TakenBy : Origin → ParameterFunction → Operand → BriefCall
 TakenBy origin function operand old new result =
-    TakesAs origin (lines.WithOperand function operand) old new result
+    TakesBriefly origin (lines.WithOperand function operand) old new result
 
-abbrev pub TakesBranch : Origin → Branch → ℕ → Call
+abbrev pub TakesBranch : Origin → Branch → ℕ → BriefCall
 TakesBranch origin branch register old new result =
-    TakesAs origin (lines.BranchIndirect branch register) old new result
+    TakesBriefly origin (lines.BranchIndirect branch register) old new result
 
 -- a flag is asked, and cleared
-abbrev pub ClearsFlag : Origin → Bool → ℕ → Call
+abbrev pub ClearsFlag : Origin → Bool → ℕ → BriefCall
 ClearsFlag origin on flag old new result = CarriesFlag origin (AskAndClear on) flag old new result
 
 -- of a branch to what a register holds
-abbrev pub GoesToTarget : Origin → Branch → BranchTarget → (old new : Machine) → LineOutcome
+abbrev pub GoesToTarget : Origin → Branch → BranchTarget → (old new : Machine) → BriefOutcome
     → Type 0
-GoesToTarget origin branch target old new outcome =
-    LeavesRow origin (to_meant branch (meant_by target)) old new outcome
+GoesToTarget origin branch target old new brief =
+    (named : ℕ)
+    → LeavesCalling (answers.Seeks (name_meant (Ok (meant_by target)))) origin
+    (to_meant branch (meant_by target)) named old new brief
 
 -- a text comes into ALPHA
 abbrev pub PutsText : List ℕ → RegisterMap → RegisterMap → Type 0

@@ -2,12 +2,12 @@ use Rattle.std.proofs.Common.{refl}
 use Rattle.h41_focal.proofs.RowDone.{row_done}
 use Rattle.h41_focal.specs.private.Works.{flag_use_row}
 use Rattle.h41_focal.specs.declared.uses.FlagUse.TheVariants as flags
-use Rattle.h41_focal.specs.declared.outcome.LineOutcome.TheVariants as outcomes
+use Rattle.h41_focal.specs.declared.outcome.BriefOutcome.TheVariants as briefs
 use Rattle.h41_ram.specs.RegisterMap.{zeros}
 use Rattle.h41_focal.proofs.flag_lines.change_flag.Goals as goal
 
 pub returns : goal.returns
 returns g c = λ named.
     row_done _ (flag_use_row (flags.Change c.args.on) c.args.flag) named _ _ _
-    zeros outcomes.Done _ _ c.machine.view_is c.requires.ready.next refl refl
+    zeros briefs.Done _ _ c.machine.view_is c.requires.ready.next refl refl
     refl (rw (c.set_flag.ensures, c.from.ensures) refl) c.go_on_lifting.ensures

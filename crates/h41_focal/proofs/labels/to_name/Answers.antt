@@ -1,9 +1,12 @@
 use Rattle.std.proofs.Common.{None, subst}
+use Rattle.h41_focal.proofs.Briefly.{failure_calling}
 use Rattle.h41_focal.proofs.RowApplied.{opened_row}
 use Rattle.h41_focal.specs.LineStep.{Machine, machine_with}
 use Rattle.h41_program.specs.ProgramLines.{AnswersOf}
 use Rattle.h41_program.specs.Searches.{named_in, position_of}
+use Rattle.h41_focal.specs.Outcomes.{Seeks}
 use Rattle.h41_rows.specs.LineRows.{to_name}
+use Rattle.h41_rows.specs.declared.fault.LineFault.TheVariants.{Nonexistent}
 use Rattle.h41_focal.proofs.LabelsMet.{name_found, name_lost, name_sought}
 use Rattle.h41_focal.proofs.labels.to_name.Goals as goal
 
@@ -23,7 +26,7 @@ returns-in-None-GoTo g c = λ named.
     (name_lost c.args.origin c.args.name named _ _ _ c.requires.next
     (subst (λ (machine : Machine). AnswersOf (λ lines. position_of (named_in c.args.name lines)) machine.memory 0 None)
     c.machine.view_is lost)
-    c.fail.ensures)
+    (failure_calling (Seeks c.args.name) c.args.origin Nonexistent c.args.machine.now c.fail.new.machine c.fail.result c.fail.ensures))
 
 pub returns-in-None-Execute : goal.returns-in-None-Execute
 returns-in-None-Execute g c = λ named.

@@ -1,12 +1,26 @@
+use Rattle.std.proofs.Common.{ap, rules, ◌∙◌}
+use Rattle.std.proofs.lemmas.Result.{err_from_is_err_and}
+use Rattle.h41_focal.proofs.Briefly.{outcome_taken, taken_is_held}
+use Rattle.h41_focal.specs.BriefOutcomes.{brief_answer}
+use Rattle.h41_focal.specs.LineStep.{Machine}
+use Rattle.h41_focal.specs.private.Carrying.{called_by}
 use Rattle.h41_focal.proofs.lines.carry_out.Goals as goal
 
-pub returns-in-Named-clause-taken : goal.returns-in-Named-clause-taken
-returns-in-Named-clause-taken g c = rw c.in-Named.is c.named.ensures.taken
+pub returns-in_err-brief-clause-taken : goal.returns-in_err-brief-clause-taken
+returns-in_err-brief-clause-taken g c =
+    let refused = err_from_is_err_and c.from_residual.result c.from_residual.ensures.1 in
+    rw (refused.1, refused.2) c.in_err-brief.ensures.taken
 
-pub returns-in-ShortGoTo-clause-taken : goal.returns-in-ShortGoTo-clause-taken
-returns-in-ShortGoTo-clause-taken g c =
-    let taken = c.to_label.ensures 0 in
-    rw c.in-ShortGoTo.is (rw (c.new.ensures, c.number.ensures.value) at taken)
+pub outcome_of-requires : goal.outcome_of-requires
+outcome_of-requires g c = (
+  search rules,
+  taken_is_held c.args.origin c.args.line.now c.args.machine.now c.carry_briefly.new.machine c.in_ok-brief.brief
+      c.in_ok-brief.ensures.taken,
+)
 
-pub returns-in-BranchTo-clause-taken : goal.returns-in-BranchTo-clause-taken
-returns-in-BranchTo-clause-taken g c = rw c.in-BranchTo.is (c.to_label-in-BranchTo.ensures 0)
+pub returns-clause-taken : goal.returns-clause-taken
+returns-clause-taken g c =
+    outcome_taken c.args.origin c.args.line.now c.args.machine.now c.carry_briefly.new.machine c.in_ok-brief.brief c.outcome_of.result
+    c.in_ok-brief.ensures.taken
+    (c.outcome_of.ensures
+    ∙ ap (λ (of : Machine). brief_answer (called_by of.memory c.args.line.now) of.memory c.in_ok-brief.brief) c.machine.view_is)

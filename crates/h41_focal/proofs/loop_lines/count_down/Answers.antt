@@ -6,7 +6,7 @@ use Rattle.h41_rows.specs.Counters.{Down}
 use Rattle.h41_rows.specs.LineRows.{loop}
 use Rattle.h41_rows.specs.Places.{Named}
 use Rattle.h41_rows.specs.Rows.{Loops}
-use Rattle.h41_focal.specs.declared.outcome.LineOutcome.TheVariants as outcomes
+use Rattle.h41_focal.specs.declared.outcome.BriefOutcome.TheVariants as briefs
 use Rattle.h41_focal.proofs.loop_lines.count_down.Goals as goal
 
 pub returns-in_err-lead-in-Ok-clause-carried : goal.returns-in_err-lead-in-Ok-clause-carried
@@ -25,7 +25,7 @@ returns-in_ok-lead-in-Ok-clause-carried g c =
     rw (c.go_on_lifting.ensures, c.write.ensures)
     (opened_row _ (loop Down) c.args.address _ _ _ _ c.machine.view_is c.requires.next
     (λ knows. loop_leads _ c.in_ok-lead-in-Ok.lead (loop Down) (Loops Down Named)
-    c.goes_on_down.result c.args.address _ c.in-Ok.register outcomes.Done
+    c.goes_on_down.result c.args.address _ c.in-Ok.register briefs.Done
     knows refl refl refl (rw c.in-Ok.is at works) c.goes_on_down.ensures c.in_ok-lead-in-Ok.ensures refl))
 
 pub returns-in-Err-clause-carried : goal.returns-in-Err-clause-carried

@@ -5,12 +5,12 @@ use Rattle.h41_focal.proofs.RowDone.{row_done}
 use Rattle.h41_rows.specs.Places.{Named}
 use Rattle.h41_focal.specs.private.Works.{register_use_row}
 use Rattle.h41_focal.specs.declared.uses.RegisterUse.TheVariants as registers
-use Rattle.h41_focal.specs.declared.outcome.LineOutcome.TheVariants as outcomes
+use Rattle.h41_focal.specs.declared.outcome.BriefOutcome.TheVariants as briefs
 use Rattle.h41_ram.specs.RegisterMap.{zeros}
 use Rattle.h41_focal.proofs.register_lines.recall.Goals as goal
 
 pub returns : goal.returns
 returns g c =
     let opened = ap (λ (inside : Inside g.row.REGS). machine_with inside.ram inside.focal) c.machine-inside.view_is ∙ c.machine.view_is in
-    row_done _ (register_use_row registers.Recall) c.args.address _ _ _ zeros outcomes.Done _ _ opened c.requires.next refl refl refl
+    row_done _ (register_use_row registers.Recall) c.args.address _ _ _ zeros briefs.Done _ _ opened c.requires.next refl refl refl
     (c.bring_in_from.ensures c.args.address Named zeros refl) c.go_on_lifting.ensures

@@ -2,13 +2,13 @@ use Rattle.std.proofs.Common.{refl}
 use Rattle.h41_focal.proofs.RowDone.{row_done}
 use Rattle.h41_focal.specs.private.Works.{register_use_row}
 use Rattle.h41_focal.specs.declared.uses.RegisterUse.TheVariants as registers
-use Rattle.h41_focal.specs.declared.outcome.LineOutcome.TheVariants as outcomes
+use Rattle.h41_focal.specs.declared.outcome.BriefOutcome.TheVariants as briefs
 use Rattle.h41_ram.specs.RegisterMap.{zeros}
 use Rattle.h41_focal.proofs.register_lines.view.Goals as goal
 
 pub returns : goal.returns
 returns g c =
     row_done _ (register_use_row registers.View) c.args.address _ _ _ zeros
-    (outcomes.Viewed c.register_text.result) _ _ c.machine.view_is c.requires.next refl refl
-    (rw (c.register_text.ensures, c.read.ensures, c.from_flags.ensures) refl)
+    (briefs.ViewedRegister c.args.address) _ _ c.machine.view_is c.requires.next refl refl
+    refl
     refl c.go_on_lifting.ensures

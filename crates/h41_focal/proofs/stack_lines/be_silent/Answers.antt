@@ -1,10 +1,10 @@
 use Rattle.std.proofs.Common.{refl}
 use Rattle.h41_focal.proofs.RowDone.{row_done}
-use Rattle.h41_focal.specs.declared.outcome.LineOutcome.TheVariants as outcomes
+use Rattle.h41_focal.specs.declared.outcome.BriefOutcome.TheVariants as briefs
 use Rattle.h41_focal.proofs.stack_lines.be_silent.Goals as goal
 use Rattle.h41_rows.specs.Rows.{silent_row}
 use Rattle.h41_ram.specs.RegisterMap.{zeros}
 
 pub returns : goal.returns
 returns g c = λ named.
-    row_done _ silent_row named _ _ _ zeros outcomes.Done _ _ c.machine.view_is c.requires.next refl refl refl refl c.go_on.ensures
+    row_done _ silent_row named _ _ _ zeros briefs.Done _ _ c.machine.view_is c.requires.next refl refl refl refl c.go_on.ensures

@@ -1,6 +1,6 @@
 use Rattle.std.proofs.Common.{refl}
 use Rattle.h41_focal.proofs.RowDone.{row_done}
-use Rattle.h41_focal.specs.declared.outcome.LineOutcome.TheVariants as outcomes
+use Rattle.h41_focal.specs.declared.outcome.BriefOutcome.TheVariants as briefs
 use Rattle.h41_focal.proofs.stack_lines.clear_registers.Goals as goal
 use Rattle.h41_focal.specs.private.Works.{row_of_work}
 use Rattle.h41_focal.specs.declared.works.FunctionWork.TheVariants as works
@@ -8,5 +8,5 @@ use Rattle.h41_ram.specs.RegisterMap.{zeros}
 
 pub returns : goal.returns
 returns g c = λ named.
-    row_done _ (row_of_work works.ClearRegisters) named _ _ _ zeros outcomes.Done _ _ c.machine.view_is c.requires.next refl refl refl
+    row_done _ (row_of_work works.ClearRegisters) named _ _ _ zeros briefs.Done _ _ c.machine.view_is c.requires.next refl refl refl
     c.clear_data.ensures c.go_on_lifting.ensures

@@ -6,7 +6,7 @@ use Rattle.h41_focal.specs.LineStep.{answer_of_showing, machine_with}
 use Rattle.h41_focal.specs.Outcomes as answers
 use Rattle.h41_rows.specs.Rows as rows
 use Rattle.h41_focal.specs.private.Works.{move_row}
-use Rattle.h41_focal.specs.declared.outcome.LineOutcome.TheVariants as outcomes
+use Rattle.h41_focal.specs.declared.outcome.BriefOutcome.TheVariants as briefs
 use Rattle.h41_focal.specs.declared.works.Movement.{Movement}
 use Rattle.h41_focal.specs.declared.works.Movement.TheVariants as moves
 use Rattle.h41_ram.specs.RegisterMap.{RegisterMap}
@@ -38,5 +38,5 @@ pub returns : goal.returns
 returns g c = λ named.
     let moved = c.move_registers.ensures named in
     let opened = ap (λ (inside : Inside g.row.REGS). machine_with inside.ram inside.focal) c.machine-inside.view_is ∙ c.machine.view_is in
-    row_done _ (move_row c.args.movement) named _ _ _ moved.0 outcomes.Done _ _ opened c.requires.next
+    row_done _ (move_row c.args.movement) named _ _ _ moved.0 briefs.Done _ _ opened c.requires.next
     (goes_on c.args.movement) moved.1 (answers_done _ c.args.movement named) moved.2 c.go_on_behind.ensures

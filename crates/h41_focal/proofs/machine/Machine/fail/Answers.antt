@@ -1,6 +1,10 @@
+use Rattle.std.proofs.Common.{ap, ◌∙◌}
 use Rattle.std.proofs.lemmas.Result.{err_from_is_err_and}
+use Rattle.h41_focal.proofs.Briefly.{same_left}
 use Rattle.h41_focal.proofs.LinesTaken.{fail_refused, line_fails}
 use Rattle.h41_focal.proofs.machine.Machine.fail.Goals as goal
+use Rattle.h41_focal.specs.BriefOutcomes.{brief_answer}
+use Rattle.h41_focal.specs.LineStep.{Machine}
 
 pub returns-in_err-next-clause-line : goal.returns-in_err-next-clause-line
 returns-in_err-next-clause-line g c =
@@ -9,5 +13,7 @@ returns-in_err-next-clause-line g c =
 
 pub returns-clause-line : goal.returns-clause-line
 returns-clause-line g c =
-    line_fails c.args.fault c.args.self.now c.fail.new.machine c.in_ok-next.field-0-0
-    c.in_ok-next.next c.fail.result c.in_ok-next.ensures c.fail.ensures
+    rw (same_left c.fail.new.machine c.fail.result c.outcome.result
+    (λ called. c.outcome.ensures called ∙ ap (λ (of : Machine). brief_answer called of.memory c.fail.result) c.self.view_is))
+    (line_fails c.args.fault c.args.self.now c.fail.new.machine c.in_ok-next.field-0-0
+    c.in_ok-next.next c.fail.result c.in_ok-next.ensures c.fail.ensures)

@@ -12,7 +12,7 @@ returns-in_err-line-clause-line g c =
 
 pub returns-clause-line : goal.returns-clause-line
 returns-clause-line g c =
-    step_taken None _ _ c.in_ok-line.line c.in_ok-line.next _ c.in_ok-line.ensures c.carry_out.ensures.taken
+    step_taken None _ c.in_ok-line.line c.in_ok-line.next _ c.in_ok-line.ensures c.carry_out.ensures.taken
 
 pub returns-clause-elsewhere : goal.returns-clause-elsewhere
 returns-clause-elsewhere g c = kept_elsewhere (Program c.in_ok-line.next) c.in_ok-line.line _ _ _ c.carry_out.ensures.taken

@@ -10,4 +10,4 @@ returns-in_err-next-clause-line g c =
 
 pub returns-clause-line : goal.returns-clause-line
 returns-clause-line g c =
-    step_taken (Some c.args.function) _ _ c.in_ok-next.field-0-0 c.in_ok-next.next _ c.in_ok-next.ensures c.carry_out.ensures.taken
+    step_taken (Some c.args.function) _ c.in_ok-next.field-0-0 c.in_ok-next.next _ c.in_ok-next.ensures c.carry_out.ensures.taken

@@ -5,6 +5,7 @@ ghost use Rattle.h41_codes.specs.declared.line.Line.TheVariants as lines;
 ghost use Rattle.h41_focal.specs.private.Carrying.{DoesLine, DoesWork, IsBehind, IsWhole, IsReady};
 ghost use Rattle.h41_focal.specs.private.Carrying.{PutsText};
 ghost use Rattle.h41_focal.specs.declared.works.FunctionWork.TheVariants.{Alpha};
+ghost use Rattle.h41_ram.specs.RamState.{KeepsMark};
 
 use crate::course::go_on_lifting;
 use crate::machine::Machine;
@@ -65,7 +66,8 @@ pub fn text_line<const REGS: usize>(
 /// A text comes into ALPHA: behind what ALPHA holds where it begins with the append sign, else in its place. A text of no
 /// character changes nothing.
 fn put_text<const REGS: usize>(ram: &mut Ram<REGS>, text: &[u8])
-    ensures { PutsText text.now ram.old ram.new }
+    ensures change { PutsText text.now ram.old.registers ram.new.registers }
+    ensures mark { KeepsMark ram.old ram.new }
 {
     match text {
         [] => {}
@@ -76,7 +78,8 @@ fn put_text<const REGS: usize>(ram: &mut Ram<REGS>, text: &[u8])
 /// The same for a text that has a character.
 fn put_characters<const REGS: usize>(ram: &mut Ram<REGS>, text: &[u8])
     requires { 1 ≤ length text.now }
-    ensures { PutsText text.now ram.old ram.new }
+    ensures change { PutsText text.now ram.old.registers ram.new.registers }
+    ensures mark { KeepsMark ram.old ram.new }
 {
     match appended(text) {
         Some(rest) => append_text(ram, rest),

@@ -21,7 +21,7 @@ pub fn outcome_of<const REGS: usize>(
     brief: BriefOutcome,
 ) -> LineOutcome
     requires { is_left_out line.now ≡ false }
-    ensures { answer_of result ≡ brief_answer (called_by ram.now line.now) ram.now brief }
+    ensures { answer_of result ≡ brief_answer (called_by ram.now.registers line.now) ram.now.registers brief }
 {
     match brief {
         BriefOutcome::Elsewhere => called(ram, line),
@@ -32,7 +32,7 @@ pub fn outcome_of<const REGS: usize>(
 /// What a line calls: a function of a module, or a name. The other lines call nothing.
 fn called<const REGS: usize>(ram: &Ram<REGS>, line: &Line) -> LineOutcome
     requires { is_left_out line.now ≡ false }
-    ensures { answer_of result ≡ called_by ram.now line.now }
+    ensures { answer_of result ≡ called_by ram.now.registers line.now }
 {
     match line {
         Line::Module(number, entry) => LineOutcome::Calls(*number, *entry),
@@ -45,7 +45,7 @@ fn called<const REGS: usize>(ram: &Ram<REGS>, line: &Line) -> LineOutcome
 /// The same for GTO IND and XEQ IND: the name that the register holds.
 fn called_in<const REGS: usize>(ram: &Ram<REGS>, branch: Branch, register: Parameter) -> LineOutcome
     requires { is_parameter_left_out register ≡ false }
-    ensures { answer_of result ≡ called_by ram.now (BranchIndirect branch register) }
+    ensures { answer_of result ≡ called_by ram.now.registers (BranchIndirect branch register) }
 {
     match branch_target(ram, branch, register) {
         Ok(target) => called_at(target),

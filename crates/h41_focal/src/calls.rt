@@ -18,12 +18,12 @@ pub fn step_line<const REGS: usize>(
     ram: &mut Ram<REGS>,
     focal: &mut Focal,
 ) -> Result<LineOutcome, FocalRefusal>
-    ensures line { Steps None (machine_with ram.old focal.old) (machine_with ram.new focal.new)
+    ensures line { Steps None (machine_with ram.old.registers focal.old) (machine_with ram.new.registers focal.new)
         result }
-    ensures unchanged { OnErr result (machine_with ram.new focal.new
-        ≡ machine_with ram.old focal.old) }
-    ensures elsewhere { KeepsElsewhere (machine_with ram.old focal.old)
-        (machine_with ram.new focal.new) result }
+    ensures unchanged { OnErr result (machine_with ram.new.registers focal.new
+        ≡ machine_with ram.old.registers focal.old) }
+    ensures elsewhere { KeepsElsewhere (machine_with ram.old.registers focal.old)
+        (machine_with ram.new.registers focal.new) result }
 {
     let mut machine = Machine {
         ram: ram.take(),
@@ -40,10 +40,10 @@ pub fn step_as<const REGS: usize>(
     focal: &mut Focal,
     function: Function,
 ) -> Result<LineOutcome, FocalRefusal>
-    ensures line { Steps (Some function) (machine_with ram.old focal.old)
-        (machine_with ram.new focal.new) result }
-    ensures unchanged { OnErr result (machine_with ram.new focal.new
-        ≡ machine_with ram.old focal.old) }
+    ensures line { Steps (Some function) (machine_with ram.old.registers focal.old)
+        (machine_with ram.new.registers focal.new) result }
+    ensures unchanged { OnErr result (machine_with ram.new.registers focal.new
+        ≡ machine_with ram.old.registers focal.old) }
 {
     let mut machine = Machine {
         ram: ram.take(),
@@ -60,12 +60,12 @@ pub fn key_line<const REGS: usize>(
     focal: &mut Focal,
     line: &Line,
 ) -> Result<LineOutcome, FocalRefusal>
-    ensures line { Types line.now (machine_with ram.old focal.old) (machine_with ram.new focal.new)
+    ensures line { Types line.now (machine_with ram.old.registers focal.old) (machine_with ram.new.registers focal.new)
         result }
-    ensures unchanged { OnErr result (machine_with ram.new focal.new
-        ≡ machine_with ram.old focal.old) }
-    ensures elsewhere { KeepsElsewhere (machine_with ram.old focal.old)
-        (machine_with ram.new focal.new) result }
+    ensures unchanged { OnErr result (machine_with ram.new.registers focal.new
+        ≡ machine_with ram.old.registers focal.old) }
+    ensures elsewhere { KeepsElsewhere (machine_with ram.old.registers focal.old)
+        (machine_with ram.new.registers focal.new) result }
 {
     let mut machine = Machine {
         ram: ram.take(),

@@ -18,7 +18,7 @@ use h41_ram::Ram;
 /// Whether a flag, 0 to 55, is set, or clear.
 fn agrees_with<const REGS: usize>(ram: &Ram<REGS>, flag: u8, on: bool) -> bool
     requires { flag < 56 }
-    ensures { result ≡ agrees on (flag_of ram.now flag) }
+    ensures { result ≡ agrees on (flag_of ram.now.registers flag) }
 {
     let is_set = ram.flag(usize::from(flag));
     if on { is_set } else { !is_set }

@@ -38,7 +38,7 @@ fn standing_at<const REGS: usize>(
     ram: &Ram<REGS>,
     at: Position,
 ) -> Result<(Line, Position), FocalRefusal>
-    ensures { StandsAt ram.now at result }
+    ensures { StandsAt ram.now.registers at result }
 {
     if !ram.is_sound() {
         return Err(FocalRefusal::MemoryLost);

@@ -33,7 +33,7 @@ impl<const REGS: usize> Model for Machine<REGS> {
 
     ghost Value = { states.Machine };
 
-    ghost view = { λ machine. record { memory = machine.ram; focal = machine.focal } };
+    ghost view = { λ machine. record { memory = machine.ram.registers; focal = machine.focal } };
 }
 
 impl<const REGS: usize> Machine<REGS> {
@@ -131,7 +131,7 @@ impl<const REGS: usize> Machine<REGS> {
     }
     /// Memory and what else lines work on, each where it is held apart.
     pub fn part(self, ram: &mut Ram<REGS>, focal: &mut Focal)
-        ensures { machine_with ram.new focal.new ≡ self.entry }
+        ensures { machine_with ram.new.registers focal.new ≡ self.entry }
     {
         *ram = self.ram;
         *focal = self.focal;

@@ -21,8 +21,8 @@ pub fn lead<const REGS: usize>(
     origin: Origin,
     holds: bool,
 ) -> Result<Origin, FocalRefusal>
-    requires sound { IsTrue (is_sound ram.now) }
-    ensures { Leads origin ram.now holds result }
+    requires sound { IsTrue (is_sound ram.now.registers) }
+    ensures { Leads origin ram.now.registers holds result }
 {
     match origin {
         Origin::Typed => Ok(Origin::Typed),

@@ -8,6 +8,7 @@ ghost use Rattle.h41_rows.specs.Rows.{lifting_row, silent_row};
 ghost use Rattle.h41_focal.specs.private.StackMoves.{Moves};
 ghost use Rattle.h41_focal.specs.private.Works.{move_row};
 ghost use Rattle.h41_focal.specs.declared.works.FunctionWork.TheVariants.{ClearRegisters, Move};
+ghost use Rattle.h41_ram.specs.RamState.{KeepsMark};
 
 use crate::course::{go_on, go_on_lifting, go_on_replacing};
 use crate::focal::Focal;
@@ -44,7 +45,8 @@ pub fn move_stack<const REGS: usize>(
 
 /// The registers of the stack move; what comes in lifts them where lift is on.
 fn move_registers<const REGS: usize>(ram: &mut Ram<REGS>, movement: Movement, lift: bool)
-    ensures { Moves movement ram.old ram.new lift }
+    ensures change { Moves movement ram.old.registers ram.new.registers lift }
+    ensures mark { KeepsMark ram.old ram.new }
 {
     match movement {
         Movement::Exchange => exchange(ram, Y),

@@ -1,11 +1,11 @@
 use Rattle.h41_focal.proofs.alpha_lines.put_characters.Goals as goal
 
-pub returns-in-Some : goal.returns-in-Some
-returns-in-Some g c = λ named.
+pub returns-in-Some-clause-change : goal.returns-in-Some-clause-change
+returns-in-Some-clause-change g c = λ named.
     let behind = c.appended.ensures.behind in
-    rw (rw c.in-Some.is at behind) (c.append_text.ensures named)
+    rw (rw c.in-Some.is at behind) (c.append_text.ensures.change named)
 
-pub returns-in-None : goal.returns-in-None
-returns-in-None g c = λ named.
+pub returns-in-None-clause-change : goal.returns-in-None-clause-change
+returns-in-None-clause-change g c = λ named.
     let whole = c.appended.ensures.whole in
-    rw ((rw c.in-None.is at whole) c.requires) (c.replace_text.ensures named)
+    rw ((rw c.in-None.is at whole) c.requires) (c.replace_text.ensures.change named)

@@ -14,7 +14,7 @@ returns-in-Ok g c = λ named.
     row_done _ (row_of_work (works.OfX c.args.value)) named _ _ _ c.in-Ok.register briefs.Done _ _ c.machine.view_is c.requires.next refl
     (value_computed _ named (row_of_work (works.OfX c.args.value)) (value_of_one c.args.value X) _ refl refl (c.in-Ok.ensures named X refl))
     refl
-    (c.keep_last.ensures named) c.go_on_lifting.ensures
+    (c.keep_last.ensures.change named) c.go_on_lifting.ensures
 
 pub returns-in-Err : goal.returns-in-Err
 returns-in-Err g c = λ named.

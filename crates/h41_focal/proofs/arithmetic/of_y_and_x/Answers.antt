@@ -14,13 +14,13 @@ returns-in-Ok g c = λ named.
     row_done _ (row_of_work (works.OfYAndX c.args.value)) named _ _ _
     c.in-Ok.register briefs.Done _ _ c.machine.view_is c.requires.next refl
     (value_computed _ named (row_of_work (works.OfYAndX c.args.value)) (value_of_two c.args.value Y X) _
-    refl refl (c.in-Ok.ensures c.machine.inside.ram named Y X refl refl refl))
+    refl refl (c.in-Ok.ensures c.machine.inside.ram.registers named Y X refl refl refl))
     refl
-    (c.drop_into.ensures named) c.go_on_lifting.ensures
+    (c.drop_into.ensures.change named) c.go_on_lifting.ensures
 
 pub returns-in-Err : goal.returns-in-Err
 returns-in-Err g c = λ named.
     row_failed _ (row_of_work (works.OfYAndX c.args.value)) named _ _ _ _ c.in-Err.fault _ c.machine.view_is
     (value_computed _ named (row_of_work (works.OfYAndX c.args.value)) (value_of_two c.args.value Y X) _
-    refl refl (c.in-Err.ensures c.machine.inside.ram named Y X refl refl refl))
+    refl refl (c.in-Err.ensures c.machine.inside.ram.registers named Y X refl refl refl))
     c.fail.ensures

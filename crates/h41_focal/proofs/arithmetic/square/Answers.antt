@@ -10,10 +10,10 @@ use Rattle.h41_focal.proofs.arithmetic.square.Goals as goal
 pub returns-in-Ok : goal.returns-in-Ok
 returns-in-Ok g c = λ named.
     row_done _ (row_of_work works.Square) named _ _ _ c.in-Ok.register briefs.Done _ _ c.machine.view_is c.requires.next refl
-    (c.in-Ok.ensures c.machine.inside.ram named X X refl refl refl) refl
-    (c.keep_last.ensures named) c.go_on_lifting.ensures
+    (c.in-Ok.ensures c.machine.inside.ram.registers named X X refl refl refl) refl
+    (c.keep_last.ensures.change named) c.go_on_lifting.ensures
 
 pub returns-in-Err : goal.returns-in-Err
 returns-in-Err g c = λ named.
     row_failed _ (row_of_work works.Square) named _ _ _ _ c.in-Err.fault _ c.machine.view_is
-    (c.in-Err.ensures c.machine.inside.ram named X X refl refl refl) c.fail.ensures
+    (c.in-Err.ensures c.machine.inside.ram.registers named X X refl refl refl) c.fail.ensures

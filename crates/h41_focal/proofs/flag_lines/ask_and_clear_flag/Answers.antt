@@ -1,4 +1,4 @@
-use Rattle.std.proofs.Common.{refl}
+use Rattle.std.proofs.Common.{ap, refl}
 use Rattle.std.proofs.lemmas.Result.{err_from_is_err_and}
 use Rattle.h41_focal.proofs.RowApplied.{opened_row}
 use Rattle.h41_focal.proofs.RowAsked.{test_leads, test_refused}
@@ -6,6 +6,7 @@ use Rattle.h41_rows.specs.Rows.{Flag}
 use Rattle.h41_focal.specs.private.Works.{flag_use_row}
 use Rattle.h41_focal.specs.declared.uses.FlagUse.TheVariants as flags
 use Rattle.h41_ram.specs.RegisterMap.{zeros}
+use Rattle.h41_ram.specs.RamState.{RamState}
 use Rattle.h41_focal.proofs.flag_lines.ask_and_clear_flag.Goals as goal
 
 pub returns-in_err-lead-clause-carried : goal.returns-in_err-lead-clause-carried
@@ -19,7 +20,7 @@ returns-in_err-lead-clause-carried g c = λ named.
 
 pub returns-clause-carried : goal.returns-clause-carried
 returns-clause-carried g c = λ named.
-    rw (c.go_on_lifting.ensures, c.set_flag.ensures, c.from.ensures)
+    rw (c.go_on_lifting.ensures, (ap (λ (ram : RamState). ram.registers) c.set_flag.ensures.written), c.from.ensures)
     (opened_row _ (flag_use_row (flags.AskAndClear c.args.on) c.args.flag) named _ _ _ _ c.machine.view_is c.requires.ready.next
     (λ knows. test_leads _ c.in_ok-lead.lead (flag_use_row (flags.AskAndClear c.args.on) c.args.flag) (Flag c.args.flag c.args.on)
     c.agrees_with-holds.result named _ zeros c.answer.result knows refl refl refl refl c.agrees_with-holds.ensures c.in_ok-lead.ensures

@@ -1,13 +1,14 @@
-use Rattle.std.proofs.Common.{refl}
+use Rattle.std.proofs.Common.{ap, refl}
 use Rattle.h41_focal.proofs.RowDone.{row_done}
 use Rattle.h41_focal.specs.private.Works.{flag_use_row}
 use Rattle.h41_focal.specs.declared.uses.FlagUse.TheVariants as flags
 use Rattle.h41_focal.specs.declared.outcome.BriefOutcome.TheVariants as briefs
 use Rattle.h41_ram.specs.RegisterMap.{zeros}
+use Rattle.h41_ram.specs.RamState.{RamState}
 use Rattle.h41_focal.proofs.flag_lines.change_flag.Goals as goal
 
 pub returns : goal.returns
 returns g c = λ named.
     row_done _ (flag_use_row (flags.Change c.args.on) c.args.flag) named _ _ _
     zeros briefs.Done _ _ c.machine.view_is c.requires.ready.next refl refl
-    refl (rw (c.set_flag.ensures, c.from.ensures) refl) c.go_on_lifting.ensures
+    refl (rw ((ap (λ (ram : RamState). ram.registers) c.set_flag.ensures.written), c.from.ensures) refl) c.go_on_lifting.ensures

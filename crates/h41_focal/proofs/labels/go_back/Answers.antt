@@ -13,9 +13,9 @@ returns-in-Program g c = λ named.
 pub returns-in-Typed : goal.returns-in-Typed
 returns-in-Typed g c = λ named.
     rw (c.in-Typed.is, c.halt_at.ensures, ← c.machine.view_is)
-    (goes_to_line_00 (machine_with c.machine.inside.ram c.machine.inside.focal) c.start_of-start.result named
+    (goes_to_line_00 (machine_with c.machine.inside.ram.registers c.machine.inside.focal) c.start_of-start.result named
     (let found = c.start_of-start.ensures in
     rw (
-      ap (λ (inside : Inside g.row.REGS). inside.ram) c.machine-inside.view_is,
+      ap (λ (inside : Inside g.row.REGS). inside.ram.registers) c.machine-inside.view_is,
       ap (λ (inside : Inside g.row.REGS). inside.focal.position) c.machine-inside.view_is,
     ) at found))

@@ -12,7 +12,7 @@ returns-in-Some g c = λ named.
     rw c.arrive.ensures.focal
     (opened_row _ (to_label c.args.branch c.args.label) named _ _ _ _ c.machine.view_is c.requires.next
     (λ knows. label_found c.args.origin c.args.branch c.args.label named
-    (machine_with c.machine.inside.ram c.machine.inside.focal) c.in-Some.position c.arrive.result knows
+    (machine_with c.machine.inside.ram.registers c.machine.inside.focal) c.in-Some.position c.arrive.result knows
     (let found = c.local.ensures in rw (c.in-Some.is, c.searched_from.ensures) at found) c.arrive.ensures.answer))
 
 pub returns-in-None : goal.returns-in-None

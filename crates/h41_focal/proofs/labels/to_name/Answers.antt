@@ -15,7 +15,7 @@ returns-in-Some-default g c = λ named.
     rw c.arrive.ensures.focal
     (opened_row _ (to_name c.args.branch c.args.name) named _ _ _ _ c.machine.view_is c.requires.next
     (λ knows. name_found c.args.origin c.args.branch c.args.name named
-    (machine_with c.machine.inside.ram c.machine.inside.focal) c.in-Some-default.byte c.arrive.result knows
+    (machine_with c.machine.inside.ram.registers c.machine.inside.focal) c.in-Some-default.byte c.arrive.result knows
     (let found = c.global.ensures in rw (c.in-Some-default.is-0, c.characters.ensures.value) at found) c.arrive.ensures.answer))
 
 pub returns-in-None-GoTo : goal.returns-in-None-GoTo

@@ -7,5 +7,5 @@ use Rattle.h41_focal.proofs.lines.standing.Goals as goal
 pub returns : goal.returns
 returns g c =
     subst (λ (machine : Machine). Stands machine c.standing_at.result)
-    (ap (λ (inside : Inside g.row.REGS). machine_with inside.ram inside.focal) c.machine-inside.view_is ∙ c.machine.view_is)
+    (ap (λ (inside : Inside g.row.REGS). machine_with inside.ram.registers inside.focal) c.machine-inside.view_is ∙ c.machine.view_is)
     c.standing_at.ensures

@@ -1,4 +1,4 @@
-use Rattle.std.proofs.Common.{refl}
+use Rattle.std.proofs.Common.{ap, refl}
 use Rattle.std.proofs.lemmas.Result.{err_from_is_err_and}
 use Rattle.h41_focal.proofs.RowApplied.{opened_row, row_failed}
 use Rattle.h41_focal.proofs.RowAsked.{loop_leads, loop_refused, loop_works}
@@ -7,6 +7,7 @@ use Rattle.h41_rows.specs.LineRows.{loop}
 use Rattle.h41_rows.specs.Places.{Named}
 use Rattle.h41_rows.specs.Rows.{Loops}
 use Rattle.h41_focal.specs.declared.outcome.BriefOutcome.TheVariants as briefs
+use Rattle.h41_ram.specs.RamState.{RamState}
 use Rattle.h41_focal.proofs.loop_lines.count_up.Goals as goal
 
 pub returns-in_err-lead-in-Ok-clause-carried : goal.returns-in_err-lead-in-Ok-clause-carried
@@ -21,7 +22,7 @@ returns-in_err-lead-in-Ok-clause-carried g c =
 pub returns-in_ok-lead-in-Ok-clause-carried : goal.returns-in_ok-lead-in-Ok-clause-carried
 returns-in_ok-lead-in-Ok-clause-carried g c =
     let works = loop_works Up _ c.args.address _ (c.compute_of_one.ensures c.args.address Named refl) in
-    rw (c.go_on_lifting.ensures, c.write.ensures)
+    rw (c.go_on_lifting.ensures, (ap (λ (ram : RamState). ram.registers) c.write.ensures.written))
     (opened_row _ (loop Up) c.args.address _ _ _ _ c.machine.view_is c.requires.next
     (λ knows.
     loop_leads _ c.in_ok-lead-in-Ok.lead (loop Up) (Loops Up Named) c.goes_on_up.result c.args.address _ c.in-Ok.register briefs.Done

@@ -10,4 +10,4 @@ pub returns : goal.returns
 returns g c = λ named.
     row_done _ (row_of_work (works.Angles c.args.grads c.args.radians)) named _ _ _
     zeros briefs.Done _ _ c.machine.view_is c.requires.next refl refl refl
-    c.set_angles.ensures c.go_on_lifting.ensures
+    c.set_angles.ensures.change c.go_on_lifting.ensures

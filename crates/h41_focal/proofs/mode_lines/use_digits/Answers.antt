@@ -11,7 +11,7 @@ returns-in-Format g c = λ named.
     rw c.in-Format.is
     (row_done _ (digits_use_row (digits.Format c.in-Format.fixed c.in-Format.engineering) c.args.digits)
     named _ _ _ zeros briefs.Done _ _ c.machine.view_is c.requires.ready.next refl refl refl
-    c.set_format.ensures c.go_on_lifting.ensures)
+    c.set_format.ensures.change c.go_on_lifting.ensures)
 
 pub returns-in-Tone : goal.returns-in-Tone
 returns-in-Tone g c = λ named.

@@ -11,4 +11,4 @@ pub returns : goal.returns
 returns g c =
     row_done _ (register_use_row registers.Exchange) c.args.address _ _ _
     zeros briefs.Done _ _ c.machine.view_is c.requires.next refl refl refl
-    (c.exchange.ensures c.args.address Named zeros refl) c.go_on_lifting.ensures
+    (c.exchange.ensures.change c.args.address Named zeros refl) c.go_on_lifting.ensures

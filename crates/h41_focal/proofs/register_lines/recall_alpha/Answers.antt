@@ -10,4 +10,4 @@ pub returns : goal.returns
 returns g c =
     row_done _ (register_use_row registers.RecallAlpha) c.args.address _ _ _
     zeros briefs.Done _ _ c.machine.view_is c.requires.next refl refl refl
-    c.append_register.ensures c.go_on_lifting.ensures
+    c.append_register.ensures.change c.go_on_lifting.ensures

@@ -9,4 +9,4 @@ use Rattle.h41_ram.specs.RegisterMap.{zeros}
 pub returns : goal.returns
 returns g c = λ named.
     row_done _ (row_of_work works.ClearRegisters) named _ _ _ zeros briefs.Done _ _ c.machine.view_is c.requires.next refl refl refl
-    c.clear_data.ensures c.go_on_lifting.ensures
+    c.clear_data.ensures.change c.go_on_lifting.ensures

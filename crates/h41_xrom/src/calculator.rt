@@ -133,7 +133,7 @@ impl Calculator {
 
     /// The memory.
     pub fn ram(&self) -> &Ram<REGISTERS>
-        ensures { result.now ≡ self.now.nut.ram }
+        ensures { result.now.registers ≡ self.now.nut.ram }
     {
         &self.machine.ram
     }

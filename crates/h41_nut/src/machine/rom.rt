@@ -22,7 +22,7 @@ pub fn fetch(pages: &Pages, address: u16) -> Result<Word, WordRefusal>
 }
 
 /// The word at an address, and 000 where nothing is plugged (this project's choice). Refused as 8 in pages 0 to 3.
-#[tactic(auto, unfolding(h41_pages::specs::PageMap::word_at))]
+#[tactic(auto, unfolding(h41_pages::specs::PageMap::fetched))]
 fn fetch_or_zero(pages: &Pages, address: u16) -> Result<Word, WordRefusal>
     ensures refusal { result_err result ≡ system_refusal address }
     ensures word { IfOk result (λ word. word ≡ word_or_zero (word_at pages.now address)) }

@@ -8,6 +8,6 @@ pub returns-clause-number : goal.returns-clause-number
 returns-clause-number g c = (
   c.written.result,
   c.written.ensures c.args.machine.now.memory 0,
-  ap (λ (of : RegisterMap). Ok (Leaves (record { memory = of; focal = c.machine.inside.focal }))) (c.bring_in.ensures 0)
+  ap (λ (of : RegisterMap). Ok (Leaves (record { memory = of; focal = c.machine.inside.focal }))) (c.bring_in.ensures.change 0)
       ∙ ap (λ (of : Machine). Ok (Leaves (with_line_changed of c.written.result))) c.machine.view_is,
 )

@@ -39,7 +39,8 @@ module _ (search : Search) (slots : List KeptAnswer) (index : ℕ) (first : Kept
       ap (answer_of search) (drop_more slots index first inside ∙ ap (λ one. one ∷ drop (index + 1) slots) (sym here))
       ∙ over other
     where
-      over : is_same search first.search ≡ false → answer_of search (first ∷ drop (index + 1) slots) ≡ answer_of search (drop (index + 1) slots)
+      over : is_same search first.search ≡ false
+          → answer_of search (first ∷ drop (index + 1) slots) ≡ answer_of search (drop (index + 1) slots)
       over other = rw other refl
 
 -- or has another mark

@@ -23,7 +23,8 @@ right_found memory search (first ∷ rest) answer is right =
         let here : Some first.answer ≡ Some answer = rw same at is in
         let it : first.answer ≡ answer = cc in
         subst (Finds memory search) it
-        (subst (λ (asked : Search). Finds memory asked first.answer) (sym (same_search search first.search same)) (right 0 first (omega arith)))
+        (subst (λ (asked : Search). Finds memory asked first.answer) (sym (same_search search first.search same))
+        (right 0 first (omega arith)))
     by_first others false other = others (rw other at is)
 
 -- with a search's own answer put last all stay so

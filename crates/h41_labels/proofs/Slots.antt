@@ -4,7 +4,8 @@ use Rattle.std.proofs.Common.{List, [], ◌∷◌, ◌++◌, drop, length, map, 
 use Rattle.std.proofs.Common.{length-append, length-drop, length-set, take_all}
 use Rattle.std.specs.List.{refill}
 use Rattle.std.proofs.lemmas.Bool.{cases_eq}
-use Rattle.std.proofs.lemmas.List.{drop-append-le, drop-set-lt, drop_all, drop-map, drop_more, length-take, map-set, take-map, take_more_set, take_rest}
+use Rattle.std.proofs.lemmas.List.{drop-append-le, drop-map, drop-set-lt, drop_all, drop_more, length-take, map-set}
+use Rattle.std.proofs.lemmas.List.{take-map, take_more_set, take_rest}
 use Rattle.std.specs.Prelude.{Option, nat_lt, if◌then◌else◌}
 use Rattle.h41_labels.specs.KeptAnswers.{with_answer}
 use Rattle.h41_labels.specs.declared.search.KeptAnswer.{KeptAnswer}
@@ -42,14 +43,16 @@ module _ (slots : List KeptAnswer) (oldest : ℕ) (kept : KeptAnswer) (inside : 
       ∙ sym (append_assoc (drop (oldest + 1) slots) (take oldest slots) (kept ∷ []))
       ∙ ap (λ front. (front ++ take oldest slots) ++ kept ∷ [])
       (sym (ap (drop 1) (drop_more slots oldest kept inside)))
-      ∙ ap (λ all. all ++ kept ∷ []) (sym (drop-append-le 1 (drop oldest slots) (take oldest slots) (omega (arith, length-drop oldest slots))))
+      ∙ ap (λ all. all ++ kept ∷ [])
+      (sym (drop-append-le 1 (drop oldest slots) (take oldest slots) (omega (arith, length-drop oldest slots))))
 
 pub turned : (slots : List KeptAnswer) (oldest : ℕ) (kept : KeptAnswer) → length slots ≡ 64 → oldest < 64
     → in_turn ((oldest + 1) % 64) (set slots oldest kept) ≡ drop 1 (in_turn oldest slots) ++ kept ∷ []
 turned slots oldest kept full inside =
+    let last = behind slots oldest kept (omega (arith, full, inside)) in
     elim (next_slot oldest inside) [
-      | inl onward ↦ ap (λ next. in_turn next (set slots oldest kept)) onward.1 ∙ behind slots oldest kept (omega (arith, full, inside))
-      | inr around ↦ ap (λ next. in_turn next (set slots oldest kept)) around.1 ∙ whole (omega (arith, around.0)) ∙ behind slots oldest kept (omega (arith, full, inside))
+      | inl onward ↦ ap (λ next. in_turn next (set slots oldest kept)) onward.1 ∙ last
+      | inr around ↦ ap (λ next. in_turn next (set slots oldest kept)) around.1 ∙ whole around.0 ∙ last
     ]
   where
     whole : oldest ≡ 63 → in_turn 0 (set slots oldest kept) ≡ in_turn (oldest + 1) (set slots oldest kept)
@@ -59,8 +62,8 @@ turned slots oldest kept full inside =
         (drop_all (oldest + 1) (set slots oldest kept) (omega (arith, length-set slots oldest kept, full, last)))
         ∙ take_all (oldest + 1) (set slots oldest kept) (omega (arith, length-set slots oldest kept, full, last)))
 
-pub ring_turned : (slots : List KeptAnswer) (marks : List ℕ) (oldest : ℕ) (kept : KeptAnswer) → IsRing slots marks oldest → length slots ≡ 64
-    → IsRing (set slots oldest kept) (set marks oldest (mark_beside kept)) ((oldest + 1) % 64)
+pub ring_turned : (slots : List KeptAnswer) (marks : List ℕ) (oldest : ℕ) (kept : KeptAnswer) → IsRing slots marks oldest
+    → length slots ≡ 64 → IsRing (set slots oldest kept) (set marks oldest (mark_beside kept)) ((oldest + 1) % 64)
 ring_turned slots marks oldest kept ring full = record {
   marked = ap (λ all. set all oldest (mark_beside kept)) ring.marked ∙ sym (map-set mark_beside slots oldest kept);
   most = omega (arith, length-set slots oldest kept, full);

@@ -12,12 +12,15 @@ loop-index-preserved c =
     let search = c.args.search.now in
     let slots = c.args.slots.now in
     let marks = c.args.marks.now in
+    let index = c.loop-index.index in
     let sizes : length marks ≡ length slots = ap length c.requires ∙ length-map slots mark_beside in
-    let inside : c.loop-index.index < length slots = omega (arith, sizes, c.loop-index-test.true) in
+    let inside : index < length slots = omega (arith, sizes, c.loop-index-test.true) in
     c.loop-index.invariant
     ∙ elim c.else-other-mark.branch [
       | else-other-mark-via-then-other-mark+else-is w ↦
-          passed search slots c.loop-index.index w.index-slots-index.result inside w.index-slots-index.is (ap (λ (one : KeptAnswer). is_same search one.search) w.index-slots-index.is ∙ sym w.is.ensures ∙ w.if-is.false)
-      | else-other-mark-via-else-other-mark w ↦ passed_by_mark search slots marks c.loop-index.index (record { search = search; answer = None }) inside c.requires
+          passed search slots index w.index-slots-index.result inside w.index-slots-index.is
+          (ap (λ (one : KeptAnswer). is_same search one.search) w.index-slots-index.is ∙ sym w.is.ensures ∙ w.if-is.false)
+      | else-other-mark-via-else-other-mark w ↦
+          passed_by_mark search slots marks index (record { search = search; answer = None }) inside c.requires
           (λ same. w.if-other-mark.false (same ∙ sym c.mark-mark.ensures))
     ]

@@ -1,0 +1,42 @@
+-- Answers that are those of the searches.
+use Rattle.std.proofs.Common.{◌≡◌, ℕ, Bool, true, false, Some, refl, sym, subst, arith}
+use Rattle.std.proofs.Common.{List, [], ◌∷◌, drop, length}
+use Rattle.std.specs.Prelude.{Option, nat_lt, if◌then◌else◌}
+use Rattle.std.proofs.lemmas.List.Elements.{All-drop, All-push, All-tail}
+use Rattle.h41_labels.specs.KeptAnswers.{Finds, IsRight, answer_of, is_same, with_answer}
+use Rattle.h41_labels.specs.declared.search.KeptAnswer.{KeptAnswer}
+use Rattle.h41_labels.specs.declared.search.Search.{Search}
+use Rattle.h41_labels.proofs.Kept.{same_search}
+use Rattle.h41_ram.specs.RegisterMap.{RegisterMap}
+
+-- a kept answer is the search's
+pub right_found : (memory : RegisterMap) (search : Search) (kept : List KeptAnswer) (answer : Option ℕ)
+    → answer_of search kept ≡ Some answer → IsRight kept memory → Finds memory search answer
+right_found memory search [] answer is right = cc
+right_found memory search (first ∷ rest) answer is right =
+    by_first (λ later. right_found memory search rest answer later (All-tail (λ one. Finds memory one.search one.answer) first rest right))
+    (is_same search first.search) refl
+  where
+    by_first : (answer_of search rest ≡ Some answer → Finds memory search answer) → (test : Bool) → is_same search first.search ≡ test
+        → Finds memory search answer
+    by_first others true same =
+        let here : Some first.answer ≡ Some answer = rw same at is in
+        let it : first.answer ≡ answer = cc in
+        subst (Finds memory search) it
+        (subst (λ (asked : Search). Finds memory asked first.answer) (sym (same_search search first.search same))
+        (right 0 first (omega arith)))
+    by_first others false other = others (rw other at is)
+
+-- with a search's own answer put last all stay so
+pub right_put : (memory : RegisterMap) (search : Search) (answer : Option ℕ) (kept : List KeptAnswer)
+    → IsRight kept memory → Finds memory search answer → IsRight (with_answer search answer kept) memory
+right_put memory search answer kept right finds =
+    All-push (λ one. Finds memory one.search one.answer) (left (nat_lt (length kept) 64)) (record { search = search; answer = answer })
+    (left_right (nat_lt (length kept) 64)) finds
+  where
+    left : Bool → List KeptAnswer
+    left room = if room then kept else drop 1 kept
+
+    left_right : (room : Bool) → IsRight (left room) memory
+    left_right true = right
+    left_right false = All-drop (λ one. Finds memory one.search one.answer) 1 kept right

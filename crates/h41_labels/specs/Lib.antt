@@ -1,0 +1,3 @@
+pub mod KeptAnswers
+pub mod KeptLaws
+pub mod private

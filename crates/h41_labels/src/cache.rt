@@ -66,28 +66,28 @@ impl LabelCache {
         at: u16,
         label: Parameter,
     ) -> Option<u16>
-        requires { IsTrue (is_sound ram.now) }
-        ensures answer { Answers ram.now self.old (Local at label) result }
+        requires { IsTrue (is_sound ram.now.registers) }
+        ensures answer { Answers ram.now.registers self.old (Local at label) result }
         ensures kept { self.new ≡ after_search (Local at label) result self.old }
         ensures most { length self.new ≤ most_answers }
 
         // Where each kept answer is the search's, this one is too, and all stay so.
-        ensures found { IsRight self.old ram.now
-            → LocalFrom label ram.now (Memory at) (option_map Memory result) }
-        ensures right { IsRight self.old ram.now → IsRight self.new ram.now }
+        ensures found { IsRight self.old ram.now.registers
+            → LocalFrom label ram.now.registers (Memory at) (option_map Memory result) }
+        ensures right { IsRight self.old ram.now.registers → IsRight self.new ram.now.registers }
     {
         self.answer(ram, Search::Local(at, label))
     }
 
     /// Where the last `LBL` of a name stands in memory, as `global` of h41_program has it: likewise.
     pub fn global<const REGS: usize>(&mut self, ram: &Ram<REGS>, name: Text<15>) -> Option<u16>
-        requires { IsTrue (is_sound ram.now) }
-        ensures answer { Answers ram.now self.old (Global name) result }
+        requires { IsTrue (is_sound ram.now.registers) }
+        ensures answer { Answers ram.now.registers self.old (Global name) result }
         ensures kept { self.new ≡ after_search (Global name) result self.old }
         ensures most { length self.new ≤ most_answers }
-        ensures found { IsRight self.old ram.now
-            → AnswersOf (λ lines. position_of (named_in name lines)) ram.now 0 result }
-        ensures right { IsRight self.old ram.now → IsRight self.new ram.now }
+        ensures found { IsRight self.old ram.now.registers
+            → AnswersOf (λ lines. position_of (named_in name lines)) ram.now.registers 0 result }
+        ensures right { IsRight self.old ram.now.registers → IsRight self.new ram.now.registers }
     {
         self.answer(ram, Search::Global(name))
     }
@@ -118,12 +118,12 @@ impl LabelCache {
 
     /// The answer of a search: the kept one, else what memory has, which is then kept.
     fn answer<const REGS: usize>(&mut self, ram: &Ram<REGS>, search: Search) -> Option<u16>
-        requires { IsTrue (is_sound ram.now) }
-        ensures answer { Answers ram.now self.old search result }
+        requires { IsTrue (is_sound ram.now.registers) }
+        ensures answer { Answers ram.now.registers self.old search result }
         ensures kept { self.new ≡ after_search search result self.old }
         ensures most { length self.new ≤ most_answers }
-        ensures found { IsRight self.old ram.now → Finds ram.now search result }
-        ensures right { IsRight self.old ram.now → IsRight self.new ram.now }
+        ensures found { IsRight self.old ram.now.registers → Finds ram.now.registers search result }
+        ensures right { IsRight self.old ram.now.registers → IsRight self.new ram.now.registers }
     {
         match self.kept(&search) {
             Some(answer) => answer,
@@ -181,8 +181,8 @@ fn kept_among(slots: &[KeptAnswer], marks: &[u32], search: &Search) -> Option<Op
 
 /// What a search finds in memory.
 fn found<const REGS: usize>(ram: &Ram<REGS>, search: &Search) -> Option<u16>
-    requires { IsTrue (is_sound ram.now) }
-    ensures { Finds ram.now search.now result }
+    requires { IsTrue (is_sound ram.now.registers) }
+    ensures { Finds ram.now.registers search.now result }
 {
     match search {
         Search::Local(at, label) => match local(ram, Position::Memory(*at), *label) {

@@ -370,7 +370,7 @@ class Asked:
 
 def other_names():
     """The names of another dialect that docs/ASSEMBLER.md has, and what stands here in their place."""
-    return {other.encode(): name for here, there in tables_of(section_of("ASSEMBLER.md", "Another dialect"))[0]
+    return {other.encode(): name for here, there in tables_of(section_of("ASSEMBLER.md", "Other dialects"))[0]
             for name, other in zip(codes_of(here), codes_of(there)) if name != other}
 
 

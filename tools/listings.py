@@ -112,7 +112,9 @@ class Listing:
             elif line in others:
                 self.texts.append(self.spelled(number, line, others[line], good))
                 function = speller.function_called(self.texts[-1])
-                if function in good and not QUOTED.search(line):
+                if function and function not in good:
+                    function = next((text for text, _ in speller.named(function)), None)
+                if function and not QUOTED.search(line):
                     self.told.append((number, f"{self.texts[-1]} calls a label; the function is the line {function}"))
             else:
                 self.texts.append(line)

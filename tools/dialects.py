@@ -35,8 +35,8 @@ WORD = re.compile(r"(0x|\$)?([0-9A-F]{1,4}?)(H)?", re.I)
 DISTANCE = re.compile(r"([+-])([0-9A-F]{1,2})", re.I)
 PAIR = re.compile(r"(?:\.?CON:?)?\s*([$0-9A-Z]+)", re.I)
 # Lines of other assemblers that give no word.
-WITHOUT_WORDS = re.compile(r"LEGAL|\.?(?:TITLE|EJECT|LIST|UNLIST|HP|JDA|ZENCODE)(?:\s.*)?", re.I)
-END = re.compile(r"\.?END(?:\s.*)?")
+WITHOUT_WORDS = re.compile(r"""LEGAL|EJECT|LIST|UNLIST|\.?TITLE\s*["'].*|\.(?:TITLE|EJECT|LIST|UNLIST|HP|JDA|ZENCODE)(?:\s.*)?""", re.I)
+END = re.compile(r"\.?END")
 
 
 def own_names():
@@ -282,11 +282,11 @@ class Dialect:
             jump = re.fullmatch(rf".*\bGOTO ({NAME})", code, re.A)
             if changed and jump and jump[1] in self.names.labels:
                 self.told.append((at + 1, f"{code.strip()} (no jump to the label {jump[1]}, which is JNC :{jump[1]})"))
-            found = re.fullmatch(rf"((?:\s*{NAME}:)?\s*)((?:LDI|CON|JC|JNC) [+-]?)([0-9]+)", code, re.A)
+            found = re.fullmatch(rf"((?:\s*{NAME}:)?\s*)((?:LDI|CON|JC|JNC)\s+[+-]?)([0-9]+)", code, re.A)
             number, remark = self.names.number("", found[3], len(found[3])) if found else ("", "")
             if remark and self.names.is_decimal:
                 label = found[1].strip().rstrip(":")
-                self.change(at, Text(label, f"{found[2]}{number}", remark))
+                self.change(at, Text(label, " ".join(f"{found[2]}{number}".split()), remark))
             elif remark:
                 kept.append((at + 1, code.strip()))
         self.told.sort(key=lambda told: told[0])

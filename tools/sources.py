@@ -397,7 +397,7 @@ def tell_causes(faults):
         like = [(SequenceMatcher(None, row.shape, one.shape).ratio(), why) for row, why in rows if row.refusal == one.refusal
                 and (kind and row.kind(classes, others) == kind or row.first == one.first)]
         if kind == "another dialect":
-            fault.told.append(f"{one.first.decode()} is a name of another dialect: `{others[one.first]}`")
+            fault.told.append(f"{one.first.decode()} is a name of another dialect, which tools/import reads: `{others[one.first]}`")
         elif like:
             fault.told.append(max(like)[1])
         elif one.refusal == OF_THE_LINE[0]:

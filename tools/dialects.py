@@ -35,7 +35,8 @@ WORD = re.compile(r"(0x|\$)?([0-9A-F]{1,4}?)(H)?", re.I)
 DISTANCE = re.compile(r"([+-])([0-9A-F]{1,2})", re.I)
 PAIR = re.compile(r"(?:\.?CON:?)?\s*([$0-9A-Z]+)", re.I)
 # Lines of other assemblers that give no word.
-WITHOUT_WORDS = re.compile(r"""LEGAL|EJECT|LIST|UNLIST|\.?TITLE\s*["'].*|\.(?:TITLE|EJECT|LIST|UNLIST|HP|JDA|ZENCODE)(?:\s.*)?""", re.I)
+WITHOUT_WORDS = re.compile(r"""LEGAL|EJECT|LIST|UNLIST|TITLE\s*["'].*|\.(?:TITLE|EJECT|LIST|UNLIST|HP|JDA|ZENCODE)(?:\s.*)?""",
+                           re.I)
 END = re.compile(r"\.?END")
 
 

@@ -8,7 +8,6 @@ TABLE = os.path.join(os.path.dirname(os.path.realpath(__file__)), "functions.txt
 
 MODULE = re.compile(r"XROM ([0-9]{1,2}), ([^(]*?)(?: \(.*\))?")
 NAMED = re.compile(r"XROM ([0-9]{2},[0-9]{2}) (\S+)")
-LINE = re.compile(r"XROM ([0-9]{2}),[0-9]{2}")
 
 
 def table():
@@ -24,28 +23,24 @@ def table():
                 yield f"XROM {number:02},{at:02}", name, module
 
 
-def given(pages):
-    """The functions of pages, of each its file and a deck that plugs it at page 8; and the numbers of their modules."""
-    found, numbers = [], set()
-    if pages:
-        deck = b"".join(plugs + b"show functions\nunplug 8\n" for _, plugs in pages)
-        answers = [[line.decode() for line in answer] for _, _, answer in answered(deck)[1]]
-        for (path, _), lines in zip(pages, answers[1::3]):
-            for line in lines:
-                named = NAMED.fullmatch(line)
-                numbers |= {line[5:7]} if LINE.match(line) else set()
-                if named and named[2] != "-":
-                    found.append((f"XROM {named[1]}", named[2], path))
-    return found, numbers
+def functions_of(pages):
+    """What `show functions` prints of pages, of each its file and a deck that plugs it at page 8: each line with the file."""
+    if not pages:
+        return []
+    deck = b"".join(plugs + b"show functions\nunplug 8\n" for _, plugs in pages)
+    answers = [answer for _, _, answer in answered(deck)[1]][1::3]
+    return [(line.decode(), path) for (path, _), answer in zip(pages, answers) for line in answer]
 
 
 class Functions:
-    """Functions by their names and lines. A module that is given takes the place of the one of its number in the table, and its
-    names come before those there."""
+    """Functions by their names and lines. Modules are given by lines of `show functions`, each with where it is from. They take the
+    places of those with their numbers in the table, and their names come before the names there."""
 
-    def __init__(self, tables, pages=()):
+    def __init__(self, tables, given=()):
         self.by_name, self.names = {}, {}
-        found, numbers = given(pages)
+        numbers = {line[5:7] for line, _ in given}
+        named = [(NAMED.fullmatch(line), path) for line, path in given]
+        found = [(f"XROM {name[1]}", name[2], path) for name, path in named if name and name[2] != "-"]
         taken = {tables.key(name) for _, name, _ in found}
         known = [row for row in table() if row[0][5:7] not in numbers]
         for line, name, module in found + known:

@@ -4,7 +4,7 @@ Names stand in the table of docs/ASSEMBLER.md, under "Other dialects". What is s
 numbers. A line has some texts, the likeliest first; whether the assembler reads one is asked of the bench. One that it reads as
 it stands stays so."""
 import re
-from dataclasses import dataclass
+from dataclasses import dataclass, replace
 
 from decks import LONGEST_LINE, block, refused, shown
 from documents import codes_of, section_of, tables_of
@@ -56,14 +56,25 @@ def pairs():
 
 @dataclass
 class Text:
-    """What a line may be, in parts, and how it was read."""
+    """What a line may be, in parts, and how it was read. The comment is what stood without its `;`."""
 
     label: str
     code: str
     remark: str = ""
+    comment: str = ""
 
     def line(self):
         return f"{self.label}: {self.code}".rstrip() if self.label else f" {self.code}"
+
+    def whole(self):
+        """The line in its columns, with the comment."""
+        line = f"{f'{self.label}:' if self.label else '':<7} {self.code}".rstrip()
+        return f"{line} ; {self.comment}" if self.comment else line
+
+    def told(self):
+        """The line as it is told, and how it was read."""
+        comment = f" ; {self.comment}" if self.comment else ""
+        return f"{self.line().strip()}{comment}{f' ({self.remark})' if self.remark else ''}"
 
 
 class Names:
@@ -83,7 +94,7 @@ class Names:
         # Operands that stand behind no name here.
         self.kinds = {**dict.fromkeys(LONG, self.addresses), **dict.fromkeys(SHORT, self.distances),
                       **dict.fromkeys(OF_NUMBERS, self.numbers), **dict.fromkeys(OF_LABELS, self.references),
-                      "CON": self.words}
+                      "CON": self.words, "LDI": self.marked}
         operations = {name for table in tables_of(section_of("PROCESSOR.md", "Arithmetic on a field")) for row in table
                       for name in codes_of(row[1])}
         self.kinds.update(dict.fromkeys(operations, self.of_fields))
@@ -150,6 +161,10 @@ class Names:
         found = WORD.fullmatch(operand)
         return [self.number(found[1] or found[3], found[2], 3)] if found else []
 
+    def marked(self, operand):
+        found = WORD.fullmatch(operand)
+        return self.words(operand) if found and (found[1] or found[3]) else []
+
     def number(self, mark, digits, width):
         """A number in hexadecimal digits, and how it was read: without a mark it may be decimal."""
         as_decimal = f"{int(digits):0{width}X}" if digits.isdecimal() else None
@@ -159,6 +174,13 @@ class Names:
         if self.is_decimal:
             return as_decimal, "decimal"
         return digits, f"hexadecimal; with --decimal it is {as_decimal}"
+
+
+def fronts(code):
+    """A line, and what stands in it before two blanks or a tab, the longest first: what stands behind may be a comment."""
+    yield code, ""
+    for gap in reversed(list(re.finditer(r"(?<=\S)(?:\s{2,}|\t)(?=\S)", code))):
+        yield code[:gap.start()], code[gap.end():]
 
 
 def key_of(name, in_capitals=True):
@@ -218,17 +240,22 @@ class Dialect:
             return [None]
         if WITHOUT_WORDS.fullmatch(code.strip()) or END.fullmatch(code.strip()) and self.is_last(at):
             return [None]
+        found = [replace(text, comment=comment) for front, comment in fronts(code) for text in self.texts_of(front)]
+        alone = IN_FRONT.fullmatch(code)
+        if not found and alone and not alone[2] and self.is_referred_to(alone[1]):
+            found.append(Text(alone[1], ""))
+        return found
+
+    def texts_of(self, code):
+        """What a line may be without a comment: one with an instruction or a directive."""
         labelled, in_front = LABEL.fullmatch(code), IN_FRONT.fullmatch(code)
         parts = [labelled.groups()] if labelled else [("", code.strip())]
         if labelled and labelled[1].upper() == "CON":
             parts.append(("", f"CON {labelled[2]}"))
         if in_front and not labelled and in_front[2]:
             parts.append(in_front.groups())
-        found = [Text(label, rest) for label, rest in parts if label and rest]
-        found += [Text(label, text, remark) for label, rest in parts for text, remark in self.codes_of(rest)]
-        if in_front and not in_front[2] and not found and self.is_referred_to(in_front[1]):
-            found.append(Text(in_front[1], ""))
-        return found
+        yield from (Text(label, rest) for label, rest in parts if label and rest)
+        yield from (Text(label, text, remark) for label, rest in parts for text, remark in self.codes_of(rest))
 
     def codes_of(self, code):
         """What an instruction or directive may be."""
@@ -246,17 +273,26 @@ class Dialect:
         """Of each LDI whose number is in the next line both lines."""
         changed = {}
         for at in found:
-            labelled = LABEL.fullmatch(self.codes[at]) or IN_FRONT.fullmatch(self.codes[at])
-            parts = [("", self.codes[at]), *([labelled.groups()] if labelled else [])]
-            label = next((label for label, code in parts if key_of(code) in ("LDI", "LDIS&X")), None)
-            next_one = next((one for one in range(at + 1, len(self.codes)) if self.codes[one].strip()), None)
-            number = PAIR.fullmatch(self.codes[next_one].strip()) if next_one is not None else None
+            loads = self.load_of(self.codes[at])
+            behind = next((one for one in range(at + 1, len(self.codes)) if self.codes[one].strip()), None)
+            number = next(filter(None, (PAIR.fullmatch(front.strip()) for front, _ in fronts(self.codes[behind]))), None) \
+                if loads and behind is not None else None
             word = self.names.words(number[1]) if number else []
-            if label is not None and word and int(word[0][0], 16) <= GREATEST_WORD:
-                changed[at] = [Text(label, f"LDI {word[0][0]}", word[0][1])]
-                changed[next_one] = [None]
-                self.numbers[next_one] = at
+            if word and int(word[0][0], 16) <= GREATEST_WORD:
+                changed[at] = [replace(loads, code=f"LDI {word[0][0]}", remark=word[0][1])]
+                changed[behind] = [None]
+                self.numbers[behind] = at
         return changed
+
+    @staticmethod
+    def load_of(code):
+        """A line that is LDI without its number; none where it is another."""
+        for front, comment in fronts(code):
+            labelled = LABEL.fullmatch(front) or IN_FRONT.fullmatch(front)
+            for label, rest in [("", front), *([labelled.groups()] if labelled else [])]:
+                if key_of(rest) in ("LDI", "LDIS&X"):
+                    return Text(label, rest, "", comment)
+        return None
 
     def change(self, at, text):
         """Puts a text in the place of a line, and tells it."""
@@ -266,12 +302,10 @@ class Dialect:
             new, told = f"; {self.texts[at].strip()}", "nothing"
             told += f" (it stands in line {self.numbers[at] + 1})" if at in self.numbers else ""
         else:
-            new, told = f"{f'{text.label}:' if text.label else '':<7} {text.code}".rstrip(), text.line().strip()
-            new += f" {old}" if old else ""
-        if told != code:
-            self.lines[at] = new.encode("utf-8", "surrogateescape")[:LONGEST_LINE]
-        if told != code and at not in self.comments:
-            self.told.append((at + 1, f"{shown(code)} -> {told}{f' ({text.remark})' if text and text.remark else ''}"))
+            new, told = text.whole() + (f" {old}" if old else ""), text.told()
+        self.lines[at] = new.encode("utf-8", "surrogateescape")[:LONGEST_LINE]
+        if at not in self.comments:
+            self.told.append((at + 1, f"{shown(code)} -> {shown(told)}"))
 
     def read_others(self, own, changed):
         """Looks at the lines that the assembler reads as they are: with another dialect their numbers may be decimal, and their

@@ -490,6 +490,15 @@ class Asked:
             return "a label without its colon"
         return "a comment" if re.match(rb"[*/.#!]", self.first) else None
 
+    def may_be_as(self, row, kind):
+        """Whether the cause of a row of its kind can be its own. Where a decimal number stands behind the instruction, a number is
+        too great, or zero where that is none, and no other operand is a number."""
+        if not isinstance(kind, frozenset) or b"8" not in kind:
+            return True
+        mine, its = (words_of(one.line.code)[1:] for one in (self, row))
+        is_zero = its == [b"0"]
+        return [word.isdigit() for word in mine] == [word.isdigit() for word in its] and (not is_zero or mine == its)
+
 
 def other_names():
     """The names of another dialect that docs/ASSEMBLER.md has, and what stands here in their place."""
@@ -518,7 +527,7 @@ def tell_causes(faults):
     for one, fault in asked:
         kind = one.kind(classes, others)
         like = [(SequenceMatcher(None, row.shape, one.shape).ratio(), why) for row, why in rows if row.refusal == one.refusal
-                and (kind and row.kind(classes, others) == kind or row.first == one.first)]
+                and (kind and row.kind(classes, others) == kind or row.first == one.first) and one.may_be_as(row, kind)]
         if kind == "another dialect":
             fault.told.append(f"{one.first.decode()} is a name of another dialect: `{others[one.first]}`")
         elif like:

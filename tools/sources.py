@@ -234,8 +234,8 @@ def constant(word):
 
 
 def directive_of(line):
-    """What may be a directive of a description: the first word of a line without a label."""
-    return b"" if line.label else (words_of(line.code) or [b""])[0]
+    """What may be meant as a directive of a description: the first word of a line without a label, in lower case."""
+    return b"" if line.label else (words_of(line.code) or [b""])[0].lower()
 
 
 class Whole:

@@ -212,7 +212,7 @@ class Dialect:
             if text is not False:
                 self.change(at, text)
         if self.comments:
-            self.notes.append(f"lines that begin with * are comments: {len(self.comments)}")
+            self.notes.append(f"lines that begin with * or // are comments: {len(self.comments)}")
         self.read_others(own, [at for at in found if self.lines[at] != lines[at]])
 
     @staticmethod
@@ -235,7 +235,7 @@ class Dialect:
     def spellings(self, at):
         """What a line may be; none for one that gives no word."""
         code = "".join(SIGNS.get(letter, letter) for letter in self.codes[at])
-        if code.startswith("*"):
+        if code.lstrip().startswith(("*", "//")):
             self.comments.append(at)
             return [None]
         if WITHOUT_WORDS.fullmatch(code.strip()) or END.fullmatch(code.strip()) and self.is_last(at):

@@ -240,7 +240,8 @@ class Dialect:
             return [None]
         if WITHOUT_WORDS.fullmatch(code.strip()) or END.fullmatch(code.strip()) and self.is_last(at):
             return [None]
-        found = [replace(text, comment=comment) for front, comment in fronts(code) for text in self.texts_of(front)]
+        found = [replace(text, comment=comment) for front, comment in fronts(code) if self.may_be_comment(comment)
+                 for text in self.texts_of(front)]
         alone = IN_FRONT.fullmatch(code)
         if not found and alone and not alone[2] and self.is_referred_to(alone[1]):
             found.append(Text(alone[1], ""))
@@ -252,10 +253,19 @@ class Dialect:
         parts = [labelled.groups()] if labelled else [("", code.strip())]
         if labelled and labelled[1].upper() == "CON":
             parts.append(("", f"CON {labelled[2]}"))
-        if in_front and not labelled and in_front[2]:
+        if in_front and not labelled and in_front[2] and self.may_be_label(in_front[1]):
             parts.append(in_front.groups())
         yield from (Text(label, rest) for label, rest in parts if label and rest)
         yield from (Text(label, text, remark) for label, rest in parts for text, remark in self.codes_of(rest))
+
+    def may_be_label(self, name):
+        """Whether a name without a colon may be a label: one that is an instruction has to be referred to."""
+        return next(self.codes_of(name), None) is None or self.is_referred_to(name)
+
+    def may_be_comment(self, text):
+        """Whether a text is neither an instruction nor an operand."""
+        first = (text.split() or [""])[0]
+        return not text or not WORD.fullmatch(first) and next(self.codes_of(text), None) is None
 
     def codes_of(self, code):
         """What an instruction or directive may be."""
@@ -284,10 +294,11 @@ class Dialect:
                 self.numbers[behind] = at
         return changed
 
-    @staticmethod
-    def load_of(code):
+    def load_of(self, code):
         """A line that is LDI without its number; none where it is another."""
         for front, comment in fronts(code):
+            if not self.may_be_comment(comment):
+                continue
             labelled = LABEL.fullmatch(front) or IN_FRONT.fullmatch(front)
             for label, rest in [("", front), *([labelled.groups()] if labelled else [])]:
                 if key_of(rest) in ("LDI", "LDIS&X"):

@@ -62,7 +62,7 @@ def picture():
 
     parts = []
     for row in ROWS:
-        lines = [line(key.shifted or "" for key in row), line(f"[{key.name.center(7)}]" for key in row),
+        lines = [line(key.shifted or "" for key in row), line(f"[{key.name}]" for key in row),
                  line(map(letter_text, row))]
         parts.append("".join(f"{text}\n" for text in lines if text))
     return "\n".join(parts)

@@ -46,10 +46,11 @@ class Listing:
     """The lines of a listing, which may have numbers in front: each with its number in the file, its text for the bench, and
     what is to be told of it."""
 
-    def __init__(self, lines, has_numbers=True):
+    def __init__(self, lines, has_numbers=True, functions=None):
         self.notes, self.told, self.bad, self.texts = [], [], [], []
         # The lines whose numbers in front are taken off, and those whose numbers stay, counted from 0.
         self.off, self.on, self.unread = set(), set(), 0
+        self.functions = functions
         stripped = [line.strip() for line in lines]
         self.lines = self.without_numbers(stripped) if has_numbers else stripped
         self.read()
@@ -99,7 +100,7 @@ class Listing:
     def read(self):
         """Reads the lines: those that the bench reads as they are, and then the spellings of the others."""
         tables = read_tables()
-        speller = Speller(tables, self.lines)
+        speller = Speller(tables, self.lines, self.functions)
         good = readable(self.lines)
         others = {line: speller.spellings(line) for number, line in enumerate(self.lines, 1)
                   if line not in good and not self.is_comment(number, line)}
@@ -111,7 +112,9 @@ class Listing:
             elif line in others:
                 self.texts.append(self.spelled(number, line, others[line], good))
                 function = speller.function_called(self.texts[-1])
-                if function in good and not QUOTED.search(line):
+                if function and function not in good:
+                    function = next((text for text, _ in speller.named(function)), None)
+                if function and not QUOTED.search(line):
                     self.told.append((number, f"{self.texts[-1]} calls a label; the function is the line {function}"))
             else:
                 self.texts.append(line)
@@ -184,9 +187,12 @@ class Listing:
             operated = WITH_NUMBER.fullmatch(found)
             if operated:
                 yield f"{operated[1]}00", f"{operated[2]} is no operand there"
+        several = speller.functions.lines(name) if speller.functions else []
+        if several:
+            yield None, f"functions of modules have this name: {' and '.join(several)}"
         if re.fullmatch(r"[A-Z][A-Z0-9<>=#?+*/^-]*", name) and len(name) <= 7:
-            yield None, ("no function of the calculator; one of a module is written by its numbers, as XROM 25,47, and a label "
-                         f'is called by XEQ "{name}"')
+            yield None, ("no function of the calculator or of a module that is known; one of another module is written by its "
+                         f'numbers, as XROM 05,01, and a label is called by XEQ "{name}"')
 
 
 def ascending(numbers, begins):

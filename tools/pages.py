@@ -1,7 +1,7 @@
 """Pages of words as sources that can be read: the module's table, names, labels and data."""
 import re
 
-from sources import ASKS_FOR_SET, ENDS, GOES, SUM, TEST
+from sources import ASKS_FOR_SET, CHECKSUM_PLACE, ENDS, FIRST_POLLED, GOES, ID_PLACE, SUM, TEST, checksum_of
 
 PAGE_SIZE = 4096
 
@@ -10,6 +10,9 @@ INDENT, COMMENT = 8, 24
 
 # The longest name of a function and of a label.
 LONGEST_NAME, LONGEST_LABEL = 11, 12
+
+# So many words 000, one behind the other, fill a page up to its end.
+FILL = 32
 
 # An instruction that goes or calls, and where.
 SHORT = re.compile(r"(JN?C) ([+-])([0-9A-F]{2})")
@@ -27,6 +30,9 @@ class Page:
         # What begins at a place: a line of data with its count of words.
         self.data, self.labels = {}, {}
         self.entries = self.table()
+        if self.entries:
+            self.entries += [place for place in range(FIRST_POLLED, min(ID_PLACE, self.end)) if words[place]]
+            self.data.update((place, (1, f"CON {words[place]:03X}")) for place in range(ID_PLACE, self.end))
         self.reached = self.follow() if self.entries else self.sweep()
         self.label_targets()
 
@@ -158,15 +164,38 @@ class Page:
             if target in lines and target not in self.labels:
                 self.labels[target] = self.unused(f"L{target:03X}")
 
-    def text(self):
-        """The source."""
-        lines = []
-        for place, _, text in self.parts():
+    def rows(self):
+        """The lines of the source: of each its place, its count of words, its text, and whether it is a word 000 without a label."""
+        for place, count, text in self.parts():
             label = self.labels.get(place)
             target = self.target(place) if text == self.instructions[place][1] else None
             if target in self.labels:
                 text = f"{(SHORT.fullmatch(text) or LONG.fullmatch(text))[1]} :{self.labels[target]}"
-            if text.startswith("NAME "):
-                lines.append("")
-            lines.append(f"{label + ':' if label else '':<{INDENT - 1}} {text}")
-        return "".join(f"{line}\n" for line in lines)
+            front = "\n" if text.startswith("NAME ") else ""
+            yield place, count, f"{front}{label + ':' if label else '':<{INDENT - 1}} {text}\n", text in ("CON 000", "NOP") and not label
+
+    def text(self):
+        """The source."""
+        return "".join(text for _, _, text, _ in self.rows())
+
+    def with_end(self):
+        """The source up to the first words 000 that fill the page, and a description of what stands behind them."""
+        rows = list(self.rows())
+        zeros = [is_zero for *_, is_zero in rows]
+        at = next((at for at in range(len(rows)) if zeros[at:at + FILL] == [True] * FILL), len(rows))
+        return "".join(text for _, _, text, _ in rows[:at]), "".join(self.end_of(rows[at:]))
+
+    def end_of(self, rows):
+        """The lines of the description: those of the source, each piece behind its place, the id and the checksum."""
+        words = self.words[ID_PLACE:CHECKSUM_PLACE]
+        letters = "".join(chr(word | (0 if word & 0x20 else 0x40)) for word in reversed(words))
+        has_id = any(words) and max(words) < 0x40 and '"' not in letters
+        behind = None
+        for place, count, text, is_zero in rows:
+            if has_id and ID_PLACE <= place < CHECKSUM_PLACE:
+                yield f'id "{letters}"\n' if place == ID_PLACE else ""
+            elif place == CHECKSUM_PLACE and self.words[place] == checksum_of(self.words[:place]):
+                yield "checksum\n"
+            elif not is_zero:
+                yield text if place == behind else f"at {place:03X}\n{text}"
+                behind = place + count

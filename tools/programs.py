@@ -75,16 +75,17 @@ def names_in(lines):
     return {found[0].partition(" ")[2] for found in map(LABEL.fullmatch, (text for _, text in lines)) if found}
 
 
-def left_out_of(lines, labels, front):
-    """What is to be told of the lines of a file, where these are all the labels with names that memory will have."""
+def left_out_of(lines, labels, front, functions):
+    """What is to be told of the lines of a file, where these are all the labels with names that memory will have. Functions of
+    modules are told with their names."""
     asked = [text for _, text in lines if not text.startswith(('"', '>"', "LBL")) and not LOCAL.fullmatch(text)
              and (not NAMED.fullmatch(text) or NAMED.fullmatch(text)[1] not in labels)]
     left_out, nowhere = fates(asked, front)
     calls = [line for program in parted(lines) for line in program if is_lost(line[1], program) or line[1] in nowhere]
     if left_out:
-        yield LEFT_OUT + told(line for line in lines if line[1] in left_out)
+        yield LEFT_OUT + told((place, functions.told(text)) for place, text in lines if text in left_out)
     if calls:
-        yield "called, and standing nowhere: " + told(calls)
+        yield "called, and standing nowhere: " + told((place, functions.told(text)) for place, text in calls)
     names = [(place, LABEL.fullmatch(text)[1]) for place, text in lines if LABEL.fullmatch(text)]
     names = [(place, f'"{name}", {why_no_name(name)}') for place, name in names if why_no_name(name)]
     if names:

@@ -1,4 +1,5 @@
-"""Sources for the assembler: their faults, and the addresses and words that the bench gives their lines and labels."""
+"""Sources for the assembler: their faults, and the addresses and words that the bench gives their lines and labels; and what a
+description puts at the end of a page."""
 import argparse
 import re
 import subprocess
@@ -52,6 +53,11 @@ def source_lines(data):
     cut."""
     lines = [text_of(line) for line in lines_of(data.removeprefix(MARK_OF_UTF8))]
     return [line[:LONGEST_LINE] if len(CODE.match(line)[0]) < LONGEST_LINE else line for line in lines]
+
+
+def without_comments(lines):
+    """Lines of a source in which none is a comment of a deck, which begins with #."""
+    return [b"" if line.startswith(b"#") else line for line in lines]
 
 
 def assemble(lines, origin=ORIGIN):
@@ -111,8 +117,7 @@ class Source:
     def __init__(self, data):
         self.faults, self.labels, self.size = [], {}, 0
         self.texts = source_lines(data)
-        # A line that begins with # is a comment, as in a deck.
-        self.lines = [Line(b"" if text.startswith(b"#") else text) for text in self.texts]
+        self.lines = [Line(text) for text in without_comments(self.texts)]
         letters = next(name for name in map("".join, product(ascii_letters, repeat=2)) if f"{name}_".encode() not in data)
         self.marks = [f"{letters}_{at}".encode() for at in range(len(self.lines) + 1)]
         for at, text in enumerate(self.texts):
@@ -213,19 +218,136 @@ class Source:
         return [at for at, line in enumerate(self.lines) if line.reference == label]
 
 
-class Assembled(Source):
-    """A source without faults at a page, with its words. One with faults is refused, with all of them."""
+# The end of a page.
 
-    def __init__(self, path, page):
-        super().__init__(bytes_of(path))
-        self.path, self.page = path, page
-        if self.faults:
-            raise Faulty("\n".join(f"{path}:{fault.at + 1}: {fault}" for fault in self.faults))
+# The first word of a page that the calculator looks at by itself, and where its id and its checksum stand.
+FIRST_POLLED, ID_PLACE, CHECKSUM_PLACE = 0xFF4, 0xFFB, 0xFFF
+
+OF_THE_END = {b"fill": (re.compile(rb"fill[ \t]+([0-3][0-9A-Fa-f]{2})"), "`fill HHH`, a word"),
+              b"at": (re.compile(rb"at[ \t]+([0-9A-Fa-f]{3})"), "`at HHH`, a place in the page"),
+              b"id": (re.compile(rb'id[ \t]+"([ !#-_]{4})"'), '`id "MA1A"`, four characters of names'),
+              b"checksum": (re.compile(rb"(checksum)"), "`checksum` alone")}
+
+
+def constant(word):
+    return b"        CON %03X" % word
+
+
+def directive_of(line):
+    """What may be meant as a directive of a description: the first word of a line without a label, in lower case."""
+    return b"" if line.label else (words_of(line.code) or [b""])[0].lower()
+
+
+class Whole:
+    """The lines of a source, and behind them those that a description puts at the end of its page. Of each line the file and
+    the number there, and its text as it is told; the lines that only fill the page; that of the checksum; and the faults of the
+    description."""
+
+    def __init__(self, path, data, end=None):
+        self.path, self.lines = path, source_lines(data)
+        self.told = list(self.lines)
+        self.origins = [(path, number) for number in range(1, len(self.lines) + 1)]
+        self.fills, self.checksum, self.faults = set(), None, []
+        if end is not None:
+            self.describe(end, source_lines(bytes_of(end)))
+
+    def data(self):
+        return b"".join(line + b"\n" for line in self.lines)
+
+    def add(self, line, origin, told=b""):
+        self.lines.append(line)
+        self.told.append(told)
+        self.origins.append(origin)
+
+    def describe(self, path, texts):
+        """Adds what the lines of a description say. Where the source ends, and how many words those of the source language give,
+        the bench tells of them together."""
+        rows = list(zip(texts, map(Line, without_comments(texts))))
+        codes = [text for text, line in rows if directive_of(line) not in OF_THE_END]
+        places = Source(self.data() + b"".join(text + b"\n" for text in codes)).places[len(self.lines):]
+        sizes = iter(behind - before for before, behind in zip(places, places[1:]))
+        self.end, self.fill = places[0], 0
+        for number, (text, line) in enumerate(rows, 1):
+            if directive_of(line) in OF_THE_END:
+                self.carry_out(directive_of(line), line.code, (path, number), text)
+            else:
+                self.add(text, (path, number), text)
+                self.end += next(sizes)
+
+    def carry_out(self, directive, code, origin, text):
+        """Adds what a line of the description says that is none of the source language."""
+        form, meant = OF_THE_END[directive]
+        found = form.fullmatch(code)
+        if not found:
+            self.fault(origin, f"it is {meant}", text)
+        elif directive == b"fill":
+            self.fill = int(found[1], 16)
+            self.add(b"", origin, text)
+        elif directive == b"at":
+            self.add(b"", origin, text)
+            self.fill_up_to(int(found[1], 16), origin, text)
+        elif directive == b"id":
+            self.fill_up_to(ID_PLACE, origin, text)
+            for letter, told in zip(reversed(found[1]), [text, b"", b"", b""]):
+                self.add(constant(letter % 64), origin, told)
+            self.end += 4
+        else:
+            self.fill_up_to(CHECKSUM_PLACE, origin, text)
+            self.checksum = len(self.lines)
+            self.add(constant(0), origin, text)
+            self.end += 1
+
+    def fill_up_to(self, goal, origin, text):
+        """Adds lines that fill the page up to a place."""
+        if self.end > goal:
+            self.fault(origin, f"the words before it go up to {self.end - 1:03X}", text)
+        for place in range(self.end, goal):
+            self.fills.add(len(self.lines))
+            self.add(constant(self.fill if place < FIRST_POLLED else 0), origin)
+        self.end = max(self.end, goal)
+
+    def fault(self, origin, why, text):
+        self.faults.append("{}:{}: {}: {}".format(*origin, why, shown(text.strip(BLANKS))))
+
+    def place(self, at):
+        """A line as it is told: its file and its number there."""
+        return "{}:{}".format(*self.origins[at])
+
+    def at_page(self, page):
+        """The lines at a page, with the checksum of the words before it, where one is wanted."""
+        if self.checksum is None:
+            return self.lines
+        words, _ = assemble(without_comments(self.lines[:self.checksum]), int(page, 16) << 12)
+        lines = list(self.lines)
+        lines[self.checksum] = constant(checksum_of(words or []))
+        return lines
+
+
+def checksum_of(words):
+    """The checksum of words: each carry out of ten bits is added at the low end of their sum, whose complement of two it is."""
+    total = 0
+    for word in words:
+        total += word
+        total = (total & 0x3FF) + (total >> 10)
+    return -total & 0x3FF
+
+
+class Assembled(Source):
+    """A source without faults at a page, with its words, and with what a description puts at the page's end. One with faults is
+    refused, with all of them."""
+
+    def __init__(self, path, page, end=None):
+        whole = Whole(path, bytes_of(path), end)
+        super().__init__(whole.data())
+        self.page, self.whole = page, whole
+        faults = [f"{whole.place(fault.at)}: {fault}" for fault in self.faults] + whole.faults
+        if faults:
+            raise Faulty("\n".join(faults))
         if self.size > PAGE_SIZE:
             raise Faulty(f"{path}: ! 04 BadImage: it has {self.size:,} words, and a page {PAGE_SIZE:,}")
-        self.words, fault = assemble([line.text for line in self.lines], int(page, 16) << 12)
+        self.words, fault = assemble(without_comments(whole.at_page(page)), int(page, 16) << 12)
         if fault:
-            raise Faulty(f"{path}:{fault[0] + 1}: {Fault(fault[0], self.texts[fault[0]], fault[1])}")
+            raise Faulty(f"{whole.place(fault[0])}: {Fault(fault[0], self.texts[fault[0]], fault[1])}")
 
     def address(self, place):
         """The address of a place in the page."""
@@ -242,16 +364,17 @@ def run_tool(name, usage, tell):
     if words in (["-h"], ["--help"]):
         print(usage.strip())
         sys.exit(0)
-    parser = argparse.ArgumentParser(prog=name, add_help=False, allow_abbrev=False, usage=f"tools/{name} [--page P] FILE.asm")
+    parser = argparse.ArgumentParser(prog=name, add_help=False, allow_abbrev=False, usage=f"tools/{name} [--page P] FILE.asm [FILE.page]")
     parser.add_argument("--page", default="8", type=str.upper)
     parser.add_argument("file", metavar="FILE.asm")
+    parser.add_argument("end", metavar="FILE.page", nargs="?")
     options = parser.parse_args(words)
     if len(options.page) != 1 or options.page not in PAGES:
         parser.error(f"a page is one of 4 to F, and not {options.page}")
     sys.stdout.reconfigure(errors="backslashreplace")
     sys.stderr.reconfigure(errors="backslashreplace")
     try:
-        sys.exit(tell(Assembled(options.file, options.page)))
+        sys.exit(tell(Assembled(options.file, options.page, options.end)))
     except Failure as why:
         print(why if isinstance(why, Faulty) else f"{name}: {why}", file=sys.stderr)
         sys.exit(why.status)
@@ -367,10 +490,19 @@ class Asked:
             return "a label without its colon"
         return "a comment" if re.match(rb"[*/.#!]", self.first) else None
 
+    def may_be_as(self, row, kind):
+        """Whether the cause of a row of its kind can be its own. Where a decimal number stands behind the instruction, a number is
+        too great, or zero where that is none, and no other operand is a number."""
+        if not isinstance(kind, frozenset) or b"8" not in kind:
+            return True
+        mine, its = (words_of(one.line.code)[1:] for one in (self, row))
+        is_zero = its == [b"0"]
+        return [word.isdigit() for word in mine] == [word.isdigit() for word in its] and (not is_zero or mine == its)
+
 
 def other_names():
     """The names of another dialect that docs/ASSEMBLER.md has, and what stands here in their place."""
-    return {other.encode(): name for here, there in tables_of(section_of("ASSEMBLER.md", "Another dialect"))[0]
+    return {other.encode(): name for here, there in tables_of(section_of("ASSEMBLER.md", "Other dialects"))[0]
             for name, other in zip(codes_of(here), codes_of(there)) if name != other}
 
 
@@ -395,9 +527,9 @@ def tell_causes(faults):
     for one, fault in asked:
         kind = one.kind(classes, others)
         like = [(SequenceMatcher(None, row.shape, one.shape).ratio(), why) for row, why in rows if row.refusal == one.refusal
-                and (kind and row.kind(classes, others) == kind or row.first == one.first)]
+                and (kind and row.kind(classes, others) == kind or row.first == one.first) and one.may_be_as(row, kind)]
         if kind == "another dialect":
-            fault.told.append(f"{one.first.decode()} is a name of another dialect: `{others[one.first]}`")
+            fault.told.append(f"{one.first.decode()} is a name of another dialect, which tools/import reads: `{others[one.first]}`")
         elif like:
             fault.told.append(max(like)[1])
         elif one.refusal == OF_THE_LINE[0]:

@@ -99,10 +99,11 @@ def outside_quotes(text, sign):
 
 
 class Speller:
-    """Spells the lines of a listing. What its commas mean is told by all of its numbers."""
+    """Spells the lines of a listing. What its commas mean is told by all of its numbers, and which names functions of modules have
+    by those that are known."""
 
-    def __init__(self, tables, lines):
-        self.tables = tables
+    def __init__(self, tables, lines, functions=None):
+        self.tables, self.functions = tables, functions
         numbers = [found[2] for found in map(NUMBER.fullmatch, map(self.plain, lines)) if found]
         certain = [number for number in numbers if "," in number and not self.is_ambiguous(number)]
         self.comma_is_point = bool(certain) and not any(map(GROUPS.fullmatch, certain))
@@ -126,7 +127,7 @@ class Speller:
         if line == "" or HEAD.fullmatch(line):
             return None
         found = [(line, "")]
-        for form in (self.number, self.text, self.module, self.function, self.label, self.whole):
+        for form in (self.number, self.text, self.module, self.function, self.label, self.whole, self.named):
             found += form(line)
         return found
 
@@ -177,6 +178,10 @@ class Speller:
         """A function of a module, by its numbers."""
         found = MODULE.fullmatch(line)
         return [(f"XROM {int(found[1]):02},{int(found[2]):02}", "")] if found else []
+
+    def named(self, line):
+        """A function of a module, by its name."""
+        return self.functions.spellings(self.tables.key(line)) if self.functions else []
 
     def function(self, line):
         """A function with its operand."""
@@ -237,8 +242,10 @@ def remark_on(line):
     return ""
 
 
-def printed(tables, line):
-    """A line as archives print it, which is read as the same line again."""
+def printed(tables, line, names):
+    """A line as archives print it, which is read as the same line again. Of functions of modules these are the names."""
+    if line in names:
+        return names[line]
     found = re.fullmatch(r'(>?|[A-Z]+ )(".*")', line)
     if found:
         signs = {}

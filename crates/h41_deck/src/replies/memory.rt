@@ -46,7 +46,7 @@ impl fmt::Display for StackLines<'_> {
     ghost use Rattle.std.specs.Prelude.{Some};
     ghost use Rattle.h41_deck.specs.Views.{stack_text};
 
-    ghost output = { λ lines. Some (stack_text lines.0.now) };
+    ghost output = { λ lines. Some (stack_text lines.0.now.registers) };
 
     fn fmt<W: fmt::Write>(&self, f: &mut fmt::Formatter<W>) -> fmt::Result {
         write_stack(f, self.0)
@@ -61,7 +61,7 @@ impl fmt::Display for FlagsLine<'_> {
     ghost use Rattle.std.specs.Prelude.{Some};
     ghost use Rattle.h41_deck.specs.Views.{flags_line};
 
-    ghost output = { λ line. Some (flags_line line.0.now) };
+    ghost output = { λ line. Some (flags_line line.0.now.registers) };
 
     fn fmt<W: fmt::Write>(&self, f: &mut fmt::Formatter<W>) -> fmt::Result {
         write_flags(f, self.0)

@@ -1,0 +1,341 @@
+"""Sources in other dialects: their lines as the assembler here reads them.
+
+Names stand in the table of docs/ASSEMBLER.md, under "Other dialects". What is said here are the forms of lines: labels, operands,
+numbers. A line has some texts, the likeliest first; whether the assembler reads one is asked of the bench. One that it reads as
+it stands stays so."""
+import re
+from dataclasses import dataclass, replace
+
+from decks import LONGEST_LINE, block, refused, shown
+from documents import codes_of, section_of, tables_of
+
+FIELDS = ("@R", "S&X", "R<", "ALL", "P-Q", "XS", "M", "MS")
+LONG, SHORT = ("?NC XQ", "?C XQ", "?NC GO", "?C GO"), ("JNC", "JC")
+OF_NUMBERS = ("CLRF", "SETF", "?FSET", "?R=", "R=", "RCR", "LD@R", "WRIT", "READ")
+OF_LABELS, OF_WORDS = ("ENTRY", "FOCAL"), ("LDI", "CON")
+
+# Faults that a line has by itself.
+OF_THE_LINE = ("! 30", "! 31")
+
+GREATEST_WORD = 0x3FF
+
+# Signs of texts that are not ASCII.
+SIGNS = {"≠": "#", "↔": "<>", "−": "-", "–": "-"}
+# What stands behind the numbers of registers, as `3(X)`.
+REGISTERS = "TZYXLMNOPQ+abcde"
+
+CODE = re.compile(r'(?:[^;"]|"[^"]*"|"[^"]*\Z)*')
+NAME = r"[A-Za-z]\w{0,11}"
+LABEL = re.compile(rf"\s*({NAME}):\s*(.*)", re.A)
+IN_FRONT = re.compile(rf"\[?({NAME})\]?(?::|(?=\s)|\Z)\s*(.*)", re.A)
+REFERENCE = re.compile(rf":?\[?\(?:?({NAME})\)?\]?", re.A)
+NUMBER = re.compile(r"([0-9]{1,2}|[A-F])(?:[(/](.)\)?)?", re.I)
+ADDRESS = re.compile(r"(?:0x|\$|->)?([0-9A-F]{4})H?", re.I)
+WORD = re.compile(r"(0x|\$)?([0-9A-F]{1,4}?)(H)?", re.I)
+DISTANCE = re.compile(r"([+-])([0-9A-F]{1,2})", re.I)
+PAIR = re.compile(r"(?:\.?CON:?)?\s*([$0-9A-Z]+)", re.I)
+# Lines of other assemblers that give no word.
+WITHOUT_WORDS = re.compile(r"""LEGAL|EJECT|LIST|UNLIST|TITLE\s*["'].*|\.(?:TITLE|EJECT|LIST|UNLIST|HP|JDA|ZENCODE)(?:\s.*)?""",
+                           re.I)
+END = re.compile(r"\.?END")
+
+
+def own_names():
+    """The names that the assembler has, as docs/PROCESSOR.md and docs/ASSEMBLER.md have them."""
+    cells = [row[1] for table in tables_of(section_of("PROCESSOR.md", "The words held")) for row in table]
+    names = {re.sub(" (?:n|hhh)$", "", name) for cell in cells for name in codes_of(cell)}
+    banks = {f"ENBANK{number}" for number in range(1, 5)}
+    return names | banks | {*LONG, *SHORT, *OF_NUMBERS, *OF_LABELS, *OF_WORDS}
+
+
+def pairs():
+    """The names and operands of other dialects, each with what stands here in its place."""
+    for here, there in tables_of(section_of("ASSEMBLER.md", "Other dialects"))[0]:
+        yield from ((other, own) for own, other in zip(codes_of(here), codes_of(there)))
+
+
+@dataclass
+class Text:
+    """What a line may be, in parts, and how it was read. The comment is what stood without its `;`."""
+
+    label: str
+    code: str
+    remark: str = ""
+    comment: str = ""
+
+    def line(self):
+        return f"{self.label}: {self.code}".rstrip() if self.label else f" {self.code}"
+
+    def whole(self):
+        """The line in its columns, with the comment."""
+        line = f"{f'{self.label}:' if self.label else '':<7} {self.code}".rstrip()
+        return f"{line} ; {self.comment}" if self.comment else line
+
+    def told(self):
+        """The line as it is told, and how it was read."""
+        comment = f" ; {self.comment}" if self.comment else ""
+        return f"{self.line().strip()}{comment}{f' ({self.remark})' if self.remark else ''}"
+
+
+class Names:
+    """The names of instructions, and the operands, of all dialects."""
+
+    def __init__(self):
+        self.fields = {field: field for field in FIELDS}
+        self.names = {key_of(name): name for name in own_names()}
+        self.patterns = []
+        for other, here in pairs():
+            if here in FIELDS:
+                self.fields[other] = here
+            elif here.endswith(" 8"):
+                self.patterns.append((re.compile(re.escape(key_of(other)).replace("8", "([0-9]{1,2})")), here[:-1]))
+            else:
+                self.names[key_of(other)] = here
+        # Operands that stand behind no name here.
+        self.kinds = {**dict.fromkeys(LONG, self.addresses), **dict.fromkeys(SHORT, self.distances),
+                      **dict.fromkeys(OF_NUMBERS, self.numbers), **dict.fromkeys(OF_LABELS, self.references),
+                      "CON": self.words, "LDI": self.marked}
+        operations = {name for table in tables_of(section_of("PROCESSOR.md", "Arithmetic on a field")) for row in table
+                      for name in codes_of(row[1])}
+        self.kinds.update(dict.fromkeys(operations, self.of_fields))
+        self.labels, self.is_decimal = set(), False
+
+    def codes(self, code):
+        """What an instruction may be, the likeliest first: a name, which may be spelled without its blanks, and an operand. Each
+        with how it was read."""
+        flat, upper = key_of(code, False), key_of(code)
+        for pattern, here in self.patterns:
+            found = pattern.fullmatch(upper)
+            if found:
+                yield f"{here}{int(found[1])}", ""
+        ends, at = set(), 0
+        for word in code.split():
+            at += len(word)
+            ends.add(at)
+        for apart in (True, False):
+            for end in range(len(flat), 0, -1):
+                touches = upper[end - 1] == "=" or re.match(r"[-+(\[:0-9]", upper[end:])
+                if upper[:end] in self.names and (end in ends if apart else end not in ends and touches):
+                    name = self.names[upper[:end]]
+                    yield from ((f"{name} {operand}".rstrip(), remark)
+                                for operand, remark in self.kinds.get(name, self.nothing)(flat[end:]))
+
+    # What an operand may be, each with how it was read.
+
+    @staticmethod
+    def nothing(operand):
+        return [] if operand else [("", "")]
+
+    def of_fields(self, operand):
+        field = self.fields.get(operand.upper())
+        return [(field, "")] if field else []
+
+    @staticmethod
+    def numbers(operand):
+        found = NUMBER.fullmatch(operand)
+        if not found:
+            return []
+        number = int(found[1], 16) if found[1].isalpha() else int(found[1])
+        if found[2] and (number > 15 or REGISTERS[number].upper() != found[2].upper()) and found[2] != "├":
+            return []
+        return [(str(number), ""), ("DATA", "the word for 0 reads the selected register")][:1 + (number == 0)]
+
+    def references(self, operand):
+        found = REFERENCE.fullmatch(operand)
+        return [(f":{found[1]}", "")] if found else []
+
+    def addresses(self, operand):
+        found = ADDRESS.fullmatch(operand)
+        if found and operand in self.labels:
+            return [(f":{operand}", f"the label {operand}, and not the address")]
+        return [(found[1], "")] if found else self.references(operand)
+
+    def distances(self, operand):
+        found = DISTANCE.fullmatch(operand)
+        if not found:
+            return self.references(operand)
+        number, remark = self.number("", found[2], 2)
+        return [(f"{found[1]}{number}", remark)]
+
+    def words(self, operand):
+        found = WORD.fullmatch(operand)
+        return [self.number(found[1] or found[3], found[2], 3)] if found else []
+
+    def marked(self, operand):
+        found = WORD.fullmatch(operand)
+        return self.words(operand) if found and (found[1] or found[3]) else []
+
+    def number(self, mark, digits, width):
+        """A number in hexadecimal digits, and how it was read: without a mark it may be decimal."""
+        as_decimal = f"{int(digits):0{width}X}" if digits.isdecimal() else None
+        digits = digits.upper().rjust(width, "0")
+        if mark or as_decimal in (None, digits):
+            return digits, ""
+        if self.is_decimal:
+            return as_decimal, "decimal"
+        return digits, f"hexadecimal; with --decimal it is {as_decimal}"
+
+
+def fronts(code):
+    """A line, and what stands in it before two blanks or a tab, the longest first: what stands behind may be a comment."""
+    yield code, ""
+    for gap in reversed(list(re.finditer(r"(?<=\S)(?:\s{2,}|\t)(?=\S)", code))):
+        yield code[:gap.start()], code[gap.end():]
+
+
+def key_of(name, in_capitals=True):
+    """A name without blanks."""
+    name = re.sub(r"\s", "", name)
+    return name.upper() if in_capitals else name
+
+
+class Dialect:
+    """The lines of a source as the assembler here reads them, what is told of each changed one, by its number, and of all."""
+
+    def __init__(self, lines, is_decimal=False):
+        self.lines, self.told, self.notes, self.comments = list(lines), [], [], []
+        # Of lines with numbers of an LDI before them the lines of these, counted from 0.
+        self.numbers = {}
+        is_read = refused(block(b"asm 8", lines))[0] == 0
+        if is_read and not is_decimal:
+            return
+        self.texts = [text.decode("utf-8", "surrogateescape") for text in lines]
+        self.codes = [CODE.match(text)[0].rstrip() if not text.startswith("#") else "" for text in self.texts]
+        self.names = Names()
+        self.names.labels, self.names.is_decimal = self.labels(), is_decimal
+        own = self.unread(set(self.codes))
+        found = {at: list(self.spellings(at)) for at, code in enumerate(self.codes) if code in own}
+        found.update(self.pairs(found))
+        wrong = self.unread({text.line() for texts in found.values() for text in texts if text})
+        for at, texts in sorted(found.items()):
+            text = next((text for text in texts if text is None or text.line() not in wrong), False)
+            if text is not False:
+                self.change(at, text)
+        if self.comments:
+            self.notes.append(f"lines that begin with * or // are comments: {len(self.comments)}")
+        self.read_others(own, [at for at in found if self.lines[at] != lines[at]])
+
+    @staticmethod
+    def unread(codes):
+        """Which of these lines the assembler does not read, each by itself."""
+        asked = sorted(code for code in codes if code.strip() not in ("", "end"))
+        _, found = refused(b"".join(block(b"asm 3", [code.encode("utf-8", "surrogateescape")]) for code in asked))
+        return {asked[first // 3] for first, _, refusal in found if refusal.startswith(OF_THE_LINE)}
+
+    def labels(self):
+        """The names that stand before a colon or in the first column."""
+        found = [LABEL.fullmatch(code) or IN_FRONT.fullmatch(code) for code in self.codes]
+        return {label[1] for label in found if label}
+
+    def is_referred_to(self, name):
+        """Whether a line ends in a name, as one that jumps there does."""
+        last = rf".*[\s:(\[]{name}[)\]]?"
+        return any(re.fullmatch(last, code) for code in self.codes)
+
+    def spellings(self, at):
+        """What a line may be; none for one that gives no word."""
+        code = "".join(SIGNS.get(letter, letter) for letter in self.codes[at])
+        if code.lstrip().startswith(("*", "//")):
+            self.comments.append(at)
+            return [None]
+        if WITHOUT_WORDS.fullmatch(code.strip()) or END.fullmatch(code.strip()) and self.is_last(at):
+            return [None]
+        found = [replace(text, comment=comment) for front, comment in fronts(code) if self.may_be_comment(comment)
+                 for text in self.texts_of(front)]
+        alone = IN_FRONT.fullmatch(code)
+        if not found and alone and not alone[2] and self.is_referred_to(alone[1]):
+            found.append(Text(alone[1], ""))
+        return found
+
+    def texts_of(self, code):
+        """What a line may be without a comment: one with an instruction or a directive."""
+        labelled, in_front = LABEL.fullmatch(code), IN_FRONT.fullmatch(code)
+        parts = [labelled.groups()] if labelled else [("", code.strip())]
+        if labelled and labelled[1].upper() == "CON":
+            parts.append(("", f"CON {labelled[2]}"))
+        if in_front and not labelled and in_front[2] and self.may_be_label(in_front[1]):
+            parts.append(in_front.groups())
+        yield from (Text(label, rest) for label, rest in parts if label and rest)
+        yield from (Text(label, text, remark) for label, rest in parts for text, remark in self.codes_of(rest))
+
+    def may_be_label(self, name):
+        """Whether a name without a colon may be a label: one that is an instruction has to be referred to."""
+        return next(self.codes_of(name), None) is None or self.is_referred_to(name)
+
+    def may_be_comment(self, text):
+        """Whether a text is neither an instruction nor an operand."""
+        first = (text.split() or [""])[0]
+        return not text or not WORD.fullmatch(first) and next(self.codes_of(text), None) is None
+
+    def codes_of(self, code):
+        """What an instruction or directive may be."""
+        named = re.fullmatch(r'\.?NAME\s*(".*")', code, re.I)
+        if named:
+            yield f"NAME {named[1]}", ""
+        elif '"' not in code:
+            yield from self.names.codes(code.lstrip(".") if re.match(r"\.CON\b", code, re.I) else code)
+
+    def is_last(self, at):
+        """Whether no further line has code."""
+        return not any(code.strip() for code in self.codes[at + 1:])
+
+    def pairs(self, found):
+        """Of each LDI whose number is in the next line both lines."""
+        changed = {}
+        for at in found:
+            loads = self.load_of(self.codes[at])
+            behind = next((one for one in range(at + 1, len(self.codes)) if self.codes[one].strip()), None)
+            number = next(filter(None, (PAIR.fullmatch(front.strip()) for front, _ in fronts(self.codes[behind]))), None) \
+                if loads and behind is not None else None
+            word = self.names.words(number[1]) if number else []
+            if word and int(word[0][0], 16) <= GREATEST_WORD:
+                changed[at] = [replace(loads, code=f"LDI {word[0][0]}", remark=word[0][1])]
+                changed[behind] = [None]
+                self.numbers[behind] = at
+        return changed
+
+    def load_of(self, code):
+        """A line that is LDI without its number; none where it is another."""
+        for front, comment in fronts(code):
+            if not self.may_be_comment(comment):
+                continue
+            labelled = LABEL.fullmatch(front) or IN_FRONT.fullmatch(front)
+            for label, rest in [("", front), *([labelled.groups()] if labelled else [])]:
+                if key_of(rest) in ("LDI", "LDIS&X"):
+                    return Text(label, rest, "", comment)
+        return None
+
+    def change(self, at, text):
+        """Puts a text in the place of a line, and tells it."""
+        old = self.texts[at][len(self.codes[at]):].lstrip()
+        code = self.codes[at].strip()
+        if text is None:
+            new, told = f"; {self.texts[at].strip()}", "nothing"
+            told += f" (it stands in line {self.numbers[at] + 1})" if at in self.numbers else ""
+        else:
+            new, told = text.whole() + (f" {old}" if old else ""), text.told()
+        self.lines[at] = new.encode("utf-8", "surrogateescape")[:LONGEST_LINE]
+        if at not in self.comments:
+            self.told.append((at + 1, f"{shown(code)} -> {shown(told)}"))
+
+    def read_others(self, own, changed):
+        """Looks at the lines that the assembler reads as they are: with another dialect their numbers may be decimal, and their
+        names labels."""
+        kept = []
+        for at, code in enumerate(self.codes):
+            if code in own or at in changed:
+                continue
+            jump = re.fullmatch(rf".*\bGOTO ({NAME})", code, re.A)
+            if changed and jump and jump[1] in self.names.labels:
+                self.told.append((at + 1, f"{code.strip()} (no jump to the label {jump[1]}, which is JNC :{jump[1]})"))
+            found = re.fullmatch(rf"((?:\s*{NAME}:)?\s*)((?:LDI|CON|JC|JNC)\s+[+-]?)([0-9]+)", code, re.A)
+            number, remark = self.names.number("", found[3], len(found[3])) if found else ("", "")
+            if remark and self.names.is_decimal:
+                label = found[1].strip().rstrip(":")
+                self.change(at, Text(label, " ".join(f"{found[2]}{number}".split()), remark))
+            elif remark:
+                kept.append((at + 1, code.strip()))
+        self.told.sort(key=lambda told: told[0])
+        if kept and changed:
+            self.notes.append(f"numbers behind LDI, CON and short jumps are hexadecimal, as in line {kept[0][0]}, {kept[0][1]}"
+                              f"{f', and {len(kept) - 1} more' if kept[1:] else ''}: with --decimal they are decimal")

@@ -1,0 +1,62 @@
+"""Functions of modules, by their names and by their numbers: of the modules that are given, and else of tools/functions.txt."""
+import os
+import re
+
+from decks import answered, bytes_of
+
+TABLE = os.path.join(os.path.dirname(os.path.realpath(__file__)), "functions.txt")
+
+MODULE = re.compile(r"XROM ([0-9]{1,2}), ([^(]*?)(?: \(.*\))?")
+NAMED = re.compile(r"XROM ([0-9]{2},[0-9]{2}) (\S+)")
+
+
+def table():
+    """The functions of the table: each a line of a program, its name, and its module."""
+    number, module = None, None
+    for line in bytes_of(TABLE).decode("utf-8").splitlines():
+        head = MODULE.fullmatch(line)
+        if head:
+            number, module = int(head[1]), head[2]
+        elif line and not line.startswith("#"):
+            first, *names = line.split()
+            for at, name in enumerate(names, int(first)):
+                yield f"XROM {number:02},{at:02}", name, module
+
+
+def functions_of(pages):
+    """What `show functions` prints of pages, of each its file and a deck that plugs it at page 8: each line with the file."""
+    if not pages:
+        return []
+    deck = b"".join(plugs + b"show functions\nunplug 8\n" for _, plugs in pages)
+    answers = [answer for _, _, answer in answered(deck)[1]][1::3]
+    return [(line.decode(), path) for (path, _), answer in zip(pages, answers) for line in answer]
+
+
+class Functions:
+    """Functions by their names and lines. Modules are given by lines of `show functions`, each with where it is from. They take the
+    places of those with their numbers in the table, and their names come before the names there."""
+
+    def __init__(self, tables, given=()):
+        self.by_name, self.names = {}, {}
+        numbers = {line[5:7] for line, _ in given}
+        named = [(NAMED.fullmatch(line), path) for line, path in given]
+        found = [(f"XROM {name[1]}", name[2], path) for name, path in named if name and name[2] != "-"]
+        taken = {tables.key(name) for _, name, _ in found}
+        known = [row for row in table() if row[0][5:7] not in numbers]
+        for line, name, module in found + known:
+            self.names.setdefault(line, name)
+        for line, name, module in found + [row for row in known if tables.key(row[1]) not in taken]:
+            self.by_name.setdefault(tables.key(name), []).append((line, f"{name} of {module}"))
+
+    def spellings(self, key):
+        """The line of a function by its name as it is looked up, with a remark; none where it is not known, or of two lines."""
+        found = list(dict.fromkeys(self.by_name.get(key, [])))
+        return found if len({line for line, _ in found}) == 1 else []
+
+    def lines(self, key):
+        """All lines that a name may be."""
+        return list(dict.fromkeys(line for line, _ in self.by_name.get(key, [])))
+
+    def told(self, line):
+        """A line with its function's name behind it, where that is known."""
+        return f"{line} {self.names[line]}" if line in self.names else line

@@ -2,8 +2,7 @@
 
 ghost use Rattle.std.specs.Prelude.{◌≡◌, ℕ, ◌+◌, ◌*◌, ◌^◌, ◌<◌, ◌≤◌, IfSome, Some, None};
 ghost use Rattle.std.specs.Prelude.{slice_index};
-ghost use Rattle.h41_decimal.specs.private.PackedDigits.{packed};
-ghost use Rattle.h41_decimal.specs.private.SameDigits.{SameDigitsBelow, SameDigitsFrom};
+ghost use Rattle.h41_decimal.specs.private.PackedDigits.{decimal_of, hundreds_of, packed};
 ghost use Rattle.h41_decimal.specs.Signs.{signed};
 ghost use Rattle.std.specs.Option.{option_map};
 ghost use Rattle.h41_decimal.specs.Units.{size, units};
@@ -14,6 +13,15 @@ use crate::parts::{Exponent, Magnitude, Mantissa};
 use crate::sign::Sign;
 use crate::ten::Ten;
 use h41_digits::Reg;
+
+/// The lower four bits of each of five bytes.
+const LOW_HALVES: u64 = 0x0F_0F0F_0F0F;
+
+/// A six in each of five bytes, with which a digit above 9 reaches 16.
+const SIXES: u64 = 0x06_0606_0606;
+
+/// Sixteen in each of five bytes.
+const SIXTEENS: u64 = 0x10_1010_1010;
 
 /// The number that a register holds, or nothing where it holds none.
 pub fn read(register: Reg) -> Option<Ten>
@@ -31,19 +39,35 @@ pub fn read(register: Reg) -> Option<Ten>
 /// The number of so many decimal digits from a place up, or nothing where one of them is above 9.
 fn decimal_digits(register: Reg, place: usize, count: usize) -> Option<u64>
     requires places { place + count ≤ 14 }
+    requires some { 0 < count }
     requires few { count ≤ 10 }
     ensures value { result ≡ decimal_in register place count }
     ensures bound { IfSome result (λ number. number < 10 ^ count) }
 {
-    let mut number = 0;
-    for read in 0..count {
-        let digit = register.get(place + count - 1 - read);
-        if digit > 9 {
-            return None;
-        }
-        number = 10 * number + u64::from(digit);
+    unpacked(register.number(place, place + count - 1))
+}
+
+/// The number of ten decimal digits in four bits each, or nothing where one of them is above 9.
+fn unpacked(digits: u64) -> Option<u64>
+    requires { digits < 16 ^ 10 }
+    ensures { result ≡ decimal_of 10 digits }
+{
+    let low = digits & LOW_HALVES;
+    let high = digits / 0x10 & LOW_HALVES;
+    if (low + SIXES) & SIXTEENS != 0 || (high + SIXES) & SIXTEENS != 0 {
+        return None;
     }
-    Some(number)
+    Some(hundreds(low + 10 * high))
+}
+
+/// The number to the base 100 whose five digits are bytes, the lowest in the lowest one.
+fn hundreds(bytes: u64) -> u64
+    requires { bytes < 256 ^ 5 }
+    ensures { result ≡ hundreds_of 5 bytes }
+{
+    let low = bytes % 0x100 + 100 * (bytes / 0x100 % 0x100);
+    let middle = bytes / 0x1_0000 % 0x100 + 100 * (bytes / 0x100_0000 % 0x100);
+    low + 10_000 * middle + 100_000_000 * (bytes / 0x1_0000_0000)
 }
 
 /// The number of a mantissa, an exponent as its three digits are written, and the digit of the sign.
@@ -109,37 +133,46 @@ fn write_size(sign: Sign, x: Magnitude) -> Reg
     ensures { holding_of result ≡ Number (signed sign (size x)) }
 {
     let signed = Reg::zero().with(13, sign_digit(sign));
-    let with_mantissa = with_digits(signed, 3, 10, x.mantissa.digits);
-    with_digits(with_mantissa, 0, 3, exponent_digits(x.exponent))
+    let with_mantissa = signed.with_number(3, 12, packed_ten(x.mantissa.digits));
+    with_mantissa.with_number(0, 2, packed_three(exponent_digits(x.exponent)))
 }
 
-/// The register with a number's decimal digits from a place up, so many of them; other places stay.
-fn with_digits(register: Reg, place: usize, count: usize, number: u64) -> Reg
-    requires places { place + count ≤ 14 }
-    requires fits { number < 10 ^ count }
-    ensures written { decimal_in result place count ≡ Some number }
-    ensures below { SameDigitsBelow place result register }
-    ensures above { SameDigitsFrom (place + count) result register }
+/// Ten decimal digits in four bits each, the lowest in the lowest bits.
+fn packed_ten(number: u64) -> u64
+    requires { number < 10 ^ 10 }
+    ensures digits { result ≡ packed 10 number }
+    ensures bound { result < 16 ^ 10 }
 {
-    if count == 0 {
-        return register;
-    }
-    register.with_number(place, place + count - 1, packed_digits(number, count))
+    let low = packed_four(number % 10_000);
+    let middle = packed_four(number / 10_000 % 10_000);
+    low + 0x1_0000 * middle + 0x1_0000_0000 * packed_pair(number / 100_000_000)
 }
 
-/// So many decimal digits of a number in four bits each, the lowest in the lowest bits.
-fn packed_digits(number: u64, count: usize) -> u64
-    requires { count ≤ 14 }
-    ensures digits { result ≡ packed count number }
-    ensures bound { result < 16 ^ count }
+/// Four decimal digits in four bits each, the lowest in the lowest bits.
+fn packed_four(number: u64) -> u64
+    requires { number < 10 ^ 4 }
+    ensures digits { result ≡ packed 4 number }
+    ensures bound { result < 16 ^ 4 }
 {
-    let mut packed = 0;
-    let mut rest = number;
-    for place in 0..count {
-        packed += rest % 10 << (4 * place);
-        rest /= 10;
-    }
-    packed
+    packed_pair(number % 100) + 0x100 * packed_pair(number / 100)
+}
+
+/// Three decimal digits in four bits each, the lowest in the lowest bits.
+fn packed_three(number: u64) -> u64
+    requires { number < 10 ^ 3 }
+    ensures digits { result ≡ packed 3 number }
+    ensures bound { result < 16 ^ 3 }
+{
+    packed_pair(number % 100) + 0x100 * (number / 100)
+}
+
+/// Two decimal digits in four bits each, the lower one in the lower bits.
+fn packed_pair(number: u64) -> u64
+    requires { number < 10 ^ 2 }
+    ensures digits { result ≡ packed 2 number }
+    ensures bound { result < 16 ^ 2 }
+{
+    number + 6 * (number / 10)
 }
 
 /// The digit that stands for a sign.

@@ -15,3 +15,4 @@ pub mod Answered
 pub mod Held
 pub mod PackedDigits
 pub mod DigitBytes
+pub mod Roots

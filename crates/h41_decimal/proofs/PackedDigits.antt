@@ -53,10 +53,6 @@ decimal_of-longer (suc more) (suc few) digits fits small =
     (decimal_of-longer more few (digits / 16) (omega arith) rest_small)
 
 -- digits that were packed
-pub packed-lt : (count number : ℕ) → packed count number < 16 ^ count
-packed-lt zero number = omega arith
-packed-lt (suc count) number = omega (arith, packed-lt count (number / 10), pow-succ' 16 count)
-
 decimal_of-packed : (count number : ℕ) → number < 10 ^ count → decimal_of count (packed count number) ≡ Some number
 decimal_of-packed zero number small = ap Some (omega (arith, small))
 decimal_of-packed (suc count) number small =
@@ -92,14 +88,16 @@ packed_four_more count number =
         → four ≡ first + 256 * second → last ≡ rest → all ≡ four + 65536 * rest
     joined_parts all first others second last four rest whole behind front same = omega arith
 
-pub packed_as_pairs : (number low high : ℕ) → low ≡ packed 2 (number % 100) → high ≡ packed 2 (number / 100) → low + 256 * high ≡ packed 4 number
+pub packed_as_pairs : (number low high : ℕ) → low ≡ packed 2 (number % 100) → high ≡ packed 2 (number / 100)
+    → low + 256 * high ≡ packed 4 number
 packed_as_pairs number low high low_is high_is =
     ap (λ n. n + 256 * high) low_is ∙ ap (λ n. packed 2 (number % 100) + 256 * n) high_is ∙ sym (packed_two_more 2 number)
 
 pub packed_as_three : (number low : ℕ) → number < 1000 → low ≡ packed 2 (number % 100) → low + 256 * (number / 100) ≡ packed 3 number
 packed_as_three number low small low_is =
     let one : number / 100 % 10 ≡ number / 100 = omega arith in
-    ap (λ n. n + 256 * (number / 100)) low_is ∙ sym (packed_two_more 1 number ∙ last (packed 2 (number % 100)) (number / 100 % 10) (number / 100) one)
+    ap (λ n. n + 256 * (number / 100)) low_is
+    ∙ sym (packed_two_more 1 number ∙ last (packed 2 (number % 100)) (number / 100 % 10) (number / 100) one)
   where
     last : (low digit number : ℕ) → digit ≡ number → low + 256 * (digit + 16 * 0) ≡ low + 256 * number
     last low digit number same = omega arith

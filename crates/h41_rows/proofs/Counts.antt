@@ -1,11 +1,11 @@
 -- The ones and the fraction of a number that counts a loop.
-use Rattle.std.proofs.Common.{◌≡◌, ℕ, zero, suc, ◌+◌, ◌-◌, ◌*◌, ◌/◌, ◌%◌, ◌^◌, ◌<◌, ◌≤◌, ⊎_elim, sym, ◌∙◌, ap, refl, subst, arith}
+use Rattle.std.proofs.Common.{◌≡◌, ℕ, zero, suc, ◌+◌, ◌-◌, ◌*◌, ◌/◌, ◌%◌, ◌^◌, ◌<◌, ◌≤◌, ◌⊎◌, inl, inr, ⊎_elim, sym, ◌∙◌, ap, refl, subst, arith}
 use Rattle.std.specs.Prelude.{ℤ, pos, negsuc, ◌+ℤ◌, ◌-ℤ◌, unsigned_abs}
 use Rattle.std.proofs.Math.Nat.{mul-lt-mul_of_pos_right, pow-le-pow_right}
 use Rattle.std.proofs.lemmas.Nat.{pow-add}
 use Rattle.std.proofs.lemmas.Bool.{cases_lt}
 use Rattle.std.proofs.lemmas.Int.{ints}
-use Rattle.h41_decimal.specs.Signs.{signed, sign_of}
+use Rattle.h41_decimal.specs.Signs.{opposite_of, signed, sign_of}
 use Rattle.h41_decimal.specs.Units.{one, size, units}
 use Rattle.h41_decimal.specs.WholeParts.{HasOnes, IsFraction}
 use Rattle.h41_decimal.specs.declared.parts.Magnitude.{Magnitude}
@@ -14,10 +14,11 @@ use Rattle.h41_decimal.specs.declared.sign.Sign.TheVariants.{Plus, Minus}
 use Rattle.h41_decimal.specs.declared.ten.Ten.{Ten}
 use Rattle.h41_decimal.specs.declared.ten.Ten.TheVariants.{Zero, Nonzero}
 use Rattle.h41_decimal.proofs.Nearest.{ten_pow_pos}
-use Rattle.h41_decimal.proofs.Signed.{signed-sub}
-use Rattle.h41_decimal.proofs.Tens.{size_pos, unsigned_abs-signed}
+use Rattle.h41_decimal.proofs.Signed.{signed-add, signed-sub}
+use Rattle.h41_decimal.proofs.Steps.{sign_of-signed}
+use Rattle.h41_decimal.proofs.Tens.{minus_same_sign, size_pos, unsigned_abs-signed}
 use Rattle.h41_decimal.proofs.Wholes.{all_ones, ten_of_fewer, filled_worth}
-use Rattle.h41_rows.specs.Counters.{counter_of, fraction_of}
+use Rattle.h41_rows.specs.Counters.{count_of, counter_of, fraction_of}
 use Rattle.h41_rows.specs.private.Counting.{count_in, number_along, with_ones}
 
 -- a whole number of up to ten digits, filled with zeros
@@ -131,3 +132,39 @@ counts_ones z s d ones count rest sign has counts fraction =
     ∙ (ap (λ (t : ℕ). with_ones (signed (sign_of z) t +ℤ signed d count) rest) q
     ∙ (ap (λ (t : ℕ). with_ones (counter_of z +ℤ signed d t) rest) counts
     ∙ ap (λ (f : ℕ). with_ones (counter_of z +ℤ signed d (count_in f)) f) fraction))
+
+-- a number of which all is moved, where its ones keep their sign
+with_signed : (s : Sign) (n f : ℕ) → 0 < n → with_ones (signed s n) f ≡ signed s (n * one + f)
+with_signed s n f some =
+    ap (λ (t : Sign). signed t (unsigned_abs (signed s n) * one + f)) (sign_of-signed s n some)
+    ∙ ap (λ (k : ℕ). signed s (k * one + f)) (unsigned_abs-signed s n)
+
+moved_on : (s : Sign) (q c f : ℕ) → 0 < c → with_ones (signed s q +ℤ signed s c) f ≡ signed s (q * one + f) +ℤ signed s (c * one)
+moved_on s q c f some =
+    let sum : (q + c) * one + f ≡ q * one + f + c * one = omega arith in
+    ap (λ (t : ℤ). with_ones t f) (signed-add s q c) ∙ with_signed s (q + c) f (omega arith) ∙ ap (signed s) sum
+    ∙ sym (signed-add s (q * one + f) (c * one))
+
+moved_back : (s : Sign) (q c f : ℕ) → c < q
+    → with_ones (signed s q +ℤ signed (opposite_of s) c) f ≡ signed s (q * one + f) +ℤ signed (opposite_of s) (c * one)
+moved_back s q c f less =
+    ap (λ (t : ℤ). with_ones t f) (minus_same_sign s q c ∙ signed-sub s q c (q - c) (omega arith))
+    ∙ with_signed s (q - c) f (omega arith)
+    ∙ sym (minus_same_sign s (q * one + f) (c * one) ∙ signed-sub s (q * one + f) (c * one) ((q - c) * one + f) (omega arith))
+
+moved : (s d : Sign) (q c f : ℕ) → 0 < c → (s ≡ d) ⊎ (c < q)
+    → with_ones (signed s q +ℤ signed d c) f ≡ signed s (q * one + f) +ℤ signed d (c * one)
+moved Plus Plus q c f some kept = moved_on Plus q c f some
+moved Plus Minus q c f some (inl same) = absurd cc
+moved Plus Minus q c f some (inr less) = moved_back Plus q c f less
+moved Minus Plus q c f some (inl same) = absurd cc
+moved Minus Plus q c f some (inr less) = moved_back Minus q c f less
+moved Minus Minus q c f some kept = moved_on Minus q c f some
+
+pub moves_whole : (z : ℤ) (d : Sign) (count : ℕ) → count ≡ count_of z → 0 < count → (sign_of z ≡ d) ⊎ (count < unsigned_abs z / one)
+    → number_along d z ≡ z +ℤ signed d (count * one)
+moves_whole z d count count_is some kept =
+    let whole : unsigned_abs z / one * one + fraction_of z ≡ unsigned_abs z = omega arith in
+    ap (λ (c : ℕ). with_ones (counter_of z +ℤ signed d c) (fraction_of z)) (sym count_is)
+    ∙ moved (sign_of z) d (unsigned_abs z / one) count (fraction_of z) some kept
+    ∙ ap (λ (t : ℤ). t +ℤ signed d (count * one)) (ap (signed (sign_of z)) whole ∙ sym (signed_self z))

@@ -14,6 +14,10 @@ ghost use Rattle.h41_rows.specs.private.Wholes.{told_ones};
 use h41_decimal::{DecimalFault, Exponent, Magnitude, Mantissa, Sign, Ten};
 use h41_ram::Ram;
 
+/// The highest exponent, counted from -99, with which a size has fewer than ten digits in front of its radix mark once this is
+/// five places further right.
+const HIGHEST_SHIFTED: u8 = 103;
+
 /// Whether a loop goes on that counts up by the register at an address.
 pub fn goes_on_up<const REGS: usize>(ram: &Ram<REGS>, address: u16) -> bool
     ensures { result ≡ goes_on Up (amount_at ram.now address) }
@@ -82,27 +86,40 @@ fn five_decimals(number: Ten) -> u64
     ensures value { result ≡ fraction_of (units number) / 10 ^ 103 }
     ensures bound { result < 100000 }
 {
-    match number.abs().fraction() {
+    match number {
         Ten::Zero => 0,
-        Ten::Nonzero(_, rest) => five_digits(rest),
+        Ten::Nonzero(_, x) => five_digits(x),
     }
 }
 
-/// The first five decimals of a size below 1.
-fn five_digits(rest: Magnitude) -> u64
-    requires { size rest < one }
-    ensures value { result ≡ size rest / 10 ^ 103 }
+/// The first five decimals of a size.
+fn five_digits(x: Magnitude) -> u64
+    ensures value { result ≡ size x % one / 10 ^ 103 }
     ensures bound { result < 100000 }
 {
+    if x.exponent.biased <= HIGHEST_SHIFTED {
+        return five_places_up(x) % 100_000;
+    }
+    match Ten::Nonzero(Sign::Plus, x).fraction() {
+        Ten::Zero => 0,
+        Ten::Nonzero(_, rest) => five_places_up(rest),
+    }
+}
+
+/// How many times 10^-5 is in a size: its whole ones five places up.
+fn five_places_up(x: Magnitude) -> u64
+    requires { x.exponent.biased ≤ 103 }
+    ensures { result ≡ size x / 10 ^ 103 }
+{
     let exponent = Exponent {
-        biased: rest.exponent.biased + 5,
+        biased: x.exponent.biased + 5,
     };
     let shifted = Magnitude {
-        mantissa: rest.mantissa,
+        mantissa: x.mantissa,
         exponent,
     };
     match Ten::Nonzero(Sign::Plus, shifted).ones() {
-        Some(decimals) => decimals,
+        Some(ones) => ones,
         None => 0,
     }
 }
@@ -143,30 +160,48 @@ fn is_above(sign: Sign, ones: u64, count: u64, last: u64) -> bool
     }
 }
 
-/// A loop's counter, counted up for plus and down for minus. A number with no fraction counts 1.
+/// A loop's counter, counted up for plus and down for minus. Where its ones keep their sign, all of it is moved by what is
+/// counted.
 fn counted(number: Ten, direction: Sign) -> Result<Ten, DecimalFault>
     ensures { Nearest (number_along direction (units number)) 1 result }
 {
+    let count = increment(five_decimals(number));
+    if number.sign() == direction || ones(number) > count {
+        number.add(below_hundred(direction, count))
+    } else {
+        counted_by_parts(number, direction)
+    }
+}
+
+/// A loop's counter, counted up for plus and down for minus, by its ones and its fraction. A number with no fraction counts 1.
+fn counted_by_parts(number: Ten, direction: Sign) -> Result<Ten, DecimalFault>
+    ensures { Nearest (number_along direction (units number)) 1 result }
+{
     match number.fraction() {
-        Ten::Zero => number.add(single(direction)),
+        Ten::Zero => number.add(below_hundred(direction, 1)),
         Ten::Nonzero(_, fraction) => match number.ones() {
             Some(ones) => {
                 let count = increment(five_digits(fraction));
                 stepped(number.sign(), ones, direction, count, fraction)
             }
-            None => number.add(single(direction)),
+            None => number.add(below_hundred(direction, 1)),
         },
     }
 }
 
-/// 1 with a sign.
-fn single(sign: Sign) -> Ten
-    ensures { units result ≡ signed sign one }
+/// A number from 1 to 99 with a sign.
+fn below_hundred(sign: Sign, number: u64) -> Ten
+    requires some { 0 < number }
+    requires few { number < 100 }
+    ensures { units result ≡ signed sign (number * one) }
 {
-    let mantissa = Mantissa {
-        digits: 1_000_000_000,
+    let (digits, biased) = if number < 10 {
+        (number * 1_000_000_000, 99)
+    } else {
+        (number * 100_000_000, 100)
     };
-    let exponent = Exponent { biased: 99 };
+    let mantissa = Mantissa { digits };
+    let exponent = Exponent { biased };
     Ten::Nonzero(sign, Magnitude { mantissa, exponent })
 }
 

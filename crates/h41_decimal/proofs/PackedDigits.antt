@@ -93,14 +93,15 @@ pub packed_as_pairs : (number low high : ℕ) → low ≡ packed 2 (number % 100
 packed_as_pairs number low high low_is high_is =
     ap (λ n. n + 256 * high) low_is ∙ ap (λ n. packed 2 (number % 100) + 256 * n) high_is ∙ sym (packed_two_more 2 number)
 
-pub packed_as_three : (number low : ℕ) → number < 1000 → low ≡ packed 2 (number % 100) → low + 256 * (number / 100) ≡ packed 3 number
-packed_as_three number low small low_is =
-    let one : number / 100 % 10 ≡ number / 100 = omega arith in
-    ap (λ n. n + 256 * (number / 100)) low_is
-    ∙ sym (packed_two_more 1 number ∙ last (packed 2 (number % 100)) (number / 100 % 10) (number / 100) one)
+-- three digits of which the first is known
+pub packed_behind : (first rest low : ℕ) → first ≤ 9 → rest < 100 → low ≡ packed 2 rest → 256 * first + low ≡ packed 3 (100 * first + rest)
+packed_behind first rest low one two low_is =
+    let digits : (100 * first + rest) % 100 ≡ rest = omega arith in
+    let front : (100 * first + rest) / 100 % 10 ≡ first = omega arith in
+    joined_parts first low _ _ _ (low_is ∙ sym (ap (packed 2) digits)) front (packed_two_more 1 (100 * first + rest))
   where
-    last : (low digit number : ℕ) → digit ≡ number → low + 256 * (digit + 16 * 0) ≡ low + 256 * number
-    last low digit number same = omega arith
+    joined_parts : (first low two digit all : ℕ) → low ≡ two → digit ≡ first → all ≡ two + 256 * (digit + 16 * 0) → 256 * first + low ≡ all
+    joined_parts first low two digit all low_is digit_is all_is = omega arith
 
 pub packed_as_fours : (number low middle high : ℕ) → low ≡ packed 4 (number % 10000) → middle ≡ packed 4 (number / 10000 % 10000)
     → high ≡ packed 2 (number / 100000000) → low + 65536 * middle + 4294967296 * high ≡ packed 10 number

@@ -145,7 +145,7 @@ fn write_size(sign: Sign, x: Magnitude) -> Reg
 {
     let signed = Reg::zero().with(13, sign_digit(sign));
     let with_mantissa = signed.with_number(3, 12, packed_ten(x.mantissa.digits));
-    with_mantissa.with_number(0, 2, packed_three(exponent_digits(x.exponent)))
+    with_mantissa.with_number(0, 2, packed_exponent(x.exponent))
 }
 
 /// Ten decimal digits in four bits each, the lowest in the lowest bits.
@@ -168,15 +168,6 @@ fn packed_four(number: u64) -> u64
     packed_pair(number % 100) + 0x100 * packed_pair(number / 100)
 }
 
-/// Three decimal digits in four bits each, the lowest in the lowest bits.
-fn packed_three(number: u64) -> u64
-    requires { number < 10 ^ 3 }
-    ensures digits { result ≡ packed 3 number }
-    ensures bound { result < 16 ^ 3 }
-{
-    packed_pair(number % 100) + 0x100 * (number / 100)
-}
-
 /// Two decimal digits in four bits each, the lower one in the lower bits.
 fn packed_pair(number: u64) -> u64
     requires { number < 10 ^ 2 }
@@ -197,11 +188,16 @@ fn sign_digit(sign: Sign) -> u8
     }
 }
 
-/// The three digits of an exponent: 1000 less its size, where it is negative.
-fn exponent_digits(exponent: Exponent) -> u64
-    ensures steps { steps_in result ≡ Some exponent.biased }
-    ensures three { result < 10 ^ 3 }
+/// The three digits of an exponent in four bits each: those of 1000 less its size, where it is negative.
+fn packed_exponent(exponent: Exponent) -> u64
+    ensures digits { (digits : ℕ) × (steps_in digits ≡ Some exponent.biased) × (digits < 10 ^ 3)
+        × (result ≡ packed 3 digits) }
+    ensures bound { result < 16 ^ 3 }
 {
     let steps = u64::from(exponent.biased);
-    if steps < 99 { steps + 901 } else { steps - 99 }
+    if steps < 99 {
+        0x900 + packed_pair(steps + 1)
+    } else {
+        packed_pair(steps - 99)
+    }
 }

@@ -24,9 +24,10 @@ returns c =
     let mantissa : decimal_in filled 3 10 ≡ _ =
     packed_written filled 3 10 x.mantissa.digits c.with_number-with_mantissa.ensures.register (omega arith) x.mantissa.below
     (c.with_number-with_mantissa.ensures.number ∙ c.packed_ten.ensures.digits) in
-    let exponent : decimal_in whole 0 3 ≡ _ =
-    packed_written whole 0 3 c.exponent_digits.result c.with_number.ensures.register (omega arith) c.exponent_digits.ensures.three
-    (c.with_number.ensures.number ∙ c.packed_three.ensures.digits) in
-    parts_hold whole x.mantissa.digits c.exponent_digits.result c.sign_digit.result c.args.sign x.exponent.biased
-    (m ∙ mantissa) exponent (kept' ∙ (kept ∙ s))
-    c.sign_digit.ensures.sign c.exponent_digits.ensures.steps x.mantissa.at_least
+    let exponent = c.packed_exponent.ensures.digits in
+    let written : decimal_in whole 0 3 ≡ _ =
+    packed_written whole 0 3 exponent.0 c.with_number.ensures.register (omega arith) exponent.2
+    (c.with_number.ensures.number ∙ exponent.3) in
+    parts_hold whole x.mantissa.digits exponent.0 c.sign_digit.result c.args.sign x.exponent.biased
+    (m ∙ mantissa) written (kept' ∙ (kept ∙ s))
+    c.sign_digit.ensures.sign exponent.1 x.mantissa.at_least

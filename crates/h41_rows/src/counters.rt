@@ -1,16 +1,17 @@
 //! Loops: whether they go on, and the numbers by which they count.
 
 ghost use Rattle.std.specs.Prelude.{◌≡◌, ℕ, ◌+◌, ◌*◌, ◌<◌, ◌≤◌, ◌/◌, ◌%◌, ◌^◌, ◌==◌, ◌+ℤ◌, ◌-ℤ◌};
-ghost use Rattle.std.specs.Prelude.{if◌then◌else◌, int_le, int_lt, pos, unsigned_abs};
+ghost use Rattle.std.specs.Prelude.{if◌then◌else◌, int_le, int_lt, pos, unsigned_abs, IfSome};
 ghost use Rattle.h41_decimal.specs.NearestDecimal.{Nearest};
 ghost use Rattle.h41_decimal.specs.Signs.{signed};
 ghost use Rattle.h41_decimal.specs.Units.{one, size, units};
 ghost use Rattle.h41_rows.specs.Computing.{amount_at};
 ghost use Rattle.h41_rows.specs.Counters.{Down, Up, fraction_of, goes_on, number_after};
-ghost use Rattle.h41_rows.specs.private.Counting.{number_along, way_of};
+ghost use Rattle.h41_rows.specs.private.Counting.{IsMovedSize, number_along, way_of};
 ghost use Rattle.h41_rows.specs.private.Readings.{IsCounted};
 ghost use Rattle.h41_rows.specs.private.Wholes.{told_ones};
 
+use crate::answers::exact;
 use h41_decimal::{DecimalFault, Exponent, Magnitude, Mantissa, Sign, Ten};
 use h41_ram::Ram;
 
@@ -167,9 +168,60 @@ fn counted(number: Ten, direction: Sign) -> Result<Ten, DecimalFault>
 {
     let count = increment(five_decimals(number));
     if number.sign() == direction || ones(number) > count {
-        number.add(below_hundred(direction, count))
+        moved(number, direction, count)
     } else {
         counted_by_parts(number, direction)
+    }
+}
+
+/// A number moved by a whole number from 1 to 99, up for plus and down for minus. Most loops stay with ten digits and one
+/// exponent, so that nothing is rounded.
+fn moved(number: Ten, direction: Sign, count: u64) -> Result<Ten, DecimalFault>
+    requires some { 0 < count }
+    requires few { count < 100 }
+    ensures { Nearest (units number +ℤ signed direction (count * one)) 1 result }
+{
+    if let Ten::Nonzero(sign, x) = number {
+        if let Some(y) = moved_size(x, sign == direction, count) {
+            return exact(Ten::Nonzero(sign, y));
+        }
+    }
+    number.add(below_hundred(direction, count))
+}
+
+/// A size with so many ones more, or fewer, where this changes its digits alone.
+fn moved_size(x: Magnitude, grows: bool, count: u64) -> Option<Magnitude>
+    requires { count < 100 }
+    ensures { IfSome result (λ y. IsMovedSize grows (size x) (count * one) (size y)) }
+{
+    let step = count * digits_of_one(x.exponent)?;
+    let digits = if grows {
+        x.mantissa.digits + step
+    } else {
+        x.mantissa.digits.saturating_sub(step)
+    };
+    if digits < 1_000_000_000 || digits >= 10_000_000_000 {
+        return None;
+    }
+    let mantissa = Mantissa { digits };
+    Some(Magnitude {
+        mantissa,
+        exponent: x.exponent,
+    })
+}
+
+/// How many steps of the last of ten digits are 1, where up to five of the digits stand in front of the radix mark.
+fn digits_of_one(exponent: Exponent) -> Option<u64>
+    ensures one { IfSome result (λ steps. steps * 10 ^ exponent.biased ≡ one) }
+    ensures bound { IfSome result (λ steps. steps ≤ 10 ^ 9) }
+{
+    match exponent.biased {
+        99 => Some(1_000_000_000),
+        100 => Some(100_000_000),
+        101 => Some(10_000_000),
+        102 => Some(1_000_000),
+        103 => Some(100_000),
+        _ => None,
     }
 }
 

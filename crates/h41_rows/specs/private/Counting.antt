@@ -1,6 +1,6 @@
 -- A loop's number by its parts.
-use Rattle.std.specs.Prelude.{ℕ, ◌+◌, ◌*◌, ◌/◌, ◌%◌, ◌^◌, ◌==◌, if◌then◌else◌, ℤ, ◌+ℤ◌}
-use Rattle.std.specs.Prelude.{unsigned_abs}
+use Rattle.std.specs.Prelude.{◌≡◌, ℕ, ◌+◌, ◌*◌, ◌/◌, ◌%◌, ◌^◌, ◌==◌, if◌then◌else◌, ℤ, ◌+ℤ◌}
+use Rattle.std.specs.Prelude.{unsigned_abs, Bool, true, false}
 use Rattle.h41_decimal.specs.Signs.{signed, sign_of}
 use Rattle.h41_decimal.specs.Units.{one}
 use Rattle.h41_decimal.specs.declared.sign.Sign.{Sign}
@@ -24,3 +24,8 @@ with_ones ones fraction = signed (sign_of ones) (unsigned_abs ones * one + fract
 abbrev pub number_along : Sign → ℤ → ℤ
 number_along direction number =
     with_ones (counter_of number +ℤ signed direction (count_of number)) (fraction_of number)
+
+-- a size that has so much more than another, or less
+abbrev pub IsMovedSize : (grows : Bool) (x step y : ℕ) → Type 0
+IsMovedSize true x step y = y ≡ x + step
+IsMovedSize false x step y = y + step ≡ x

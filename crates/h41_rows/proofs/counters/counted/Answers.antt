@@ -1,6 +1,6 @@
 -- Where the ones keep their sign, the whole number is moved.
 use Rattle.std.proofs.Common.{◌≡◌, ◌⊎◌, inl, inr, ◌/◌, ◌%◌, ◌<◌, ap, sym, subst, ◌∙◌, arith}
-use Rattle.std.specs.Prelude.{ℤ, ◌+ℤ◌, ◌==◌, if◌then◌else◌, unsigned_abs}
+use Rattle.std.specs.Prelude.{ℤ, ◌==◌, if◌then◌else◌, unsigned_abs}
 use Rattle.std.proofs.lemmas.Bool.{ltb-true}
 use Rattle.h41_decimal.specs.NearestDecimal.{Nearest}
 use Rattle.h41_decimal.specs.Signs.{sign_of}
@@ -26,6 +26,4 @@ returns-then-ones-count c =
           let more = ltb-true count w.ones.result (sym w.value-is ∙ c.if-ones-count.true) in
           inr (omega (arith, more, w.ones.ensures, told-le (unsigned_abs z / one)))
     ] in
-    subst (λ (t : ℤ). Nearest t 1 c.add.result)
-    (ap (λ (t : ℤ). z +ℤ t) c.below_hundred.ensures ∙ sym (moves_whole z d count counts c.increment-count.ensures.some kept))
-    c.add.ensures
+    subst (λ (t : ℤ). Nearest t 1 c.moved.result) (sym (moves_whole z d count counts c.increment-count.ensures.some kept)) c.moved.ensures

@@ -1,6 +1,7 @@
 -- Square roots of whole numbers, by Newton's method.
 use Rattle.std.proofs.Common.{◌≡◌, ℕ, zero, suc, ◌+◌, ◌-◌, ◌*◌, ◌/◌, ◌%◌, ◌^◌, ◌<◌, ◌≤◌, ⊎_elim, arith}
 use Rattle.std.proofs.Math.Nat.{mul-le-mul, pow-le-pow_right, le_of_mul-le-mul_right, lt-div-mul-add}
+use Rattle.std.proofs.lemmas.Nat.{div_below}
 use Rattle.std.proofs.lemmas.Bool.{cases_lt}
 
 -- the mean of two numbers is not below the root of their product
@@ -33,6 +34,12 @@ step_above n x some =
     quarter : (n x q y : ℕ) → n < q * x + x → 4 * (x * (q + 1)) ≤ (x + (q + 1)) * (x + (q + 1))
         → (x + (q + 1)) * (x + (q + 1)) ≤ (2 * y) * (2 * y) → n < y * y
     quarter n x q y high product square = omega arith
+
+-- from above the root it leads down
+pub step_falls : (n x : ℕ) → 0 < x → n < x * x → (x + n / x) / 2 < x
+step_falls n x some above =
+    let less : n / x < x = div_below n x x some above in
+    omega arith
 
 -- five digits more of a root s, of what its square lacks: where they are too high, one less is not
 pub more_below : (n s d e : ℕ) → s * s + d ≡ n → d ≤ 2 * s → 10 ^ 5 ≤ s → e * (2 * s) ≤ d * 10 ^ 5

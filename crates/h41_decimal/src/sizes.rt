@@ -91,11 +91,13 @@ fn six_digit_root(number: u64) -> u64
     ensures next { number < (result + 1) * (result + 1) }
     ensures six { (10 ^ 5 ≤ result) × (result < 10 ^ 6) }
 {
-    let mut root = nearer_root(number, 300_000);
-    let mut next = nearer_root(number, root);
-    while next < root {
-        root = next;
-        next = nearer_root(number, root);
+    let mut root = if number < 100_000_000_000 {
+        nearer_root(number, 180_000)
+    } else {
+        nearer_root(number, 560_000)
+    };
+    while root * root > number {
+        root = nearer_root(number, root);
     }
     root
 }
@@ -103,11 +105,11 @@ fn six_digit_root(number: u64) -> u64
 /// One step of Newton's method, from a number to one that is not below the root.
 fn nearer_root(number: u64, root: u64) -> u64
     requires some { 0 < root }
-    requires root_below { root < 10 ^ 12 }
+    requires few { root < 10 ^ 12 }
     requires below { number < 10 ^ 12 }
     ensures mean { result ≡ (root + number / root) / 2 }
     ensures above { number < (result + 1) * (result + 1) }
-    ensures few { result < 10 ^ 12 }
+    ensures falls { number < root * root → result < root }
 {
     (root + number / root) / 2
 }

@@ -1,13 +1,13 @@
 -- The whole numbers that the operations round are cuts of their exact values.
-use Rattle.std.proofs.Common.{◌≡◌, ℕ, ◌+◌, ◌*◌, ◌/◌, ◌^◌, ◌<◌, ◌≤◌, ⊎_elim, sym, ◌∙◌, ap, refl, subst, arith}
+use Rattle.std.proofs.Common.{◌≡◌, ℕ, ◌+◌, ◌-◌, ◌*◌, ◌/◌, ◌%◌, ◌^◌, ◌<◌, ◌≤◌, min, ⊎_elim, sym, ◌∙◌, ap, refl, subst, arith}
 use Rattle.std.proofs.Math.Nat.{mul-le-mul_right, mul-lt-mul_of_pos_right, mul-pos, mul-le-mul, pow-le-pow_right, div-mul-le_self}
-use Rattle.std.proofs.Math.Nat.{lt-div-mul-add}
-use Rattle.std.proofs.lemmas.Nat.{pow-add, le-div}
+use Rattle.std.proofs.Math.Nat.{lt-div-mul-add, mul-add-div, mul-add-div_right}
+use Rattle.std.proofs.lemmas.Nat.{pow-add, le-div, div-add-mod'}
 use Rattle.std.proofs.lemmas.Bool.{cases_lt}
 use Rattle.h41_decimal.specs.NearestDecimal.{Exact, Fraction, RootOf}
 use Rattle.h41_decimal.specs.private.Cut.{IsCutFarEnough}
 use Rattle.h41_decimal.proofs.Nearest.{ten_pow_pos}
-use Rattle.h41_decimal.proofs.Cuts.{power_parts}
+use Rattle.h41_decimal.proofs.Cuts.{cut_further, power_parts}
 
 -- a fraction that is a whole number of steps
 pub exact_fraction : (n d whole scale : ℕ) → 0 < d → n * 10 ^ 128 ≡ (whole * 10 ^ scale) * d → IsCutFarEnough (Fraction n d) whole scale
@@ -40,6 +40,39 @@ same_cut v whole whole' scale scale' e f cut =
     let P : ℕ → Type 0 = λ w. IsCutFarEnough v w scale' in
     let Q : ℕ → Type 0 = λ s. IsCutFarEnough v whole s in
     subst Q (sym f) (subst P (sym e) cut)
+
+-- a number of which the last digits are dropped, where eleven stay
+pub cut_shorter : (v : Exact) (whole part scale dropped : ℕ) → part ≡ whole / 10 ^ dropped → 10 ^ 10 ≤ part
+    → IsCutFarEnough v whole scale → IsCutFarEnough v part (scale + dropped)
+cut_shorter v whole part scale dropped part_is long far =
+    let same : part * 10 ^ dropped ≡ whole / 10 ^ dropped * 10 ^ dropped = ap (λ t. t * 10 ^ dropped) part_is in
+    let low : whole / 10 ^ dropped * 10 ^ dropped ≤ whole = div-mul-le_self whole (10 ^ dropped) in
+    let high : whole < whole / 10 ^ dropped * 10 ^ dropped + 10 ^ dropped = lt-div-mul-add (ten_pow_pos dropped) in
+    record {
+      cut = cut_further v whole part scale dropped far.cut (omega arith) (omega arith);
+      whole_size = λ less. absurd (omega arith);
+    }
+
+-- the product of two sizes, each in two halves
+product_of_halves : (a b c d : ℕ)
+    → a * c * 100000 + (a * d + b * c) + b * d / 100000 ≡ (a * 100000 + b) * (c * 100000 + d) / 100000
+product_of_halves a b c d =
+    let some : 0 < 100000 = omega arith in
+    let whole : (a * 100000 + b) * (c * 100000 + d) ≡ 100000 * (a * c * 100000 + (a * d + b * c)) + b * d = omega arith in
+    sym (ap (λ t. t / 100000) whole ∙ mul-add-div some (a * c * 100000 + (a * d + b * c)) (b * d))
+
+pub product_by_halves : (m n : ℕ)
+    → m / 100000 * (n / 100000) * 100000 + (m / 100000 * (n % 100000) + m % 100000 * (n / 100000)) + m % 100000 * (n % 100000) / 100000
+    ≡ m * n / 100000
+product_by_halves m n =
+    product_of_halves (m / 100000) (m % 100000) (n / 100000) (n % 100000)
+    ∙ ap (λ t. t * (n / 100000 * 100000 + n % 100000) / 100000) (div-add-mod' m 100000)
+    ∙ ap (λ t. m * t / 100000) (div-add-mod' n 100000)
+
+pub product_is_long : (m n : ℕ) → 10 ^ 9 ≤ m → 10 ^ 9 ≤ n → 10 ^ 10 ≤ m * n / 100000
+product_is_long m n m_size n_size =
+    let big : 10 ^ 9 * 10 ^ 9 ≤ m * n = mul-le-mul m_size n_size in
+    le-div (10 ^ 10) (m * n) 100000 (omega arith) (omega arith)
 
 -- a hundredth of the product
 pub cut_percent : (m n s t : ℕ) → IsCutFarEnough (Fraction ((m * 10 ^ s) * (n * 10 ^ t)) (100 * 10 ^ 108)) (m * n) (s + t + 18)
@@ -83,6 +116,12 @@ cut_quotient m n s t q r m_size n_pos n_size q_is e =
       whole_size = λ less. absurd (omega arith);
     }
 
+-- a quotient in two parts
+pub quotient_by_parts : (m n : ℕ) → 0 < n → m / n * 100 + m % n * 100 / n ≡ m * 100 / n
+quotient_by_parts m n n_pos =
+    let whole : m * 100 ≡ m / n * 100 * n + m % n * 100 = omega (arith, ap (λ t. t * 100) (div-add-mod' m n)) in
+    sym (ap (λ t. t / n) whole ∙ mul-add-div_right n_pos (m / n * 100) (m % n * 100))
+
 -- the square root of a size, cut to a whole number
 root_low : (m w ps pj pk : ℕ) → w * w ≤ m * pj → pj * (pk * pk) ≡ ps * 10 ^ 364
     → (w * pk) * (w * pk) ≤ ((m * ps) * 10 ^ 108) * (10 ^ 128 * 10 ^ 128)
@@ -97,17 +136,6 @@ root_high m w ps pj pk pk_pos high parts =
     let a : (m * pj) * (pk * pk) < ((w + 1) * (w + 1)) * (pk * pk) = mul-lt-mul_of_pos_right high (mul-pos pk_pos pk_pos) in
     let b : m * (pj * (pk * pk)) ≡ m * (ps * 10 ^ 364) = ap (λ t. m * t) parts in
     omega arith
-
--- a root of a number of 21 digits or more has eleven
-pub root_is_long : (w n : ℕ) → 10 ^ 20 ≤ n → n < (w + 1) * (w + 1) → 10 ^ 10 ≤ w
-root_is_long w n n_size high =
-    ⊎_elim
-    (λ (less : w < 10 ^ 10).
-    let le : w + 1 ≤ 10 ^ 10 = omega arith in
-    let a : (w + 1) * (w + 1) ≤ 10 ^ 10 * 10 ^ 10 = mul-le-mul le le in
-    absurd (omega arith))
-    (λ (enough : 10 ^ 10 ≤ w). enough)
-    (cases_lt w (10 ^ 10))
 
 pub cut_root : (m s j w k n : ℕ) → n ≡ m * 10 ^ j → w * w ≤ n → n < (w + 1) * (w + 1) → 10 ^ 10 ≤ w → j + (k + k) ≡ s + 364
     → IsCutFarEnough (RootOf ((m * 10 ^ s) * 10 ^ 108)) w k
@@ -164,34 +192,58 @@ cut_difference_turned m n s t apart r d e steps size =
     (difference_steps_turned m n (10 ^ s) (10 ^ t) (10 ^ apart) (10 ^ (t + 128))
     r d (power_parts apart t s e) (pow-add 10 t 128) steps size)
 
--- a size whose exponent is twelve lower is less than a hundredth of the other's last place
-pub far_below : (n s t : ℕ) → n < 10 ^ 10 → t + 12 ≤ s → (n * 10 ^ t) * 100 < 10 ^ s
-far_below n s t n_size apart =
-    let p : 10 ^ t * 10 ^ 12 ≡ 10 ^ (t + 12) = power_parts t 12 (t + 12) refl in
-    let ten : 0 < 10 = omega arith in
-    let le : 10 ^ (t + 12) ≤ 10 ^ s = pow-le-pow_right ten apart in
-    let small : n * 10 ^ t < 10 ^ 10 * 10 ^ t = mul-lt-mul_of_pos_right n_size (ten_pow_pos t) in
-    omega arith
+-- what a size has in the places that count, eight behind the last of one whose exponent is higher
+pub places_counted : (n s t dropped q : ℕ) → t + 8 ≤ s → dropped ≡ min (s - t - 8) 10 → q ≡ n / 10 ^ dropped → n < 10 ^ 10
+    → (q * 10 ^ s ≤ (n * 10 ^ t) * 10 ^ 8) × (((n + 1) * 10 ^ t) * 10 ^ 8 ≤ (q + 1) * 10 ^ s)
+places_counted n s t dropped q apart dropped_is q_is small =
+    ⊎_elim
+    (λ (near : s - t - 8 < 11).
+    let here : t + 8 + dropped ≡ s = omega arith in
+    let h =
+    counted_here n (10 ^ t * 10 ^ 8) (10 ^ dropped) (10 ^ s) q (ten_pow_pos dropped) q_is
+    (ap (λ p. p * 10 ^ dropped) (power_parts t 8 (t + 8) refl) ∙ power_parts (t + 8) dropped s here) in
+    (omega (arith, h), omega (arith, h)))
+    (λ (far : 11 ≤ s - t - 8).
+    let ten : dropped ≡ 10 = omega arith in
+    let none : q ≡ 0 = q_is ∙ ap (λ d. n / 10 ^ d) ten ∙ omega arith in
+    let some : 0 < 10 = omega arith in
+    let below : t + 18 ≤ s = omega arith in
+    let p : 10 ^ t * 10 ^ 18 ≡ 10 ^ (t + 18) = power_parts t 18 (t + 18) refl in
+    let le : 10 ^ (t + 18) ≤ 10 ^ s = pow-le-pow_right some below in
+    let all : (n + 1) * 10 ^ t ≤ 10 ^ 10 * 10 ^ t = mul-le-mul_right (10 ^ t) (omega arith) in
+    let nothing : q * 10 ^ s ≡ 0 = ap (λ k. k * 10 ^ s) none ∙ omega arith in
+    (omega arith, omega arith))
+    (cases_lt (s - t - 8) 11)
+  where
+    counted_here : (n places p ps q : ℕ) → 0 < p → q ≡ n / p → places * p ≡ ps
+        → (q * ps ≤ n * places) × ((n + 1) * places ≤ (q + 1) * ps)
+    counted_here n places p ps q p_pos q_is parts =
+        let same : q * p ≡ n / p * p = ap (λ k. k * p) q_is in
+        let low : n / p * p ≤ n = div-mul-le_self n p in
+        let high : n < n / p * p + p = lt-div-mul-add p_pos in
+        let a : (q * p) * places ≤ n * places = mul-le-mul_right places (omega arith) in
+        let b : (n + 1) * places ≤ (q * p + p) * places = mul-le-mul_right places (omega arith) in
+        let c : q * (places * p) ≡ q * ps = ap (λ k. q * k) parts in
+        (omega arith, omega arith)
 
-pub cut_far_sum : (m n s t k : ℕ) → 10 ^ 9 ≤ m → n < 10 ^ 10 → t + 12 ≤ s → k ≡ s + 126
-    → IsCutFarEnough (Fraction (m * 10 ^ s + n * 10 ^ t) 1) (m * 100) k
-cut_far_sum m n s t k m_size n_size apart k_is =
-    let far : (n * 10 ^ t) * 100 < 10 ^ s = far_below n s t n_size apart in
-    let p : 10 ^ k ≡ 10 ^ s * 10 ^ 126 = ap (λ t. 10 ^ t) k_is ∙ pow-add 10 s 126 in
-    let mp : m * 10 ^ k ≡ m * (10 ^ s * 10 ^ 126) = ap (λ t. m * t) p in
+pub cut_apart_sum : (m n s t q k : ℕ) → 10 ^ 9 ≤ m → q * 10 ^ s ≤ (n * 10 ^ t) * 10 ^ 8 → (n * 10 ^ t) * 10 ^ 8 < (q + 1) * 10 ^ s
+    → k ≡ s + 120 → IsCutFarEnough (Fraction (m * 10 ^ s + n * 10 ^ t) 1) (m * 10 ^ 8 + q) k
+cut_apart_sum m n s t q k m_size low high k_is =
+    let p : 10 ^ k ≡ 10 ^ s * 10 ^ 120 = ap (λ t. 10 ^ t) k_is ∙ pow-add 10 s 120 in
+    let mp : m * 10 ^ k ≡ m * (10 ^ s * 10 ^ 120) = ap (λ t. m * t) p in
+    let qp : q * 10 ^ k ≡ q * (10 ^ s * 10 ^ 120) = ap (λ t. q * t) p in
     record {
       cut = record { at_least = omega arith; below = omega arith };
       whole_size = λ less. absurd (omega arith);
     }
 
-pub cut_far_difference : (m n s t k r d : ℕ) → 10 ^ 9 ≤ m → 0 < n → n < 10 ^ 10 → t + 12 ≤ s → k ≡ s + 126 → d + 1 ≡ m * 100
-    → r + n * 10 ^ t ≡ m * 10 ^ s → IsCutFarEnough (Fraction r 1) d k
-cut_far_difference m n s t k r d m_size n_pos n_size apart k_is d_is r_is =
-    let far : (n * 10 ^ t) * 100 < 10 ^ s = far_below n s t n_size apart in
-    let some : 0 < n * 10 ^ t = mul-pos n_pos (ten_pow_pos t) in
-    let p : 10 ^ k ≡ 10 ^ s * 10 ^ 126 = ap (λ t. 10 ^ t) k_is ∙ pow-add 10 s 126 in
-    let mp : m * 10 ^ k ≡ m * (10 ^ s * 10 ^ 126) = ap (λ t. m * t) p in
-    let dk : (d + 1) * 10 ^ k ≡ (m * 100) * 10 ^ k = ap (λ t. t * 10 ^ k) d_is in
+pub cut_apart_difference : (m n s t q k r d : ℕ) → 10 ^ 10 ≤ d → q * 10 ^ s < (n * 10 ^ t) * 10 ^ 8
+    → (n * 10 ^ t) * 10 ^ 8 ≤ (q + 1) * 10 ^ s → k ≡ s + 120 → d + (q + 1) ≡ m * 10 ^ 8 → r + n * 10 ^ t ≡ m * 10 ^ s
+    → IsCutFarEnough (Fraction r 1) d k
+cut_apart_difference m n s t q k r d long low high k_is d_is r_is =
+    let p : 10 ^ k ≡ 10 ^ s * 10 ^ 120 = ap (λ t. 10 ^ t) k_is ∙ pow-add 10 s 120 in
+    let dp : d * 10 ^ k ≡ d * (10 ^ s * 10 ^ 120) = ap (λ t. d * t) p in
+    let ds : (d + (q + 1)) * 10 ^ s ≡ (m * 10 ^ 8) * 10 ^ s = ap (λ t. t * 10 ^ s) d_is in
     record {
       cut = record { at_least = omega arith; below = omega arith };
       whole_size = λ less. absurd (omega arith);

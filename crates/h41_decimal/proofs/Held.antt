@@ -43,7 +43,7 @@ split register place count n h =
     split_of (nat_le (slice_index register place) 9) (slice_index register place) n (decimal_in register (place + 1) count) refl h
 
 -- a number of so many digits is below the power of ten
-below_power : (register : List ℕ) (place count n : ℕ) → decimal_in register place count ≡ Some n → n < 10 ^ count
+pub below_power : (register : List ℕ) (place count n : ℕ) → decimal_in register place count ≡ Some n → n < 10 ^ count
 below_power register place zero n h = let e : 0 ≡ n = cc in omega arith
 below_power register place (suc count) n h =
     let s = split register place count n h in

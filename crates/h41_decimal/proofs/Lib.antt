@@ -14,3 +14,5 @@ pub mod Entries
 pub mod Answered
 pub mod Held
 pub mod PackedDigits
+pub mod DigitBytes
+pub mod Roots

@@ -1,53 +1,122 @@
--- Decimal digits that are packed, and written all at once.
-use Rattle.std.proofs.Common.{◌≡◌, ℕ, zero, suc, ◌+◌, ◌-◌, ◌*◌, ◌/◌, ◌%◌, ◌^◌, ◌<◌, ◌≤◌, List, ◌∷◌, Some, None, length, get_or, take, drop}
-use Rattle.std.proofs.Common.{refl, sym, ap, ◌∙◌, arith}
-use Rattle.std.specs.Prelude.{slice_index, nat_le, if◌then◌else◌}
+-- Decimal digits in four bits each.
+use Rattle.std.proofs.Common.{◌≡◌, ℕ, zero, suc, ◌+◌, ◌-◌, ◌*◌, ◌/◌, ◌%◌, ◌^◌, ◌<◌, ◌≤◌, List, ◌∷◌, Some, None, get_or, take, drop}
+use Rattle.std.proofs.Common.{Option, Bool, true, false, refl, sym, ap, ◌∙◌, arith}
+use Rattle.std.specs.Prelude.{slice_index, nat_le, if◌then◌else◌, IfSome}
 use Rattle.std.specs.Option.{option_map}
-use Rattle.std.proofs.Math.Nat.{pow-succ', pow-le-pow_right, mul-le-mul_right}
-use Rattle.std.proofs.lemmas.Nat.{shl_whole}
+use Rattle.std.proofs.Math.Nat.{pow-succ'}
+use Rattle.std.proofs.lemmas.Bool.Decides.{nat_tests}
 use Rattle.std.proofs.lemmas.List.{get_or-drop, get_or-take, length-drop, length-take-le}
 use Rattle.std.proofs.lemmas.List.Elements.{All-take, All-drop}
 use Rattle.h41_digits.specs.Register.{IsRegister, value}
-use Rattle.h41_digits.specs.Packed.{digits_of, pow-next}
-use Rattle.h41_digits.proofs.Packed.{bits_of_places, digits_of-value}
+use Rattle.h41_digits.specs.Packed.{digits_of}
+use Rattle.h41_digits.proofs.Packed.{digits_of-value}
+use Rattle.h41_digits.proofs.Values.{value-below}
 use Rattle.h41_decimal.specs.Holding.{decimal_in}
-use Rattle.h41_decimal.specs.private.PackedDigits.{word_of_digits}
-use Rattle.h41_decimal.specs.private.SameDigits.{SameDigitsFrom}
-use Rattle.h41_decimal.proofs.Registers.{written_more}
+use Rattle.h41_decimal.specs.private.PackedDigits.{decimal_of, word_of_digits}
+use Rattle.h41_decimal.proofs.Held.{below_power}
 
--- one digit more is packed
-moved_digit : (place digit : ℕ) → digit ≤ 9 → place < 14 → digit * 2 ^ (4 * place) % 2 ^ 64 ≡ digit * 16 ^ place
-moved_digit place digit small few =
-    shl_whole digit 4 (4 * place) 64 (omega arith) (omega arith) ∙ ap (λ weight. digit * weight) (bits_of_places place)
+-- the first digit, and those behind it
+pub digit_more : (count digits : ℕ) (others : Option ℕ) → digits % 16 ≤ 9 → decimal_of count (digits / 16) ≡ others
+    → decimal_of (suc count) digits ≡ option_map (λ rest. digits % 16 + 10 * rest) others
+digit_more count digits others small is =
+    let t : nat_le (digits % 16) 9 ≡ true = grind (arith, nat_tests) in
+    ap (λ b. if b then option_map (λ rest. digits % 16 + 10 * rest) (decimal_of count (digits / 16)) else None) t
+    ∙ ap (option_map (λ rest. digits % 16 + 10 * rest)) is
 
-pub packed_more : (count place number rest so_far : ℕ) → place < count → count ≤ 14
-    → so_far + 16 ^ place * word_of_digits (count - place) rest ≡ word_of_digits count number
-    → so_far + rest % 10 * 2 ^ (4 * place) % 2 ^ 64 + 16 ^ (place + 1) * word_of_digits (count - (place + 1)) (rest / 10)
-        ≡ word_of_digits count number
-packed_more count place number rest so_far more few held =
-    let left = count - (place + 1) in
-    let split : count - place ≡ suc left = omega arith in
-    let before : so_far + 16 ^ place * (rest % 10 + 16 * word_of_digits left (rest / 10)) ≡ word_of_digits count number =
-        rw split at held in
-    rw (moved_digit place (rest % 10) (omega arith) (omega arith), pow-next place) (omega (arith, before))
+pub no_digit : (count digits : ℕ) → 9 < digits % 16 → decimal_of (suc count) digits ≡ None
+no_digit count digits above =
+    let t : nat_le (digits % 16) 9 ≡ false = grind (arith, nat_tests) in
+    ap (λ b. if b then option_map (λ rest. digits % 16 + 10 * rest) (decimal_of count (digits / 16)) else None) t
 
-weighed : (digit weight so_far : ℕ) → digit ≤ 9 → so_far < weight → so_far + digit * weight < 16 * weight
-weighed digit weight so_far small below =
-    let most : digit * weight ≤ 9 * weight = mul-le-mul_right weight small in
-    omega (arith, most)
+none_either : (b : Bool) (f : ℕ → ℕ) (others : Option ℕ) → others ≡ None → (if b then option_map f others else None) ≡ None
+none_either true f others none = ap (option_map f) none
+none_either false f others none = refl
 
-pub packed_bound : (place rest so_far : ℕ) → so_far < 16 ^ place → place < 14
-    → so_far + rest % 10 * 2 ^ (4 * place) % 2 ^ 64 < 16 ^ (place + 1)
-packed_bound place rest so_far small few =
-    let digit : rest % 10 ≤ 9 = omega arith in
-    rw (moved_digit place (rest % 10) digit few, pow-next place) (weighed (rest % 10) (16 ^ place) so_far digit small)
+pub no_digit_behind : (count digits : ℕ) → decimal_of count (digits / 16) ≡ None → decimal_of (suc count) digits ≡ None
+no_digit_behind count digits none =
+    none_either (nat_le (digits % 16) 9) (λ rest. digits % 16 + 10 * rest) (decimal_of count (digits / 16)) none
 
-pub packed_all : (count number rest so_far : ℕ) → so_far + 16 ^ count * word_of_digits (count - count) rest ≡ word_of_digits count number
-    → so_far ≡ word_of_digits count number
-packed_all count number rest so_far held =
-    let none : count - count ≡ 0 = omega arith in
-    let plain : so_far + 16 ^ count * 0 ≡ word_of_digits count number = rw none at held in
-    omega (arith, plain)
+-- digits behind the last are zeros
+decimal_of-zero : (count : ℕ) → decimal_of count 0 ≡ Some 0
+decimal_of-zero zero = refl
+decimal_of-zero (suc count) = ap (option_map (λ rest. 0 + 10 * rest)) (decimal_of-zero count)
+
+pub decimal_of-longer : (more few digits : ℕ) → few ≤ more → digits < 16 ^ few → decimal_of more digits ≡ decimal_of few digits
+decimal_of-longer zero zero digits fits small = refl
+decimal_of-longer zero (suc few) digits fits small = absurd (omega arith)
+decimal_of-longer (suc more) zero digits fits small =
+    let none : digits ≡ 0 = omega arith in
+    ap (decimal_of (suc more)) none ∙ decimal_of-zero (suc more)
+decimal_of-longer (suc more) (suc few) digits fits small =
+    let rest_small : digits / 16 < 16 ^ few = omega (arith, pow-succ' 16 few) in
+    ap (λ others. if nat_le (digits % 16) 9 then option_map (λ rest. digits % 16 + 10 * rest) others else None)
+    (decimal_of-longer more few (digits / 16) (omega arith) rest_small)
+
+-- digits that were packed
+decimal_of-packed : (count number : ℕ) → number < 10 ^ count → decimal_of count (word_of_digits count number) ≡ Some number
+decimal_of-packed zero number small = ap Some (omega (arith, small))
+decimal_of-packed (suc count) number small =
+    let rest = word_of_digits count (number / 10) in
+    let low : (number % 10 + 16 * rest) % 16 ≡ number % 10 = omega arith in
+    let high : (number % 10 + 16 * rest) / 16 ≡ rest = omega arith in
+    let fewer : number / 10 < 10 ^ count = omega (arith, pow-succ' 10 count, small) in
+    digit_more count (number % 10 + 16 * rest) (Some (number / 10)) (omega (arith, low))
+    (ap (decimal_of count) high ∙ decimal_of-packed count (number / 10) fewer)
+    ∙ ap Some (let e : (number % 10 + 16 * rest) % 16 + 10 * (number / 10) ≡ number = omega (arith, low) in e)
+
+-- two and four digits at a time
+packed_two_more : (count number : ℕ) → word_of_digits (suc (suc count)) number
+    ≡ word_of_digits 2 (number % 100) + 256 * word_of_digits count (number / 100)
+packed_two_more count number =
+    let tens : number / 10 / 10 ≡ number / 100 = omega arith in
+    let low : number % 100 % 10 ≡ number % 10 = omega arith in
+    let high : number % 100 / 10 % 10 ≡ number / 10 % 10 = omega arith in
+    omega (arith, ap (word_of_digits count) tens, low, high)
+
+packed_four_more : (count number : ℕ)
+    → word_of_digits (suc (suc (suc (suc count)))) number
+        ≡ word_of_digits 4 (number % 10000) + 65536 * word_of_digits count (number / 10000)
+packed_four_more count number =
+    let low : number % 10000 % 100 ≡ number % 100 = omega arith in
+    let high : number % 10000 / 100 ≡ number / 100 % 100 = omega arith in
+    let rest : number / 100 / 100 ≡ number / 10000 = omega arith in
+    let whole = packed_two_more (suc (suc count)) number in
+    let behind = packed_two_more count (number / 100) in
+    let four = packed_two_more 2 (number % 10000) in
+    joined_parts _ _ _ _ _ _ _ whole behind (four ∙ ap (λ n. word_of_digits 2 n + 256 * word_of_digits 2 (number % 10000 / 100)) low
+    ∙ ap (λ n. word_of_digits 2 (number % 100) + 256 * word_of_digits 2 n) high) (ap (word_of_digits count) rest)
+  where
+    joined_parts : (all first others second last four rest : ℕ) → all ≡ first + 256 * others → others ≡ second + 256 * last
+        → four ≡ first + 256 * second → last ≡ rest → all ≡ four + 65536 * rest
+    joined_parts all first others second last four rest whole behind front same = omega arith
+
+pub packed_as_pairs : (number low high : ℕ) → low ≡ word_of_digits 2 (number % 100) → high ≡ word_of_digits 2 (number / 100)
+    → low + 256 * high ≡ word_of_digits 4 number
+packed_as_pairs number low high low_is high_is =
+    ap (λ n. n + 256 * high) low_is ∙ ap (λ n. word_of_digits 2 (number % 100) + 256 * n) high_is ∙ sym (packed_two_more 2 number)
+
+-- three digits of which the first is known
+pub packed_behind : (first rest low : ℕ) → first ≤ 9 → rest < 100 → low ≡ word_of_digits 2 rest → 256 * first + low
+    ≡ word_of_digits 3 (100 * first + rest)
+packed_behind first rest low one two low_is =
+    let digits : (100 * first + rest) % 100 ≡ rest = omega arith in
+    let front : (100 * first + rest) / 100 % 10 ≡ first = omega arith in
+    joined_parts first low _ _ _ (low_is ∙ sym (ap (word_of_digits 2) digits)) front (packed_two_more 1 (100 * first + rest))
+  where
+    joined_parts : (first low two digit all : ℕ) → low ≡ two → digit ≡ first → all ≡ two + 256 * (digit + 16 * 0) → 256 * first + low ≡ all
+    joined_parts first low two digit all low_is digit_is all_is = omega arith
+
+pub packed_as_fours : (number low middle high : ℕ) → low ≡ word_of_digits 4 (number % 10000) → middle
+    ≡ word_of_digits 4 (number / 10000 % 10000)
+    → high ≡ word_of_digits 2 (number / 100000000) → low + 65536 * middle + 4294967296 * high ≡ word_of_digits 10 number
+packed_as_fours number low middle high low_is middle_is high_is =
+    let last : number / 10000 / 10000 ≡ number / 100000000 = omega arith in
+    joined_parts low middle high _ _ _ _ _ low_is middle_is (high_is ∙ sym (ap (word_of_digits 2) last)) (packed_four_more 6 number)
+    (packed_four_more 2 (number / 10000))
+  where
+    joined_parts : (low middle high first second third others all : ℕ) → low ≡ first → middle ≡ second → high ≡ third
+        → all ≡ first + 65536 * others → others ≡ second + 65536 * third → low + 65536 * middle + 4294967296 * high ≡ all
+    joined_parts low middle high first second third others all low_is middle_is high_is whole behind = omega arith
 
 -- digits that stand alike are read alike
 moved : (x y : List ℕ) (p q count : ℕ) → ((k : ℕ) → k < count → slice_index x (p + k) ≡ slice_index y (q + k))
@@ -64,55 +133,56 @@ moved x y p q (suc count) same =
     ap (λ t. if nat_le t 9 then option_map (λ rest. t + 10 * rest) (decimal_in x (p + 1) count) else None) digit
     ∙ ap (λ o. if nat_le (slice_index y q) 9 then option_map (λ rest. slice_index y q + 10 * rest) o else None) rest
 
--- what was packed is read
 behind_first : (digit : ℕ) (digits : List ℕ) (count : ℕ) → decimal_in (digit ∷ digits) 1 count ≡ decimal_in digits 0 count
 behind_first digit digits count = moved (digit ∷ digits) digits 1 0 count (λ k lt.
     let next : 1 + k ≡ suc k = omega arith in
     let same : 0 + k ≡ k = omega arith in
     rw (next, same) refl)
 
-pub packed_read : (count number : ℕ) → number < 10 ^ count → decimal_in (digits_of count (word_of_digits count number)) 0 count
-    ≡ Some number
-packed_read zero number small = ap Some (omega (arith, small))
-packed_read (suc count) number small =
-    let rest = word_of_digits count (number / 10) in
-    let low : (number % 10 + 16 * rest) % 16 ≡ number % 10 = omega arith in
-    let high : (number % 10 + 16 * rest) / 16 ≡ rest = omega arith in
-    let fewer : number / 10 < 10 ^ count = omega (arith, pow-succ' 10 count, small) in
-    let one_less : suc count - 1 ≡ count = omega arith in
-    let digits = digits_of count rest in
-    let digits_are : digits_of (suc count) (number % 10 + 16 * rest) ≡ number % 10 ∷ digits =
-    ap (λ first. first ∷ digits_of count ((number % 10 + 16 * rest) / 16)) low ∙ ap (λ others. number % 10 ∷ digits_of count others) high in
-    ap (λ d. decimal_in d 0 (suc count)) digits_are
-    ∙ (written_more (number % 10 ∷ digits) 0 (suc count) number (omega arith) refl
-    (rw one_less (behind_first (number % 10) digits count ∙ packed_read count (number / 10) fewer)))
+-- the digits of a register, by their number
+digits_read : (count number : ℕ) → decimal_in (digits_of count number) 0 count ≡ decimal_of count number
+digits_read zero number = refl
+digits_read (suc count) number =
+    ap (λ others. if nat_le (number % 16) 9 then option_map (λ rest. number % 16 + 10 * rest) others else None)
+    (behind_first (number % 16) (digits_of count (number / 16)) count ∙ digits_read count (number / 16))
 
--- a register in which packed digits were written
-pub packed_written : (register : List ℕ) (place hi count number : ℕ) → IsRegister 14 register → hi + 1 ≡ place + count → place + count ≤ 14
-    → number < 10 ^ count → value (take (hi + 1 - place) (drop place register)) ≡ word_of_digits count number
-    → decimal_in register place count ≡ Some number
-packed_written register place hi count number is ends inside small held =
+part_is : (register : List ℕ) (place count : ℕ) → IsRegister 14 register → place + count ≤ 14
+    → IsRegister count (take count (drop place register))
+part_is register place count is inside = record {
+  size = length-take-le count (drop place register) (omega (arith, length-drop place register, is.size));
+  each = All-take (λ digit. digit < 16) count (drop place register) (All-drop (λ digit. digit < 16) place register is.each);
+}
+
+pub part-lt : (register : List ℕ) (place count : ℕ) → IsRegister 14 register → place + count ≤ 14
+    → value (take count (drop place register)) < 16 ^ count
+part-lt register place count is inside =
+    let part = part_is register place count is inside in
+    rw part.size at (value-below (take count (drop place register)) part.each)
+
+pub decimal_read : (register : List ℕ) (place count number : ℕ) → IsRegister 14 register → place + count ≤ 14
+    → value (take count (drop place register)) ≡ number → decimal_in register place count ≡ decimal_of count number
+decimal_read register place count number is inside held =
     let part = take count (drop place register) in
-    let places : hi + 1 - place ≡ count = omega arith in
-    let held_in : value part ≡ word_of_digits count number = rw places at held in
-    let size : length part ≡ count = length-take-le count (drop place register) (omega (arith, length-drop place register, is.size)) in
-    let part_is : part ≡ digits_of count (word_of_digits count number) =
-    sym (digits_of-value count part (record {
-      size = size;
-      each = All-take (λ digit. digit < 16) count (drop place register) (All-drop (λ digit. digit < 16) place register is.each);
-    }))
-    ∙ ap (digits_of count) held_in in
     moved register part place 0 count (λ k lt.
     let same : 0 + k ≡ k = omega arith in
     rw same (sym (get_or-take count (drop place register) k 0 lt ∙ get_or-drop place register k 0)))
-    ∙ ap (λ digits. decimal_in digits 0 count) part_is ∙ packed_read count number small
+    ∙ ap (λ digits. decimal_in digits 0 count) (sym (digits_of-value count part (part_is register place count is inside)))
+    ∙ digits_read count (value part) ∙ ap (decimal_of count) held
 
-pub same_from : (new old : List ℕ) (place hi : ℕ) → hi + 1 ≡ place → drop (hi + 1) new ≡ drop (hi + 1) old → SameDigitsFrom place new old
-same_from new old place hi is same k from =
-    let at : hi + 1 + (k - (hi + 1)) ≡ k = omega arith in
-    rw at at (sym (get_or-drop (hi + 1) new (k - (hi + 1)) 0) ∙ ap (λ digits. get_or digits (k - (hi + 1)) 0) same
-    ∙ get_or-drop (hi + 1) old (k - (hi + 1)) 0)
+pub few_digits : (register : List ℕ) (place count : ℕ) (number : Option ℕ) → number ≡ decimal_in register place count
+    → IfSome number (λ n. n < 10 ^ count)
+few_digits register place count (Some number) is = below_power register place count number (sym is)
+few_digits register place count None is = tt
 
-pub packed_fits : (place rest so_far : ℕ) → so_far < 16 ^ place → place < 14 → so_far + rest % 10 * 2 ^ (4 * place) % 2 ^ 64 < 2 ^ 64
-packed_fits place rest so_far small few =
-    omega (arith, packed_bound place rest so_far small few, pow-le-pow_right {n = 16} (omega arith) {i = place + 1} {j = 14} (omega arith))
+-- a register in which packed digits were written
+pub packed_written : (register : List ℕ) (place count number : ℕ) → IsRegister 14 register → place + count ≤ 14
+    → number < 10 ^ count → value (take count (drop place register)) ≡ word_of_digits count number
+    → decimal_in register place count ≡ Some number
+packed_written register place count number is inside small held =
+    decimal_read register place count (word_of_digits count number) is inside held ∙ decimal_of-packed count number small
+
+pub same_above : (new old : List ℕ) (place k : ℕ) → drop place new ≡ drop place old → place ≤ k → slice_index new k ≡ slice_index old k
+same_above new old place k same from =
+    let at : place + (k - place) ≡ k = omega arith in
+    rw at at (sym (get_or-drop place new (k - place) 0) ∙ ap (λ digits. get_or digits (k - place) 0) same
+    ∙ get_or-drop place old (k - place) 0)

@@ -1,12 +1,11 @@
 -- Numbers in registers.
-use Rattle.std.proofs.Common.{◌≡◌, ℕ, zero, suc, ◌+◌, ◌-◌, ◌*◌, ◌^◌, ◌<◌, ◌≤◌, inl, inr, sym, ◌∙◌, ap, refl, arith, List, Option, Some}
+use Rattle.std.proofs.Common.{◌≡◌, ℕ, zero, suc, ◌+◌, ◌*◌, ◌^◌, ◌<◌, ◌≤◌, ◌∙◌, ap, refl, arith, List, Option, Some}
 use Rattle.std.proofs.Common.{None, Bool, true, false}
-use Rattle.std.specs.Prelude.{ℤ, pos, ◌==◌, if◌then◌else◌, nat_le, nat_lt, slice_index, ◌&&◌, ◌/◌, ◌%◌}
-use Rattle.h41_decimal.specs.Signs.{with_sign}
+use Rattle.std.specs.Prelude.{ℤ, pos, ◌==◌, if◌then◌else◌, nat_le, nat_lt, slice_index, ◌&&◌}
+use Rattle.h41_decimal.specs.Signs.{signed}
 use Rattle.h41_decimal.specs.Units.{size_of}
 use Rattle.h41_decimal.specs.declared.sign.Sign.{Sign}
 use Rattle.std.specs.Option.{option_map}
-use Rattle.std.proofs.lemmas.Bool.{cases_eq}
 use Rattle.std.proofs.lemmas.Bool.Decides.{nat_tests}
 use Rattle.h41_decimal.specs.Holding.{Number, Text, Other, decimal_in, holding, holding_of, number_in, worth, text_in, sign_in, steps_in}
 use Rattle.h41_decimal.specs.Holding.{parts_worth, digits_worth}
@@ -23,19 +22,6 @@ worth-holding None register = other-worth (slice_index register 13 == 1) (text_i
 pub worth-holding_of : (register : List ℕ) → worth (holding_of register) ≡ number_in register
 worth-holding_of register = worth-holding (number_in register) register
 
--- one more digit in front
-pub decimal_more : (register : List ℕ) (place count digit rest : ℕ) → 0 < count → digit ≡ slice_index register place → digit ≤ 9
-    → Some rest ≡ decimal_in register (place + 1) (count - 1) → Some (digit + 10 * rest) ≡ decimal_in register place count
-decimal_more register place zero digit rest some is small e = absurd (omega arith)
-decimal_more register place (suc count) digit rest some is small e =
-    let n : suc count - 1 ≡ count = omega arith in
-    let e' : Some rest ≡ decimal_in register (place + 1) count = e ∙ ap (λ t. decimal_in register (place + 1) t) n in
-    let t : nat_le (slice_index register place) 9 ≡ true = grind (arith, nat_tests) in
-    let O : ℕ → Option ℕ = λ r. Some (slice_index register place + 10 * r) in
-    let f : Some (digit + 10 * rest) ≡ Some (slice_index register place + 10 * rest) = ap (λ d. Some (d + 10 * rest)) is in
-    f ∙ (ap (option_map (λ r. slice_index register place + 10 * r)) e'
-    ∙ sym (ap (λ b. if b then option_map (λ r. slice_index register place + 10 * r) (decimal_in register (place + 1) count) else None) t))
-
 -- digits that stay are read as they were
 pub decimal_same : (x y : List ℕ) (place count : ℕ) → ((k : ℕ) → place ≤ k → k < place + count → slice_index x k ≡ slice_index y k)
     → decimal_in x place count ≡ decimal_in y place count
@@ -46,17 +32,10 @@ decimal_same x y place (suc count) same =
     ap (λ t. if nat_le t 9 then option_map (λ rest. t + 10 * rest) (decimal_in x (place + 1) count) else None) d
     ∙ ap (λ o. if nat_le (slice_index y place) 9 then option_map (λ rest. slice_index y place + 10 * rest) o else None) r
 
--- a digit that was written in front of others
-pub written_more : (register : List ℕ) (place count number : ℕ) → 0 < count → slice_index register place ≡ number % 10
-    → decimal_in register (place + 1) (count - 1) ≡ Some (number / 10) → decimal_in register place count ≡ Some number
-written_more register place count number some digit rest =
-    let h = decimal_more register place count (number % 10) (number / 10) some (sym digit) (omega arith) (sym rest) in
-    sym (ap Some (let e : number ≡ number % 10 + 10 * (number / 10) = omega arith in e) ∙ h)
-
 -- parts that are read as those of a decimal
 pub parts_hold : (register : List ℕ) (m e s : ℕ) (sign : Sign) (steps : ℕ) → decimal_in register 3 10 ≡ Some m
     → decimal_in register 0 3 ≡ Some e → slice_index register 13 ≡ s → sign_in s ≡ Some sign → steps_in e ≡ Some steps → 10 ^ 9 ≤ m
-    → holding_of register ≡ Number (with_sign sign (size_of m steps))
+    → holding_of register ≡ Number (signed sign (size_of m steps))
 parts_hold register m e s sign steps m_in e_in s_in sign_is steps_is m_size =
     let z : (m == 0) ≡ false = grind (arith, nat_tests) in
     let l : nat_lt m (10 ^ 9) ≡ false = grind (arith, nat_tests) in
@@ -64,25 +43,6 @@ parts_hold register m e s sign steps m_in e_in s_in sign_is steps_is m_size =
     let b : parts_worth (Some m) (Some e) s ≡ digits_worth m (sign_in s) (steps_in e) =
     ap (λ t. if t && e == 0 && s == 0 then Some (pos 0) else digits_worth m (sign_in s) (steps_in e)) z in
     let c : digits_worth m (sign_in s) (steps_in e) ≡ digits_worth m (Some sign) (Some steps) = cc in
-    let d : digits_worth m (Some sign) (Some steps) ≡ Some (with_sign sign (size_of m steps)) =
-    ap (λ t. if t then None else Some (with_sign sign (size_of m steps))) l in
+    let d : digits_worth m (Some sign) (Some steps) ≡ Some (signed sign (size_of m steps)) =
+    ap (λ t. if t then None else Some (signed sign (size_of m steps))) l in
     ap (λ v. holding v register) (a ∙ (b ∙ (c ∙ d)))
-
--- a digit above 9 among others
-none_either : (b : Bool) (f : ℕ → ℕ) (others : Option ℕ) → others ≡ None → (if b then option_map f others else None) ≡ None
-none_either true f others none = ap (option_map f) none
-none_either false f others none = refl
-
-pub no_decimal : (count : ℕ) (register : List ℕ) (place bad : ℕ) → place ≤ bad → bad < place + count → 9 < slice_index register bad
-    → decimal_in register place count ≡ None
-no_decimal zero register place bad low high above = absurd (omega (arith, low, high))
-no_decimal (suc count) register place bad low high above = elim (cases_eq bad place) [
-  | inl same ↦
-      let far : 9 < slice_index register place = rw same at above in
-      let t : nat_le (slice_index register place) 9 ≡ false = grind (arith, nat_tests) in
-      ap (λ b. if b then option_map (λ rest. slice_index register place + 10 * rest) (decimal_in register (place + 1) count) else None) t
-  | inr other ↦
-      none_either (nat_le (slice_index register place) 9)
-      (λ rest. slice_index register place + 10 * rest) (decimal_in register (place + 1) count)
-      (no_decimal count register (place + 1) bad (omega (arith, low, other)) (omega (arith, high)) above)
-]

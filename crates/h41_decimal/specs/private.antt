@@ -2,4 +2,3 @@
 -- files.
 pub mod Cut
 pub mod PackedDigits
-pub mod SameDigits

@@ -22,7 +22,7 @@ pub fn typed(sign: Sign, digits: u64, places: u8, exponent: Exponent) -> Ten
         return Ten::Zero;
     }
     let scale = ENTRY_SCALE + u32::from(exponent.biased) - u32::from(places);
-    match round_whole(sign, u128::from(digits), scale) {
+    match round_whole(sign, digits, scale) {
         Ok(number) => number,
         Err(_) => greatest(sign),
     }

@@ -13,7 +13,7 @@ use crate::sizes;
 use crate::ten::Ten;
 
 /// The greatest power of ten with which a number of ten digits is multiplied at once.
-const AT_ONCE: u32 = 28;
+const AT_ONCE: u32 = 9;
 
 /// What is left of a size with a sign by another.
 pub fn modulo(y_sign: Sign, y: Magnitude, x_sign: Sign, x: Magnitude) -> Result<Ten, DecimalFault>
@@ -33,7 +33,7 @@ fn rest_same(sign: Sign, y: Magnitude, x: Magnitude) -> Result<Ten, DecimalFault
     if y.exponent.biased < x.exponent.biased {
         return Ok(Ten::Nonzero(sign, y));
     }
-    let rest = remainder(y.digits(), y.steps() - x.steps(), x.digits());
+    let rest = remainder(y.mantissa.digits, y.steps() - x.steps(), x.mantissa.digits);
     if rest == 0 {
         return Ok(Ten::Zero);
     }
@@ -48,15 +48,15 @@ fn rest_apart(sign: Sign, y: Magnitude, x: Magnitude) -> Result<Ten, DecimalFaul
     if y.exponent.biased < x.exponent.biased {
         return sizes::subtract(sign, x, y);
     }
-    let rest = remainder(y.digits(), y.steps() - x.steps(), x.digits());
+    let rest = remainder(y.mantissa.digits, y.steps() - x.steps(), x.mantissa.digits);
     if rest == 0 {
         return Ok(Ten::Zero);
     }
-    round_whole(sign, x.digits() - rest, x.steps() + UNIT_SCALE)
+    round_whole(sign, x.mantissa.digits - rest, x.steps() + UNIT_SCALE)
 }
 
 /// The remainder of a number times ten to a power by ten digits.
-fn remainder(number: u128, power: u32, divisor: u128) -> u128
+fn remainder(number: u64, power: u32, divisor: u64) -> u64
     requires some { 0 < divisor }
     requires divisor { divisor < 10 ^ 10 }
     ensures { result ≡ number * 10 ^ power % divisor }

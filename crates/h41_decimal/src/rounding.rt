@@ -1,6 +1,6 @@
 //! The one rounding that all operations share.
 
-ghost use Rattle.std.specs.Prelude.{◌≡◌, ℕ, ◌+◌, ◌-◌, ◌*◌, ◌^◌, ◌<◌, ◌≤◌, pos};
+ghost use Rattle.std.specs.Prelude.{◌≡◌, ℕ, ◌+◌, ◌-◌, ◌*◌, ◌/◌, ◌^◌, ◌<◌, ◌≤◌, pos};
 ghost use Rattle.h41_decimal.specs.NearestDecimal.{IsBounded};
 ghost use Rattle.h41_decimal.specs.private.Cut.{RoundsElevenDigits, RoundsWhole};
 
@@ -12,12 +12,9 @@ use crate::ten::Ten;
 /// The scale that stands for one unit. Scales count powers of ten, so that those below a unit can be counted too.
 pub const UNIT_SCALE: u32 = 128;
 
-/// How many powers of ten fit 128 bits.
-const POWERS: u32 = 39;
-
-/// Ten to a power from 0 to 38.
-pub fn power_of_ten(power: u32) -> u128
-    requires { power < 39 }
+/// Ten to a power from 0 to 19.
+pub fn power_of_ten(power: u32) -> u64
+    requires { power < 20 }
     ensures { result ≡ 10 ^ power }
 {
     match power {
@@ -41,47 +38,39 @@ pub fn power_of_ten(power: u32) -> u128
         17 => 100_000_000_000_000_000,
         18 => 1_000_000_000_000_000_000,
         19 => 10_000_000_000_000_000_000,
-        20 => 100_000_000_000_000_000_000,
-        21 => 1_000_000_000_000_000_000_000,
-        22 => 10_000_000_000_000_000_000_000,
-        23 => 100_000_000_000_000_000_000_000,
-        24 => 1_000_000_000_000_000_000_000_000,
-        25 => 10_000_000_000_000_000_000_000_000,
-        26 => 100_000_000_000_000_000_000_000_000,
-        27 => 1_000_000_000_000_000_000_000_000_000,
-        28 => 10_000_000_000_000_000_000_000_000_000,
-        29 => 100_000_000_000_000_000_000_000_000_000,
-        30 => 1_000_000_000_000_000_000_000_000_000_000,
-        31 => 10_000_000_000_000_000_000_000_000_000_000,
-        32 => 100_000_000_000_000_000_000_000_000_000_000,
-        33 => 1_000_000_000_000_000_000_000_000_000_000_000,
-        34 => 10_000_000_000_000_000_000_000_000_000_000_000,
-        35 => 100_000_000_000_000_000_000_000_000_000_000_000,
-        36 => 1_000_000_000_000_000_000_000_000_000_000_000_000,
-        37 => 10_000_000_000_000_000_000_000_000_000_000_000_000,
-        38 => 100_000_000_000_000_000_000_000_000_000_000_000_000,
+        _ => unreachable!(),
+    }
+}
+
+/// A number without its last digits, so many of them, 0 to 10. It divides by constants, since that is quicker.
+pub fn without_last(number: u64, digits: u32) -> u64
+    requires { digits ≤ 10 }
+    ensures { result ≡ number / 10 ^ digits }
+{
+    match digits {
+        0 => number,
+        1 => number / 10,
+        2 => number / 100,
+        3 => number / 1000,
+        4 => number / 10_000,
+        5 => number / 100_000,
+        6 => number / 1_000_000,
+        7 => number / 10_000_000,
+        8 => number / 100_000_000,
+        9 => number / 1_000_000_000,
+        10 => number / 10_000_000_000,
         _ => unreachable!(),
     }
 }
 
 /// How many decimal digits a number has.
-pub fn digit_count(number: u128) -> u32
+pub fn digit_count(number: u64) -> u32
     requires { 0 < number }
     ensures least { 10 ^ result ≤ 10 * number }
     ensures next { number < 10 ^ result }
-    ensures range { (1 ≤ result) × (result ≤ 39) }
+    ensures range { (1 ≤ result) × (result ≤ 20) }
 {
-    let mut low = 0;
-    let mut high = POWERS;
-    while high - low > 1 {
-        let middle = (low + high) / 2;
-        if power_of_ten(middle) <= number {
-            low = middle;
-        } else {
-            high = middle;
-        }
-    }
-    high
+    number.ilog10() + 1
 }
 
 /// The decimal of ten digits whose last stands at a scale: out of range above 99, zero below -99.
@@ -120,7 +109,7 @@ fn round_eleven_digits(sign: Sign, whole: u64, scale: u32) -> Result<Ten, Decima
 
 /// The nearest decimal of a size above zero that was cut to a whole number at a scale. Where that has fewer than eleven
 /// digits nothing may have been cut off.
-pub fn round_whole(sign: Sign, whole: u128, scale: u32) -> Result<Ten, DecimalFault>
+pub fn round_whole(sign: Sign, whole: u64, scale: u32) -> Result<Ten, DecimalFault>
     requires positive { 0 < whole }
     requires at_least { 10 ≤ scale }
     requires below { scale < 900 }
@@ -129,11 +118,9 @@ pub fn round_whole(sign: Sign, whole: u128, scale: u32) -> Result<Ten, DecimalFa
     let count = digit_count(whole);
     if count > 11 {
         let dropped = count - 11;
-        let eleven = (whole / power_of_ten(dropped)) as u64;
-        round_eleven_digits(sign, eleven, scale + dropped)
+        round_eleven_digits(sign, without_last(whole, dropped), scale + dropped)
     } else {
         let missing = 11 - count;
-        let eleven = (whole * power_of_ten(missing)) as u64;
-        round_eleven_digits(sign, eleven, scale - missing)
+        round_eleven_digits(sign, whole * power_of_ten(missing), scale - missing)
     }
 }

@@ -1,6 +1,6 @@
 //! Operations on sizes, which are decimals without a sign.
 
-ghost use Rattle.std.specs.Prelude.{◌≡◌, ◌+◌, ◌*◌, ◌^◌, ◌<◌, ◌≤◌, pos, ◌-ℤ◌};
+ghost use Rattle.std.specs.Prelude.{◌≡◌, ◌+◌, ◌*◌, ◌/◌, ◌^◌, ◌<◌, ◌≤◌, pos, ◌-ℤ◌};
 ghost use Rattle.std.specs.Ordering.{int_cmp};
 ghost use Rattle.h41_decimal.specs.Signs.{with_sign};
 ghost use Rattle.h41_decimal.specs.Units.{one, size};
@@ -9,34 +9,48 @@ ghost use Rattle.h41_decimal.specs.Operations.{RoundsTo};
 
 use crate::fault::DecimalFault;
 use crate::parts::Magnitude;
-use crate::rounding::{UNIT_SCALE, power_of_ten, round_whole};
+use crate::rounding::{UNIT_SCALE, power_of_ten, round_whole, without_last};
 use crate::sign::Sign;
 use crate::ten::Ten;
 use std::cmp::Ordering;
 
-/// How far apart two exponents may be for two sizes to be brought to one scale. From there on the smaller one only tells
-/// whether anything is added or taken away.
-const FAR_APART: u32 = 12;
+/// How many places behind the last one of the greater of two sizes count in a sum or a difference. What the smaller one has
+/// behind these only tells whether anything is added or taken away.
+const COUNTED: u32 = 8;
 
 /// The product of two sizes.
 pub fn multiply(sign: Sign, x: Magnitude, y: Magnitude) -> Result<Ten, DecimalFault>
     ensures { IsRounded sign (Fraction (size x * size y) one) result }
 {
-    round_whole(sign, x.digits() * y.digits(), x.steps() + y.steps() + 20)
+    round_whole(sign, product_cut(x, y), x.steps() + y.steps() + 25)
 }
 
 /// A hundredth of the product of two sizes.
 pub fn percent(sign: Sign, x: Magnitude, y: Magnitude) -> Result<Ten, DecimalFault>
     ensures { IsRounded sign (Fraction (size x * size y) (100 * one)) result }
 {
-    round_whole(sign, x.digits() * y.digits(), x.steps() + y.steps() + 18)
+    round_whole(sign, product_cut(x, y), x.steps() + y.steps() + 23)
+}
+
+/// The product of the digits of two sizes without its last five, by halves of five digits.
+fn product_cut(x: Magnitude, y: Magnitude) -> u64
+    ensures product { result ≡ x.mantissa.digits * y.mantissa.digits / 10 ^ 5 }
+    ensures long { 10 ^ 10 ≤ result }
+{
+    let x_high = x.mantissa.digits / 100_000;
+    let x_low = x.mantissa.digits % 100_000;
+    let y_high = y.mantissa.digits / 100_000;
+    let y_low = y.mantissa.digits % 100_000;
+    x_high * y_high * 100_000 + (x_high * y_low + x_low * y_high) + x_low * y_low / 100_000
 }
 
 /// The quotient of two sizes.
 pub fn divide(sign: Sign, x: Magnitude, y: Magnitude) -> Result<Ten, DecimalFault>
     ensures { IsRounded sign (Fraction (size x * size y * one) (size y * size y)) result }
 {
-    let quotient = x.digits() * 100_000_000_000 / y.digits();
+    let dividend = x.mantissa.digits * 1_000_000_000;
+    let divisor = y.mantissa.digits;
+    let quotient = dividend / divisor * 100 + dividend % divisor * 100 / divisor;
     round_whole(sign, quotient, x.steps() + 225 - y.steps())
 }
 
@@ -45,9 +59,59 @@ pub fn root(x: Magnitude) -> Result<Ten, DecimalFault>
     ensures { IsRounded Sign.Plus (RootOf (size x * one)) result }
 {
     let steps = x.steps();
-    let filled = 12 - steps % 2;
-    let root = (x.digits() * power_of_ten(filled)).isqrt();
-    round_whole(Sign::Plus, root, UNIT_SCALE + (steps + 108 - filled) / 2)
+    let filled = 2 - steps % 2;
+    let root = eleven_digit_root(x.mantissa.digits * power_of_ten(filled));
+    round_whole(Sign::Plus, root, UNIT_SCALE + (steps + 98 - filled) / 2)
+}
+
+/// The square root of 10^10 times a number of 11 or 12 digits, cut to a whole number: the root of the number itself has six
+/// of its digits, and one step of Newton's method gives five more, at most one too high.
+fn eleven_digit_root(number: u64) -> u64
+    requires at_least { 10 ^ 10 ≤ number }
+    requires below { number < 10 ^ 12 }
+    ensures square { result * result ≤ number * 10 ^ 10 }
+    ensures next { number * 10 ^ 10 < (result + 1) * (result + 1) }
+    ensures long { 10 ^ 10 ≤ result }
+{
+    let six = six_digit_root(number);
+    let five = (number - six * six) * 100_000 / (2 * six);
+    let root = six * 100_000 + five;
+    if u128::from(root) * u128::from(root) > u128::from(number) * 10_000_000_000 {
+        root - 1
+    } else {
+        root
+    }
+}
+
+/// The square root of a number of 11 or 12 digits, cut to a whole number: by Newton's method, from above.
+fn six_digit_root(number: u64) -> u64
+    requires at_least { 10 ^ 10 ≤ number }
+    requires below { number < 10 ^ 12 }
+    ensures square { result * result ≤ number }
+    ensures next { number < (result + 1) * (result + 1) }
+    ensures six { (10 ^ 5 ≤ result) × (result < 10 ^ 6) }
+{
+    let mut root = if number < 100_000_000_000 {
+        nearer_root(number, 180_000)
+    } else {
+        nearer_root(number, 560_000)
+    };
+    while root * root > number {
+        root = nearer_root(number, root);
+    }
+    root
+}
+
+/// One step of Newton's method, from a number to one that is not below the root.
+fn nearer_root(number: u64, root: u64) -> u64
+    requires some { 0 < root }
+    requires few { root < 10 ^ 12 }
+    requires below { number < 10 ^ 12 }
+    ensures mean { result ≡ (root + number / root) / 2 }
+    ensures above { number < (result + 1) * (result + 1) }
+    ensures falls { number < root * root → result < root }
+{
+    (root + number / root) / 2
 }
 
 /// The sum of two sizes, the first of which has no lower exponent than the second.
@@ -56,11 +120,13 @@ pub fn add(sign: Sign, x: Magnitude, y: Magnitude) -> Result<Ten, DecimalFault>
     ensures { IsRounded sign (Fraction (size x + size y) 1) result }
 {
     let apart = x.steps() - y.steps();
-    if apart < FAR_APART {
-        let whole = x.digits() * power_of_ten(apart) + y.digits();
+    if apart <= COUNTED {
+        let whole = x.mantissa.digits * power_of_ten(apart) + y.mantissa.digits;
         round_whole(sign, whole, y.steps() + UNIT_SCALE)
     } else {
-        round_whole(sign, x.digits() * 100, x.steps() + UNIT_SCALE - 2)
+        let dropped = (apart - COUNTED).min(10);
+        let whole = x.mantissa.digits * 100_000_000 + without_last(y.mantissa.digits, dropped);
+        round_whole(sign, whole, x.steps() + UNIT_SCALE - COUNTED)
     }
 }
 
@@ -70,9 +136,9 @@ pub fn subtract(sign: Sign, x: Magnitude, y: Magnitude) -> Result<Ten, DecimalFa
     ensures { Nearest (with_sign sign (size x) -ℤ with_sign sign (size y)) 1 result }
 {
     let apart = x.steps() - y.steps();
-    if apart < FAR_APART {
-        let large = x.digits() * power_of_ten(apart);
-        let small = y.digits();
+    if apart <= COUNTED {
+        let large = x.mantissa.digits * power_of_ten(apart);
+        let small = y.mantissa.digits;
         let scale = y.steps() + UNIT_SCALE;
         if large > small {
             round_whole(sign, large - small, scale)
@@ -82,8 +148,10 @@ pub fn subtract(sign: Sign, x: Magnitude, y: Magnitude) -> Result<Ten, DecimalFa
             Ok(Ten::Zero)
         }
     } else {
-        let whole = x.digits() * 100 - 1;
-        round_whole(sign, whole, x.steps() + UNIT_SCALE - 2)
+        let dropped = (apart - COUNTED).min(10);
+        let small = without_last(y.mantissa.digits - 1, dropped) + 1;
+        let whole = x.mantissa.digits * 100_000_000 - small;
+        round_whole(sign, whole, x.steps() + UNIT_SCALE - COUNTED)
     }
 }
 
@@ -117,7 +185,7 @@ pub fn round_at(sign: Sign, x: Magnitude, place: u32) -> Result<Ten, DecimalFaul
         return Ok(Ten::Zero);
     }
     let step = power_of_ten(dropped);
-    let steps = (x.digits() + step / 2) / step;
+    let steps = (x.mantissa.digits + step / 2) / step;
     if steps == 0 {
         return Ok(Ten::Zero);
     }

@@ -6,7 +6,7 @@ ghost use Rattle.h41_decimal.specs.Units.{size, units};
 ghost use Rattle.h41_decimal.specs.WholeParts.{HasOnes, IsIntegerPart, IsFraction};
 
 use crate::parts::{Exponent, Magnitude, Mantissa};
-use crate::rounding::{digit_count, power_of_ten};
+use crate::rounding::{digit_count, power_of_ten, without_last};
 use crate::sign::Sign;
 use crate::ten::Ten;
 
@@ -28,7 +28,7 @@ pub fn ones(x: Magnitude) -> Option<u64>
     } else if steps < LEAST {
         Some(0)
     } else {
-        Some((x.digits() / power_of_ten(ONES - steps)) as u64)
+        Some(without_last(x.mantissa.digits, ONES - steps))
     }
 }
 
@@ -54,7 +54,7 @@ pub fn fraction(sign: Sign, x: Magnitude) -> Ten
     if steps < LEAST {
         return Ten::Nonzero(sign, x);
     }
-    let rest = (x.digits() % power_of_ten(ONES - steps)) as u64;
+    let rest = x.mantissa.digits % power_of_ten(ONES - steps);
     if rest == 0 {
         return Ten::Zero;
     }
@@ -69,9 +69,9 @@ fn decimal(sign: Sign, number: u64, steps: u32) -> Ten
     requires most { steps ≤ 198 }
     ensures { units result ≡ with_sign sign (number * 10 ^ steps) }
 {
-    let missing = 10 - digit_count(u128::from(number));
+    let missing = 10 - digit_count(number);
     let mantissa = Mantissa {
-        digits: (u128::from(number) * power_of_ten(missing)) as u64,
+        digits: number * power_of_ten(missing),
     };
     let exponent = Exponent {
         biased: (steps - missing) as u8,

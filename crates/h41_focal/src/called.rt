@@ -21,7 +21,8 @@ pub fn outcome_of<const REGS: usize>(
     brief: BriefOutcome,
 ) -> LineOutcome
     requires { is_left_out line.now ≡ false }
-    ensures { answer_of result ≡ brief_answer (called_by ram.now.registers line.now) ram.now.registers brief }
+    ensures { answer_of result ≡ brief_answer (called_by ram.now.registers line.now)
+        ram.now.registers brief }
 {
     match brief {
         BriefOutcome::Elsewhere => called(ram, line),

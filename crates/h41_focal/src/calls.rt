@@ -18,7 +18,8 @@ pub fn step_line<const REGS: usize>(
     ram: &mut Ram<REGS>,
     focal: &mut Focal,
 ) -> Result<LineOutcome, FocalRefusal>
-    ensures line { Steps None (machine_with ram.old.registers focal.old) (machine_with ram.new.registers focal.new)
+    ensures line { Steps None (machine_with ram.old.registers focal.old)
+        (machine_with ram.new.registers focal.new)
         result }
     ensures unchanged { OnErr result (machine_with ram.new.registers focal.new
         ≡ machine_with ram.old.registers focal.old) }
@@ -60,7 +61,8 @@ pub fn key_line<const REGS: usize>(
     focal: &mut Focal,
     line: &Line,
 ) -> Result<LineOutcome, FocalRefusal>
-    ensures line { Types line.now (machine_with ram.old.registers focal.old) (machine_with ram.new.registers focal.new)
+    ensures line { Types line.now (machine_with ram.old.registers focal.old)
+        (machine_with ram.new.registers focal.new)
         result }
     ensures unchanged { OnErr result (machine_with ram.new.registers focal.new
         ≡ machine_with ram.old.registers focal.old) }

@@ -73,7 +73,8 @@ impl BriefOutcome {
     #[inline(never)]
     pub fn outcome<const REGS: usize>(self, ram: &Ram<REGS>) -> LineOutcome
         requires { self ≢ Elsewhere }
-        ensures { (called : Answer) → answer_of result ≡ brief_answer called ram.now.registers self }
+        ensures { (called : Answer) → answer_of result
+            ≡ brief_answer called ram.now.registers self }
     {
         match self {
             BriefOutcome::Done => LineOutcome::Done,

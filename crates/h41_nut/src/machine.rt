@@ -32,7 +32,8 @@ pub fn step<const REGS: usize>(
     pages: &mut Pages,
     keys: &mut Keys,
 ) -> Result<(), WordRefusal>
-    ensures change { Stepped result cpu.old ram.old.registers pages.old keys.old cpu.new ram.new.registers pages.new keys.new }
+    ensures change { Stepped result cpu.old ram.old.registers pages.old keys.old cpu.new
+        ram.new.registers pages.new keys.new }
     ensures mark { KeepsMark ram.old ram.new }
 {
     let word = fetch(pages, cpu.pc())?;
@@ -49,7 +50,8 @@ fn execute_row<const REGS: usize>(
     keys: &mut Keys,
 ) -> Result<(), WordRefusal>
     requires { first_address ≤ cpu.old.pc }
-    ensures change { Ran row result cpu.old ram.old.registers pages.old keys.old cpu.new ram.new.registers pages.new keys.new }
+    ensures change { Ran row result cpu.old ram.old.registers pages.old keys.old cpu.new
+        ram.new.registers pages.new keys.new }
     ensures mark { KeepsMark ram.old ram.new }
 {
     match row {

@@ -63,9 +63,11 @@ pub fn insert<const REGS: usize>(
 ) -> Result<u16, ProgramRefusal>
     requires sound { IsTrue (is_sound ram.old.registers) }
     requires inner { IsTrue (is_inner line) }
-    ensures lines { Edits ram.old.registers ram.new.registers (with_inserted line) before (without_answer result) }
+    ensures lines { Edits ram.old.registers ram.new.registers (with_inserted line) before
+        (without_answer result) }
     ensures sound { IsTrue (is_sound ram.new.registers) }
-    ensures read { OnOk result (LeavesChanged ram.old.registers (with_inserted line) before ram.new.registers) }
+    ensures read { OnOk result (LeavesChanged ram.old.registers (with_inserted line) before
+        ram.new.registers) }
     ensures answer { IfOk result (StandsNew ram.old.registers before ram.new.registers) }
     ensures stands { IfOk result (Stands ram.new.registers line) }
     ensures mark { KeepsMark ram.old ram.new }
@@ -78,9 +80,11 @@ pub fn insert<const REGS: usize>(
 /// reach `.END.`, 16 where the program would pass below main memory.
 pub fn delete<const REGS: usize>(ram: &mut Ram<REGS>, at: u16) -> Result<InFront, ProgramRefusal>
     requires { IsTrue (is_sound ram.old.registers) }
-    ensures lines { Edits ram.old.registers ram.new.registers without_deleted at (without_answer result) }
+    ensures lines { Edits ram.old.registers ram.new.registers without_deleted at
+        (without_answer result) }
     ensures sound { IsTrue (is_sound ram.new.registers) }
-    ensures read { OnOk result (LeavesChanged ram.old.registers without_deleted at ram.new.registers) }
+    ensures read { OnOk result (LeavesChanged ram.old.registers without_deleted at
+        ram.new.registers) }
     ensures answer { IfOk result (StandsBefore ram.old.registers at ram.new.registers) }
     ensures mark { KeepsMark ram.old ram.new }
 {
@@ -99,9 +103,11 @@ pub fn replace<const REGS: usize>(
 ) -> Result<u16, ProgramRefusal>
     requires sound { IsTrue (is_sound ram.old.registers) }
     requires inner { IsTrue (is_inner line) }
-    ensures lines { Edits ram.old.registers ram.new.registers (with_replaced line) at (without_answer result) }
+    ensures lines { Edits ram.old.registers ram.new.registers (with_replaced line) at
+        (without_answer result) }
     ensures sound { IsTrue (is_sound ram.new.registers) }
-    ensures read { OnOk result (LeavesChanged ram.old.registers (with_replaced line) at ram.new.registers) }
+    ensures read { OnOk result (LeavesChanged ram.old.registers (with_replaced line) at
+        ram.new.registers) }
     ensures answer { IfOk result (StandsNew ram.old.registers at ram.new.registers) }
     ensures stands { IfOk result (Stands ram.new.registers line) }
     ensures mark { KeepsMark ram.old ram.new }
@@ -118,10 +124,12 @@ fn put<const REGS: usize>(
 ) -> Result<u16, ProgramRefusal>
     requires sound { IsTrue (is_sound ram.old.registers) }
     requires inner { IsTrue (is_inner line) }
-    ensures lines { Edits ram.old.registers ram.new.registers (lines_of_change (Put line placement)) at
+    ensures lines { Edits ram.old.registers ram.new.registers (lines_of_change (Put line placement))
+        at
         (without_answer result) }
     ensures sound { IsTrue (is_sound ram.new.registers) }
-    ensures read { OnOk result (LeavesChanged ram.old.registers (lines_of_change (Put line placement)) at
+    ensures read { OnOk result (LeavesChanged ram.old.registers
+        (lines_of_change (Put line placement)) at
         ram.new.registers) }
     ensures answer { IfOk result (StandsNew ram.old.registers at ram.new.registers) }
     ensures stands { IfOk result (Stands ram.new.registers line) }
@@ -142,7 +150,8 @@ fn change_at<const REGS: usize>(
 ) -> Result<u16, ProgramRefusal>
     requires sound { IsTrue (is_sound ram.old.registers) }
     requires change { IsChange change }
-    ensures lines { Edits ram.old.registers ram.new.registers (lines_of_change change) at (without_answer result) }
+    ensures lines { Edits ram.old.registers ram.new.registers (lines_of_change change) at
+        (without_answer result) }
     ensures sound { IsTrue (is_sound ram.new.registers) }
     ensures count { IfOk result (Counts ram.old.registers at) }
     ensures mark { KeepsMark ram.old ram.new }
@@ -177,7 +186,8 @@ fn lines_before<const REGS: usize>(ram: &Ram<REGS>, place: u16) -> u16
 /// The line of the list from 0 that has so many lines before it, and the byte behind it.
 fn line_behind<const REGS: usize>(ram: &Ram<REGS>, count: u16) -> Option<Found>
     requires { IsTrue (is_sound ram.now.registers) }
-    ensures line { AnswersFrom (λ lines. slice_get lines count) ram.now.registers 0 (listed_of result) }
+    ensures line { AnswersFrom (λ lines. slice_get lines count) ram.now.registers 0
+        (listed_of result) }
     ensures behind { IfSome result (λ found. found.behind ≡ behind found.listed) }
 {
     let mut left = count;

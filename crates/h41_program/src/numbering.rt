@@ -29,7 +29,8 @@ pub fn line_before<const REGS: usize>(ram: &Ram<REGS>, position: u16) -> Option<
 /// The number of the line at a position, counted from another position to the END.
 pub fn number_from<const REGS: usize>(ram: &Ram<REGS>, from: u16, position: u16) -> Option<u16>
     requires { IsTrue (is_sound ram.now.registers) }
-    ensures is { AnswersFrom (λ lines. number_in position (up_to_end lines)) ram.now.registers from result }
+    ensures is { AnswersFrom (λ lines. number_in position (up_to_end lines)) ram.now.registers from
+        result }
     ensures some { IfSome result (λ number. 1 ≤ number) }
 {
     let mut count = 0;
@@ -54,7 +55,8 @@ pub fn number_from<const REGS: usize>(ram: &Ram<REGS>, from: u16, position: u16)
 /// Where the line of a number stands, counted from a position to the END.
 fn numbered_from<const REGS: usize>(ram: &Ram<REGS>, from: u16, number: u16) -> Option<u16>
     requires { IsTrue (is_sound ram.now.registers) }
-    ensures { AnswersFrom (λ lines. numbered_in number (up_to_end lines)) ram.now.registers from result }
+    ensures { AnswersFrom (λ lines. numbered_in number (up_to_end lines)) ram.now.registers from
+        result }
 {
     let mut left = number;
     let mut at = from;

@@ -81,7 +81,8 @@ pub fn local<const REGS: usize>(ram: &Ram<REGS>, at: u16, label: Parameter) -> O
 /// Where the first `LBL n` stands from a position to the END.
 fn label_from<const REGS: usize>(ram: &Ram<REGS>, at: u16, label: Parameter) -> Option<u16>
     requires { IsTrue (is_sound ram.now.registers) }
-    ensures { AnswersFrom (λ lines. position_of (label_in label lines)) ram.now.registers at result }
+    ensures { AnswersFrom (λ lines. position_of (label_in label lines)) ram.now.registers at result
+        }
 {
     let mut position = at;
     while let Some(found) = first_from(ram, position) {
@@ -103,7 +104,8 @@ fn label_from<const REGS: usize>(ram: &Ram<REGS>, at: u16, label: Parameter) -> 
 /// Where the last `LBL` of a name stands in memory.
 pub fn global<const REGS: usize>(ram: &Ram<REGS>, name: &[u8]) -> Option<u16>
     requires { IsTrue (is_sound ram.now.registers) }
-    ensures { AnswersOf (λ lines. position_of (named_in name.now lines)) ram.now.registers 0 result }
+    ensures { AnswersOf (λ lines. position_of (named_in name.now lines)) ram.now.registers 0 result
+        }
 {
     let mut last = None;
     let mut position = 0;

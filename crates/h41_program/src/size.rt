@@ -20,7 +20,8 @@ use h41_ram::{MAIN_START, Ram};
 /// choice). 17 where there are not more registers than that, 16 where the program would pass below main memory.
 pub fn set_size<const REGS: usize>(ram: &mut Ram<REGS>, size: u16) -> Result<(), ProgramRefusal>
     requires { IsTrue (is_sound ram.old.registers) }
-    ensures size { HasOutcome ram.old.registers ram.new.registers result (size_outcome ram.old.registers size) }
+    ensures size { HasOutcome ram.old.registers ram.new.registers result
+        (size_outcome ram.old.registers size) }
     ensures sound { IsTrue (is_sound ram.new.registers) }
     ensures mark { KeepsMark ram.old ram.new }
 {
@@ -41,7 +42,8 @@ pub fn set_size<const REGS: usize>(ram: &mut Ram<REGS>, size: u16) -> Result<(),
 fn resize<const REGS: usize>(ram: &mut Ram<REGS>, curtain: u16, end: u16)
     requires place { IsMove ram.old.registers curtain end }
     requires memory { IsMemory REGS ram.old.registers }
-    ensures change { ram.new.registers ≡ with_size ram.old.registers (top_of ram.old.registers - curtain) }
+    ensures change { ram.new.registers ≡ with_size ram.old.registers
+        (top_of ram.old.registers - curtain) }
     ensures mark { KeepsMark ram.old ram.new }
 {
     let c = moved_addresses(ram, curtain, end);
@@ -71,7 +73,8 @@ fn moved_addresses<const REGS: usize>(ram: &Ram<REGS>, curtain: u16, end: u16) -
 fn moved_register<const REGS: usize>(ram: &Ram<REGS>, curtain: u16, end: u16, address: u16) -> Reg
     requires place { IsMove ram.now.registers curtain end }
     requires address { address < top_of ram.now.registers }
-    ensures { result ≡ resized_register ram.now.registers (top_of ram.now.registers - curtain) address }
+    ensures { result ≡ resized_register ram.now.registers (top_of ram.now.registers - curtain)
+        address }
 {
     if address < end {
         free_register(ram, address)

@@ -1,13 +1,11 @@
 -- The first five decimals of a number.
-use Rattle.std.proofs.Common.{◌≡◌, ℕ, ◌+◌, ◌-◌, ◌*◌, ◌/◌, ◌%◌, ◌^◌, ◌<◌, ◌≤◌, ⊎_elim, sym, ◌∙◌, ap, arith}
-use Rattle.std.specs.Prelude.{ℤ, pos, ◌-ℤ◌}
-use Rattle.std.proofs.Math.Nat.{mul-le-mul_right, pow-le-pow_right}
+use Rattle.std.proofs.Common.{◌≡◌, ℕ, ◌+◌, ◌-◌, ◌*◌, ◌/◌, ◌^◌, ◌<◌, ◌≤◌, ⊎_elim, sym, ◌∙◌, ap, arith}
+use Rattle.std.proofs.Math.Nat.{mul-le-mul_right, mul-lt-mul_of_pos_right, pow-le-pow_right}
 use Rattle.std.proofs.lemmas.Nat.{div-mul-add}
 use Rattle.std.proofs.lemmas.Bool.{cases_lt}
-use Rattle.h41_decimal.specs.WholeParts.{HasOnes, IsFraction}
-use Rattle.h41_decimal.specs.declared.sign.Sign.TheVariants.{Plus}
+use Rattle.h41_decimal.specs.WholeParts.{HasOnes}
 use Rattle.h41_decimal.proofs.Cuts.{power_parts}
-use Rattle.h41_decimal.proofs.Signed.{signed-sub}
+use Rattle.h41_decimal.proofs.Nearest.{ten_pow_pos}
 
 -- a size below 1 has a low exponent
 pub low_exponent : (m b : ℕ) → 10 ^ 9 ≤ m → m * 10 ^ b < 10 ^ 108 → b ≤ 98
@@ -43,15 +41,10 @@ shifted_ones m b n has =
     let high : m * 10 ^ (b + 5) < (n + 1) * 10 ^ 108 = has.next_above in
     sym (quotient_of (m * 10 ^ b) n (10 ^ 103) (omega arith) (omega arith))
 
-pub not_many : (m b : ℕ) → m * 10 ^ b < 10 ^ 108 → m * 10 ^ (b + 5) < 10 ^ 10 * 10 ^ 108
-not_many m b below = let s = shifted m b in omega arith
-
--- what is left of a number that is not negative
-pub rest_of : (k : ℕ) (f : ℤ) → IsFraction (pos k) f → f ≡ pos (k % 10 ^ 108)
-rest_of k f h =
-    let ones = h.integer.ones in
-    let low : ones * 10 ^ 108 ≤ k = h.integer.whole.not_above in
-    let high : k < (ones + 1) * 10 ^ 108 = h.integer.whole.next_above in
-    let q : k / 10 ^ 108 ≡ ones = quotient_of k ones (10 ^ 108) low high in
-    let r : k % 10 ^ 108 + ones * 10 ^ 108 ≡ k = omega arith in
-    h.rest ∙ (ap (λ part. pos k -ℤ part) h.integer.value ∙ signed-sub Plus k (ones * 10 ^ 108) (k % 10 ^ 108) r)
+pub not_many : (m b : ℕ) → m < 10 ^ 10 → b ≤ 103 → m * 10 ^ (b + 5) < 10 ^ 10 * 10 ^ 108
+not_many m b below low =
+    let ten : 0 < 10 = omega arith in
+    let le : b + 5 ≤ 108 = omega arith in
+    let p : 10 ^ (b + 5) ≤ 10 ^ 108 = pow-le-pow_right ten le in
+    let a : m * 10 ^ (b + 5) < 10 ^ 10 * 10 ^ (b + 5) = mul-lt-mul_of_pos_right below (ten_pow_pos (b + 5)) in
+    omega arith

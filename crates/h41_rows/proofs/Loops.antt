@@ -21,6 +21,13 @@ few_above n large =
     let t : nat_lt n (10 ^ 10) ≡ false = grind (arith, nat_tests) in
     ap (λ b. if b then n else 10 ^ 10) t
 
+pub told-le : (n : ℕ) → told_ones n ≤ n
+told-le n =
+    ⊎_elim
+    (λ (less : n < 10 ^ 10). let e = few_below n less in omega arith)
+    (λ (more : 10 ^ 10 ≤ n). let e = few_above n more in omega arith)
+    (cases_lt n (10 ^ 10))
+
 up_fails : (q c f : ℕ) → f < q → int_le (pos q +ℤ pos c) (pos f) ≡ false
 up_fails q c f high = grind (arith, common_steps)
 

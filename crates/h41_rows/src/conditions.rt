@@ -61,7 +61,8 @@ pub fn asks<const REGS: usize>(ram: &Ram<REGS>, test: Test) -> Result<bool, Line
 
 /// Whether X and Y hold the same digits.
 fn x_is_y<const REGS: usize>(ram: &Ram<REGS>) -> bool
-    ensures { result ≡ bytes_eq (status_of ram.now.registers names.X) (status_of ram.now.registers names.Y) }
+    ensures { result ≡ bytes_eq (status_of ram.now.registers names.X)
+        (status_of ram.now.registers names.Y) }
 {
     ram.status_register(StatusRegister::X) == ram.status_register(StatusRegister::Y)
 }

@@ -1,18 +1,23 @@
 //! Loops: whether they go on, and the numbers by which they count.
 
 ghost use Rattle.std.specs.Prelude.{◌≡◌, ℕ, ◌+◌, ◌*◌, ◌<◌, ◌≤◌, ◌/◌, ◌%◌, ◌^◌, ◌==◌, ◌+ℤ◌, ◌-ℤ◌};
-ghost use Rattle.std.specs.Prelude.{if◌then◌else◌, int_le, int_lt, pos, unsigned_abs};
+ghost use Rattle.std.specs.Prelude.{if◌then◌else◌, int_le, int_lt, pos, unsigned_abs, IfSome};
 ghost use Rattle.h41_decimal.specs.NearestDecimal.{Nearest};
-ghost use Rattle.h41_decimal.specs.Signs.{with_sign};
+ghost use Rattle.h41_decimal.specs.Signs.{signed};
 ghost use Rattle.h41_decimal.specs.Units.{one, size, units};
 ghost use Rattle.h41_rows.specs.Computing.{amount_at};
 ghost use Rattle.h41_rows.specs.Counters.{Down, Up, fraction_of, goes_on, number_after};
-ghost use Rattle.h41_rows.specs.private.Counting.{number_along, way_of};
+ghost use Rattle.h41_rows.specs.private.Counting.{IsMovedSize, number_along, way_of};
 ghost use Rattle.h41_rows.specs.private.Readings.{IsCounted};
 ghost use Rattle.h41_rows.specs.private.Wholes.{told_ones};
 
+use crate::answers::exact;
 use h41_decimal::{DecimalFault, Exponent, Magnitude, Mantissa, Sign, Ten};
 use h41_ram::Ram;
+
+/// The highest exponent, counted from -99, with which a size has fewer than ten digits in front of its radix mark once this is
+/// five places further right.
+const HIGHEST_SHIFTED: u8 = 103;
 
 /// Whether a loop goes on that counts up by the register at an address.
 pub fn goes_on_up<const REGS: usize>(ram: &Ram<REGS>, address: u16) -> bool
@@ -82,27 +87,40 @@ fn five_decimals(number: Ten) -> u64
     ensures value { result ≡ fraction_of (units number) / 10 ^ 103 }
     ensures bound { result < 100000 }
 {
-    match number.abs().fraction() {
+    match number {
         Ten::Zero => 0,
-        Ten::Nonzero(_, rest) => five_digits(rest),
+        Ten::Nonzero(_, x) => five_digits(x),
     }
 }
 
-/// The first five decimals of a size below 1.
-fn five_digits(rest: Magnitude) -> u64
-    requires { size rest < one }
-    ensures value { result ≡ size rest / 10 ^ 103 }
+/// The first five decimals of a size.
+fn five_digits(x: Magnitude) -> u64
+    ensures value { result ≡ size x % one / 10 ^ 103 }
     ensures bound { result < 100000 }
 {
+    if x.exponent.biased <= HIGHEST_SHIFTED {
+        return five_places_up(x) % 100_000;
+    }
+    match Ten::Nonzero(Sign::Plus, x).fraction() {
+        Ten::Zero => 0,
+        Ten::Nonzero(_, rest) => five_places_up(rest),
+    }
+}
+
+/// How many times 10^-5 is in a size: its whole ones five places up.
+fn five_places_up(x: Magnitude) -> u64
+    requires { x.exponent.biased ≤ 103 }
+    ensures { result ≡ size x / 10 ^ 103 }
+{
     let exponent = Exponent {
-        biased: rest.exponent.biased + 5,
+        biased: x.exponent.biased + 5,
     };
     let shifted = Magnitude {
-        mantissa: rest.mantissa,
+        mantissa: x.mantissa,
         exponent,
     };
     match Ten::Nonzero(Sign::Plus, shifted).ones() {
-        Some(decimals) => decimals,
+        Some(ones) => ones,
         None => 0,
     }
 }
@@ -122,7 +140,7 @@ fn is_at_most(sign: Sign, ones: u64, count: u64, last: u64) -> bool
     requires ones { ones ≤ 10 ^ 10 }
     requires count { count < 100 }
     requires last { last < 1000 }
-    ensures { result ≡ int_le (with_sign sign ones +ℤ pos count) (pos last) }
+    ensures { result ≡ int_le (signed sign ones +ℤ pos count) (pos last) }
 {
     match sign {
         Sign::Plus => ones + count <= last,
@@ -135,7 +153,7 @@ fn is_above(sign: Sign, ones: u64, count: u64, last: u64) -> bool
     requires ones { ones ≤ 10 ^ 10 }
     requires count { count < 100 }
     requires last { last < 1000 }
-    ensures { result ≡ int_lt (pos last) (with_sign sign ones -ℤ pos count) }
+    ensures { result ≡ int_lt (pos last) (signed sign ones -ℤ pos count) }
 {
     match sign {
         Sign::Plus => last + count < ones,
@@ -143,30 +161,99 @@ fn is_above(sign: Sign, ones: u64, count: u64, last: u64) -> bool
     }
 }
 
-/// A loop's counter, counted up for plus and down for minus. A number with no fraction counts 1.
+/// A loop's counter, counted up for plus and down for minus. Where its ones keep their sign, all of it is moved by what is
+/// counted.
 fn counted(number: Ten, direction: Sign) -> Result<Ten, DecimalFault>
     ensures { Nearest (number_along direction (units number)) 1 result }
 {
+    let count = increment(five_decimals(number));
+    if number.sign() == direction || ones(number) > count {
+        moved(number, direction, count)
+    } else {
+        counted_by_parts(number, direction)
+    }
+}
+
+/// A number moved by a whole number from 1 to 99, up for plus and down for minus. Most loops stay with ten digits and one
+/// exponent, so that nothing is rounded.
+fn moved(number: Ten, direction: Sign, count: u64) -> Result<Ten, DecimalFault>
+    requires some { 0 < count }
+    requires few { count < 100 }
+    ensures { Nearest (units number +ℤ signed direction (count * one)) 1 result }
+{
+    if let Ten::Nonzero(sign, x) = number {
+        if let Some(y) = moved_size(x, sign == direction, count) {
+            return exact(Ten::Nonzero(sign, y));
+        }
+    }
+    number.add(below_hundred(direction, count))
+}
+
+/// A size with so many ones more, or fewer, where this changes its digits alone.
+fn moved_size(x: Magnitude, grows: bool, count: u64) -> Option<Magnitude>
+    requires { count < 100 }
+    ensures { IfSome result (λ y. IsMovedSize grows (size x) (count * one) (size y)) }
+{
+    let step = count * digits_of_one(x.exponent)?;
+    let digits = if grows {
+        x.mantissa.digits + step
+    } else {
+        x.mantissa.digits.saturating_sub(step)
+    };
+    if digits < 1_000_000_000 || digits >= 10_000_000_000 {
+        return None;
+    }
+    let mantissa = Mantissa { digits };
+    Some(Magnitude {
+        mantissa,
+        exponent: x.exponent,
+    })
+}
+
+/// How many steps of the last of ten digits are 1, where up to five of the digits stand in front of the radix mark.
+fn digits_of_one(exponent: Exponent) -> Option<u64>
+    ensures one { IfSome result (λ steps. steps * 10 ^ exponent.biased ≡ one) }
+    ensures bound { IfSome result (λ steps. steps ≤ 10 ^ 9) }
+{
+    match exponent.biased {
+        99 => Some(1_000_000_000),
+        100 => Some(100_000_000),
+        101 => Some(10_000_000),
+        102 => Some(1_000_000),
+        103 => Some(100_000),
+        _ => None,
+    }
+}
+
+/// A loop's counter, counted up for plus and down for minus, by its ones and its fraction. A number with no fraction counts 1.
+fn counted_by_parts(number: Ten, direction: Sign) -> Result<Ten, DecimalFault>
+    ensures { Nearest (number_along direction (units number)) 1 result }
+{
     match number.fraction() {
-        Ten::Zero => number.add(single(direction)),
+        Ten::Zero => number.add(below_hundred(direction, 1)),
         Ten::Nonzero(_, fraction) => match number.ones() {
             Some(ones) => {
                 let count = increment(five_digits(fraction));
                 stepped(number.sign(), ones, direction, count, fraction)
             }
-            None => number.add(single(direction)),
+            None => number.add(below_hundred(direction, 1)),
         },
     }
 }
 
-/// 1 with a sign.
-fn single(sign: Sign) -> Ten
-    ensures { units result ≡ with_sign sign one }
+/// A number from 1 to 99 with a sign.
+fn below_hundred(sign: Sign, number: u64) -> Ten
+    requires some { 0 < number }
+    requires few { number < 100 }
+    ensures { units result ≡ signed sign (number * one) }
 {
-    let mantissa = Mantissa {
-        digits: 1_000_000_000,
+    let (digits, biased) = if number < 10 {
+        (number * 1_000_000_000, 99)
+    } else {
+        (number * 100_000_000, 100)
     };
-    let exponent = Exponent { biased: 99 };
+    let mantissa = Mantissa { digits };
+    let exponent = Exponent { biased };
     Ten::Nonzero(sign, Magnitude { mantissa, exponent })
 }
 
@@ -197,7 +284,7 @@ fn stepped(
 /// The number of ones and a fraction, with a sign.
 fn joined(sign: Sign, ones: u64, fraction: Magnitude) -> Result<Ten, DecimalFault>
     requires { ones < 10 ^ 10 }
-    ensures { Nearest (with_sign sign (ones * one + size fraction)) 1 result }
+    ensures { Nearest (signed sign (ones * one + size fraction)) 1 result }
 {
     whole_number(sign, ones).add(Ten::Nonzero(sign, fraction))
 }
@@ -205,7 +292,7 @@ fn joined(sign: Sign, ones: u64, fraction: Magnitude) -> Result<Ten, DecimalFaul
 /// A whole number of up to ten digits with a sign.
 fn whole_number(sign: Sign, ones: u64) -> Ten
     requires { ones < 10 ^ 10 }
-    ensures { units result ≡ with_sign sign (ones * one) }
+    ensures { units result ≡ signed sign (ones * one) }
 {
     if ones == 0 {
         return Ten::Zero;

@@ -58,7 +58,8 @@ pub fn flag_of<const REGS: usize>(
     highest: u8,
 ) -> Result<u8, LineFault>
     requires { is_operand_left_out operand.now ≡ false }
-    ensures meant { result_map Count result ≡ meant_as (FlagKind highest) ram.now.registers operand.now }
+    ensures meant { result_map Count result
+        ≡ meant_as (FlagKind highest) ram.now.registers operand.now }
     ensures bound { IfOk result (λ n. n < highest + 1) }
 {
     let number = readings::operand_number(ram, operand)?;
@@ -76,7 +77,8 @@ pub fn branch_target<const REGS: usize>(
     register: Parameter,
 ) -> Result<BranchTarget, LineFault>
     requires { is_parameter_left_out register ≡ false }
-    ensures { result_map meant_by result ≡ meant_of ram.now.registers (BranchIndirect branch register) }
+    ensures { result_map meant_by result
+        ≡ meant_of ram.now.registers (BranchIndirect branch register) }
 {
     let address = readings::parameter_register(ram, register)?;
     targets::target_in(ram.read(address))

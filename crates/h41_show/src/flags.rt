@@ -10,7 +10,8 @@ use h41_ram::{Ram, flags};
 
 /// The notation: FIX where flag 40 is set, else ENG where flag 41 is set, else SCI.
 pub(crate) fn notation<const REGS: usize>(ram: &Ram<REGS>) -> Notation
-    ensures { result ≡ spec.notation_of (flag_of ram.now.registers fixed) (flag_of ram.now.registers engineering) }
+    ensures { result ≡ spec.notation_of (flag_of ram.now.registers fixed)
+        (flag_of ram.now.registers engineering) }
 {
     if ram.flag(flags::FIXED) {
         Notation::Fixed

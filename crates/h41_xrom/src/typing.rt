@@ -59,7 +59,8 @@ pub fn begin_text<const REGS: usize>(ram: &mut Ram<REGS>, letter: u8) -> KeyEffe
 
 /// A letter comes behind what ALPHA holds.
 pub fn add_letter<const REGS: usize>(ram: &mut Ram<REGS>, letter: u8) -> KeyEffect
-    ensures memory { ram.new.registers ≡ with_letters ram.old.registers (alpha_of ram.old.registers ++ letter ∷ []) }
+    ensures memory { ram.new.registers ≡ with_letters ram.old.registers
+        (alpha_of ram.old.registers ++ letter ∷ []) }
     ensures effect { result ≡ Nothing }
     ensures mark { KeepsMark ram.old ram.new }
 {
@@ -70,7 +71,8 @@ pub fn add_letter<const REGS: usize>(ram: &mut Ram<REGS>, letter: u8) -> KeyEffe
 
 /// ALPHA's last character goes.
 pub fn take_letter<const REGS: usize>(ram: &mut Ram<REGS>) -> KeyEffect
-    ensures memory { ram.new.registers ≡ with_text ram.old.registers (take 23 (alpha_of ram.old.registers)) }
+    ensures memory { ram.new.registers ≡ with_text ram.old.registers
+        (take 23 (alpha_of ram.old.registers)) }
     ensures effect { result ≡ Nothing }
     ensures mark { KeepsMark ram.old ram.new }
 {

@@ -1,7 +1,22 @@
 -- A number's decimal digits in four bits each.
-use Rattle.std.specs.Prelude.{ℕ, zero, suc, ◌+◌, ◌*◌, ◌/◌, ◌%◌}
+use Rattle.std.specs.Prelude.{ℕ, zero, suc, ◌+◌, ◌*◌, ◌/◌, ◌%◌, Option, Some, None, nat_le}
+use Rattle.std.specs.Prelude.{if◌then◌else◌}
+use Rattle.std.specs.Option.{option_map}
 
 -- so many of them, the lowest in the lowest bits
 abbrev pub word_of_digits : ℕ → ℕ → ℕ
 word_of_digits zero number = 0
 word_of_digits (suc count) number = number % 10 + 16 * word_of_digits count (number / 10)
+
+-- the number whose decimal digits these are, or nothing where one is above 9
+abbrev pub decimal_of : ℕ → ℕ → Option ℕ
+decimal_of zero digits = Some 0
+decimal_of (suc count) digits =
+    if nat_le (digits % 16) 9
+    then option_map (λ rest. digits % 16 + 10 * rest) (decimal_of count (digits / 16))
+    else None
+
+-- the number to the base 100 whose digits are so many bytes
+abbrev pub hundreds_of : ℕ → ℕ → ℕ
+hundreds_of zero bytes = 0
+hundreds_of (suc count) bytes = bytes % 256 + 100 * hundreds_of count (bytes / 256)

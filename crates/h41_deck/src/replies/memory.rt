@@ -75,7 +75,8 @@ fn write_register<W: fmt::Write>(
     ram: &Ram<REGISTERS>,
     address: u16,
 ) -> fmt::Result
-    ensures { WritesOnOk W.write_str_gives f.old result (register_line ram.now.registers address) f.new }
+    ensures { WritesOnOk W.write_str_gives f.old result (register_line ram.now.registers address)
+        f.new }
 {
     let name = Digits::<3>::holding(u64::from(address % 0x1000));
     let register = ram.read(address);

@@ -18,7 +18,8 @@ pub fn write_register<const REGS: usize>(
     register: BlockRegister,
 ) -> Result<(), WordRefusal>
     ensures processor { GoesOn (spec.selecting_in_block register) cpu.old cpu.new result }
-    ensures written { OnOk result (ram.new.registers ≡ spec.with_c_in_block ram.old.registers register cpu.old) }
+    ensures written { OnOk result (ram.new.registers
+        ≡ spec.with_c_in_block ram.old.registers register cpu.old) }
     ensures unchanged { OnErr result (ram.new.registers ≡ ram.old.registers) }
     ensures mark { KeepsMark ram.old ram.new }
 {
@@ -44,7 +45,8 @@ pub fn read_register<const REGS: usize>(
 pub fn write_data<const REGS: usize>(cpu: &mut Cpu, ram: &mut Ram<REGS>) -> Result<(), WordRefusal>
     requires { first_address ≤ cpu.old.pc }
     ensures processor { GoesOn (λ s. s) cpu.old cpu.new result }
-    ensures written { OnOk result (ram.new.registers ≡ spec.with_c_at ram.old.registers cpu.old.selected cpu.old) }
+    ensures written { OnOk result (ram.new.registers
+        ≡ spec.with_c_at ram.old.registers cpu.old.selected cpu.old) }
     ensures unchanged { OnErr result (ram.new.registers ≡ ram.old.registers) }
     ensures mark { KeepsMark ram.old ram.new }
 {

@@ -14,8 +14,8 @@ returns-in-Ok c =
       answer = Ok c.in-Ok.number;
       nearest =
           typed_nearest c.args.sign c.args.digits c.args.exponent.biased
-          c.args.places c.from-3.result (137 + c.from.result - c.from-2.result)
-          (Ok c.in-Ok.number) some (omega arith) c.from-3.ensures c.in-Ok.ensures;
+          c.args.places c.args.digits (137 + c.from.result - c.from-2.result)
+          (Ok c.in-Ok.number) some (omega arith) refl c.in-Ok.ensures;
       value = refl;
     }
 
@@ -27,7 +27,7 @@ returns-in-Err c =
       answer = Err c.in-Err.field-0;
       nearest =
           typed_nearest c.args.sign c.args.digits c.args.exponent.biased
-          c.args.places c.from-3.result (137 + c.from.result - c.from-2.result)
-          (Err c.in-Err.field-0) some (omega arith) c.from-3.ensures c.in-Err.ensures;
+          c.args.places c.args.digits (137 + c.from.result - c.from-2.result)
+          (Err c.in-Err.field-0) some (omega arith) refl c.in-Err.ensures;
       value = c.greatest.ensures;
     }

@@ -9,10 +9,10 @@ overflow_mul-number t c =
     let a : c.args.number % c.args.divisor < c.args.divisor = mod_below c.args.number c.args.divisor c.requires.some in
     let a' : c.args.number % c.args.divisor ≤ 10 ^ 10 = omega arith in
     let ten : 0 < 10 = omega arith in
-    let few : c.min-step.result ≤ 28 = omega arith in
-    let b : 10 ^ c.min-step.result ≤ 10 ^ 28 = pow-le-pow_right ten few in
-    let b' : c.power_of_ten.result ≤ 10 ^ 28 = omega arith in
-    let p : c.args.number % c.args.divisor * c.power_of_ten.result ≤ 10 ^ 10 * 10 ^ 28 = mul-le-mul a' b' in
+    let few : c.min-step.result ≤ 9 = omega arith in
+    let b : 10 ^ c.min-step.result ≤ 10 ^ 9 = pow-le-pow_right ten few in
+    let b' : c.power_of_ten.result ≤ 10 ^ 9 = omega arith in
+    let p : c.args.number % c.args.divisor * c.power_of_ten.result ≤ 10 ^ 10 * 10 ^ 9 = mul-le-mul a' b' in
     omega arith
 
 pub returns : goal.returns

@@ -15,7 +15,7 @@ nonzero_div-steps-2 c = let h = ten_pow_pos (c.args.place - c.steps-2.result) in
 pub returns-then-steps-eq0 : goal.returns-then-steps-eq0
 returns-then-steps-eq0 c =
     let p : c.power_of_ten-step.result ≡ 10 ^ (c.args.place - c.args.x.exponent.biased) = cc in
-    let k : (c.digits.result + c.power_of_ten-step.result / 2) / c.power_of_ten-step.result
+    let k : (c.args.x.mantissa.digits + c.power_of_ten-step.result / 2) / c.power_of_ten-step.result
     ≡ (c.args.x.mantissa.digits + c.power_of_ten-step.result / 2) / c.power_of_ten-step.result =
     cc in
     quotient_rounds_to_zero c.args.sign c.args.x c.args.place (c.args.place - c.args.x.exponent.biased) c.power_of_ten-step.result _
@@ -24,7 +24,7 @@ returns-then-steps-eq0 c =
 pub returns : goal.returns
 returns c =
     let p : c.power_of_ten-step.result ≡ 10 ^ (c.args.place - c.args.x.exponent.biased) = cc in
-    let k : (c.digits.result + c.power_of_ten-step.result / 2) / c.power_of_ten-step.result
+    let k : (c.args.x.mantissa.digits + c.power_of_ten-step.result / 2) / c.power_of_ten-step.result
     ≡ (c.args.x.mantissa.digits + c.power_of_ten-step.result / 2) / c.power_of_ten-step.result =
     cc in
     let some = c.if-steps-eq0.false in

@@ -40,7 +40,7 @@ returns c =
     let s = c.args.x.exponent.biased in
     let p = c.power_of_ten.result in
     let k = 108 - c.steps-steps.result in
-    let same : c.digits.result % p * 10 ^ c.steps-steps.result ≡ m % p * 10 ^ s = cc in
+    let same : m % p * 10 ^ c.steps-steps.result ≡ m % p * 10 ^ s = cc in
     fraction_of c.args.sign (size c.args.x) (m / p) (m % p * 10 ^ s) _
     (size_pos c.args.x) (ones_cut m s k p c.power_of_ten.ensures (omega arith))
     (split_at_ones m s k p c.power_of_ten.ensures (omega arith)) (c.decimal.ensures ∙ ap (with_sign c.args.sign) same)

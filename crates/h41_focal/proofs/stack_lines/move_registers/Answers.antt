@@ -23,8 +23,10 @@ pub returns-in-Pi-clause-change : goal.returns-in-Pi-clause-change
 returns-in-Pi-clause-change g c = λ named. rw c.in-Pi.is (c.pi.result, c.pi.ensures _ named, c.bring_in.ensures.change named)
 
 pub returns-in-ClearStack-clause-change : goal.returns-in-ClearStack-clause-change
-returns-in-ClearStack-clause-change g c = λ named. rw c.in-ClearStack.is (c.zero.result, c.zero.ensures _ named, c.clear_stack.ensures.change named)
+returns-in-ClearStack-clause-change g c = λ named. rw c.in-ClearStack.is
+    (c.zero.result, c.zero.ensures _ named, c.clear_stack.ensures.change named)
 
 pub returns-in-ClearX-clause-change : goal.returns-in-ClearX-clause-change
 returns-in-ClearX-clause-change g c =
-    λ named. rw c.in-ClearX.is (c.zero-in-ClearX.result, c.zero-in-ClearX.ensures _ named, (ap (λ (ram : RamState). ram.registers) c.set_status_register.ensures.written))
+    λ named. rw c.in-ClearX.is (c.zero-in-ClearX.result, c.zero-in-ClearX.ensures _ named,
+        (ap (λ (ram : RamState). ram.registers) c.set_status_register.ensures.written))

@@ -7,7 +7,8 @@ use Rattle.h41_program.proofs.editing.line_behind.Given as goal
 -- the lines so far, and how many more stand before the line
 abbrev pub invariant-loop-found : goal.invariant-loop-found
 invariant-loop-found g l =
-    (before : List ListedLine) × UpTo (program_bytes l.ram.registers) (final_position l.ram.registers) 0 before l.at × (length before + l.left ≡ l.count)
+    (before : List ListedLine) × UpTo (program_bytes l.ram.registers) (final_position l.ram.registers) 0 before l.at
+        × (length before + l.left ≡ l.count)
 
 -- the bytes that are left
 abbrev pub decreases-loop-found : goal.decreases-loop-found

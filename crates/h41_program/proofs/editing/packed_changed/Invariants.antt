@@ -9,7 +9,8 @@ use Rattle.h41_program.proofs.editing.packed_changed.Given as goal
 abbrev pub invariant-loop-found : goal.invariant-loop-found
 invariant-loop-found g l =
     (before : List ListedLine)
-    × Changed (program_bytes l.ram.registers) (final_position l.ram.registers) l.packer l.met (lines_of_change l.change l.place) l.place l.at before
+    × Changed (program_bytes l.ram.registers) (final_position l.ram.registers) l.packer l.met (lines_of_change l.change l.place) l.place
+        l.at before
 
 -- the bytes that are left
 abbrev pub decreases-loop-found : goal.decreases-loop-found

@@ -5,4 +5,5 @@ use Rattle.h41_program.proofs.rewriting.rewrite.Given as goal
 
 -- the registers so far
 abbrev pub invariant-loop-index : goal.invariant-loop-index
-invariant-loop-index g l = (k : ℕ) → k < l.index → get_or l.register-items k zeros ≡ rewritten_register l.ram.registers l.bytes (main_start + k)
+invariant-loop-index g l = (k : ℕ) → k < l.index → get_or l.register-items k zeros
+    ≡ rewritten_register l.ram.registers l.bytes (main_start + k)

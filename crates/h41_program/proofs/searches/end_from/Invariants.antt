@@ -7,7 +7,8 @@ use Rattle.h41_program.proofs.searches.end_from.Given as goal
 
 -- the lines so far
 abbrev pub invariant-loop-place : goal.invariant-loop-place
-invariant-loop-place g l = (before : List ListedLine) × UpTo (program_bytes l.ram.registers) (final_position l.ram.registers) l.from before l.at × Runs before
+invariant-loop-place g l = (before : List ListedLine) × UpTo (program_bytes l.ram.registers) (final_position l.ram.registers) l.from before
+    l.at × Runs before
 
 -- the bytes that are left
 abbrev pub decreases-loop-place : goal.decreases-loop-place

@@ -7,7 +7,8 @@ use Rattle.h41_program.proofs.Walks.{up_to_none, up_to_more, ends_none, goes_on,
 use Rattle.h41_program.proofs.searches.label_from.Goals as goal
 
 pub loop-found-init : goal.loop-found-init
-loop-found-init g c = ([], up_to_none (program_bytes c.args.ram.now.registers) (final_position c.args.ram.now.registers) c.args.at, λ rest. refl)
+loop-found-init g c = ([], up_to_none (program_bytes c.args.ram.now.registers) (final_position c.args.ram.now.registers) c.args.at,
+    λ rest. refl)
 
 pub returns-then-is_label : goal.returns-then-is_label
 returns-then-is_label g c lines from =

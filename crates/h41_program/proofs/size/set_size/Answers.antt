@@ -17,4 +17,5 @@ returns-clause-size g c =
     fits_outcome memory c.resize.new.ram.registers c.args.size fits
 
 pub returns-clause-sound : goal.returns-clause-sound
-returns-clause-sound g c = resize_sound c.args.ram.now.registers c.resize.new.ram.registers c.args.size (Ok tt) c.requires (returns-clause-size g c)
+returns-clause-sound g c = resize_sound c.args.ram.now.registers c.resize.new.ram.registers c.args.size (Ok tt) c.requires
+    (returns-clause-size g c)

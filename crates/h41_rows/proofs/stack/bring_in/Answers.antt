@@ -11,5 +11,6 @@ returns-clause-change g c named =
       | then-lift w ↦
           in_lifted c.args.ram.now.registers c.if-lift.ram.registers named c.args.register c.args.lift
           w.if-lift.true (ap (λ (ram : RamState). ram.registers) w.ram-is ∙ w.enter.ensures.change c.args.register named)
-      | else-lift w ↦ in_x c.args.ram.now.registers c.if-lift.ram.registers named c.args.register c.args.lift w.if-lift.false (ap (λ (ram : RamState). ram.registers) w.ram-is)
+      | else-lift w ↦ in_x c.args.ram.now.registers c.if-lift.ram.registers named c.args.register c.args.lift w.if-lift.false
+          (ap (λ (ram : RamState). ram.registers) w.ram-is)
     ])

@@ -5,4 +5,5 @@ use Rattle.h41_ram.specs.RamState.{RamState}
 use Rattle.h41_xrom.proofs.typing.add_letter.Goals as goal
 
 pub returns-clause-memory : goal.returns-clause-memory
-returns-clause-memory g c = (ap (λ (ram : RamState). ram.registers) c.set_flag.ensures.written) ∙ ap (λ (of : RegisterMap). with_flag of alpha_entry true) (c.append_text.ensures.change 0)
+returns-clause-memory g c = (ap (λ (ram : RamState). ram.registers) c.set_flag.ensures.written)
+    ∙ ap (λ (of : RegisterMap). with_flag of alpha_entry true) (c.append_text.ensures.change 0)

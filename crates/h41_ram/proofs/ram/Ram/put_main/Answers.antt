@@ -1,4 +1,5 @@
-use Rattle.std.proofs.Common.{rules, ◌≡◌, ◌<◌, ◌≤◌, ◌&&◌, ◌||◌, false, true, nat_le, nat_lt, slice_set, ℕ, ◌+◌, ◌-◌, ◌*◌, length, ◌/◌, ◌%◌, Bool, nat_eq, List, [], ◌∷◌, ◌++◌, slice_index_or}
+use Rattle.std.proofs.Common.{rules, ◌≡◌, ◌<◌, ◌≤◌, ◌&&◌, ◌||◌, false, true, nat_le, nat_lt, slice_set, ℕ, ◌+◌, ◌-◌, ◌*◌, length, ◌/◌, ◌%◌}
+use Rattle.std.proofs.Common.{Bool, nat_eq, List, [], ◌∷◌, ◌++◌, slice_index_or}
 use Rattle.h41_ram.specs.RegisterMap as spec
 use Rattle.h41_ram.specs.RamState as state
 use Rattle.h41_ram.specs.private.KeptParts as kept

@@ -1,0 +1,75 @@
+-- Square roots of whole numbers, by Newton's method.
+use Rattle.std.proofs.Common.{◌≡◌, ℕ, zero, suc, ◌+◌, ◌-◌, ◌*◌, ◌/◌, ◌%◌, ◌^◌, ◌<◌, ◌≤◌, ⊎_elim, arith}
+use Rattle.std.proofs.Math.Nat.{mul-le-mul, pow-le-pow_right, le_of_mul-le-mul_right, lt-div-mul-add}
+use Rattle.std.proofs.lemmas.Nat.{div_below}
+use Rattle.std.proofs.lemmas.Bool.{cases_lt}
+
+-- the mean of two numbers is not below the root of their product
+mean_ordered : (a k : ℕ) → 4 * (a * (a + k)) ≤ (a + (a + k)) * (a + (a + k))
+mean_ordered a k = omega arith
+
+mean_square : (a b : ℕ) → 4 * (a * b) ≤ (a + b) * (a + b)
+mean_square a b =
+    ⊎_elim
+    (λ (less : a < b).
+    let e : a + (b - a) ≡ b = omega arith in
+    rw e at (mean_ordered a (b - a)))
+    (λ (enough : b ≤ a).
+    let e : b + (a - b) ≡ a = omega arith in
+    let h : 4 * (b * a) ≤ (b + a) * (b + a) = rw e at (mean_ordered b (a - b)) in
+    omega arith)
+    (cases_lt a b)
+
+-- so a step of Newton's method does not lead below the root
+pub step_above : (n x : ℕ) → 0 < x → n < ((x + n / x) / 2 + 1) * ((x + n / x) / 2 + 1)
+step_above n x some =
+    let q = n / x in
+    let y = (x + q) / 2 in
+    let high : n < q * x + x = lt-div-mul-add some in
+    let product : 4 * (x * (q + 1)) ≤ (x + (q + 1)) * (x + (q + 1)) = mean_square x (q + 1) in
+    let twice : x + (q + 1) ≤ 2 * (y + 1) = omega arith in
+    let square : (x + (q + 1)) * (x + (q + 1)) ≤ (2 * (y + 1)) * (2 * (y + 1)) = mul-le-mul twice twice in
+    quarter n x q (y + 1) high product square
+  where
+    quarter : (n x q y : ℕ) → n < q * x + x → 4 * (x * (q + 1)) ≤ (x + (q + 1)) * (x + (q + 1))
+        → (x + (q + 1)) * (x + (q + 1)) ≤ (2 * y) * (2 * y) → n < y * y
+    quarter n x q y high product square = omega arith
+
+-- from above the root it leads down
+pub step_falls : (n x : ℕ) → 0 < x → n < x * x → (x + n / x) / 2 < x
+step_falls n x some above =
+    let less : n / x < x = div_below n x x some above in
+    omega arith
+
+-- five digits more of a root s, of what its square lacks: where they are too high, one less is not
+pub more_below : (n s d e : ℕ) → s * s + d ≡ n → d ≤ 2 * s → 10 ^ 5 ≤ s → e * (2 * s) ≤ d * 10 ^ 5
+    → n * 10 ^ 10 < (s * 10 ^ 5 + e) * (s * 10 ^ 5 + e)
+    → (s * 10 ^ 5 + e - 1) * (s * 10 ^ 5 + e - 1) ≤ n * 10 ^ 10
+more_below n s d zero n_is few s_size low above = absurd (omega arith)
+more_below n s d (suc f) n_is few s_size low above =
+    let some : 0 < 2 * s = omega arith in
+    let all : suc f * (2 * s) ≤ 10 ^ 5 * (2 * s) = omega arith in
+    let small : suc f ≤ 10 ^ 5 = le_of_mul-le-mul_right all some in
+    let fits : f ≤ 10 ^ 5 = omega arith in
+    let square : f * f ≤ 10 ^ 5 * 10 ^ 5 = mul-le-mul fits fits in
+    let one_less : s * 10 ^ 5 + suc f - 1 ≡ s * 10 ^ 5 + f = omega arith in
+    rw one_less (one_lower n s d f n_is s_size (omega arith) square)
+  where
+    one_lower : (n s d f : ℕ) → s * s + d ≡ n → 10 ^ 5 ≤ s → f * (2 * s) + 2 * s ≤ d * 10 ^ 5 → f * f ≤ 10 ^ 5 * 10 ^ 5
+        → (s * 10 ^ 5 + f) * (s * 10 ^ 5 + f) ≤ n * 10 ^ 10
+    one_lower n s d f n_is s_size low square = omega arith
+
+-- a number of ten digits with one or two more
+pub filled_digits : (m s p : ℕ) → 10 ^ 9 ≤ m → m < 10 ^ 10 → p ≡ 10 ^ (2 - s % 2) → (10 ^ 10 ≤ m * p) × (m * p < 10 ^ 12)
+filled_digits m s p m_size m_below p_is =
+    let some : 0 < 10 = omega arith in
+    let least : 1 ≤ 2 - s % 2 = omega arith in
+    let most : 2 - s % 2 ≤ 2 = omega arith in
+    let low : 10 ^ 1 ≤ 10 ^ (2 - s % 2) = pow-le-pow_right some least in
+    let high : 10 ^ (2 - s % 2) ≤ 10 ^ 2 = pow-le-pow_right some most in
+    let p_low : 10 ≤ p = omega arith in
+    let p_high : p ≤ 100 = omega arith in
+    let m_most : m ≤ 9999999999 = omega arith in
+    let a : 10 ^ 9 * 10 ≤ m * p = mul-le-mul m_size p_low in
+    let b : m * p ≤ 9999999999 * 100 = mul-le-mul m_most p_high in
+    (omega arith, omega arith)

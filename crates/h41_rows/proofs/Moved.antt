@@ -1,0 +1,37 @@
+-- A size that is moved by whole ones, where this changes its digits alone.
+use Rattle.std.proofs.Common.{◌≡◌, ℕ, ◌+◌, ◌-◌, ◌*◌, ◌<◌, Bool, true, false, sym, ◌∙◌, ap, arith}
+use Rattle.std.specs.Prelude.{◌+ℤ◌}
+use denote.Enum.Bare.{sameb}
+use Rattle.h41_decimal.specs.contracts.sign.Sign.{the_type}
+use Rattle.h41_decimal.specs.Signs.{signed}
+use Rattle.h41_decimal.specs.Units.{one}
+use Rattle.h41_decimal.specs.declared.sign.Sign.{Sign}
+use Rattle.h41_decimal.proofs.Signed.{signed-add, signed-sub}
+use Rattle.h41_decimal.proofs.Tens.{minus_same_sign, signs_apart, signs_same}
+use Rattle.h41_rows.specs.private.Counting.{IsMovedSize}
+
+-- its digits, of which u count one
+pub moved_up : (grows : Bool) (m c u p digits : ℕ) → grows ≡ true → digits ≡ m + c * u → u * p ≡ one
+    → IsMovedSize grows (m * p) (c * one) (digits * p)
+moved_up true m c u p digits way digits_is unit =
+    let e : digits * p ≡ (m + c * u) * p = ap (λ t. t * p) digits_is in
+    let f : c * (u * p) ≡ c * one = ap (λ t. c * t) unit in
+    omega (arith, e, f)
+moved_up false m c u p digits way digits_is unit = absurd cc
+
+pub moved_down : (grows : Bool) (m c u p digits : ℕ) → grows ≡ false → digits ≡ m - c * u → 0 < digits → u * p ≡ one
+    → IsMovedSize grows (m * p) (c * one) (digits * p)
+moved_down true m c u p digits way digits_is some unit = absurd cc
+moved_down false m c u p digits way digits_is some unit =
+    let whole : digits + c * u ≡ m = omega arith in
+    let e : (digits + c * u) * p ≡ m * p = ap (λ t. t * p) whole in
+    let f : c * (u * p) ≡ c * one = ap (λ t. c * t) unit in
+    omega (arith, e, f)
+
+-- with its sign
+pub moved_units : (grows : Bool) (s d : Sign) (x step y : ℕ) → grows ≡ sameb the_type s d → IsMovedSize grows x step y
+    → signed s x +ℤ signed d step ≡ signed s y
+moved_units true s d x step y way is =
+    ap (λ (t : Sign). signed s x +ℤ signed t step) (sym (signs_same s d way)) ∙ signed-add s x step ∙ ap (signed s) (sym is)
+moved_units false s d x step y way is =
+    ap (λ (t : Sign). signed s x +ℤ signed t step) (signs_apart s d way) ∙ minus_same_sign s x step ∙ signed-sub s x step y is

@@ -1,5 +1,5 @@
 -- A line of one byte or two that stands where a line is looked for is the first, and no END.
-use Rattle.std.proofs.Common.{◌≡◌, ◌≢◌, ℕ, ◌+◌, ◌-◌, ◌<◌, List, [], ◌∷◌, map, min, length, true, false, Option, Some, None, IfSome, Ok}
+use Rattle.std.proofs.Common.{◌≡◌, ◌≢◌, ℕ, ◌+◌, ◌-◌, ◌<◌, List, [], ◌∷◌, map, min, length, true, false, Ok}
 use Rattle.std.proofs.Common.{Result, inl, inr, refl, sym, subst, ap, ◌∙◌, arith}
 use Rattle.std.specs.List.{range_with_len}
 use Rattle.h41_codes.specs.ByteGrammar.{spelling, Begins, Spells}
@@ -10,10 +10,10 @@ use Rattle.h41_codes.specs.declared.line.Line.{Line}
 use Rattle.h41_codes.specs.declared.line.Line.TheVariants.{End, FinalEnd}
 use Rattle.h41_program.specs.Lines.{is_end, is_final_end}
 use Rattle.h41_program.specs.ProgramBytes.{byte_count, final_position, program_byte}
-use Rattle.h41_program.specs.ProgramLines.{HasFirst, HasPlace}
-use Rattle.h41_program.specs.private.Reading.{bytes_seen, BeginsNoNumber, EndsNothing, HasThere}
+use Rattle.h41_program.specs.ProgramLines.{HasFirst}
+use Rattle.h41_program.specs.private.Reading.{bytes_seen}
 use Rattle.h41_program.proofs.Memory.{Looked, looked_first}
-use Rattle.h41_program.proofs.ShortLines.{begins_by, no_number, seen_alone, seen_narrow, whole_narrow}
+use Rattle.h41_program.proofs.ShortLines.{BeginsNoNumber, begins_by, no_number, seen_alone, seen_narrow, whole_narrow}
 use Rattle.h41_ram.specs.RegisterMap.{RegisterMap, is_sound}
 
 -- lines of one byte end nothing
@@ -47,15 +47,6 @@ module _ (one : OneLine) (numbers : NumberBegins) (memory : RegisterMap) (sound 
       let answer : Result (Line × ℕ) BrokenProgram = Ok (line, 1) in
       looked_first one memory sound at at last last (bytes_seen memory at last) looked answer
       (seen_alone one numbers memory at last byte line 1 before is (no_number byte alone) begins) line 1 (at + 1) refl refl
-
-  pub one_byte_place : HasPlace memory at (record { position = at; behind = at + 1; ends_program = false; ends_memory = false })
-  one_byte_place = (line, one_byte_first, ends_no_program byte line spells.same, ends_no_memory byte line spells.same)
-
--- lines of two bytes end nothing
-pub two_end_nothing : (first second : ℕ) (line : Line) → first ∷ second ∷ [] ≡ spelling line → EndsNothing line
-two_end_nothing first second (End link marks) same = absurd (omega (arith, ap length same))
-two_end_nothing first second (FinalEnd link marks) same = absurd (omega (arith, ap length same))
-two_end_nothing first second line same = (refl, refl)
 
 -- the bytes of two positions
 seen_pair : (memory : RegisterMap) (at : ℕ) → bytes_seen memory at (at + 2) ≡ program_byte memory at ∷ program_byte memory (at + 1) ∷ []
@@ -94,7 +85,7 @@ module _ (one : OneLine) (numbers : NumberBegins) (memory : RegisterMap) (sound 
     bytes = refl;
   }
 
-  pub two_bytes_first : HasThere memory at 2 line
+  pub two_bytes_first : HasFirst memory at (record { listed = record { position = at; line = line }; behind = at + 2 })
   two_bytes_first =
       let pair : Begins (first ∷ second ∷ []) line 2 = record {
         inside = omega arith;
@@ -107,12 +98,3 @@ module _ (one : OneLine) (numbers : NumberBegins) (memory : RegisterMap) (sound 
       (seen_narrow one numbers memory at (at + 2) last first line 2 (omega (arith, before))
       (omega (arith, before)) is (two_no_number first two) begins)
       line 2 (at + 2) refl refl
-
-pub two_bytes_found : (one : OneLine) (numbers : NumberBegins) (memory : RegisterMap)
-    (sound : is_sound memory ≡ true) (at last first second : ℕ)
-    → last ≡ final_position memory → last + 3 ≡ byte_count memory → at + 1 < last → first ≡ program_byte memory at
-    → second ≡ program_byte memory (at + 1) → (found : Option Line)
-    → IfSome found (λ line. IsTwoBytes first × Spells (first ∷ second ∷ []) line) → IfSome found (λ line. HasThere memory at 2 line)
-two_bytes_found one numbers memory sound at last first second last_is count before is next None none = tt
-two_bytes_found one numbers memory sound at last first second last_is count before is next (Some line) found =
-    two_bytes_first one numbers memory sound at last first second last_is count before is next found.0 line found.1

@@ -13,6 +13,7 @@ pub mod FirstLines
 pub mod FoundOnce
 pub mod Givens
 pub mod Inner
+pub mod Labels
 pub mod ListLaws
 pub mod LoadSteps
 pub mod Loads
@@ -23,6 +24,8 @@ pub mod Numbers
 pub mod Onward
 pub mod Outcomes
 pub mod Packings
+pub mod Places
+pub mod PlacesFound
 pub mod PositionsFound
 pub mod PositionsRead
 pub mod Resized
@@ -31,6 +34,7 @@ pub mod Rooms
 pub mod RoundTrips
 pub mod SearchSteps
 pub mod ShortLines
+pub mod Sizes
 pub mod Sound
 pub mod Walks
 pub mod Windows

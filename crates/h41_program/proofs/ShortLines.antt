@@ -12,8 +12,12 @@ use Rattle.h41_codes.specs.declared.line.Line.{Line}
 use Rattle.h41_codes.specs.declared.line.Line.TheVariants.{Number}
 use Rattle.h41_program.proofs.Windows.{begins_least}
 use Rattle.h41_program.specs.ProgramBytes.{program_byte}
-use Rattle.h41_program.specs.private.Reading.{BeginsNoNumber, bytes_seen}
+use Rattle.h41_program.specs.private.Reading.{bytes_seen}
 use Rattle.h41_ram.specs.RegisterMap.{RegisterMap}
+
+-- a byte with which no number begins
+abbrev pub BeginsNoNumber : ℕ → Type 0
+BeginsNoNumber byte = 0x10 ≤ byte → byte ≤ 0x1C → ⊥
 
 whole_alone : (numbers : NumberBegins) (line : Line) (byte : ℕ) (rest : List ℕ) → IsLine line → byte ∷ [] ≡ spelling line
     → BeginsNoNumber byte → IsWhole line rest

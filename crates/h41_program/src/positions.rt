@@ -41,9 +41,9 @@ pub fn next<const REGS: usize>(ram: &Ram<REGS>, at: Position) -> Result<Position
     ensures { NextAt ram.now.registers at result }
 {
     match at {
-        Position::Memory(at) => match reading::next(ram, at) {
-            Ok(next) => Ok(Position::Memory(next)),
-            Err(refusal) => Err(refusal),
+        Position::Memory(at) => match first_from(ram, at) {
+            Some(first) => Ok(Position::Memory(position_behind(ram, first))),
+            None => Err(ProgramRefusal::BrokenProgram),
         },
     }
 }
@@ -101,10 +101,14 @@ pub fn end_of<const REGS: usize>(ram: &Ram<REGS>, at: Position) -> Option<Positi
     ensures { EndOf ram.now.registers at result }
 {
     match at {
-        Position::Memory(at) => match searches::end_of(ram, at) {
-            Some(found) => Some(Position::Memory(found)),
-            None => None,
-        },
+        Position::Memory(at) => {
+            byte_round_trip();
+            one_list();
+            match searches::end_from(ram, searches::start_of(ram, at)) {
+                Some(found) => Some(Position::Memory(found)),
+                None => None,
+            }
+        }
     }
 }
 

@@ -5,18 +5,18 @@ ghost use Rattle.std.specs.List.{range_with_len};
 ghost use Rattle.h41_ram.specs.RegisterMap.{is_sound};
 ghost use Rattle.h41_program.specs.ProgramBytes.{byte_count, final_position, program_byte};
 ghost use Rattle.h41_program.specs.ProgramBytes as spec;
-ghost use Rattle.h41_program.specs.ProgramLines.{AnswersFirst, AnswersNext, HasFirst, HasNoLine};
+ghost use Rattle.h41_program.specs.ProgramLines.{AnswersFirst, HasFirst, HasNoLine};
 ghost use Rattle.h41_program.specs.ProgramLines.{HasPlace, PositionFrom};
-ghost use Rattle.h41_program.specs.private.Reading.{bytes_seen, register_holding, BeginsNoNumber};
-ghost use Rattle.h41_program.specs.private.Reading.{EndsNothing, FoundBehind, HasThere};
-ghost use Rattle.h41_codes.specs.ByteGrammar.{AnswersLine};
+ghost use Rattle.h41_program.specs.private.Reading.{bytes_seen, register_holding, BeginsAt, Fits};
+ghost use Rattle.h41_program.specs.private.Reading.{BeginsNothing, BeginsSized, FoundBehind};
+ghost use Rattle.h41_codes.specs.Heads.{IsIn};
 
-use crate::kinds::{is_end, is_final_end};
+use crate::kinds::is_final_end;
 use crate::listed_line::ListedLine;
 use crate::refusal::ProgramRefusal;
 use arrayvec::ArrayVec;
 use h41_codes::laws::{byte_round_trip, first_bytes, line_or_none};
-use h41_codes::{BrokenProgram, Line, decode, is_one_byte, one_byte_line, two_byte_line};
+use h41_codes::{Line, decode, is_one_byte, one_byte_line, two_byte_line};
 use h41_digits::Reg;
 use h41_ram::Ram;
 
@@ -25,6 +25,9 @@ pub const REGISTER_BYTES: u16 = 7;
 
 /// How many bytes `.END.` has, which stands in the last ones.
 const END_BYTES: u16 = 3;
+
+/// The most bytes of a number.
+const NUMBER_MOST: u16 = 16;
 
 /// The most bytes of a line: a label with a name of 14 characters.
 const LINE_MOST: u16 = 18;
@@ -79,7 +82,7 @@ fn register_holding<const REGS: usize>(ram: &Ram<REGS>, position: u16) -> Reg
 
 /// The byte at a position of program memory.
 #[inline(always)]
-fn byte_at<const REGS: usize>(ram: &Ram<REGS>, position: u16) -> u8
+pub fn byte_at<const REGS: usize>(ram: &Ram<REGS>, position: u16) -> u8
     requires { position < byte_count ram.now.registers }
     ensures { result ≡ program_byte ram.now.registers position }
 {
@@ -128,75 +131,155 @@ fn window<const REGS: usize>(ram: &Ram<REGS>, at: u16, limit: u16) -> Window
     window
 }
 
-/// How many bytes a line takes at most that a byte begins: told by that byte for lines of two or three bytes and texts, and 18
-/// for all others.
+/// The place of a line of so many bytes that ends nothing, where these stand from a position to another.
 #[inline(always)]
-fn line_most(byte: u8) -> u16
-    ensures least { 1 ≤ result }
-    ensures most { result ≤ 18 }
-    ensures number { result < 18 → BeginsNoNumber byte }
-{
-    match byte {
-        0x90..=0xBF | 0xCE | 0xCF => 2,
-        0xD0..=0xEF => 3,
-        0xF0..=0xFF => u16::from(byte - 0xF0) + 1,
-        _ => LINE_MOST,
-    }
-}
-
-/// The line that the bytes from a position to another begin with, of as many of them as its first one asks for.
-#[inline(always)]
-fn decoded<const REGS: usize>(
-    ram: &Ram<REGS>,
-    at: u16,
-    limit: u16,
-) -> Result<(Line, usize), BrokenProgram>
+fn fitting<const REGS: usize>(ram: &Ram<REGS>, at: u16, limit: u16, size: u16) -> Option<LinePlace>
     requires from { at < limit }
     requires limit { limit ≤ byte_count ram.now.registers }
     requires bound { limit < 65000 }
-    requires sound { IsTrue (is_sound ram.now.registers) }
-    ensures { AnswersLine result (bytes_seen ram.now.registers at limit) }
+    ensures some { IfSome result (λ place. Fits ram.now.registers at limit size place) }
+    ensures none { IfNone result (limit < at + size) }
 {
-    byte_round_trip();
+    if size > limit - at {
+        return None;
+    }
+    for position in at..at + size {
+        let _byte = byte_at(ram, position);
+    }
+    Some(LinePlace {
+        position: at,
+        behind: at + size,
+        ends_program: false,
+        ends_memory: false,
+    })
+}
+
+/// The place of the line that stands at a position, and may take the bytes before another: its first bytes tell how many it takes.
+/// `None` where bytes that are no line stand there.
+#[inline(always)]
+fn place_at<const REGS: usize>(ram: &Ram<REGS>, at: u16, limit: u16) -> Option<LinePlace>
+    requires from { at < limit }
+    requires limit { limit ≤ byte_count ram.now.registers }
+    requires bound { limit < 65000 }
+    ensures some { IfSome result (λ place. BeginsAt ram.now.registers at limit place) }
+    ensures none { IfNone result (BeginsNothing ram.now.registers at limit) }
+{
     first_bytes();
     let byte = byte_at(ram, at);
-    let most = line_most(byte);
-    if most < LINE_MOST {
-        if let Ok(found) = decoded_in(ram, at, limit.min(at + most)) {
-            return Ok(found);
-        }
+    if is_one_byte(byte) {
+        return Some(LinePlace {
+            position: at,
+            behind: at + 1,
+            ends_program: false,
+            ends_memory: false,
+        });
     }
-    decoded_in(ram, at, limit)
+    match byte {
+        0x10..=0x1C => fitting(ram, at, limit, number_size(ram, at, limit)),
+        0x1D..=0x1F => named_at(ram, at, limit),
+        0xAF | 0xB0 => None,
+        0xC0..=0xCD => linked_at(ram, at, limit),
+        0xD0..=0xEF => fitting(ram, at, limit, 3),
+        0xF0..=0xFF => fitting(ram, at, limit, u16::from(byte - 0xF0) + 1),
+        _ => fitting(ram, at, limit, 2),
+    }
 }
 
-/// The line that the bytes from a position to another begin with, of the first 18 of them.
-#[inline(always)]
-fn decoded_in<const REGS: usize>(
-    ram: &Ram<REGS>,
-    at: u16,
-    limit: u16,
-) -> Result<(Line, usize), BrokenProgram>
+/// How many bytes the number takes that stands at a position: all that can go on in it, 16 at most.
+fn number_size<const REGS: usize>(ram: &Ram<REGS>, at: u16, limit: u16) -> u16
     requires from { at < limit }
     requires limit { limit ≤ byte_count ram.now.registers }
     requires bound { limit < 65000 }
-    requires sound { IsTrue (is_sound ram.now.registers) }
-    ensures { AnswersLine result (bytes_seen ram.now.registers at limit) }
+    requires first { IsIn 0x10 0x1D (program_byte ram.now.registers at) }
+    ensures line { BeginsSized ram.now.registers at limit result }
+    ensures inside { at + result ≤ limit }
 {
-    decode(window(ram, at, limit).as_slice())
+    let most = limit.min(at + NUMBER_MOST);
+    for position in at + 1..most {
+        let byte = byte_at(ram, position);
+        if byte < 0x10 || byte > 0x1C {
+            return position - at;
+        }
+    }
+    most - at
 }
 
-/// The byte behind those that a line may take which begins at a position: the last three are taken from their first on alone.
-#[inline(always)]
-fn line_limit(position: u16, last: u16) -> u16
-    requires from { position ≤ last }
-    requires bound { last < 2240 }
-    ensures before { position < last → result ≡ last }
-    ensures last { position ≡ last → result ≡ last + 3 }
+/// The place of the GTO, XEQ or W of a name that stands at a position.
+fn named_at<const REGS: usize>(ram: &Ram<REGS>, at: u16, limit: u16) -> Option<LinePlace>
+    requires from { at < limit }
+    requires limit { limit ≤ byte_count ram.now.registers }
+    requires bound { limit < 65000 }
+    requires first { IsIn 0x1D 0x20 (program_byte ram.now.registers at) }
+    ensures some { IfSome result (λ place. BeginsAt ram.now.registers at limit place) }
+    ensures none { IfNone result (BeginsNothing ram.now.registers at limit) }
 {
+    if limit - at < 2 {
+        return None;
+    }
+    let text = byte_at(ram, at + 1);
+    if text < 0xF0 {
+        return None;
+    }
+    fitting(ram, at, limit, u16::from(text - 0xF0) + 2)
+}
+
+/// The place of the global label, END or `.END.` that stands at a position, told by the third byte.
+fn linked_at<const REGS: usize>(ram: &Ram<REGS>, at: u16, limit: u16) -> Option<LinePlace>
+    requires from { at < limit }
+    requires limit { limit ≤ byte_count ram.now.registers }
+    requires bound { limit < 65000 }
+    requires first { IsIn 0xC0 0xCE (program_byte ram.now.registers at) }
+    ensures some { IfSome result (λ place. BeginsAt ram.now.registers at limit place) }
+    ensures none { IfNone result (BeginsNothing ram.now.registers at limit) }
+{
+    if limit - at < END_BYTES {
+        return None;
+    }
+    let _first = byte_at(ram, at);
+    let _second = byte_at(ram, at + 1);
+    let third = byte_at(ram, at + 2);
+    if third == 0xF0 {
+        return None;
+    }
+    if third > 0xF0 {
+        return fitting(ram, at, limit, u16::from(third - 0xF0) + END_BYTES);
+    }
+    if third / 32 % 2 == 0 {
+        return Some(LinePlace {
+            position: at,
+            behind: at + END_BYTES,
+            ends_program: true,
+            ends_memory: false,
+        });
+    }
+    Some(LinePlace {
+        position: at,
+        behind: at + END_BYTES,
+        ends_program: false,
+        ends_memory: true,
+    })
+}
+
+/// Where the first line from a position on stands and what it ends, nulls passed over: told by its first bytes, without reading it.
+/// The last three bytes are taken from their first on alone.
+#[inline(always)]
+pub fn place_from<const REGS: usize>(ram: &Ram<REGS>, at: u16) -> Option<LinePlace>
+    requires { IsTrue (is_sound ram.now.registers) }
+    ensures place { IfSome result (λ place. HasPlace ram.now.registers at place) }
+    ensures none { IfNone result (HasNoLine ram.now.registers at) }
+    ensures inside { IfSome result (λ place. place.position ≤ 2237) }
+    ensures behind { IfSome result (λ place. place.behind ≤ 2240) }
+{
+    byte_round_trip();
+    let last = final_position(ram);
+    if at > last {
+        return None;
+    }
+    let position = past_nulls(ram, at, last);
     if position < last {
-        last
+        place_at(ram, position, last)
     } else {
-        last + END_BYTES
+        place_at(ram, position, last + END_BYTES)
     }
 }
 
@@ -222,103 +305,43 @@ pub fn first_from<const REGS: usize>(ram: &Ram<REGS>, at: u16) -> Option<Found>
                     behind: at + 1,
                 });
             }
-            if let Some(line) = two_bytes_at(ram, at, byte, last) {
-                return Some(Found {
-                    listed: ListedLine { position: at, line },
-                    behind: at + 2,
-                });
+            if at + 1 < last {
+                if let Some(line) = two_byte_line(byte, byte_at(ram, at + 1)) {
+                    return Some(Found {
+                        listed: ListedLine { position: at, line },
+                        behind: at + 2,
+                    });
+                }
             }
         }
     }
-    first_decoded(ram, at, last)
+    first_decoded(ram, at)
 }
 
-/// The line of two bytes that stands at a position, whose first is given, where both stand before the last three.
-#[inline(always)]
-fn two_bytes_at<const REGS: usize>(ram: &Ram<REGS>, at: u16, byte: u8, last: u16) -> Option<Line>
-    requires sound { IsTrue (is_sound ram.now.registers) }
-    requires last { last ≡ final_position ram.now.registers }
-    requires count { last + 3 ≡ byte_count ram.now.registers }
-    requires before { at < last }
-    requires bound { last ≤ 2237 }
-    requires byte { byte ≡ program_byte ram.now.registers at }
-    ensures first { IfSome result (λ line. HasThere ram.now.registers at 2 line) }
-    ensures ends { IfSome result (λ line. EndsNothing line) }
-    ensures inside { IsSome result → at + 1 < last }
-{
-    byte_round_trip();
-    first_bytes();
-    if at + 1 < last {
-        two_byte_line(byte, byte_at(ram, at + 1))
-    } else {
-        None
-    }
-}
-
-/// The first line from a position on, nulls passed over, read of a window of bytes.
-#[inline(always)]
-fn first_decoded<const REGS: usize>(ram: &Ram<REGS>, at: u16, last: u16) -> Option<Found>
-    requires sound { IsTrue (is_sound ram.now.registers) }
-    requires last { last ≡ final_position ram.now.registers }
-    requires count { last + 3 ≡ byte_count ram.now.registers }
-    requires bound { last ≤ 2237 }
+/// The first line from a position on, nulls passed over, read of the bytes that it takes.
+#[inline(never)]
+fn first_decoded<const REGS: usize>(ram: &Ram<REGS>, at: u16) -> Option<Found>
+    requires { IsTrue (is_sound ram.now.registers) }
     ensures first { IfSome result (λ found. HasFirst ram.now.registers at found) }
     ensures none { IfNone result (HasNoLine ram.now.registers at) }
     ensures inside { IfSome result (λ found. found.listed.position ≤ 2237) }
     ensures behind { IfSome result (λ found. found.behind ≤ 2240) }
 {
-    byte_round_trip();
-    if at > last {
-        return None;
-    }
-    let position = past_nulls(ram, at, last);
-    match decoded(ram, position, line_limit(position, last)) {
-        Ok((line, count)) => Some(Found {
-            listed: ListedLine { position, line },
-            behind: position + count as u16,
-        }),
-        Err(_) => None,
-    }
-}
-
-/// Where the first line from a position on stands and what it ends, as `first_from` finds it.
-#[inline(always)]
-pub fn place_from<const REGS: usize>(ram: &Ram<REGS>, at: u16) -> Option<LinePlace>
-    requires { IsTrue (is_sound ram.now.registers) }
-    ensures place { IfSome result (λ place. HasPlace ram.now.registers at place) }
-    ensures none { IfNone result (HasNoLine ram.now.registers at) }
-{
-    byte_round_trip();
-    first_bytes();
-    let last = final_position(ram);
-    if at < last {
-        let byte = byte_at(ram, at);
-        if byte != 0 {
-            if is_one_byte(byte) {
-                return Some(LinePlace {
-                    position: at,
-                    behind: at + 1,
-                    ends_program: false,
-                    ends_memory: false,
-                });
-            }
-            if let Some(_line) = two_bytes_at(ram, at, byte, last) {
-                return Some(LinePlace {
-                    position: at,
-                    behind: at + 2,
-                    ends_program: false,
-                    ends_memory: false,
-                });
+    match place_from(ram, at) {
+        Some(place) => {
+            let LinePlace {
+                position,
+                behind,
+                ..
+            } = place;
+            match decode(window(ram, position, behind).as_slice()) {
+                Ok((line, _count)) => Some(Found {
+                    listed: ListedLine { position, line },
+                    behind,
+                }),
+                Err(_) => None,
             }
         }
-    }
-    match first_decoded(ram, at, last) {
-        Some(found) => Some(LinePlace {
-            position: found.listed.position,
-            behind: found.behind,
-            ends_program: is_end(&found.listed.line),
-            ends_memory: is_final_end(found.listed.line),
-        }),
         None => None,
     }
 }
@@ -330,17 +353,6 @@ pub fn line_at<const REGS: usize>(ram: &Ram<REGS>, at: u16) -> Result<ListedLine
 {
     match first_from(ram, at) {
         Some(found) => Ok(found.listed),
-        None => Err(ProgramRefusal::BrokenProgram),
-    }
-}
-
-/// The byte of the next line, as `positions::next` answers it.
-pub fn next<const REGS: usize>(ram: &Ram<REGS>, at: u16) -> Result<u16, ProgramRefusal>
-    requires { IsTrue (is_sound ram.now.registers) }
-    ensures { AnswersNext ram.now.registers at result }
-{
-    match first_from(ram, at) {
-        Some(first) => Ok(position_behind(ram, first)),
         None => Err(ProgramRefusal::BrokenProgram),
     }
 }

@@ -1,14 +1,15 @@
 //! Where programs begin and end, and labels stand.
-ghost use Rattle.std.specs.Prelude.{IsTrue};
+ghost use Rattle.std.specs.Prelude.{◌≡◌, IsTrue};
 ghost use Rattle.h41_ram.specs.RegisterMap.{is_sound};
-ghost use Rattle.h41_program.specs.ProgramLines.{AnswersOf};
-ghost use Rattle.h41_program.specs.private.Reading.{AnswersFrom};
-ghost use Rattle.h41_program.specs.Searches.{AnswersLocal, AnswersProgram, end_in, label_in};
+ghost use Rattle.h41_program.specs.Lines as spec;
+ghost use Rattle.h41_program.specs.ProgramLines.{AnswersOf, HasPlace};
+ghost use Rattle.h41_program.specs.private.Reading.{AnswersFrom, OfPlace};
+ghost use Rattle.h41_program.specs.Searches.{AnswersLocal, end_in, label_in};
 ghost use Rattle.h41_program.specs.Searches.{named_in, position_of, start_in, up_to_end};
 
-use crate::kinds::{is_end, is_final_end, is_label, is_named};
+use crate::kinds::{is_label, is_named};
 use crate::laws::one_list;
-use crate::reading::{Found, first_from, place_from};
+use crate::reading::{LinePlace, byte_at, first_from, place_from};
 use h41_codes::Parameter;
 use h41_codes::laws::byte_round_trip;
 use h41_ram::Ram;
@@ -37,18 +38,8 @@ pub fn start_of<const REGS: usize>(ram: &Ram<REGS>, at: u16) -> u16
     start
 }
 
-/// Where the program of a byte of memory ends, as `positions::end_of` answers it.
-pub fn end_of<const REGS: usize>(ram: &Ram<REGS>, at: u16) -> Option<u16>
-    requires { IsTrue (is_sound ram.now.registers) }
-    ensures { AnswersProgram end_in ram.now.registers at result }
-{
-    byte_round_trip();
-    one_list();
-    end_from(ram, start_of(ram, at))
-}
-
 /// Where the first END or `.END.` stands from a position on.
-fn end_from<const REGS: usize>(ram: &Ram<REGS>, from: u16) -> Option<u16>
+pub fn end_from<const REGS: usize>(ram: &Ram<REGS>, from: u16) -> Option<u16>
     requires { IsTrue (is_sound ram.now.registers) }
     ensures { AnswersFrom (λ lines. end_in (up_to_end lines)) ram.now.registers from result }
 {
@@ -85,20 +76,42 @@ fn label_from<const REGS: usize>(ram: &Ram<REGS>, at: u16, label: Parameter) -> 
         }
 {
     let mut position = at;
-    while let Some(found) = first_from(ram, position) {
-        let Found { listed, behind } = found;
-        if is_label(listed.line, label) {
-            return Some(listed.position);
+    while let Some(place) = place_from(ram, position) {
+        if is_label_at(ram, position, &place, label) {
+            return Some(place.position);
         }
-        if is_end(&listed.line) {
+        if place.ends_program {
             return None;
         }
-        if is_final_end(listed.line) {
+        if place.ends_memory {
             return None;
         }
-        position = behind;
+        position = place.behind;
     }
     None
+}
+
+/// Whether the line of a place, the first from a position on, is `LBL n`. It is read only where its first byte is that of a local
+/// label.
+#[inline(always)]
+fn is_label_at<const REGS: usize>(
+    ram: &Ram<REGS>,
+    at: u16,
+    place: &LinePlace,
+    label: Parameter,
+) -> bool
+    requires sound { IsTrue (is_sound ram.now.registers) }
+    requires place { HasPlace ram.now.registers at place.now }
+    ensures { OfPlace ram.now.registers at place.now (λ line. result ≡ spec.is_label label line) }
+{
+    let first = byte_at(ram, place.position);
+    if first >= 0x10 && first != 0xCF {
+        return false;
+    }
+    match first_from(ram, at) {
+        Some(found) => is_label(found.listed.line, label),
+        None => false,
+    }
 }
 
 /// Where the last `LBL` of a name stands in memory.
@@ -109,15 +122,35 @@ pub fn global<const REGS: usize>(ram: &Ram<REGS>, name: &[u8]) -> Option<u16>
 {
     let mut last = None;
     let mut position = 0;
-    while let Some(found) = first_from(ram, position) {
-        let Found { listed, behind } = found;
-        if is_final_end(listed.line) {
+    while let Some(place) = place_from(ram, position) {
+        if place.ends_memory {
             return last;
         }
-        if is_named(listed.line, name) {
-            last = Some(listed.position);
+        if is_named_at(ram, position, &place, name) {
+            last = Some(place.position);
         }
-        position = behind;
+        position = place.behind;
     }
     last
+}
+
+/// Whether the line of a place, the first from a position on, is `LBL` of a name. It is read only where it has as many bytes as
+/// that label, and the last one is that of the name.
+#[inline(always)]
+fn is_named_at<const REGS: usize>(ram: &Ram<REGS>, at: u16, place: &LinePlace, name: &[u8]) -> bool
+    requires sound { IsTrue (is_sound ram.now.registers) }
+    requires place { HasPlace ram.now.registers at place.now }
+    ensures { OfPlace ram.now.registers at place.now (λ line. result ≡ spec.is_named name.now line)
+        }
+{
+    if usize::from(place.behind - place.position) != name.len() + 4 {
+        return false;
+    }
+    if !name.is_empty() && byte_at(ram, place.behind - 1) != name[name.len() - 1] {
+        return false;
+    }
+    match first_from(ram, at) {
+        Some(found) => is_named(found.listed.line, name),
+        None => false,
+    }
 }

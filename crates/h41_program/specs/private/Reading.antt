@@ -1,20 +1,17 @@
 -- What the functions that read program memory promise one another.
-use Rattle.std.specs.Prelude.{◌≡◌, ◌≤◌, ℕ, ◌+◌, ◌-◌, ◌/◌, false, MatchBool, List, length, map, min}
+use Rattle.std.specs.Prelude.{◌≡◌, ◌≤◌, ◌<◌, ℕ, ◌+◌, ◌-◌, ◌/◌, false, MatchBool, List, length}
+use Rattle.std.specs.Prelude.{map, min}
 use Rattle.std.specs.List.{range_with_len}
 use Rattle.h41_ram.specs.RegisterMap.{RegisterMap, curtain_of, register_at}
 use Rattle.h41_codes.specs.declared.line.Line.{Line}
 use Rattle.h41_program.specs.declared.given.Taken.{Taken}
 use Rattle.h41_program.specs.declared.listed_line.ListedLine.{ListedLine}
+use Rattle.h41_codes.specs.ByteGrammar.{Begins}
 use Rattle.h41_program.specs.declared.reading.Found.{Found}
+use Rattle.h41_program.specs.declared.reading.LinePlace.{LinePlace}
 use Rattle.h41_program.specs.Lines.{is_end, is_final_end}
 use Rattle.h41_program.specs.ProgramBytes.{program_byte}
 use Rattle.h41_program.specs.ProgramLines.{HasFirst, NoneFrom, IsFirst, LinesFrom, PositionFrom}
-
--- memory has this line of so many bytes first from a position on, right there
-abbrev pub HasThere : RegisterMap → ℕ → ℕ → Line → Type 0
-HasThere memory at count line =
-    HasFirst memory at
-    (record { listed = record { position = at; line = line }; behind = at + count })
 
 -- a line ends neither a program nor memory
 abbrev pub EndsNothing : Line → Type 0
@@ -26,6 +23,14 @@ abbrev pub FoundBehind : RegisterMap → Found → ℕ → Type 0
 FoundBehind memory first position =
     MatchBool (is_final_end first.listed.line) (position ≡ first.listed.position)
     (PositionFrom memory first.behind position)
+
+-- what holds of the line that memory has first from a position on, at a place
+abbrev pub OfPlace : RegisterMap → ℕ → LinePlace → (Line → Type 0) → Type 0
+OfPlace memory at place holds =
+    (line : Line)
+    → HasFirst memory at
+    (record { listed = record { position = place.position; line = line }; behind = place.behind })
+    → holds line
 
 -- an answer is that of every list of lines from a position on
 abbrev pub AnswersFrom : {A : Type 0} → (List ListedLine → A) → RegisterMap → ℕ → A → Type 0
@@ -50,6 +55,35 @@ register_holding memory position = register_at memory (curtain_of memory - 1 - p
 abbrev pub bytes_seen : RegisterMap → ℕ → ℕ → List ℕ
 bytes_seen memory at limit = map (program_byte memory) (range_with_len at (min 18 (limit - at)))
 
--- a byte with which no number begins
-abbrev pub BeginsNoNumber : ℕ → Type 0
-BeginsNoNumber byte = 0x10 ≤ byte → byte ≤ 0x1C → ⊥
+-- the bytes from a position to another begin with a line of so many bytes that ends nothing
+abbrev pub BeginsSized : RegisterMap → ℕ → ℕ → ℕ → Type 0
+BeginsSized memory at limit size =
+    (line : Line) × Begins (bytes_seen memory at limit) line size × EndsNothing line
+
+-- with the line of a place, which stands at that position
+abbrev pub BeginsAt : RegisterMap → ℕ → ℕ → LinePlace → Type 0
+BeginsAt memory at limit place =
+    (line : Line) × (size : ℕ)
+    × Begins (bytes_seen memory at limit) line size
+    × (place ≡ record {
+      position = at;
+      behind = at + size;
+      ends_program = is_end line;
+      ends_memory = is_final_end line;
+    })
+
+-- with no line
+abbrev pub BeginsNothing : RegisterMap → ℕ → ℕ → Type 0
+BeginsNothing memory at limit =
+    (line : Line) (size : ℕ) → Begins (bytes_seen memory at limit) line size → ⊥
+
+-- so many bytes stand from a position to another: a place for a line that ends nothing
+pub record Fits (memory : RegisterMap) (at limit size : ℕ) (place : LinePlace) : Type 0 where
+  pub inside : at + size ≤ limit
+  pub bytes : (k : ℕ) → at ≤ k → k < at + size → program_byte memory k < 256
+  pub is : place ≡ record {
+    position = at;
+    behind = at + size;
+    ends_program = false;
+    ends_memory = false;
+  }

@@ -1,69 +1,44 @@
-use Rattle.std.proofs.Common.{◌+◌, refl, arith}
-use Rattle.std.proofs.lemmas.List.FromFn.{length-map-range_with_len}
-use Rattle.h41_program.specs.ProgramBytes.{byte_count, program_byte}
-use Rattle.h41_program.specs.private.Reading.{bytes_seen}
-use Rattle.h41_program.proofs.FirstLines.{first_inside}
-use Rattle.h41_program.proofs.Memory.{Looked, looked_first, looked_none}
-use Rattle.h41_program.proofs.Windows.{begins_most}
+use Rattle.std.proofs.Common.{ℕ, ◌-◌, List, arith, rules, sym, subst, ◌∙◌}
+use Rattle.h41_codes.specs.ByteGrammar.{AnswersLine}
+use Rattle.h41_codes.specs.declared.line.Line.{Line}
+use Rattle.h41_program.specs.ProgramLines.{HasFirst}
+use Rattle.h41_program.proofs.Memory.{no_error}
+use Rattle.h41_program.proofs.PlacesFound.{place_begins, place_inside, place_from_to, same_answer}
 use Rattle.h41_program.proofs.reading.first_decoded.Goals as goal
 
-pub returns-then-at-last-clause-none : goal.returns-then-at-last-clause-none
-returns-then-at-last-clause-none g c first is =
-    let inside = first_inside _ _ _ first is in
-    let from = is.from in
-    omega (arith, inside, from, c.requires.last)
-
-pub overflow_cast-result : goal.overflow_cast-result
-overflow_cast-result g c =
-    let most = begins_most _ _ _ ((c.decoded.ensures c.in-Ok.line c.in-Ok.count).0 c.in-Ok.is) in
-    omega (arith, most)
-
-pub overflow_add-result : goal.overflow_add-result
-overflow_add-result g c =
-    let most = begins_most _ _ _ ((c.decoded.ensures c.in-Ok.line c.in-Ok.count).0 c.in-Ok.is) in
-    omega (arith, most)
+pub window-requires : goal.window-requires
+window-requires g c =
+    let memory = c.args.ram.now.registers in
+    let place = c.in-Some.place in
+    let has = c.in-Some.ensures.place in
+    let behind = c.in-Some.ensures.behind in (
+      search rules,
+      (
+        place_from_to memory c.requires c.args.at place.position place.behind has.0 has.1,
+        (place_inside memory c.requires c.args.at place.position place.behind has.0 has.1, (omega (arith, behind), c.requires)),
+      ),
+    )
 
 pub returns-in-Ok-clause-first : goal.returns-in-Ok-clause-first
 returns-in-Ok-clause-first g c =
-    let looked : Looked c.args.ram.now.registers c.args.at c.past_nulls-position.result c.args.last
-    c.line_limit.result (bytes_seen c.args.ram.now.registers c.past_nulls-position.result c.line_limit.result) = record {
-      last_is = c.requires.last;
-      count = c.requires.count;
-      from = c.past_nulls-position.ensures.from;
-      to = c.past_nulls-position.ensures.to;
-      nulls = c.past_nulls-position.ensures.nulls;
-      stop = c.past_nulls-position.ensures.stop;
-      before = c.line_limit.ensures.before;
-      behind = c.line_limit.ensures.last;
-      bytes = refl;
-    } in
-    looked_first c.byte_round_trip.ensures.one c.args.ram.now.registers c.requires.sound
-    c.args.at c.past_nulls-position.result c.args.last c.line_limit.result
-    (bytes_seen c.args.ram.now.registers c.past_nulls-position.result c.line_limit.result) looked c.decoded.result
-    c.decoded.ensures c.in-Ok.line c.in-Ok.count (c.past_nulls-position.result + c.in-Ok.count) c.in-Ok.is refl
-
-pub returns-in-Ok-clause-behind : goal.returns-in-Ok-clause-behind
-returns-in-Ok-clause-behind g c =
     let memory = c.args.ram.now.registers in
-    let inside = (returns-in-Ok-clause-first g c).inside in
-    let last = c.requires in
-    omega (arith, inside, length-map-range_with_len (program_byte memory) 0 (byte_count memory), last.count, last.bound)
+    let place = c.in-Some.place in
+    let has = c.in-Some.ensures.place in
+    let begins = place_begins memory c.requires c.args.at place.position place.behind has.0 has.1 in
+    let answers = subst (λ (bytes : List ℕ). AnswersLine c.decode.result bytes) (c.as_slice.ensures.value ∙ c.window.ensures)
+    c.decode.ensures.line in
+    let same =
+    same_answer _ has.0 c.in-Ok.line (place.behind - place.position) c.in-Ok._count c.decode.result begins answers c.in-Ok.is in
+    subst (λ (line : Line). HasFirst memory c.args.at
+    (record { listed = record { position = place.position; line = line }; behind = place.behind })) (sym same) has.1
 
 pub returns-in-Err-clause-none : goal.returns-in-Err-clause-none
 returns-in-Err-clause-none g c =
-    let looked : Looked c.args.ram.now.registers c.args.at c.past_nulls-position.result c.args.last
-    c.line_limit.result (bytes_seen c.args.ram.now.registers c.past_nulls-position.result c.line_limit.result) = record {
-      last_is = c.requires.last;
-      count = c.requires.count;
-      from = c.past_nulls-position.ensures.from;
-      to = c.past_nulls-position.ensures.to;
-      nulls = c.past_nulls-position.ensures.nulls;
-      stop = c.past_nulls-position.ensures.stop;
-      before = c.line_limit.ensures.before;
-      behind = c.line_limit.ensures.last;
-      bytes = refl;
-    } in
-    looked_none c.byte_round_trip.ensures.one c.args.ram.now.registers c.requires.sound
-    c.args.at c.past_nulls-position.result c.args.last c.line_limit.result
-    (bytes_seen c.args.ram.now.registers c.past_nulls-position.result c.line_limit.result)
-    looked c.decoded.result c.decoded.ensures c.in-Err.field-0 c.in-Err.is
+    let memory = c.args.ram.now.registers in
+    let place = c.in-Some.place in
+    let has = c.in-Some.ensures.place in
+    let begins = place_begins memory c.requires c.args.at place.position place.behind has.0 has.1 in
+    let answers = subst (λ (bytes : List ℕ). AnswersLine c.decode.result bytes) (c.as_slice.ensures.value ∙ c.window.ensures)
+    c.decode.ensures.line in
+    absurd (no_error (has.0, place.behind - place.position) c.in-Err.field-0
+    (sym ((answers has.0 (place.behind - place.position)).1 begins) ∙ c.in-Err.is))

@@ -6,12 +6,12 @@ use Rattle.h41_program.proofs.Walks.{UpTo}
 use Rattle.h41_program.proofs.searches.global.Given as goal
 
 -- the answer of the lines so far
-abbrev pub invariant-loop-found : goal.invariant-loop-found
-invariant-loop-found g l =
+abbrev pub invariant-loop-place : goal.invariant-loop-place
+invariant-loop-place g l =
     (before : List ListedLine)
     × UpTo (program_bytes l.ram.registers) (final_position l.ram.registers) 0 before l.position
     × (l.last ≡ position_of (named_in l.name before))
 
 -- the bytes that are left
-abbrev pub decreases-loop-found : goal.decreases-loop-found
-decreases-loop-found g l = length (program_bytes l.ram.registers) - l.position
+abbrev pub decreases-loop-place : goal.decreases-loop-place
+decreases-loop-place g l = length (program_bytes l.ram.registers) - l.position

@@ -6,11 +6,11 @@ use Rattle.h41_program.proofs.Walks.{UpTo}
 use Rattle.h41_program.proofs.searches.label_from.Given as goal
 
 -- the lines so far have no such label and no END
-abbrev pub invariant-loop-found : goal.invariant-loop-found
-invariant-loop-found g l =
+abbrev pub invariant-loop-place : goal.invariant-loop-place
+invariant-loop-place g l =
     (before : List ListedLine) × UpTo (program_bytes l.ram.registers) (final_position l.ram.registers) l.at before l.position
     × ((rest : List ListedLine) → label_in l.label (before ++ rest) ≡ label_in l.label rest)
 
 -- the bytes that are left
-abbrev pub decreases-loop-found : goal.decreases-loop-found
-decreases-loop-found g l = length (program_bytes l.ram.registers) - l.position
+abbrev pub decreases-loop-place : goal.decreases-loop-place
+decreases-loop-place g l = length (program_bytes l.ram.registers) - l.position

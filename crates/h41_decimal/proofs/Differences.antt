@@ -2,7 +2,7 @@
 use Rattle.std.proofs.Common.{◌≡◌, ℕ, ◌+◌, ◌-◌, ◌*◌, ◌^◌, ◌<◌, ◌≤◌, ap, refl, arith, Result, Ok}
 use Rattle.std.specs.Prelude.{◌-ℤ◌}
 use Rattle.std.proofs.Math.Nat.{mul-lt-mul_of_pos_right}
-use Rattle.h41_decimal.specs.Signs.{signed, opposite_of}
+use Rattle.h41_decimal.specs.Signs.{with_sign, opposite_of}
 use Rattle.h41_decimal.specs.NearestDecimal.{Fraction, Nearest}
 use Rattle.h41_decimal.specs.private.Cut.{RoundsWhole}
 use Rattle.h41_decimal.specs.declared.fault.DecimalFault.{DecimalFault}
@@ -20,7 +20,7 @@ at_scale m s t apart e = let p = ap (λ u. m * u) (power_parts apart t s e) in o
 
 pub difference_above : (sign : Sign) (answer : Result Ten DecimalFault) (m n s t apart large small k : ℕ) → apart + t ≡ s
     → large ≡ m * 10 ^ apart → small ≡ n → k ≡ t + 128 → small < large → RoundsWhole sign (large - small) k answer
-    → Nearest (signed sign (m * 10 ^ s) -ℤ signed sign (n * 10 ^ t)) 1 answer
+    → Nearest (with_sign sign (m * 10 ^ s) -ℤ with_sign sign (n * 10 ^ t)) 1 answer
 difference_above sign answer m n s t apart large small k e large_is small_is k_is less rounds =
     let x : (m * 10 ^ apart) * 10 ^ t ≡ m * 10 ^ s = at_scale m s t apart e in
     let less' : n < m * 10 ^ apart = omega arith in
@@ -33,7 +33,7 @@ difference_above sign answer m n s t apart large small k e large_is small_is k_i
 
 pub difference_below : (sign : Sign) (answer : Result Ten DecimalFault) (m n s t apart large small k : ℕ) → apart + t ≡ s
     → large ≡ m * 10 ^ apart → small ≡ n → k ≡ t + 128 → large < small → RoundsWhole (opposite_of sign) (small - large) k answer
-    → Nearest (signed sign (m * 10 ^ s) -ℤ signed sign (n * 10 ^ t)) 1 answer
+    → Nearest (with_sign sign (m * 10 ^ s) -ℤ with_sign sign (n * 10 ^ t)) 1 answer
 difference_below sign answer m n s t apart large small k e large_is small_is k_is less rounds =
     let x : (m * 10 ^ apart) * 10 ^ t ≡ m * 10 ^ s = at_scale m s t apart e in
     let less' : m * 10 ^ apart < n = omega arith in
@@ -46,7 +46,7 @@ difference_below sign answer m n s t apart large small k e large_is small_is k_i
 
 pub difference_none : (sign : Sign) (answer : Result Ten DecimalFault) (m n s t apart large small : ℕ) → apart + t ≡ s
     → large ≡ m * 10 ^ apart → small ≡ n → large ≡ small → answer ≡ Ok Zero
-    → Nearest (signed sign (m * 10 ^ s) -ℤ signed sign (n * 10 ^ t)) 1 answer
+    → Nearest (with_sign sign (m * 10 ^ s) -ℤ with_sign sign (n * 10 ^ t)) 1 answer
 difference_none sign answer m n s t apart large small e large_is small_is same zero_is =
     let x : (m * 10 ^ apart) * 10 ^ t ≡ m * 10 ^ s = at_scale m s t apart e in
     let same' : m * 10 ^ apart ≡ n = omega arith in
@@ -55,7 +55,7 @@ difference_none sign answer m n s t apart large small e large_is small_is same z
 
 pub difference_apart : (sign : Sign) (answer : Result Ten DecimalFault) (m n s t q whole k : ℕ) → 10 ^ 10 ≤ whole
     → q * 10 ^ s < (n * 10 ^ t) * 10 ^ 8 → (n * 10 ^ t) * 10 ^ 8 ≤ (q + 1) * 10 ^ s → k ≡ s + 120 → whole + (q + 1) ≡ m * 10 ^ 8
-    → RoundsWhole sign whole k answer → Nearest (signed sign (m * 10 ^ s) -ℤ signed sign (n * 10 ^ t)) 1 answer
+    → RoundsWhole sign whole k answer → Nearest (with_sign sign (m * 10 ^ s) -ℤ with_sign sign (n * 10 ^ t)) 1 answer
 difference_apart sign answer m n s t q whole k long low high k_is whole_is rounds =
     let less : (q + 1) * 10 ^ s < (m * 10 ^ 8) * 10 ^ s = mul-lt-mul_of_pos_right (omega arith) (ten_pow_pos s) in
     nearest_of _ 1 sign (m * 10 ^ s - n * 10 ^ t) answer

@@ -2,7 +2,7 @@
 use Rattle.std.proofs.Common.{◌≡◌, ℕ, zero, suc, ◌+◌, ◌*◌, ◌^◌, ◌<◌, ◌≤◌, ◌∙◌, ap, refl, arith, List, Option, Some}
 use Rattle.std.proofs.Common.{None, Bool, true, false}
 use Rattle.std.specs.Prelude.{ℤ, pos, ◌==◌, if◌then◌else◌, nat_le, nat_lt, slice_index, ◌&&◌}
-use Rattle.h41_decimal.specs.Signs.{signed}
+use Rattle.h41_decimal.specs.Signs.{with_sign}
 use Rattle.h41_decimal.specs.Units.{size_of}
 use Rattle.h41_decimal.specs.declared.sign.Sign.{Sign}
 use Rattle.std.specs.Option.{option_map}
@@ -35,7 +35,7 @@ decimal_same x y place (suc count) same =
 -- parts that are read as those of a decimal
 pub parts_hold : (register : List ℕ) (m e s : ℕ) (sign : Sign) (steps : ℕ) → decimal_in register 3 10 ≡ Some m
     → decimal_in register 0 3 ≡ Some e → slice_index register 13 ≡ s → sign_in s ≡ Some sign → steps_in e ≡ Some steps → 10 ^ 9 ≤ m
-    → holding_of register ≡ Number (signed sign (size_of m steps))
+    → holding_of register ≡ Number (with_sign sign (size_of m steps))
 parts_hold register m e s sign steps m_in e_in s_in sign_is steps_is m_size =
     let z : (m == 0) ≡ false = grind (arith, nat_tests) in
     let l : nat_lt m (10 ^ 9) ≡ false = grind (arith, nat_tests) in
@@ -43,6 +43,6 @@ parts_hold register m e s sign steps m_in e_in s_in sign_is steps_is m_size =
     let b : parts_worth (Some m) (Some e) s ≡ digits_worth m (sign_in s) (steps_in e) =
     ap (λ t. if t && e == 0 && s == 0 then Some (pos 0) else digits_worth m (sign_in s) (steps_in e)) z in
     let c : digits_worth m (sign_in s) (steps_in e) ≡ digits_worth m (Some sign) (Some steps) = cc in
-    let d : digits_worth m (Some sign) (Some steps) ≡ Some (signed sign (size_of m steps)) =
-    ap (λ t. if t then None else Some (signed sign (size_of m steps))) l in
+    let d : digits_worth m (Some sign) (Some steps) ≡ Some (with_sign sign (size_of m steps)) =
+    ap (λ t. if t then None else Some (with_sign sign (size_of m steps))) l in
     ap (λ v. holding v register) (a ∙ (b ∙ (c ∙ d)))

@@ -3,7 +3,7 @@
 ghost use Rattle.std.specs.Prelude.{◌≡◌, ℕ, ◌+◌, ◌*◌, ◌^◌, ◌<◌, ◌≤◌, IfSome, Some, None};
 ghost use Rattle.std.specs.Prelude.{slice_index};
 ghost use Rattle.h41_decimal.specs.private.PackedDigits.{decimal_of, hundreds_of, word_of_digits};
-ghost use Rattle.h41_decimal.specs.Signs.{signed};
+ghost use Rattle.h41_decimal.specs.Signs.{with_sign};
 ghost use Rattle.std.specs.Option.{option_map};
 ghost use Rattle.h41_decimal.specs.Units.{size, units};
 ghost use Rattle.h41_decimal.specs.Holding.{decimal_in, sign_in, steps_in, parts_worth, holding_of};
@@ -141,7 +141,7 @@ pub fn write(number: Ten) -> Reg
 
 /// The register that holds a size with a sign.
 fn write_size(sign: Sign, x: Magnitude) -> Reg
-    ensures { holding_of result ≡ Number (signed sign (size x)) }
+    ensures { holding_of result ≡ Number (with_sign sign (size x)) }
 {
     let signed = Reg::zero().with(13, sign_digit(sign));
     let with_mantissa = signed.with_number(3, 12, packed_ten(x.mantissa.digits));

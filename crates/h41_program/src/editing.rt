@@ -70,7 +70,7 @@ pub fn insert<const REGS: usize>(
         ram.new.registers) }
     ensures answer { IfOk result (StandsNew ram.old.registers before ram.new.registers) }
     ensures stands { IfOk result (Stands ram.new.registers line) }
-    ensures mark { KeepsMark ram.old.registers ram.new.registers }
+    ensures mark { KeepsMark ram.old ram.new }
 {
     put(ram, before, line, Placement::Before)
 }
@@ -86,7 +86,7 @@ pub fn delete<const REGS: usize>(ram: &mut Ram<REGS>, at: u16) -> Result<InFront
     ensures read { OnOk result (LeavesChanged ram.old.registers without_deleted at
         ram.new.registers) }
     ensures answer { IfOk result (StandsBefore ram.old.registers at ram.new.registers) }
-    ensures mark { KeepsMark ram.old.registers ram.new.registers }
+    ensures mark { KeepsMark ram.old ram.new }
 {
     byte_round_trip();
     let count = change_at(ram, at, Change::Delete)?;
@@ -110,7 +110,7 @@ pub fn replace<const REGS: usize>(
         ram.new.registers) }
     ensures answer { IfOk result (StandsNew ram.old.registers at ram.new.registers) }
     ensures stands { IfOk result (Stands ram.new.registers line) }
-    ensures mark { KeepsMark ram.old.registers ram.new.registers }
+    ensures mark { KeepsMark ram.old ram.new }
 {
     put(ram, at, line, Placement::Instead)
 }
@@ -133,7 +133,7 @@ fn put<const REGS: usize>(
         ram.new.registers) }
     ensures answer { IfOk result (StandsNew ram.old.registers at ram.new.registers) }
     ensures stands { IfOk result (Stands ram.new.registers line) }
-    ensures mark { KeepsMark ram.old.registers ram.new.registers }
+    ensures mark { KeepsMark ram.old ram.new }
 {
     byte_round_trip();
     know_ranges(&line);
@@ -154,7 +154,7 @@ fn change_at<const REGS: usize>(
         (without_answer result) }
     ensures sound { IsTrue (is_sound ram.new.registers) }
     ensures count { IfOk result (Counts ram.old.registers at) }
-    ensures mark { KeepsMark ram.old.registers ram.new.registers }
+    ensures mark { KeepsMark ram.old ram.new }
 {
     let place = line_at(ram, at)?.position;
     let count = lines_before(ram, place);

@@ -29,7 +29,7 @@ pub fn load<const REGS: usize>(ram: &mut Ram<REGS>, bytes: &[u8]) -> Result<u16,
     ensures lines { Loads ram.old.registers ram.new.registers bytes.now result }
     ensures bound { IfOk result (λ start. start ≤ 2237) }
     ensures sound { IsTrue (is_sound ram.new.registers) }
-    ensures mark { KeepsMark ram.old.registers ram.new.registers }
+    ensures mark { KeepsMark ram.old ram.new }
 {
     let mut packer = packed_program(ram)?;
     packer.close();
@@ -57,7 +57,7 @@ pub fn close_last<const REGS: usize>(ram: &mut Ram<REGS>) -> Result<(), ProgramR
     ensures lines { Closes ram.old.registers ram.new.registers result }
     ensures sound { IsTrue (is_sound ram.new.registers) }
     ensures read { OnOk result (LeavesClosed ram.old.registers ram.new.registers) }
-    ensures mark { KeepsMark ram.old.registers ram.new.registers }
+    ensures mark { KeepsMark ram.old ram.new }
 {
     changes_are_read();
     match packed_program(ram) {
@@ -73,7 +73,7 @@ fn write_closed<const REGS: usize>(
 ) -> Result<(), ProgramRefusal>
     requires { IsTrue (is_sound ram.old.registers) }
     ensures change { WritesClosed packer ram.old.registers ram.new.registers result }
-    ensures mark { KeepsMark ram.old.registers ram.new.registers }
+    ensures mark { KeepsMark ram.old ram.new }
 {
     let mut packer = packer;
     if !packer.is_open() {

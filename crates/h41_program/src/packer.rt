@@ -81,7 +81,7 @@ impl Packer {
         requires { IsTrue (is_sound ram.old.registers) }
         ensures lines { Writes self ram.old.registers ram.new.registers result }
         ensures small { curtain_of ram.old.registers ≤ main_start + 320 }
-        ensures mark { KeepsMark ram.old.registers ram.new.registers }
+        ensures mark { KeepsMark ram.old ram.new }
     {
         let Packer { bytes, full, .. } = self;
         let curtain = ram.curtain();

@@ -17,7 +17,7 @@ pub fn rewrite<const REGS: usize>(ram: &mut Ram<REGS>, bytes: &[u8], end: u16)
     requires place { IsPlace ram.old.registers (length bytes.now) end }
     requires memory { IsMemory REGS ram.old.registers }
     ensures change { ram.new.registers ≡ with_program_bytes ram.old.registers bytes.now }
-    ensures mark { KeepsMark ram.old.registers ram.new.registers }
+    ensures mark { KeepsMark ram.old ram.new }
 {
     let c = with_address(ram.status(usize::from(C)), END_PLACE, end);
     let mut main = ram.main_memory();

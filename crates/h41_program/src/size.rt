@@ -23,7 +23,7 @@ pub fn set_size<const REGS: usize>(ram: &mut Ram<REGS>, size: u16) -> Result<(),
     ensures size { HasOutcome ram.old.registers ram.new.registers result
         (size_outcome ram.old.registers size) }
     ensures sound { IsTrue (is_sound ram.new.registers) }
-    ensures mark { KeepsMark ram.old.registers ram.new.registers }
+    ensures mark { KeepsMark ram.old ram.new }
 {
     let curtain = ram.curtain();
     let end = ram.end_register();
@@ -44,7 +44,7 @@ fn resize<const REGS: usize>(ram: &mut Ram<REGS>, curtain: u16, end: u16)
     requires memory { IsMemory REGS ram.old.registers }
     ensures change { ram.new.registers ≡ with_size ram.old.registers
         (top_of ram.old.registers - curtain) }
-    ensures mark { KeepsMark ram.old.registers ram.new.registers }
+    ensures mark { KeepsMark ram.old ram.new }
 {
     let c = moved_addresses(ram, curtain, end);
     let mut main = ram.main_memory();

@@ -6,7 +6,7 @@ use Rattle.std.proofs.Math.Nat.{mul-lt-mul_of_pos_right, pow-le-pow_right}
 use Rattle.std.proofs.lemmas.Nat.{pow-add}
 use Rattle.std.proofs.lemmas.Bool.{cases_lt}
 use Rattle.std.proofs.lemmas.Int.{ints}
-use Rattle.h41_decimal.specs.Signs.{opposite_of, signed, sign_of}
+use Rattle.h41_decimal.specs.Signs.{opposite_of, with_sign, sign_of}
 use Rattle.h41_decimal.specs.Units.{one, size, units}
 use Rattle.h41_decimal.specs.WholeParts.{HasOnes, IsFraction}
 use Rattle.h41_decimal.specs.declared.parts.Magnitude.{Magnitude}
@@ -44,7 +44,7 @@ whole_worth log n p is fits =
     ap (λ (t : ℕ). n * p * 10 ^ t) (sym steps) ∙ filled_worth n (9 - log) 108 p is (omega arith)
 
 -- the size of a fraction
-signed_self : (z : ℤ) → z ≡ signed (sign_of z) (unsigned_abs z)
+signed_self : (z : ℤ) → z ≡ with_sign (sign_of z) (unsigned_abs z)
 signed_self (pos n) = refl
 signed_self (negsuc n) = refl
 
@@ -56,9 +56,9 @@ fraction_size z rest f =
     let n = unsigned_abs z in
     let r : ℕ = n - ones * 10 ^ 108 in
     let sum : r + ones * 10 ^ 108 ≡ n = omega arith in
-    let parts : z -ℤ f.part ≡ signed (sign_of z) n -ℤ signed (sign_of z) (ones * 10 ^ 108) =
-    ap (λ (t : ℤ). t -ℤ f.part) (signed_self z) ∙ ap (λ (t : ℤ). signed (sign_of z) n -ℤ t) f.integer.value in
-    let e : rest ≡ signed (sign_of z) r = f.rest ∙ (parts ∙ signed-sub (sign_of z) n (ones * 10 ^ 108) r sum) in
+    let parts : z -ℤ f.part ≡ with_sign (sign_of z) n -ℤ with_sign (sign_of z) (ones * 10 ^ 108) =
+    ap (λ (t : ℤ). t -ℤ f.part) (signed_self z) ∙ ap (λ (t : ℤ). with_sign (sign_of z) n -ℤ t) f.integer.value in
+    let e : rest ≡ with_sign (sign_of z) r = f.rest ∙ (parts ∙ signed-sub (sign_of z) n (ones * 10 ^ 108) r sum) in
     let same : r ≡ n % 10 ^ 108 = omega arith in
     ap unsigned_abs e ∙ (unsigned_abs-signed (sign_of z) r ∙ same)
 
@@ -83,7 +83,7 @@ small_size m s below rest =
 small_with_fraction : (number : Ten) → 0 < fraction_of (units number) → unsigned_abs (units number) < 10 ^ 9 * 10 ^ 108
 small_with_fraction Zero some = omega arith
 small_with_fraction (Nonzero sign x) some =
-    let e : unsigned_abs (signed sign (size x)) ≡ size x = unsigned_abs-signed sign (size x) in
+    let e : unsigned_abs (with_sign sign (size x)) ≡ size x = unsigned_abs-signed sign (size x) in
     let rest : 0 < size x % 10 ^ 108 = subst (λ (t : ℕ). 0 < t % 10 ^ 108) e some in
     subst (λ (t : ℕ). t < 10 ^ 9 * 10 ^ 108) (sym e) (small_size x.mantissa.digits x.exponent.biased x.mantissa.below rest)
 
@@ -91,70 +91,71 @@ pub few_ones : (number : Ten) (x : Magnitude) → size x ≡ fraction_of (units 
 few_ones number x same = small_with_fraction number (subst (λ (t : ℕ). 0 < t) same (size_pos x))
 
 -- a number with no fraction counts 1
-one_step : (s d : Sign) (q : ℕ) → with_ones (signed s q +ℤ signed d 1) 0 ≡ signed s (q * one) +ℤ signed d one
+one_step : (s d : Sign) (q : ℕ) → with_ones (with_sign s q +ℤ with_sign d 1) 0 ≡ with_sign s (q * one) +ℤ with_sign d one
 one_step Plus Plus q = omega (arith, ints)
 one_step Plus Minus zero = omega (arith, ints)
 one_step Plus Minus (suc q) =
-    let e : signed Plus (suc q) +ℤ signed Minus 1 ≡ pos q = omega (arith, ints) in
-    let f : with_ones (pos q) 0 ≡ signed Plus (suc q * one) +ℤ signed Minus one = omega (arith, ints) in
+    let e : with_sign Plus (suc q) +ℤ with_sign Minus 1 ≡ pos q = omega (arith, ints) in
+    let f : with_ones (pos q) 0 ≡ with_sign Plus (suc q * one) +ℤ with_sign Minus one = omega (arith, ints) in
     ap (λ (k : ℤ). with_ones k 0) e ∙ f
 one_step Minus Plus zero = omega (arith, ints)
 one_step Minus Plus (suc zero) =
-    let e : signed Minus (suc zero) +ℤ signed Plus 1 ≡ pos 0 = omega (arith, ints) in
-    let f : with_ones (pos 0) 0 ≡ signed Minus (suc zero * one) +ℤ signed Plus one = omega (arith, ints) in
+    let e : with_sign Minus (suc zero) +ℤ with_sign Plus 1 ≡ pos 0 = omega (arith, ints) in
+    let f : with_ones (pos 0) 0 ≡ with_sign Minus (suc zero * one) +ℤ with_sign Plus one = omega (arith, ints) in
     ap (λ (k : ℤ). with_ones k 0) e ∙ f
 one_step Minus Plus (suc (suc q)) =
-    let e : signed Minus (suc (suc q)) +ℤ signed Plus 1 ≡ negsuc q = omega (arith, ints) in
-    let f : with_ones (negsuc q) 0 ≡ signed Minus (suc (suc q) * one) +ℤ signed Plus one = omega (arith, ints) in
+    let e : with_sign Minus (suc (suc q)) +ℤ with_sign Plus 1 ≡ negsuc q = omega (arith, ints) in
+    let f : with_ones (negsuc q) 0 ≡ with_sign Minus (suc (suc q) * one) +ℤ with_sign Plus one = omega (arith, ints) in
     ap (λ (k : ℤ). with_ones k 0) e ∙ f
 one_step Minus Minus zero = omega (arith, ints)
 one_step Minus Minus (suc q) =
-    let e : signed Minus (suc q) +ℤ signed Minus 1 ≡ negsuc (suc q) = omega (arith, ints) in
-    let f : with_ones (negsuc (suc q)) 0 ≡ signed Minus (suc q * one) +ℤ signed Minus one = omega (arith, ints) in
+    let e : with_sign Minus (suc q) +ℤ with_sign Minus 1 ≡ negsuc (suc q) = omega (arith, ints) in
+    let f : with_ones (negsuc (suc q)) 0 ≡ with_sign Minus (suc q * one) +ℤ with_sign Minus one = omega (arith, ints) in
     ap (λ (k : ℤ). with_ones k 0) e ∙ f
 
-pub counts_whole : (z : ℤ) (d : Sign) → fraction_of z ≡ 0 → number_along d z ≡ z +ℤ signed d one
+pub counts_whole : (z : ℤ) (d : Sign) → fraction_of z ≡ 0 → number_along d z ≡ z +ℤ with_sign d one
 counts_whole z d none =
     let n = unsigned_abs z in
     let q : ℕ = n / 10 ^ 108 in
     let whole : q * 10 ^ 108 ≡ n = omega arith in
-    ap (λ (f : ℕ). with_ones (counter_of z +ℤ signed d (count_in f)) f) none
+    ap (λ (f : ℕ). with_ones (counter_of z +ℤ with_sign d (count_in f)) f) none
     ∙ (one_step (sign_of z) d q
-    ∙ (ap (λ (t : ℕ). signed (sign_of z) t +ℤ signed d one) whole ∙ ap (λ (t : ℤ). t +ℤ signed d one) (sym (signed_self z))))
+    ∙ (ap (λ (t : ℕ). with_sign (sign_of z) t +ℤ with_sign d one) whole ∙ ap (λ (t : ℤ). t +ℤ with_sign d one) (sym (signed_self z))))
 
 -- a number with a fraction, by its ones
 pub counts_ones : (z : ℤ) (s d : Sign) (ones count rest : ℕ) → s ≡ sign_of z → HasOnes (unsigned_abs z) ones → count ≡ count_in rest
-    → rest ≡ fraction_of z → with_ones (signed s ones +ℤ signed d count) rest ≡ number_along d z
+    → rest ≡ fraction_of z → with_ones (with_sign s ones +ℤ with_sign d count) rest ≡ number_along d z
 counts_ones z s d ones count rest sign has counts fraction =
     let low : ones * 10 ^ 108 ≤ unsigned_abs z = has.not_above in
     let high : unsigned_abs z < (ones + 1) * 10 ^ 108 = has.next_above in
     let q : ones ≡ unsigned_abs z / 10 ^ 108 = omega arith in
-    ap (λ (t : Sign). with_ones (signed t ones +ℤ signed d count) rest) sign
-    ∙ (ap (λ (t : ℕ). with_ones (signed (sign_of z) t +ℤ signed d count) rest) q
-    ∙ (ap (λ (t : ℕ). with_ones (counter_of z +ℤ signed d t) rest) counts
-    ∙ ap (λ (f : ℕ). with_ones (counter_of z +ℤ signed d (count_in f)) f) fraction))
+    ap (λ (t : Sign). with_ones (with_sign t ones +ℤ with_sign d count) rest) sign
+    ∙ (ap (λ (t : ℕ). with_ones (with_sign (sign_of z) t +ℤ with_sign d count) rest) q
+    ∙ (ap (λ (t : ℕ). with_ones (counter_of z +ℤ with_sign d t) rest) counts
+    ∙ ap (λ (f : ℕ). with_ones (counter_of z +ℤ with_sign d (count_in f)) f) fraction))
 
 -- a number of which all is moved, where its ones keep their sign
-with_signed : (s : Sign) (n f : ℕ) → 0 < n → with_ones (signed s n) f ≡ signed s (n * one + f)
+with_signed : (s : Sign) (n f : ℕ) → 0 < n → with_ones (with_sign s n) f ≡ with_sign s (n * one + f)
 with_signed s n f some =
-    ap (λ (t : Sign). signed t (unsigned_abs (signed s n) * one + f)) (sign_of-signed s n some)
-    ∙ ap (λ (k : ℕ). signed s (k * one + f)) (unsigned_abs-signed s n)
+    ap (λ (t : Sign). with_sign t (unsigned_abs (with_sign s n) * one + f)) (sign_of-signed s n some)
+    ∙ ap (λ (k : ℕ). with_sign s (k * one + f)) (unsigned_abs-signed s n)
 
-moved_on : (s : Sign) (q c f : ℕ) → 0 < c → with_ones (signed s q +ℤ signed s c) f ≡ signed s (q * one + f) +ℤ signed s (c * one)
+moved_on : (s : Sign) (q c f : ℕ) → 0 < c → with_ones (with_sign s q +ℤ with_sign s c) f
+    ≡ with_sign s (q * one + f) +ℤ with_sign s (c * one)
 moved_on s q c f some =
     let sum : (q + c) * one + f ≡ q * one + f + c * one = omega arith in
-    ap (λ (t : ℤ). with_ones t f) (signed-add s q c) ∙ with_signed s (q + c) f (omega arith) ∙ ap (signed s) sum
+    ap (λ (t : ℤ). with_ones t f) (signed-add s q c) ∙ with_signed s (q + c) f (omega arith) ∙ ap (with_sign s) sum
     ∙ sym (signed-add s (q * one + f) (c * one))
 
 moved_back : (s : Sign) (q c f : ℕ) → c < q
-    → with_ones (signed s q +ℤ signed (opposite_of s) c) f ≡ signed s (q * one + f) +ℤ signed (opposite_of s) (c * one)
+    → with_ones (with_sign s q +ℤ with_sign (opposite_of s) c) f ≡ with_sign s (q * one + f) +ℤ with_sign (opposite_of s) (c * one)
 moved_back s q c f less =
     ap (λ (t : ℤ). with_ones t f) (minus_same_sign s q c ∙ signed-sub s q c (q - c) (omega arith))
     ∙ with_signed s (q - c) f (omega arith)
     ∙ sym (minus_same_sign s (q * one + f) (c * one) ∙ signed-sub s (q * one + f) (c * one) ((q - c) * one + f) (omega arith))
 
 moved : (s d : Sign) (q c f : ℕ) → 0 < c → (s ≡ d) ⊎ (c < q)
-    → with_ones (signed s q +ℤ signed d c) f ≡ signed s (q * one + f) +ℤ signed d (c * one)
+    → with_ones (with_sign s q +ℤ with_sign d c) f ≡ with_sign s (q * one + f) +ℤ with_sign d (c * one)
 moved Plus Plus q c f some kept = moved_on Plus q c f some
 moved Plus Minus q c f some (inl same) = absurd cc
 moved Plus Minus q c f some (inr less) = moved_back Plus q c f less
@@ -163,9 +164,9 @@ moved Minus Plus q c f some (inr less) = moved_back Minus q c f less
 moved Minus Minus q c f some kept = moved_on Minus q c f some
 
 pub moves_whole : (z : ℤ) (d : Sign) (count : ℕ) → count ≡ count_of z → 0 < count → (sign_of z ≡ d) ⊎ (count < unsigned_abs z / one)
-    → number_along d z ≡ z +ℤ signed d (count * one)
+    → number_along d z ≡ z +ℤ with_sign d (count * one)
 moves_whole z d count count_is some kept =
     let whole : unsigned_abs z / one * one + fraction_of z ≡ unsigned_abs z = omega arith in
-    ap (λ (c : ℕ). with_ones (counter_of z +ℤ signed d c) (fraction_of z)) (sym count_is)
+    ap (λ (c : ℕ). with_ones (counter_of z +ℤ with_sign d c) (fraction_of z)) (sym count_is)
     ∙ moved (sign_of z) d (unsigned_abs z / one) count (fraction_of z) some kept
-    ∙ ap (λ (t : ℤ). t +ℤ signed d (count * one)) (ap (signed (sign_of z)) whole ∙ sym (signed_self z))
+    ∙ ap (λ (t : ℤ). t +ℤ with_sign d (count * one)) (ap (with_sign (sign_of z)) whole ∙ sym (signed_self z))

@@ -3,7 +3,7 @@ use Rattle.std.proofs.Common.{◌≡◌, ℕ, ◌+◌, ◌-◌, ◌*◌, ◌<◌
 use Rattle.std.specs.Prelude.{◌+ℤ◌}
 use denote.Enum.Bare.{sameb}
 use Rattle.h41_decimal.specs.contracts.sign.Sign.{the_type}
-use Rattle.h41_decimal.specs.Signs.{signed}
+use Rattle.h41_decimal.specs.Signs.{with_sign}
 use Rattle.h41_decimal.specs.Units.{one}
 use Rattle.h41_decimal.specs.declared.sign.Sign.{Sign}
 use Rattle.h41_decimal.proofs.Signed.{signed-add, signed-sub}
@@ -30,8 +30,8 @@ moved_down false m c u p digits way digits_is some unit =
 
 -- with its sign
 pub moved_units : (grows : Bool) (s d : Sign) (x step y : ℕ) → grows ≡ sameb the_type s d → IsMovedSize grows x step y
-    → signed s x +ℤ signed d step ≡ signed s y
+    → with_sign s x +ℤ with_sign d step ≡ with_sign s y
 moved_units true s d x step y way is =
-    ap (λ (t : Sign). signed s x +ℤ signed t step) (sym (signs_same s d way)) ∙ signed-add s x step ∙ ap (signed s) (sym is)
+    ap (λ (t : Sign). with_sign s x +ℤ with_sign t step) (sym (signs_same s d way)) ∙ signed-add s x step ∙ ap (with_sign s) (sym is)
 moved_units false s d x step y way is =
-    ap (λ (t : Sign). signed s x +ℤ signed t step) (signs_apart s d way) ∙ minus_same_sign s x step ∙ signed-sub s x step y is
+    ap (λ (t : Sign). with_sign s x +ℤ with_sign t step) (signs_apart s d way) ∙ minus_same_sign s x step ∙ signed-sub s x step y is

@@ -16,7 +16,7 @@ use h41_show::{Format, register_text};
 /// ALPHA holds a text alone: its last 24 characters.
 pub fn replace_text<const REGS: usize>(ram: &mut Ram<REGS>, text: &[u8])
     ensures change { ChangesAlpha ram.old.registers ram.new.registers (Becomes text.now) }
-    ensures mark { KeepsMark ram.old.registers ram.new.registers }
+    ensures mark { KeepsMark ram.old ram.new }
 {
     ram.set_alpha(put_behind([0; ALPHA_LENGTH], text));
 }
@@ -24,7 +24,7 @@ pub fn replace_text<const REGS: usize>(ram: &mut Ram<REGS>, text: &[u8])
 /// A text comes behind what ALPHA holds, of which the last 24 characters stay.
 pub fn append_text<const REGS: usize>(ram: &mut Ram<REGS>, text: &[u8])
     ensures change { ChangesAlpha ram.old.registers ram.new.registers (Appends text.now) }
-    ensures mark { KeepsMark ram.old.registers ram.new.registers }
+    ensures mark { KeepsMark ram.old ram.new }
 {
     ram.set_alpha(put_behind(ram.alpha(), text));
 }
@@ -34,7 +34,7 @@ pub fn append_text<const REGS: usize>(ram: &mut Ram<REGS>, text: &[u8])
 pub fn append_register<const REGS: usize>(ram: &mut Ram<REGS>, address: u16)
     ensures change { ram.new.registers ≡ with_alpha_change ram.old.registers address
         (Some AppendsNamed) ram.old.registers }
-    ensures mark { KeepsMark ram.old.registers ram.new.registers }
+    ensures mark { KeepsMark ram.old ram.new }
 {
     let register = ram.read(address);
     if register.get(KIND_PLACE) == ALPHA_DATA {
@@ -48,7 +48,7 @@ pub fn append_register<const REGS: usize>(ram: &mut Ram<REGS>, address: u16)
 /// ALPHA's first six characters go.
 pub fn shift_six<const REGS: usize>(ram: &mut Ram<REGS>)
     ensures change { ChangesAlpha ram.old.registers ram.new.registers LosesSix }
-    ensures mark { KeepsMark ram.old.registers ram.new.registers }
+    ensures mark { KeepsMark ram.old ram.new }
 {
     let alpha = ram.alpha();
     let shown = after_nulls(&alpha);

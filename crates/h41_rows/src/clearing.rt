@@ -11,7 +11,7 @@ use h41_ram::{MAIN_START, Ram};
 /// All data registers become zero.
 pub fn clear_data<const REGS: usize>(ram: &mut Ram<REGS>)
     ensures change { ram.new.registers ≡ with_cleared_data ram.old.registers }
-    ensures mark { KeepsMark ram.old.registers ram.new.registers }
+    ensures mark { KeepsMark ram.old ram.new }
 {
     mark_is_kept();
     let first = usize::from(ram.curtain())

@@ -3,7 +3,7 @@
 ghost use Rattle.std.specs.Prelude.{◌≡◌, ℕ, ◌+◌, ◌*◌, ◌<◌, ◌≤◌, ◌/◌, ◌%◌, ◌^◌, ◌==◌, ◌+ℤ◌, ◌-ℤ◌};
 ghost use Rattle.std.specs.Prelude.{if◌then◌else◌, int_le, int_lt, pos, unsigned_abs, IfSome};
 ghost use Rattle.h41_decimal.specs.NearestDecimal.{Nearest};
-ghost use Rattle.h41_decimal.specs.Signs.{signed};
+ghost use Rattle.h41_decimal.specs.Signs.{with_sign};
 ghost use Rattle.h41_decimal.specs.Units.{one, size, units};
 ghost use Rattle.h41_rows.specs.Computing.{amount_at};
 ghost use Rattle.h41_rows.specs.Counters.{Down, Up, fraction_of, goes_on, number_after};
@@ -140,7 +140,7 @@ fn is_at_most(sign: Sign, ones: u64, count: u64, last: u64) -> bool
     requires ones { ones ≤ 10 ^ 10 }
     requires count { count < 100 }
     requires last { last < 1000 }
-    ensures { result ≡ int_le (signed sign ones +ℤ pos count) (pos last) }
+    ensures { result ≡ int_le (with_sign sign ones +ℤ pos count) (pos last) }
 {
     match sign {
         Sign::Plus => ones + count <= last,
@@ -153,7 +153,7 @@ fn is_above(sign: Sign, ones: u64, count: u64, last: u64) -> bool
     requires ones { ones ≤ 10 ^ 10 }
     requires count { count < 100 }
     requires last { last < 1000 }
-    ensures { result ≡ int_lt (pos last) (signed sign ones -ℤ pos count) }
+    ensures { result ≡ int_lt (pos last) (with_sign sign ones -ℤ pos count) }
 {
     match sign {
         Sign::Plus => last + count < ones,
@@ -179,7 +179,7 @@ fn counted(number: Ten, direction: Sign) -> Result<Ten, DecimalFault>
 fn moved(number: Ten, direction: Sign, count: u64) -> Result<Ten, DecimalFault>
     requires some { 0 < count }
     requires few { count < 100 }
-    ensures { Nearest (units number +ℤ signed direction (count * one)) 1 result }
+    ensures { Nearest (units number +ℤ with_sign direction (count * one)) 1 result }
 {
     if let Ten::Nonzero(sign, x) = number {
         if let Some(y) = moved_size(x, sign == direction, count) {
@@ -245,7 +245,7 @@ fn counted_by_parts(number: Ten, direction: Sign) -> Result<Ten, DecimalFault>
 fn below_hundred(sign: Sign, number: u64) -> Ten
     requires some { 0 < number }
     requires few { number < 100 }
-    ensures { units result ≡ signed sign (number * one) }
+    ensures { units result ≡ with_sign sign (number * one) }
 {
     let (digits, biased) = if number < 10 {
         (number * 1_000_000_000, 99)
@@ -284,7 +284,7 @@ fn stepped(
 /// The number of ones and a fraction, with a sign.
 fn joined(sign: Sign, ones: u64, fraction: Magnitude) -> Result<Ten, DecimalFault>
     requires { ones < 10 ^ 10 }
-    ensures { Nearest (signed sign (ones * one + size fraction)) 1 result }
+    ensures { Nearest (with_sign sign (ones * one + size fraction)) 1 result }
 {
     whole_number(sign, ones).add(Ten::Nonzero(sign, fraction))
 }
@@ -292,7 +292,7 @@ fn joined(sign: Sign, ones: u64, fraction: Magnitude) -> Result<Ten, DecimalFaul
 /// A whole number of up to ten digits with a sign.
 fn whole_number(sign: Sign, ones: u64) -> Ten
     requires { ones < 10 ^ 10 }
-    ensures { units result ≡ signed sign (ones * one) }
+    ensures { units result ≡ with_sign sign (ones * one) }
 {
     if ones == 0 {
         return Ten::Zero;

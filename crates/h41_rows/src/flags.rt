@@ -18,7 +18,7 @@ pub fn set_format<const REGS: usize>(
     requires { digits < 10 }
     ensures change { ram.new.registers ≡ with_flags (format digits fixed engineering).flags
         ram.old.registers }
-    ensures mark { KeepsMark ram.old.registers ram.new.registers }
+    ensures mark { KeepsMark ram.old ram.new }
 {
     ram.set_flag(flags::DIGITS_8, digits / 8 % 2 == 1);
     ram.set_flag(flags::DIGITS_4, digits / 4 % 2 == 1);
@@ -33,7 +33,7 @@ pub fn set_angles<const REGS: usize>(ram: &mut Ram<REGS>, grads: bool, radians: 
     ensures change { ram.new.registers
         ≡ with_flags (change named.grads grads ∷ change named.radians radians ∷ [])
             ram.old.registers }
-    ensures mark { KeepsMark ram.old.registers ram.new.registers }
+    ensures mark { KeepsMark ram.old ram.new }
 {
     ram.set_flag(flags::GRADS, grads);
     ram.set_flag(flags::RADIANS, radians);

@@ -15,7 +15,7 @@ use h41_ram::{Ram, StatusRegister};
 pub fn bring_in<const REGS: usize>(ram: &mut Ram<REGS>, register: Reg, lift: bool)
     ensures change { Took ram.old.registers ram.new.registers register
         (takes_of (coming_in (compute X)) lift) }
-    ensures mark { KeepsMark ram.old.registers ram.new.registers }
+    ensures mark { KeepsMark ram.old ram.new }
 {
     if lift {
         enter(ram);
@@ -26,7 +26,7 @@ pub fn bring_in<const REGS: usize>(ram: &mut Ram<REGS>, register: Reg, lift: boo
 /// X takes the register at an address, as it was before the lift.
 pub fn bring_in_from<const REGS: usize>(ram: &mut Ram<REGS>, address: u16, lift: bool)
     ensures change { BringsIn ram.old.registers ram.new.registers address lift }
-    ensures mark { KeepsMark ram.old.registers ram.new.registers }
+    ensures mark { KeepsMark ram.old ram.new }
 {
     let register = ram.read(address);
     bring_in(ram, register, lift);
@@ -36,7 +36,7 @@ pub fn bring_in_from<const REGS: usize>(ram: &mut Ram<REGS>, address: u16, lift:
 pub fn keep_last<const REGS: usize>(ram: &mut Ram<REGS>, register: Reg)
     ensures change { Took ram.old.registers ram.new.registers register
         (compute X ∷ copy LastX X ∷ []) }
-    ensures mark { KeepsMark ram.old.registers ram.new.registers }
+    ensures mark { KeepsMark ram.old ram.new }
 {
     let x = ram.status_register(StatusRegister::X);
     ram.set_status_register(StatusRegister::X, register);
@@ -46,7 +46,7 @@ pub fn keep_last<const REGS: usize>(ram: &mut Ram<REGS>, register: Reg)
 /// X takes a register, LAST X what X held, and the stack drops: T stays.
 pub fn drop_into<const REGS: usize>(ram: &mut Ram<REGS>, register: Reg)
     ensures change { Took ram.old.registers ram.new.registers register drop_takes }
-    ensures mark { KeepsMark ram.old.registers ram.new.registers }
+    ensures mark { KeepsMark ram.old ram.new }
 {
     let t = ram.status_register(StatusRegister::T);
     let z = ram.status_register(StatusRegister::Z);
@@ -60,7 +60,7 @@ pub fn drop_into<const REGS: usize>(ram: &mut Ram<REGS>, register: Reg)
 /// X and the register at an address change places.
 pub fn exchange<const REGS: usize>(ram: &mut Ram<REGS>, address: u16)
     ensures change { Exchanges ram.old.registers ram.new.registers address }
-    ensures mark { KeepsMark ram.old.registers ram.new.registers }
+    ensures mark { KeepsMark ram.old ram.new }
 {
     let x = ram.status_register(StatusRegister::X);
     let other = ram.read(address);
@@ -71,7 +71,7 @@ pub fn exchange<const REGS: usize>(ram: &mut Ram<REGS>, address: u16)
 /// The register at an address takes X.
 pub fn store_x<const REGS: usize>(ram: &mut Ram<REGS>, address: u16)
     ensures change { Stores ram.old.registers ram.new.registers address }
-    ensures mark { KeepsMark ram.old.registers ram.new.registers }
+    ensures mark { KeepsMark ram.old ram.new }
 {
     let x = ram.status_register(StatusRegister::X);
     ram.write(address, x);
@@ -81,7 +81,7 @@ pub fn store_x<const REGS: usize>(ram: &mut Ram<REGS>, address: u16)
 pub fn roll_up<const REGS: usize>(ram: &mut Ram<REGS>)
     ensures change { Moved ram.old.registers ram.new.registers
         (copy X T ∷ copy Y X ∷ copy Z Y ∷ copy T Z ∷ []) }
-    ensures mark { KeepsMark ram.old.registers ram.new.registers }
+    ensures mark { KeepsMark ram.old ram.new }
 {
     let t = ram.status_register(StatusRegister::T);
     let z = ram.status_register(StatusRegister::Z);
@@ -97,7 +97,7 @@ pub fn roll_up<const REGS: usize>(ram: &mut Ram<REGS>)
 pub fn roll_down<const REGS: usize>(ram: &mut Ram<REGS>)
     ensures change { Moved ram.old.registers ram.new.registers
         (copy X Y ∷ copy Y Z ∷ copy Z T ∷ copy T X ∷ []) }
-    ensures mark { KeepsMark ram.old.registers ram.new.registers }
+    ensures mark { KeepsMark ram.old ram.new }
 {
     let t = ram.status_register(StatusRegister::T);
     let z = ram.status_register(StatusRegister::Z);
@@ -113,7 +113,7 @@ pub fn roll_down<const REGS: usize>(ram: &mut Ram<REGS>)
 pub fn enter<const REGS: usize>(ram: &mut Ram<REGS>)
     ensures change { Moved ram.old.registers ram.new.registers (copy T Z ∷ copy Z Y ∷ copy Y X ∷ [])
         }
-    ensures mark { KeepsMark ram.old.registers ram.new.registers }
+    ensures mark { KeepsMark ram.old ram.new }
 {
     let z = ram.status_register(StatusRegister::Z);
     let y = ram.status_register(StatusRegister::Y);
@@ -126,7 +126,7 @@ pub fn enter<const REGS: usize>(ram: &mut Ram<REGS>)
 /// The whole stack takes a register.
 pub fn clear_stack<const REGS: usize>(ram: &mut Ram<REGS>, register: Reg)
     ensures change { Took ram.old.registers ram.new.registers register whole_stack }
-    ensures mark { KeepsMark ram.old.registers ram.new.registers }
+    ensures mark { KeepsMark ram.old ram.new }
 {
     ram.set_status_register(StatusRegister::T, register);
     ram.set_status_register(StatusRegister::Z, register);

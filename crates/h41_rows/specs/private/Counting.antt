@@ -1,7 +1,7 @@
 -- A loop's number by its parts.
 use Rattle.std.specs.Prelude.{◌≡◌, ℕ, ◌+◌, ◌*◌, ◌/◌, ◌%◌, ◌^◌, ◌==◌, if◌then◌else◌, ℤ, ◌+ℤ◌}
 use Rattle.std.specs.Prelude.{unsigned_abs, Bool, true, false}
-use Rattle.h41_decimal.specs.Signs.{signed, sign_of}
+use Rattle.h41_decimal.specs.Signs.{with_sign, sign_of}
 use Rattle.h41_decimal.specs.Units.{one}
 use Rattle.h41_decimal.specs.declared.sign.Sign.{Sign}
 use Rattle.h41_decimal.specs.declared.sign.Sign.TheVariants.{Plus, Minus}
@@ -18,12 +18,12 @@ count_in fraction = if fraction / 10 ^ 103 % 100 == 0 then 1 else fraction / 10 
 
 -- the number of these ones, whose size has this fraction
 abbrev pub with_ones : ℤ → ℕ → ℤ
-with_ones ones fraction = signed (sign_of ones) (unsigned_abs ones * one + fraction)
+with_ones ones fraction = with_sign (sign_of ones) (unsigned_abs ones * one + fraction)
 
 -- a number counted up, direction plus, or down
 abbrev pub number_along : Sign → ℤ → ℤ
 number_along direction number =
-    with_ones (counter_of number +ℤ signed direction (count_of number)) (fraction_of number)
+    with_ones (counter_of number +ℤ with_sign direction (count_of number)) (fraction_of number)
 
 -- a size that has so much more than another, or less
 abbrev pub IsMovedSize : (grows : Bool) (x step y : ℕ) → Type 0

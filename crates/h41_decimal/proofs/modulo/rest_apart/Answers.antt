@@ -1,6 +1,6 @@
 use Rattle.std.proofs.Common.{◌≡◌, ℕ, ◌+◌, ◌-◌, ◌*◌, ◌/◌, ◌%◌, ◌^◌, ◌<◌, ◌≤◌, ap, ◌∙◌, sym, subst, arith}
 use Rattle.std.proofs.Math.Nat.{mul-pos, zero-mul}
-use Rattle.h41_decimal.specs.Signs.{signed}
+use Rattle.h41_decimal.specs.Signs.{with_sign}
 use Rattle.h41_decimal.specs.Units.{size}
 use Rattle.h41_decimal.proofs.Nearest.{ten_pow_pos}
 use Rattle.h41_decimal.proofs.Signed.{signed-sub}
@@ -17,7 +17,7 @@ returns-then-y-x c =
     lower_exponent y.mantissa.digits x.mantissa.digits y.exponent.biased
     x.exponent.biased y.mantissa.below x.mantissa.at_least c.if-y-x.true in
     rest_of_apart c.args.sign (size y) (size x) 0 (size y) _ (omega arith) (size_pos y) less
-    (nearest_along (signed c.args.sign (size x - size y)) _ 1 _
+    (nearest_along (with_sign c.args.sign (size x - size y)) _ 1 _
     (sym (signed-sub c.args.sign (size x) (size y) (size x - size y) (omega arith))) c.subtract.ensures)
 
 pub returns-then-rest-eq0 : goal.returns-then-rest-eq0
@@ -56,7 +56,7 @@ returns c =
     let k : (m - c.remainder-rest.result) + c.remainder-rest.result ≡ m = omega arith in
     let l = lacking m (m - c.remainder-rest.result) c.remainder-rest.result (10 ^ s) k in
     let k_pos : 0 < m - c.remainder-rest.result = omega arith in
-    let P : ℕ → Type 0 = λ u. Nearest (signed c.args.sign u) 1 c.round_whole.result in
+    let P : ℕ → Type 0 = λ u. Nearest (with_sign c.args.sign u) 1 c.round_whole.result in
     rest_of_apart c.args.sign (size y) (size x) (n * 10 ^ (t - s) / m)
     (c.remainder-rest.result * 10 ^ s) _ d.0 (mul-pos some (ten_pow_pos s)) d.2
     (subst P l (rest_rounds_at c.args.sign (m - c.remainder-rest.result) s _ _ k_pos (omega arith) c.round_whole.ensures))

@@ -1,6 +1,6 @@
 -- The number is filled with zeros to ten digits.
 use Rattle.std.proofs.Common.{◌-◌, ap, arith}
-use Rattle.h41_decimal.specs.Signs.{signed}
+use Rattle.h41_decimal.specs.Signs.{with_sign}
 use Rattle.h41_decimal.proofs.Wholes.{few_digits, ten_of_fewer, filled_worth}
 use Rattle.h41_decimal.proofs.whole.decimal.Goals as goal
 
@@ -20,5 +20,5 @@ pub returns : goal.returns
 returns c =
     let count = c.digit_count-missing.result in
     let few = few_digits count c.args.number c.digit_count-missing.ensures.least (omega arith) in
-    ap (signed c.args.sign)
+    ap (with_sign c.args.sign)
     (filled_worth c.args.number (10 - count) c.args.steps c.power_of_ten.result c.power_of_ten.ensures (omega arith))

@@ -1,4 +1,7 @@
-use Rattle.std.proofs.Common.{◌≡◌, ◌-◌, ◌+◌, ℕ, arith, subst, ap, ◌∙◌, sym, inl, inr}
+use Rattle.std.proofs.Common.{◌≡◌, ◌-◌, ◌+◌, ◌<◌, ℕ, true, false, arith, refl, subst, ap, ◌∙◌, sym, inl, inr}
+use Rattle.std.specs.Prelude.{nat_lt}
+use Rattle.std.proofs.lemmas.Bool.{ltb-true}
+use Rattle.std.proofs.lemmas.Bool.Decides.{nat_tests}
 use Rattle.h41_codes.specs.Heads.{IsIn}
 use Rattle.h41_program.specs.ProgramBytes.{program_byte}
 use Rattle.h41_program.proofs.Places.{number_there}
@@ -24,3 +27,13 @@ returns-clause-line g c =
     number_there memory c.args.at c.args.limit size (omega arith) (omega arith) (omega arith)
     (λ k from below. c.loop-position.invariant k from (omega (arith, below)))
     (λ below on. omega (arith, below))
+
+pub loop-position-preserved : goal.loop-position-preserved
+loop-position-preserved g c = λ k from below.
+    elim (nat_lt k c.loop-position.position) as (λ before. nat_lt k c.loop-position.position ≡ before
+    → IsIn 0x10 0x1D (program_byte c.args.ram.now.registers k)) [
+      true ↦ λ is. c.loop-position.invariant k from (ltb-true k c.loop-position.position is)
+    | false ↦ λ is.
+        let here : k ≡ c.loop-position.position = grind (arith, nat_tests) in
+        rw (here, ← c.byte_at-byte.ensures) (omega (arith, c.if-byte-lt16.false), omega (arith, c.if-byte-gt28.false))
+    ] refl

@@ -11,15 +11,9 @@ use Rattle.h41_debug.specs.private.Advancing.{Advances, MakesSteps}
 use Rattle.h41_debug.specs.Bench.{BenchState, with_calculator}
 use Rattle.h41_breakpoints.specs.Breakpoints.{is_set}
 use Rattle.h41_debug.specs.Positions.{location_of}
-use Rattle.h41_debug.specs.private.Running.{stop_at, stop_behind, stop_running}
+use Rattle.h41_debug.specs.private.Running.{runs_function, stop_at, stop_behind, stop_running}
 use Rattle.h41_debug.specs.declared.run.Stop.TheVariants.{Break, Idle}
 use Rattle.h41_debug.proofs.Runs.{made_more}
-
--- whether a function in microcode runs
-abbrev pub runs_function : Mode → Bool
-runs_function modes.Idle = false
-runs_function modes.Run = false
-runs_function (modes.Micro caller) = true
 
 -- while no function runs, a step is a line
 pub no_function : (m : Mode) → ((caller : Caller) → m ≡ modes.Micro caller → ⊥) → runs_function m ≡ false
@@ -49,6 +43,11 @@ clear_behind behind t caller mode free =
     stop_either behind t
     (subst (λ (m : Mode). (if is_idle m then Some Idle else stop_running t) ≡ None) (sym mode)
     (ap (λ (set : Bool). if set then Some Break else None) free))
+
+-- nor behind a line with which a program runs on
+pub clear_in_program : (behind : Bool) (t : BenchState) → t.calculator.mode ≡ modes.Run → stop_running t ≡ None → stop_behind behind t ≡ None
+clear_in_program behind t mode clear =
+    stop_either behind t (subst (λ (m : Mode). (if is_idle m then Some Idle else stop_running t) ≡ None) (sym mode) clear)
 
 module _ (same_refusal : StepRefusalIsDetermined) (same_step : StepIsDetermined) where
   -- one step more

@@ -2,7 +2,7 @@
 use Rattle.std.proofs.Common.{◌≡◌, ℕ, zero, suc, Option, Some, None, refl, sym, subst, ◌∙◌}
 use Rattle.std.specs.Prelude.{MatchOption}
 use Rattle.h41_xrom.specs.declared.refusal.CalculatorRefusal.{CalculatorRefusal}
-use Rattle.h41_xrom.specs.Calculator.{CalculatorState, RefusesStep, Step}
+use Rattle.h41_xrom.specs.Calculator.{RefusesStep}
 use Rattle.h41_xrom.specs.CalculatorLaws.{StepIsDetermined, StepRefusalIsDetermined}
 use Rattle.h41_debug.specs.Bench.{BenchState, Steps, StepsInto, with_calculator}
 use Rattle.h41_debug.specs.BenchLaws.{StepsAreDetermined}

@@ -1,5 +1,5 @@
 -- Traces: what comes next can always be told, in one way; a trace is its steps, and steps can be traced.
-use Rattle.std.proofs.Common.{◌≡◌, ℕ, zero, suc, ◌++◌, Bool, true, false, List, [], ◌∷◌, Option, Some, None, Result, Ok, Err, refl, sym, ap}
+use Rattle.std.proofs.Common.{◌≡◌, ℕ, zero, suc, ◌++◌, Bool, true, false, List, [], Option, Some, None, Result, refl, sym, ap}
 use Rattle.std.proofs.Common.{subst, ◌∙◌}
 use Rattle.std.specs.Prelude.{MatchBool, MatchOption, codes}
 use Rattle.h41_breakpoints.specs.declared.location.Location.{Location}
@@ -10,7 +10,7 @@ use Rattle.h41_program.specs.declared.refusal.ProgramRefusal.{ProgramRefusal}
 use Rattle.h41_program.specs.PositionLaws.{EachIsRead, IsReadOnce}
 use Rattle.h41_program.specs.Positions.{LineAt}
 use Rattle.h41_ram.specs.RegisterMap.{RegisterMap, is_sound}
-use Rattle.h41_xrom.specs.Calculator.{CalculatorState, Step}
+use Rattle.h41_xrom.specs.Calculator.{CalculatorState}
 use Rattle.h41_xrom.specs.CalculatorLaws.{StepIsDetermined, StepRefusalIsDetermined}
 use Rattle.h41_xrom.specs.declared.refusal.CalculatorRefusal.{CalculatorRefusal}
 use Rattle.h41_debug.specs.Bench.{BenchState, Steps, StepsInto, with_calculator}

@@ -5,7 +5,7 @@ ghost use Rattle.std.specs.FinSet.{len};
 ghost use Rattle.h41_debug.specs.private.Advancing.{Advances, EndsFor, IfRunning};
 ghost use Rattle.h41_debug.specs.Bench.{Steps};
 ghost use Rattle.h41_debug.specs.Run.{Run};
-ghost use Rattle.h41_debug.specs.private.Running.{stop_behind, stop_running};
+ghost use Rattle.h41_debug.specs.private.Running.{runs_function, stop_behind, stop_running};
 ghost use Rattle.h41_xrom.specs.declared.calculator.Mode.TheVariants.{Micro};
 
 use crate::bench::Bench;
@@ -65,7 +65,7 @@ impl Bench {
         (limit, self.stop(true, watched).unwrap_or(Stop::Limit))
     }
 
-    /// Where there is no reason to stop: the next words of a function, or the next line. Tells how many steps are made then, and why the
+    /// Where there is no reason to stop: the next words of a function, or the next lines. Tells how many steps are made then, and why the
     /// next is refused.
     fn go_on(&mut self, from: u32, limit: u32, watched: bool) -> (u32, Option<CalculatorRefusal>)
         requires below { from < limit }
@@ -73,14 +73,10 @@ impl Bench {
         requires free { watched ≡ false → len self.old.breakpoints ≡ 0 }
         ensures { Advances limit from self.old result.0 self.new result.1 }
     {
-        step_is_determined();
         if let Mode::Micro(caller) = self.calculator().mode() {
             return self.words(caller, from, limit, watched);
         }
-        match self.step_line() {
-            Ok(()) => (from + 1, None),
-            Err(refusal) => (from, Some(refusal)),
-        }
+        self.lines(from, limit, watched)
     }
 
     /// The same, while a function runs: words up to the limit, to the function's end, to one where a breakpoint is set, or to one that is
@@ -108,6 +104,34 @@ impl Bench {
             }
             if watched && self.has_breakpoint(self.location()) {
                 return (made + 1, None);
+            }
+        }
+        (limit, None)
+    }
+
+    /// The same, while no function runs: lines up to the limit, to one behind which no program runs or a breakpoint is set, or to one that
+    /// is refused.
+    #[inline(never)]
+    fn lines(&mut self, from: u32, limit: u32, watched: bool) -> (u32, Option<CalculatorRefusal>)
+        requires below { from < limit }
+        requires mode { runs_function self.old.calculator.mode ≡ false }
+        requires clear { stop_behind (nat_lt 0 from) self.old ≡ None }
+        requires free { watched ≡ false → len self.old.breakpoints ≡ 0 }
+        ensures { Advances limit from self.old result.0 self.new result.1 }
+    {
+        step_is_determined();
+        for made in from..limit {
+            match self.step_line() {
+                Ok(()) => {}
+                Err(refusal) => return (made, Some(refusal)),
+            }
+            match self.calculator().mode() {
+                Mode::Run => {}
+                Mode::Idle | Mode::Micro(_) => return (made + 1, None),
+            }
+            match self.stop_at_breakpoint(watched) {
+                None => {}
+                Some(_) => return (made + 1, None),
             }
         }
         (limit, None)

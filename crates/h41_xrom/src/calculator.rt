@@ -1,6 +1,6 @@
 //! The calculator: processor, memory, pages and keys, and what it does.
 
-ghost use Rattle.std.specs.Prelude.{◌≡◌, None, IfOk, IfErr, OnOk, OnErr, option_map};
+ghost use Rattle.std.specs.Prelude.{◌≡◌, ◌≢◌, None, IfOk, IfErr, OnOk, OnErr, option_map};
 ghost use Rattle.std.specs.Result.{result_err};
 ghost use Rattle.h41_pages.specs.PageMap.{unplug_refusal};
 ghost use Rattle.h41_xrom.specs.Calculator.{RefusesLine, RefusesPage, RefusesStep, RefusesStepIn};
@@ -12,8 +12,10 @@ ghost use Rattle.h41_xrom.specs.Calculator.{after_reset, start, with_page, with_
 ghost use Rattle.h41_xrom.specs.Calculator.{without_page};
 ghost use Rattle.h41_xrom.specs.KeyActions as keys;
 ghost use Rattle.h41_xrom.specs.private.PrivateCalls.{Accepts, IsAccepted, after_effect, after_end};
+ghost use Rattle.h41_xrom.specs.private.PrivateCalls.{answered_briefly};
 ghost use Rattle.h41_keys.specs.declared.input.TypedEntry.TheVariants as entries;
-ghost use Rattle.h41_focal.specs.Outcomes.{answer_of};
+ghost use Rattle.h41_focal.specs.Outcomes.{Answer, answer_of};
+ghost use Rattle.h41_focal.specs.declared.outcome.BriefOutcome.TheVariants.{Elsewhere};
 ghost use Rattle.h41_xrom.specs.declared.calculator.Mode.TheVariants.{Micro};
 ghost use Rattle.h41_xrom.specs.Programs.{Becomes, Loads, change_refusal, size_makes};
 
@@ -21,7 +23,7 @@ use crate::acting::{KeyEffect, act};
 use crate::lines::{LineEnd, LineSource, carry_line};
 use crate::messages::{fault_text, test_text};
 use crate::refusal::CalculatorRefusal;
-use h41_focal::{DisplayText, Focal, LineOutcome, Machine};
+use h41_focal::{BriefOutcome, DisplayText, Focal, LineOutcome, Machine};
 use h41_keys::{Action, Flags, Input, Key, TypedEntry, press};
 use h41_nut::{Cpu, END_OF_FUNCTION, Keys, WordRefusal, step};
 use h41_pages::{FIRST_ADDRESS, Pages, PlugRefusal, UnplugRefusal};
@@ -246,6 +248,30 @@ impl Calculator {
         ensures change { OnOk result (StepsByLine self.old self.new) }
         ensures unchanged { OnErr result (self.new ≡ self.old) }
     {
+        match self.machine.step_briefly() {
+            Ok(brief) => match brief {
+                BriefOutcome::Done => {
+                    self.end_entry();
+                    Ok(())
+                }
+                BriefOutcome::Elsewhere => self.call_by_line(),
+                brief => {
+                    self.end_entry();
+                    self.answer_briefly(brief);
+                    Ok(())
+                }
+            },
+            Err(refusal) => Err(refusal.into()),
+        }
+    }
+
+    /// The same with all that a line may call.
+    #[inline(never)]
+    fn call_by_line(&mut self) -> Result<(), CalculatorRefusal>
+        ensures refusal { RefusesLine self.old (result_err result) }
+        ensures change { OnOk result (StepsByLine self.old self.new) }
+        ensures unchanged { OnErr result (self.new ≡ self.old) }
+    {
         match carry_line(&mut self.machine, &self.pages, &LineSource::Program) {
             Ok(end) => {
                 self.end_entry();
@@ -254,6 +280,16 @@ impl Calculator {
             }
             Err(refusal) => Err(refusal.into()),
         }
+    }
+
+    /// What a line leaves in the display whose outcome was told without its texts, as `answer`.
+    #[inline(never)]
+    fn answer_briefly(&mut self, brief: BriefOutcome)
+        requires { brief ≢ Elsewhere }
+        ensures { (called : Answer) → self.new ≡ answered_briefly called brief self.old }
+    {
+        let outcome = brief.outcome(&self.machine.ram);
+        self.answer(outcome);
     }
 
     /// What a line that ended leaves in the display, or the function runs that begins.

@@ -7,7 +7,9 @@ use Rattle.h41_codes.specs.declared.line.Line.{Line}
 use Rattle.h41_codes.specs.declared.line.Line.TheVariants.{Plain}
 use Rattle.h41_focal.specs.LineStep.{Left, Machine}
 use Rattle.h41_focal.specs.MachineCalls.{left_of}
-use Rattle.h41_focal.specs.Outcomes.{answer_of}
+use Rattle.h41_focal.specs.BriefOutcomes.{brief_answer}
+use Rattle.h41_focal.specs.Outcomes.{Answer, answer_of}
+use Rattle.h41_focal.specs.declared.outcome.BriefOutcome.{BriefOutcome}
 use Rattle.h41_focal.specs.declared.refusal.FocalRefusal.{FocalRefusal}
 use Rattle.h41_keys.specs.StoredLines.{StoresLine}
 use Rattle.h41_keys.specs.declared.action.Action.{Action}
@@ -96,6 +98,10 @@ after_effect effects.Nothing s = s
 after_effect (effects.Line end) s = after_end end s
 after_effect effects.Stops s = record s { mode = modes.Idle }
 after_effect effects.Starts s = record s { mode = modes.Run }
+
+-- behind a line whose texts are still to be made from memory
+abbrev pub answered_briefly : Answer → BriefOutcome → CalculatorState → CalculatorState
+answered_briefly called brief s = after_answer (brief_answer called s.nut.ram brief) s
 
 -- a key that has a meaning is done, or refused; what its action then needs
 abbrev pub Accepts : Key → Input → Action → CalculatorState → CalculatorState

@@ -1,0 +1,53 @@
+use Rattle.std.proofs.Common.{◌≡◌, false, Some, None, refl, sym, ap, subst, ◌∙◌}
+use Rattle.h41_xrom.specs.declared.calculator.Mode.{Mode}
+use Rattle.h41_xrom.specs.declared.calculator.Mode.TheVariants.{Run}
+use Rattle.h41_xrom.specs.Calculator.{CalculatorState}
+use Rattle.h41_debug.specs.Bench.{BenchState}
+use Rattle.h41_debug.specs.private.Running.{runs_function}
+use Rattle.h41_debug.proofs.Advancing.{clear_in_program, ends_piece, line_refuses, line_steps, one_more, refused_piece}
+use Rattle.h41_debug.proofs.bench.Bench.lines.Goals as goal
+
+pub returns-in-Err : goal.returns-in-Err
+returns-in-Err c =
+    refused_piece c.args.limit c.args.from c.loop-made.made c.args.self.now c.loop-made.self c.step_line.new.self c.in-Err.refusal
+    c.loop-made.invariant.0 c.loop-made.invariant.3 c.loop-made.invariant.1 c.loop-made-test.true
+    (line_refuses c.loop-made.self.calculator.mode c.loop-made.self.calculator (Some c.in-Err.refusal) c.loop-made.invariant.2
+    (c.in-Err.ensures).refusal)
+    (c.in-Err.ensures).unchanged
+
+pub returns-in-Idle : goal.returns-in-Idle
+returns-in-Idle c =
+    ends_piece c.step_is_determined.ensures.refusal c.step_is_determined.ensures.state c.args.limit
+    c.args.from c.loop-made.made c.args.self.now c.loop-made.self c.step_line.new.self
+    c.loop-made.invariant.0 c.loop-made.invariant.3 c.loop-made.auto.made c.loop-made.invariant.1 c.loop-made-test.true
+    (line_refuses c.loop-made.self.calculator.mode c.loop-made.self.calculator None c.loop-made.invariant.2 (c.in-Ok.ensures).refusal)
+    (line_steps c.loop-made.self.calculator.mode c.loop-made.self.calculator c.step_line.new.self.calculator c.loop-made.invariant.2
+    (c.in-Ok.ensures).change)
+    c.step_line.ensures.others
+
+pub returns-in-Some : goal.returns-in-Some
+returns-in-Some c =
+    ends_piece c.step_is_determined.ensures.refusal c.step_is_determined.ensures.state c.args.limit
+    c.args.from c.loop-made.made c.args.self.now c.loop-made.self c.step_line.new.self
+    c.loop-made.invariant.0 c.loop-made.invariant.3 c.loop-made.auto.made c.loop-made.invariant.1 c.loop-made-test.true
+    (line_refuses c.loop-made.self.calculator.mode c.loop-made.self.calculator None c.loop-made.invariant.2 (c.in-Ok.ensures).refusal)
+    (line_steps c.loop-made.self.calculator.mode c.loop-made.self.calculator c.step_line.new.self.calculator c.loop-made.invariant.2
+    (c.in-Ok.ensures).change)
+    c.step_line.ensures.others
+
+pub loop-made-preserved : goal.loop-made-preserved
+loop-made-preserved c =
+    let kept = ap (λ (at : BenchState). at.breakpoints) c.step_line.ensures.others ∙ c.loop-made.invariant.3 in
+    let mode : c.step_line.new.self.calculator.mode ≡ Run =
+    sym (c.mode.ensures ∙ ap (λ (s : CalculatorState). s.mode) c.calculator.ensures) ∙ c.in-Run.is in (
+      one_more c.step_is_determined.ensures.refusal c.step_is_determined.ensures.state c.args.limit
+          c.args.from c.loop-made.made c.args.self.now c.loop-made.self c.step_line.new.self
+          c.loop-made.invariant.0 c.loop-made.invariant.1 c.loop-made-test.true
+          (line_refuses c.loop-made.self.calculator.mode c.loop-made.self.calculator None c.loop-made.invariant.2 (c.in-Ok.ensures).refusal)
+          (line_steps c.loop-made.self.calculator.mode c.loop-made.self.calculator c.step_line.new.self.calculator
+          c.loop-made.invariant.2 (c.in-Ok.ensures).change)
+          c.step_line.ensures.others,
+      clear_in_program _ c.step_line.new.self mode (sym c.stop_at_breakpoint.ensures ∙ c.in-None.is),
+      subst (λ (m : Mode). runs_function m ≡ false) (sym mode) refl,
+      kept,
+    )

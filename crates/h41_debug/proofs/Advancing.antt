@@ -45,7 +45,8 @@ clear_behind behind t caller mode free =
     (ap (λ (set : Bool). if set then Some Break else None) free))
 
 -- nor behind a line with which a program runs on
-pub clear_in_program : (behind : Bool) (t : BenchState) → t.calculator.mode ≡ modes.Run → stop_running t ≡ None → stop_behind behind t ≡ None
+pub clear_in_program : (behind : Bool) (t : BenchState) → t.calculator.mode ≡ modes.Run → stop_running t ≡ None → stop_behind behind t
+    ≡ None
 clear_in_program behind t mode clear =
     stop_either behind t (subst (λ (m : Mode). (if is_idle m then Some Idle else stop_running t) ≡ None) (sym mode) clear)
 

@@ -2,7 +2,7 @@
 use Rattle.std.proofs.Common.{◌≡◌, ℕ, ◌+◌, ◌-◌, ◌*◌, ◌/◌, ◌%◌, ◌^◌, ◌<◌, ◌≤◌, ⊎_elim, sym, ◌∙◌, ap, refl, subst, arith}
 use Rattle.std.specs.Prelude.{ℤ, pos, ◌-ℤ◌}
 use Rattle.std.proofs.Math.Nat.{mul-le-mul_right, mul-lt-mul_of_pos_right, pow-le-pow_right, div-mul-le_self, lt-div-mul-add}
-use Rattle.std.proofs.lemmas.Nat.{div-add-mod'}
+use Rattle.std.proofs.lemmas.Nat.{div-add-mod', le-div}
 use Rattle.std.proofs.lemmas.Bool.{cases_lt}
 use Rattle.h41_decimal.specs.Signs.{with_sign, sign_of}
 use Rattle.h41_decimal.specs.Units.{one}
@@ -83,6 +83,22 @@ fraction_of sign n ones r fraction n_pos has sum e = record {
 
 pub no_fraction : (sign : Sign) (n ones : ℕ) → 0 < n → HasOnes n ones → ones * 10 ^ 108 ≡ n → IsFraction (with_sign sign n) (pos 0)
 no_fraction sign n ones n_pos has all = fraction_of sign n ones 0 (pos 0) n_pos has (omega arith) (sym (signed-zero sign 0 refl))
+
+-- the digits of an integer part, where so many stand behind the radix mark
+pub whole_digits : (m s k p q : ℕ) → p ≡ 10 ^ k → q ≡ m / 10 ^ k → k + s ≡ 108 → k ≤ 9 → 10 ^ 9 ≤ m → m < 10 ^ 10
+    → (10 ^ 9 ≤ q * p) × (q * p < 10 ^ 10) × (q * p * 10 ^ s ≡ q * 10 ^ 108)
+whole_digits m s k p q p_is q_is e few m_size m_below =
+    let w : 10 ^ k * 10 ^ s ≡ 10 ^ 108 = power_parts k s 108 e in
+    let parts : 10 ^ (9 - k) * 10 ^ k ≡ 10 ^ 9 = power_parts (9 - k) k 9 (omega arith) in
+    let least : 10 ^ (9 - k) ≤ m / 10 ^ k = le-div (10 ^ (9 - k)) m (10 ^ k) (ten_pow_pos k) (omega arith) in
+    let least_q : 10 ^ (9 - k) ≤ q = omega arith in
+    let low : 10 ^ (9 - k) * 10 ^ k ≤ q * 10 ^ k = mul-le-mul_right (10 ^ k) least_q in
+    let high : m / 10 ^ k * 10 ^ k ≤ m = div-mul-le_self m (10 ^ k) in
+    let qp : q * p ≡ q * 10 ^ k = ap (λ t. q * t) p_is in
+    let mp : q * 10 ^ k ≡ m / 10 ^ k * 10 ^ k = ap (λ t. t * 10 ^ k) q_is in
+    let scaled : q * p * 10 ^ s ≡ q * 10 ^ k * 10 ^ s = ap (λ t. t * 10 ^ s) qp in
+    let whole : q * (10 ^ k * 10 ^ s) ≡ q * 10 ^ 108 = ap (λ t. q * t) w in
+    (omega arith, omega arith, omega arith)
 
 -- a number of up to ten digits, filled with zeros
 pub few_digits : (count number : ℕ) → 10 ^ count ≤ 10 * number → number < 10 ^ 10 → count ≤ 10

@@ -32,15 +32,23 @@ pub fn ones(x: Magnitude) -> Option<u64>
     }
 }
 
-/// The integer part of a size with a sign.
+/// The integer part of a size with a sign: the digits in front of the radix mark stay where they are.
 pub fn integer_part(sign: Sign, x: Magnitude) -> Ten
     ensures { IsIntegerPart (with_sign sign (size x)) (units result) }
 {
-    match ones(x) {
-        None => Ten::Nonzero(sign, x),
-        Some(0) => Ten::Zero,
-        Some(ones) => decimal(sign, ones, ONES),
+    let steps = x.steps();
+    if steps >= ONES {
+        return Ten::Nonzero(sign, x);
     }
+    if steps < LEAST {
+        return Ten::Zero;
+    }
+    let behind = ONES - steps;
+    let mantissa = Mantissa {
+        digits: without_last(x.mantissa.digits, behind) * power_of_ten(behind),
+    };
+    let exponent = x.exponent;
+    Ten::Nonzero(sign, Magnitude { mantissa, exponent })
 }
 
 /// The fraction of a size with a sign.

@@ -90,7 +90,7 @@ ends_keeps how old new answer (Seeks name) left own is elsewhere = ap (λ (of : 
 ends_keeps how old new answer HasNoLabel left own failing elsewhere = fails_in how old old _ left failing elsewhere
 ends_keeps how old new answer HasNoLine left own is elsewhere = cc
 
-applies_with : (how : Manner) (row : rows.Row) (named : ℕ) (machine : Machine) (result : Result (List ℕ) LineFault) (left : Left)
+applies_with : (how : Manner) (row : rows.LineRow) (named : ℕ) (machine : Machine) (result : Result (List ℕ) LineFault) (left : Left)
     → AppliesWith how row named machine result (Ok left) → is_elsewhere left.answer ≡ true → left.machine ≡ machine
 applies_with how row named machine (Err fault) left failing elsewhere = fails_in how machine machine fault left failing elsewhere
 applies_with how row named machine (Ok result) left (to, goes, ends) elsewhere =

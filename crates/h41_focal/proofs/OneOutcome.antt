@@ -142,7 +142,7 @@ module _ (same_value : ValuesAreDetermined) where
   same_by_numbers true memory named value a b p q = same_computed memory named value a b p q
   same_by_numbers false memory named value a b p q = p ∙ sym q
 
-  same_work : (memory : RegisterMap) (named : ℕ) (row : rows.Row) (a b : Result (List ℕ) LineFault)
+  same_work : (memory : RegisterMap) (named : ℕ) (row : rows.LineRow) (a b : Result (List ℕ) LineFault)
       → Works memory named row a → Works memory named row b → a ≡ b
   same_work memory named row a b p q = same_by_numbers (are_numbers memory named (rows.numbers_of row)) memory named row.value a b p q
 
@@ -239,7 +239,7 @@ module _
     (same_start : HasOneAnswer StartOf)
     (same_local : HasOneAnswerEach LocalFrom)
     (same_global : AnswersAreDetermined (Option ℕ)) where
-  same_with : (how : Manner) (row : rows.Row) (named : ℕ) (machine : Machine)
+  same_with : (how : Manner) (row : rows.LineRow) (named : ℕ) (machine : Machine)
       (result : Result (List ℕ) LineFault) (a b : Result Left FocalRefusal)
       → AppliesWith how row named machine result a → AppliesWith how row named machine result b → a ≡ b
   same_with how row named machine (Err fault) a b p q = same_failure once how machine fault a b p q
@@ -251,7 +251,7 @@ module _
       named machine.focal.position machine.focal.returns p.0 q.0 p.1 q.1 in
       same_end once how machine new answer q.0 a b (subst (λ (to : Destination). Ends how machine new answer to a) same p.2) q.2
 
-  same_row : (how : Manner) (row : rows.Row) (named : ℕ) (machine : Machine) (a b : Result Left FocalRefusal)
+  same_row : (how : Manner) (row : rows.LineRow) (named : ℕ) (machine : Machine) (a b : Result Left FocalRefusal)
       → Applies how row named machine a → Applies how row named machine b → a ≡ b
   same_row how row named machine a b p q =
       let same = same_work same_value machine.memory named row p.0 q.0 p.1 q.1 in

@@ -5,7 +5,7 @@ use Rattle.h41_focal.specs.BriefOutcomes.{brief_answer}
 use Rattle.h41_focal.specs.Destinations as destinations
 use Rattle.h41_focal.specs.LineStep.{Applies, Fails, FocalState, Left, Machine, Works, answer_of_showing, machine_with}
 use Rattle.h41_rows.specs.RowEffects.{memory_after}
-use Rattle.h41_rows.specs.Rows.{Row}
+use Rattle.h41_rows.specs.Rows.{LineRow}
 use Rattle.h41_rows.specs.Rows as rows
 use Rattle.h41_rows.specs.declared.fault.LineFault.{LineFault}
 use Rattle.h41_focal.specs.declared.origin.Origin.{Origin}
@@ -15,7 +15,7 @@ use Rattle.h41_focal.specs.declared.refusal.FocalRefusal.{FocalRefusal}
 use Rattle.h41_ram.specs.RegisterMap.{RegisterMap}
 
 -- a machine with a row's changes, where its line goes on to the next one
-abbrev pub applied_to : Origin → Row → ℕ → List ℕ → Machine → Machine
+abbrev pub applied_to : Origin → LineRow → ℕ → List ℕ → Machine → Machine
 applied_to origin row named register machine = record {
   memory = memory_after row named register machine.focal.lift machine.memory;
   focal = on_to_next origin row.lift machine.focal;
@@ -23,7 +23,7 @@ applied_to origin row named register machine = record {
 
 -- it is done
 pub row_applied :
-    (origin : Origin) (row : Row) (named : ℕ) (machine : Machine) (register : List ℕ) (brief : BriefOutcome)
+    (origin : Origin) (row : LineRow) (named : ℕ) (machine : Machine) (register : List ℕ) (brief : BriefOutcome)
     → KnowsNext origin machine
     → row.goes ≡ rows.Next
     → Works machine.memory named row (Ok register)
@@ -37,7 +37,7 @@ row_applied Typed row named machine register brief knows goes works answers =
 
 -- it is applied to a machine whose memory and what else lines work on are looked at apart
 pub opened_row :
-    (origin : Origin) (row : Row) (named : ℕ) (machine : Machine) (memory : RegisterMap) (focal : FocalState)
+    (origin : Origin) (row : LineRow) (named : ℕ) (machine : Machine) (memory : RegisterMap) (focal : FocalState)
     (carried : Result Left FocalRefusal)
     → machine_with memory focal ≡ machine
     → KnowsNext origin machine
@@ -49,7 +49,7 @@ opened_row origin row named machine memory focal carried opened knows applies =
 
 -- it has a fault: by memory and what else lines work on
 pub row_failed :
-    (origin : Origin) (row : Row) (named : ℕ) (machine new : Machine) (memory : RegisterMap) (focal : FocalState) (fault : LineFault)
+    (origin : Origin) (row : LineRow) (named : ℕ) (machine new : Machine) (memory : RegisterMap) (focal : FocalState) (fault : LineFault)
     (brief : BriefOutcome)
     → machine_with memory focal ≡ machine
     → Works memory named row (Err fault)

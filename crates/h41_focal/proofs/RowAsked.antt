@@ -13,7 +13,7 @@ use Rattle.h41_rows.specs.LineRows.{loop}
 use Rattle.h41_focal.specs.LineStep.{Applies, Machine, Works}
 use Rattle.h41_rows.specs.Places.{Named, are_numbers, register_in}
 use Rattle.h41_rows.specs.RowEffects.{holds_in}
-use Rattle.h41_rows.specs.Rows.{Condition, Row}
+use Rattle.h41_rows.specs.Rows.{Condition, LineRow}
 use Rattle.h41_rows.specs.Rows as rows
 use Rattle.h41_rows.specs.Values.{Computes, Counted}
 use Rattle.h41_rows.specs.declared.fault.LineFault.{LineFault}
@@ -44,7 +44,7 @@ has_no_line :
 has_no_line holds memory next returns fails broken = rw fails (inr (broken, refl))
 
 -- the program goes on from a line that asks, where its row goes by a condition
-program_leads : (next : Position) (lead : Origin) (row : Row) (condition : Condition) (holds : Bool)
+program_leads : (next : Position) (lead : Origin) (row : LineRow) (condition : Condition) (holds : Bool)
     (named : ℕ) (machine : Machine) (register : List ℕ) (brief : BriefOutcome)
     → KnowsNext (Program next) machine
     → ((to : Destination) → Asks (holds_in machine.memory named condition) machine.memory next machine.focal.returns to
@@ -64,7 +64,7 @@ program_leads next Typed row condition holds named machine register brief knows 
     absurd (cc leads.1)
 
 -- a test is done
-pub test_leads : (origin lead : Origin) (row : Row) (condition : Condition) (holds : Bool)
+pub test_leads : (origin lead : Origin) (row : LineRow) (condition : Condition) (holds : Bool)
     (named : ℕ) (machine : Machine) (register : List ℕ) (brief : BriefOutcome)
     → KnowsNext origin machine → row.goes ≡ rows.Tests condition → row.shows ≡ rows.AsBefore → row.ends ≡ rows.GoesOn
     → Works machine.memory named row (Ok register) → holds ≡ holds_in machine.memory named condition
@@ -79,7 +79,7 @@ test_leads Typed Typed row condition holds named machine register brief knows go
     (Ok register, works, (Tells holds, rw goes (ap (λ (b : Bool). Tells b) is), rw answers refl))
 
 -- a loop counted
-pub loop_leads : (origin lead : Origin) (row : Row) (condition : Condition) (holds : Bool)
+pub loop_leads : (origin lead : Origin) (row : LineRow) (condition : Condition) (holds : Bool)
     (named : ℕ) (machine : Machine) (register : List ℕ) (brief : BriefOutcome)
     → KnowsNext origin machine → row.goes ≡ rows.Counts condition → row.shows ≡ rows.AsBefore → row.ends ≡ rows.GoesOn
     → Works machine.memory named row (Ok register) → holds ≡ holds_in machine.memory named condition
@@ -94,7 +94,7 @@ loop_leads Typed Typed row condition holds named machine register brief knows go
     (Ok register, works, (Stays, rw goes refl, rw (answers, shows, ends) refl))
 
 -- the line that would be passed over is none
-program_refused : (next : Position) (row : Row) (condition : Condition) (holds : Bool)
+program_refused : (next : Position) (row : LineRow) (condition : Condition) (holds : Bool)
     (named : ℕ) (old : Machine) (register : List ℕ) (refusal : FocalRefusal)
     → KnowsNext (Program next) old
     → ((to : Destination) → Asks (holds_in old.memory named condition) old.memory next old.focal.returns to
@@ -106,7 +106,7 @@ program_refused next row condition holds named old register refusal knows goes w
     (Ok register, works, (HasNoLine, (next, knows, goes _ asks), rw leads.0 refl))
 
 -- a test is refused
-pub test_refused : (origin : Origin) (row : Row) (condition : Condition) (holds : Bool)
+pub test_refused : (origin : Origin) (row : LineRow) (condition : Condition) (holds : Bool)
     (named : ℕ) (old : Machine) (register : List ℕ) (refusal : FocalRefusal)
     → KnowsNext origin old → row.goes ≡ rows.Tests condition → Works old.memory named row (Ok register)
     → holds ≡ holds_in old.memory named condition → Leads origin old.memory holds (Err refusal)
@@ -116,7 +116,7 @@ test_refused (Program next) row condition holds named old register refusal knows
 test_refused Typed row condition holds named old register refusal knows goes works is leads = absurd (cc leads)
 
 -- a loop is refused
-pub loop_refused : (origin : Origin) (row : Row) (condition : Condition) (holds : Bool)
+pub loop_refused : (origin : Origin) (row : LineRow) (condition : Condition) (holds : Bool)
     (named : ℕ) (old : Machine) (register : List ℕ) (refusal : FocalRefusal)
     → KnowsNext origin old → row.goes ≡ rows.Counts condition → Works old.memory named row (Ok register)
     → holds ≡ holds_in old.memory named condition → Leads origin old.memory holds (Err refusal)

@@ -9,7 +9,7 @@ use Rattle.h41_rows.specs.LineRows.{text_row}
 use Rattle.h41_focal.specs.LineStep.{FocalState, Machine, Works, answer_of_showing, machine_with}
 use Rattle.h41_rows.specs.Places.{Named, X}
 use Rattle.h41_rows.specs.RowEffects.{memory_after, with_alpha_change}
-use Rattle.h41_rows.specs.Rows.{Row, Appends, Becomes}
+use Rattle.h41_rows.specs.Rows.{LineRow, Appends, Becomes}
 use Rattle.h41_rows.specs.Rows as rows
 use Rattle.h41_focal.specs.private.Works.{register_use_row}
 use Rattle.h41_rows.specs.declared.fault.LineFault.{LineFault}
@@ -23,7 +23,7 @@ use Rattle.h41_ram.specs.RegisterMap.{RegisterMap, zeros}
 
 -- with what it computes: by memory and what else lines work on, before and afterwards
 pub row_done :
-    (origin : Origin) (row : Row) (named : ℕ) (machine : Machine) (memory : RegisterMap) (focal : FocalState) (register : List ℕ)
+    (origin : Origin) (row : LineRow) (named : ℕ) (machine : Machine) (memory : RegisterMap) (focal : FocalState) (register : List ℕ)
     (brief : BriefOutcome) (new : RegisterMap) (after : FocalState)
     → machine_with memory focal ≡ machine
     → KnowsNext origin machine

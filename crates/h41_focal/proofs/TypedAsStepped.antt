@@ -99,7 +99,7 @@ failure_alike machine focal fault left (own, fails, is) =
     (typed, (typed, refl, refl), as_same left own same typed.machine alike.0, here left own same alike.1)
 
 -- a row that goes on to the next line
-with_alike : (row : rows.Row) (named : ℕ) (machine : Machine) (focal : FocalState) (result : Result (List ℕ) LineFault) (left : Left)
+with_alike : (row : rows.LineRow) (named : ℕ) (machine : Machine) (focal : FocalState) (result : Result (List ℕ) LineFault) (left : Left)
     → row.goes ≡ rows.Next → AppliesWith Stepped row named machine result (Ok left)
     → LeavesLike (AppliesWith Typed row named (beside machine focal) result) left
 with_alike row named machine focal (Err fault) left goes_on applies = failure_alike machine focal fault left applies
@@ -121,7 +121,7 @@ with_alike row named machine focal (Ok result) left goes_on (to, (next, answers,
       here left _ same (answered_here machine.memory named row.shows row.ends),
     )
 
-row_alike : (row : rows.Row) (named : ℕ) (machine : Machine) (focal : FocalState) (left : Left) → row.goes ≡ rows.Next
+row_alike : (row : rows.LineRow) (named : ℕ) (machine : Machine) (focal : FocalState) (left : Left) → row.goes ≡ rows.Next
     → Applies Stepped row named machine (Ok left) → LeavesLike (Applies Typed row named (beside machine focal)) left
 row_alike row named machine focal left goes_on (result, works, applies) =
     let found = with_alike row named machine focal result left goes_on applies in

@@ -2,14 +2,14 @@
 use Rattle.std.proofs.Common.{◌≡◌, ℕ, List, Result, Some, append-nil}
 use Rattle.h41_rows.specs.Computing.{WorksOn}
 use Rattle.h41_focal.specs.LineStep.{Works}
-use Rattle.h41_rows.specs.Rows.{Row, places_in_value}
+use Rattle.h41_rows.specs.Rows.{LineRow, places_in_value}
 use Rattle.h41_rows.specs.Rows as rows
 use Rattle.h41_rows.specs.Values.{Value}
 use Rattle.h41_rows.specs.declared.fault.LineFault.{LineFault}
 use Rattle.h41_ram.specs.RegisterMap.{RegisterMap}
 
 pub value_computed :
-    (memory : RegisterMap) (named : ℕ) (row : Row) (value : Value) (result : Result (List ℕ) LineFault)
+    (memory : RegisterMap) (named : ℕ) (row : LineRow) (value : Value) (result : Result (List ℕ) LineFault)
     → row.value ≡ Some value
     → row.goes ≡ rows.Next
     → WorksOn memory named value result

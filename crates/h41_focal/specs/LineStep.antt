@@ -66,7 +66,7 @@ ComputesIn memory named None result = result ≡ Ok zeros
 ComputesIn memory named (Some value) result = Computes value memory named result
 
 -- numbers are asked for before anything is computed
-abbrev pub Works : RegisterMap → ℕ → rows.Row → Result (List ℕ) LineFault → Type 0
+abbrev pub Works : RegisterMap → ℕ → rows.LineRow → Result (List ℕ) LineFault → Type 0
 Works memory named row result =
     MatchBool (are_numbers memory named (rows.numbers_of row))
     (ComputesIn memory named row.value result) (result ≡ Err AlphaData)
@@ -165,14 +165,14 @@ Ends how old new answer HasNoLabel carried = FailsIn how old Nonexistent carried
 Ends how old new answer HasNoLine carried = carried ≡ Err BrokenProgram
 
 -- the machine with a row's changes
-abbrev pub with_row : rows.Row → ℕ → List ℕ → Machine → Machine
+abbrev pub with_row : rows.LineRow → ℕ → List ℕ → Machine → Machine
 with_row row named result machine = record {
   memory = memory_after row named result machine.focal.lift machine.memory;
   focal = record machine.focal { lift = lift_after row.lift machine.focal.lift };
 }
 
 -- a row is applied, where the register that its line names and what is computed are known
-abbrev pub AppliesWith : Manner → rows.Row → ℕ → Machine → Result (List ℕ) LineFault
+abbrev pub AppliesWith : Manner → rows.LineRow → ℕ → Machine → Result (List ℕ) LineFault
     → Result Left FocalRefusal → Type 0
 AppliesWith how row named machine (Err fault) carried = FailsIn how machine fault carried
 AppliesWith how row named machine (Ok result) carried =
@@ -181,7 +181,7 @@ AppliesWith how row named machine (Ok result) carried =
     × Ends how machine (with_row row named result machine)
     (answer_of_showing machine.memory named row.shows row.ends) to carried
 
-abbrev pub Applies : Manner → rows.Row → ℕ → Machine → Result Left FocalRefusal → Type 0
+abbrev pub Applies : Manner → rows.LineRow → ℕ → Machine → Result Left FocalRefusal → Type 0
 Applies how row named machine carried =
     (result : Result (List ℕ) LineFault)
     × Works machine.memory named row result

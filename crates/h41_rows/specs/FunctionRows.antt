@@ -5,7 +5,8 @@ use Rattle.h41_codes.specs.declared.functions.Function.TheVariants as functions
 use Rattle.h41_decimal.specs.Units.{size_of}
 use Rattle.h41_ram.specs.NamedFlags.{alpha_mode, grads, radians}
 use Rattle.h41_rows.specs.Places.{T, Z, Y, X, LastX}
-use Rattle.h41_rows.specs.Rows.{Row, Becomes, LosesSix, FlagChange, In, Nought, Same, Differ, Below}
+use Rattle.h41_rows.specs.Rows.{LineRow, Becomes, LosesSix, FlagChange, In, Nought, Same, Differ}
+use Rattle.h41_rows.specs.Rows.{Below}
 use Rattle.h41_rows.specs.Rows.{AtMost, Returns, NoText, AlphaText, Stops, TurnsOff, Off}
 use Rattle.h41_rows.specs.Rows.{lifting_row}
 use Rattle.h41_rows.specs.Rows.{silent_row, copy, compute, of_x, of_y_and_x, coming_in, test}
@@ -16,11 +17,11 @@ abbrev pub pi : ℕ
 pi = size_of 3141592654 99
 
 -- two flags tell the unit of angles: the one GRAD, the other RAD, none DEG
-abbrev pub angles : (for_grads for_radians : FlagChange) → Row
+abbrev pub angles : (for_grads for_radians : FlagChange) → LineRow
 angles for_grads for_radians = record lifting_row { flags = for_grads ∷ for_radians ∷ [] }
 
 -- a function that is carried out has a row
-abbrev pub function_row : Function → Option Row
+abbrev pub function_row : Function → Option LineRow
 -- Y and X: L keeps X, the stack drops
 function_row functions.Add = Some (of_y_and_x (values.Sum Y X))
 function_row functions.Subtract = Some (of_y_and_x (values.Difference Y X))

@@ -19,25 +19,25 @@ use Rattle.h41_rows.specs.Counters.{Way, Up, Down}
 use Rattle.h41_rows.specs.FunctionRows.{function_row}
 use Rattle.h41_rows.specs.Operands.{Meant, Count, Name}
 use Rattle.h41_rows.specs.Places.{X, Named}
-use Rattle.h41_rows.specs.Rows.{Row, FlagChange, Becomes, Appends, AppendsNamed, Counts, Flag}
+use Rattle.h41_rows.specs.Rows.{LineRow, FlagChange, Becomes, Appends, AppendsNamed, Counts, Flag}
 use Rattle.h41_rows.specs.Rows.{Loops, NamedText, Returns, SixCharacters, ToLabel, ToName}
 use Rattle.h41_rows.specs.Rows.{lifting_row}
 use Rattle.h41_rows.specs.Rows.{silent_row, copy, compute, coming_in, test}
 use Rattle.h41_rows.specs.Values as values
 
 -- RCL and STO
-abbrev pub recall : Row
+abbrev pub recall : LineRow
 recall = coming_in (copy X Named)
 
-abbrev pub store : Row
+abbrev pub store : LineRow
 store = record lifting_row { takes = copy Named X ∷ [] }
 
 -- arithmetic in a register: it takes a value of itself and X; X and L stay
-abbrev pub into_register : values.Value → Row
+abbrev pub into_register : values.Value → LineRow
 into_register value = record lifting_row { value = Some value; takes = compute Named ∷ [] }
 
 -- ISG and DSE
-abbrev pub loop : Way → Row
+abbrev pub loop : Way → LineRow
 loop way = record lifting_row {
   value = Some (values.Counted way Named);
   takes = compute Named ∷ [];
@@ -50,7 +50,7 @@ change flag on = record { flag = flag; on = on }
 
 -- the display format: the digit in flags 36 to 39, 36 weighing 8, and the notation in flags 40
 -- (FIX) and 41 (ENG)
-abbrev pub format : ℕ → (fixed engineering : Bool) → Row
+abbrev pub format : ℕ → (fixed engineering : Bool) → LineRow
 format n fixed engineering = record lifting_row {
   flags =
       change flags.digits_8 (n / 8 % 2 == 1) ∷ change flags.digits_4 (n / 4 % 2 == 1)
@@ -59,7 +59,7 @@ format n fixed engineering = record lifting_row {
 }
 
 -- functions of a number of digits, of a flag
-abbrev pub count_row : ParameterFunction → ℕ → Row
+abbrev pub count_row : ParameterFunction → ℕ → LineRow
 count_row functions.Fixed n = format n true false
 count_row functions.Scientific n = format n false false
 count_row functions.Engineering n = format n false true
@@ -77,7 +77,7 @@ count_row functions.Tone n = lifting_row
 count_row function n = lifting_row
 
 -- functions of a register
-abbrev pub register_row : ParameterFunction → Row
+abbrev pub register_row : ParameterFunction → LineRow
 register_row functions.Recall = recall
 register_row functions.Store = store
 register_row functions.StoreAdd = into_register (values.Sum Named X)
@@ -95,34 +95,34 @@ register_row functions.Label = silent_row
 -- the others have no register
 register_row function = silent_row
 
-abbrev pub operand_row : ParameterFunction → Meant → Row
+abbrev pub operand_row : ParameterFunction → Meant → LineRow
 operand_row function (Count n) = count_row function n
 operand_row function meant = register_row function
 
-abbrev pub short_row : RegisterFunction → Row
+abbrev pub short_row : RegisterFunction → LineRow
 short_row RecallRegister = recall
 short_row StoreRegister = store
 
 -- GTO and XEQ
-abbrev pub to_label : Branch → ℕ → Row
+abbrev pub to_label : Branch → ℕ → LineRow
 to_label branch label = record silent_row { goes = ToLabel branch label }
 
-abbrev pub to_name : Branch → List ℕ → Row
+abbrev pub to_name : Branch → List ℕ → LineRow
 to_name branch name = record silent_row { goes = ToName branch name }
 
-abbrev pub to_meant : Branch → Meant → Row
+abbrev pub to_meant : Branch → Meant → LineRow
 to_meant branch (Count label) = to_label branch label
 to_meant branch (Name name) = to_name branch name
 to_meant branch meant = silent_row
 
-abbrev pub named_row : NameFunction → List ℕ → Row
+abbrev pub named_row : NameFunction → List ℕ → LineRow
 named_row GoToName name = to_name GoTo name
 named_row ExecuteName name = to_name Execute name
 named_row Wordless name = silent_row
 
 -- a text is put into ALPHA; one that begins with the append sign comes behind what it holds, and
 -- one of no character does nothing
-abbrev pub text_row : List ℕ → Row
+abbrev pub text_row : List ℕ → LineRow
 text_row [] = lifting_row
 text_row (character ∷ text) =
     record lifting_row {
@@ -130,7 +130,7 @@ text_row (character ∷ text) =
     }
 
 -- the row of a line
-abbrev pub row_of : Line → Meant → Row
+abbrev pub row_of : Line → Meant → LineRow
 row_of lines.Null meant = lifting_row
 row_of (lines.LocalLabel label) meant = silent_row
 row_of (lines.Number characters) meant =

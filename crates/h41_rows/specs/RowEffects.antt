@@ -39,7 +39,7 @@ abbrev pub lift_takes : List rows.Takes
 lift_takes = rows.copy T Z ∷ rows.copy Z Y ∷ rows.copy Y X ∷ []
 
 -- all places that take registers
-abbrev pub takes_of : rows.Row → Bool → List rows.Takes
+abbrev pub takes_of : rows.LineRow → Bool → List rows.Takes
 takes_of row lift = if row.lifts && lift then lift_takes ++ row.takes else row.takes
 
 -- registers are written that were taken from memory as it was
@@ -96,7 +96,7 @@ with_flags (change ∷ changes) memory = with_flags changes (with_flag memory ch
 
 -- memory after a row, where the register that the line names, the computed register and whether
 -- lift was on are given
-abbrev pub memory_after : rows.Row → ℕ → List ℕ → Bool → RegisterMap → RegisterMap
+abbrev pub memory_after : rows.LineRow → ℕ → List ℕ → Bool → RegisterMap → RegisterMap
 memory_after row named result lift memory =
     with_flags row.flags
     (with_alpha_change memory named row.alpha

@@ -94,7 +94,7 @@ pub data Lift : Type 0 where
   AsItWas : Lift
 
 -- the row of a line
-pub record Row : Type 0 where
+pub record LineRow : Type 0 where
   -- the value that is computed
   pub value : Option Value
   -- whether the stack is lifted first, where lift is on
@@ -110,7 +110,7 @@ pub record Row : Type 0 where
   pub ends : RowEnding
 
 -- the row of a line that does nothing but turn lift on
-abbrev pub lifting_row : Row
+abbrev pub lifting_row : LineRow
 lifting_row = record {
   value = None;
   lifts = false;
@@ -125,7 +125,7 @@ lifting_row = record {
 }
 
 -- the row of a line that does nothing, and leaves lift
-abbrev pub silent_row : Row
+abbrev pub silent_row : LineRow
 silent_row = record lifting_row { lift = AsItWas }
 
 -- a place takes the register of another, the computed value, or six characters
@@ -136,22 +136,22 @@ abbrev pub compute : RowPlace → Takes
 compute place = record { place = place; source = Result }
 
 -- X takes a value of X, and L what X held
-abbrev pub of_x : Value → Row
+abbrev pub of_x : Value → LineRow
 of_x value = record lifting_row { value = Some value; takes = compute X ∷ copy LastX X ∷ [] }
 
 -- X takes a value of Y and X, L what X held, and the stack drops: T stays
-abbrev pub of_y_and_x : Value → Row
+abbrev pub of_y_and_x : Value → LineRow
 of_y_and_x value = record lifting_row {
   value = Some value;
   takes = compute X ∷ copy Y Z ∷ copy Z T ∷ copy LastX X ∷ [];
 }
 
 -- X takes what comes in, and the stack is lifted first
-abbrev pub coming_in : Takes → Row
+abbrev pub coming_in : Takes → LineRow
 coming_in taken = record lifting_row { lifts = true; takes = taken ∷ [] }
 
 -- a test
-abbrev pub test : Condition → Row
+abbrev pub test : Condition → LineRow
 test condition = record lifting_row { goes = Tests condition }
 
 -- The places that must hold numbers: those of the value, and those of the condition
@@ -193,5 +193,5 @@ places_in_going (Tests condition) = places_in_condition condition
 places_in_going (Counts condition) = places_in_condition condition
 places_in_going going = []
 
-abbrev pub numbers_of : Row → List RowPlace
+abbrev pub numbers_of : LineRow → List RowPlace
 numbers_of row = option_map_or places_in_value row.value [] ++ places_in_going row.goes

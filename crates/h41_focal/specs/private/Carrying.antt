@@ -21,7 +21,7 @@ use Rattle.h41_focal.specs.Outcomes.{Answer}
 use Rattle.h41_focal.specs.Outcomes as answers
 use Rattle.h41_rows.specs.Computing.{meant_by}
 use Rattle.h41_rows.specs.RowEffects.{lift_after, with_alpha_change}
-use Rattle.h41_rows.specs.Rows.{Appends, Becomes, Lift, Row}
+use Rattle.h41_rows.specs.Rows.{Appends, Becomes, Lift, LineRow}
 use Rattle.h41_focal.specs.private.Works.{digits_use_row, flag_use_row, highest_of}
 use Rattle.h41_focal.specs.private.Works.{register_use_row}
 use Rattle.h41_focal.specs.private.Works.{row_of_work}
@@ -90,17 +90,19 @@ abbrev pub ended_as : Machine → Result BriefOutcome FocalRefusal → Result Le
 ended_as new result = briefly_as nowhere new result
 
 -- a row was applied to a machine
-abbrev pub Leaves : Origin → Row → ℕ → (old new : Machine) → BriefOutcome → Type 0
+abbrev pub Leaves : Origin → LineRow → ℕ → (old new : Machine) → BriefOutcome → Type 0
 Leaves origin row named old new brief =
     Applies (manner_of origin) row named old (Ok (ended new brief))
 
 -- the same of a line that may call what memory does not have
-abbrev pub LeavesCalling : Answer → Origin → Row → ℕ → (old new : Machine) → BriefOutcome → Type 0
+abbrev pub LeavesCalling : Answer → Origin → LineRow → ℕ → (old new : Machine) → BriefOutcome
+    → Type 0
 LeavesCalling called origin row named old new brief =
     Applies (manner_of origin) row named old (Ok (briefly called new brief))
 
 -- a row was applied to a machine, or the line refused
-abbrev pub CarriesRow : Origin → Row → ℕ → (old new : Machine) → Result BriefOutcome FocalRefusal
+abbrev pub CarriesRow : Origin → LineRow → ℕ → (old new : Machine)
+    → Result BriefOutcome FocalRefusal
     → Type 0
 CarriesRow origin row named old new result =
     Applies (manner_of origin) row named old (ended_as new result)
@@ -137,7 +139,7 @@ TakesBriefly origin line old new result =
     TakesLine (manner_of origin) line old (briefly_as (called_by old.memory line) new result)
 
 -- a row was applied to what an operand means, of which this was found, or its fault
-abbrev pub CarriesFound : {A : Type 0} → Origin → (A → Row) → (A → ℕ) → Result A LineFault
+abbrev pub CarriesFound : {A : Type 0} → Origin → (A → LineRow) → (A → ℕ) → Result A LineFault
     → (old new : Machine) → Result BriefOutcome FocalRefusal → Type 0
 CarriesFound origin row named (Ok found) old new result =
     CarriesRow origin (row found) (named found) old new result
@@ -182,7 +184,7 @@ Stands machine result = StandsAt machine.memory machine.focal.position result
 
 -- the same of a row that names no register, of a line without an operand, of the work of a
 -- function, of the use of a register or a flag
-abbrev pub LeavesRow : Origin → Row → (old new : Machine) → BriefOutcome → Type 0
+abbrev pub LeavesRow : Origin → LineRow → (old new : Machine) → BriefOutcome → Type 0
 LeavesRow origin row old new brief = (named : ℕ) → Leaves origin row named old new brief
 
 abbrev pub DoesLine : Origin → Line → (old new : Machine) → BriefOutcome → Type 0

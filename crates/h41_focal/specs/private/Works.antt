@@ -10,7 +10,8 @@ use Rattle.h41_rows.specs.LineRows.{change, count_row, format, into_register, lo
 use Rattle.h41_rows.specs.LineRows.{register_row, store}
 use Rattle.h41_rows.specs.Operands.{DigitKind, FlagKind, LabelKind, RegisterKind, kind_of}
 use Rattle.h41_rows.specs.Places.{T, Z, Y, X, LastX, Named}
-use Rattle.h41_rows.specs.Rows.{Row, AlphaText, AppendsNamed, Becomes, Flag, LosesSix, NamedText}
+use Rattle.h41_rows.specs.Rows.{LineRow, AlphaText, AppendsNamed, Becomes, Flag, LosesSix}
+use Rattle.h41_rows.specs.Rows.{NamedText}
 use Rattle.h41_rows.specs.Rows.{NoText, Off, Returns, SixCharacters, Stops, TurnsOff, lifting_row}
 use Rattle.h41_rows.specs.Rows.{silent_row, copy, compute, of_x, of_y_and_x, coming_in, test}
 use Rattle.h41_rows.specs.Values as values
@@ -32,7 +33,7 @@ use Rattle.h41_focal.specs.declared.uses.OperandUse.{OperandUse}
 use Rattle.h41_focal.specs.declared.uses.OperandUse.TheVariants as uses
 
 -- what moves in the stack
-abbrev pub move_row : Movement → Row
+abbrev pub move_row : Movement → LineRow
 move_row moves.Exchange = record lifting_row { takes = copy X Y ∷ copy Y X ∷ [] }
 move_row moves.RollUp = record lifting_row
     { takes = copy X T ∷ copy Y X ∷ copy Z Y ∷ copy T Z ∷ [] }
@@ -51,14 +52,14 @@ move_row moves.ClearX =
     record lifting_row { value = Some (values.Given (pos 0)); takes = compute X ∷ []; lift = Off }
 
 -- what becomes of ALPHA, and of its mode
-abbrev pub alpha_row : AlphaWork → Row
+abbrev pub alpha_row : AlphaWork → LineRow
 alpha_row alphas.Clear = record lifting_row { alpha = Some (Becomes []) }
 alpha_row alphas.Shift = record lifting_row { alpha = Some LosesSix }
 alpha_row (alphas.Mode on) =
     record lifting_row { flags = record { flag = flags_named.alpha_mode; on = on } ∷ [] }
 
 -- what the display shows, and whether the program goes on
-abbrev pub display_row : DisplayWork → Row
+abbrev pub display_row : DisplayWork → LineRow
 display_row displays.ViewAlpha = record lifting_row { shows = AlphaText }
 display_row displays.Clear = record lifting_row { shows = NoText }
 display_row displays.Prompt = record lifting_row { shows = AlphaText; ends = Stops }
@@ -66,7 +67,7 @@ display_row displays.Stop = record silent_row { ends = Stops }
 display_row displays.TurnOff = record lifting_row { ends = TurnsOff }
 
 -- the row of each work
-abbrev pub row_of_work : FunctionWork → Row
+abbrev pub row_of_work : FunctionWork → LineRow
 row_of_work (works.OfYAndX value) = of_y_and_x (value_of_two value Y X)
 row_of_work (works.OfX value) = of_x (value_of_one value X)
 row_of_work works.Square = of_x (values.Product X X)
@@ -88,7 +89,7 @@ row_of_work works.Return = record silent_row { goes = Returns }
 row_of_work works.Nothing = lifting_row
 
 -- functions of a register
-abbrev pub register_use_row : RegisterUse → Row
+abbrev pub register_use_row : RegisterUse → LineRow
 register_use_row registers.Recall = recall
 register_use_row registers.Store = store
 register_use_row (registers.Combine value) = into_register (value_of_two value Named X)
@@ -102,12 +103,12 @@ register_use_row registers.Exchange = record lifting_row
     { takes = copy X Named ∷ copy Named X ∷ [] }
 
 -- functions of a number of digits
-abbrev pub digits_use_row : DigitsUse → ℕ → Row
+abbrev pub digits_use_row : DigitsUse → ℕ → LineRow
 digits_use_row (digits.Format fixed engineering) n = format n fixed engineering
 digits_use_row digits.Tone n = lifting_row
 
 -- functions of a flag, and the highest that they take
-abbrev pub flag_use_row : FlagUse → ℕ → Row
+abbrev pub flag_use_row : FlagUse → ℕ → LineRow
 flag_use_row (flags.Change on) n = record lifting_row { flags = change n on ∷ [] }
 flag_use_row (flags.Ask on) n = test (Flag n on)
 flag_use_row (flags.AskAndClear on) n = record (test (Flag n on)) { flags = change n false ∷ [] }

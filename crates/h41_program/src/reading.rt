@@ -90,22 +90,24 @@ pub fn byte_at<const REGS: usize>(ram: &Ram<REGS>, position: u16) -> u8
     register.byte(usize::from(6 - position % REGISTER_BYTES))
 }
 
-/// The first position from one on, and before the last three bytes, whose byte is no null; else where these begin.
+/// The first position from one on, and before the last three bytes, whose byte is no null; else where these begin. And its byte.
 #[inline(always)]
-fn past_nulls<const REGS: usize>(ram: &Ram<REGS>, at: u16, last: u16) -> u16
+fn past_nulls<const REGS: usize>(ram: &Ram<REGS>, at: u16, last: u16) -> (u16, u8)
     requires from { at ≤ last }
     requires last { last < byte_count ram.now.registers }
-    ensures from { at ≤ result }
-    ensures to { result ≤ last }
-    ensures nulls { (k : ℕ) → at ≤ k → k < result → program_byte ram.now.registers k ≡ 0 }
-    ensures stop { result < last → program_byte ram.now.registers result ≢ 0 }
+    ensures from { at ≤ result.0 }
+    ensures to { result.0 ≤ last }
+    ensures nulls { (k : ℕ) → at ≤ k → k < result.0 → program_byte ram.now.registers k ≡ 0 }
+    ensures stop { result.0 < last → program_byte ram.now.registers result.0 ≢ 0 }
+    ensures byte { result.1 ≡ program_byte ram.now.registers result.0 }
 {
     for position in at..last {
-        if byte_at(ram, position) != 0 {
-            return position;
+        let here = byte_at(ram, position);
+        if here != 0 {
+            return (position, here);
         }
     }
-    last
+    (last, byte_at(ram, last))
 }
 
 /// The bytes from a position to another, or the first 18 of them.
@@ -154,18 +156,18 @@ fn fitting<const REGS: usize>(ram: &Ram<REGS>, at: u16, limit: u16, size: u16) -
     })
 }
 
-/// The place of the line that stands at a position, and may take the bytes before another: its first bytes tell how many it takes.
-/// `None` where bytes that are no line stand there.
+/// The place of the line that stands at a position, whose first byte is given, and may take the bytes before another: its first
+/// bytes tell how many it takes. `None` where bytes that are no line stand there.
 #[inline(always)]
-fn place_at<const REGS: usize>(ram: &Ram<REGS>, at: u16, limit: u16) -> Option<LinePlace>
+fn place_at<const REGS: usize>(ram: &Ram<REGS>, at: u16, byte: u8, limit: u16) -> Option<LinePlace>
     requires from { at < limit }
     requires limit { limit ≤ byte_count ram.now.registers }
     requires bound { limit < 65000 }
+    requires byte { byte ≡ program_byte ram.now.registers at }
     ensures some { IfSome result (λ place. BeginsAt ram.now.registers at limit place) }
     ensures none { IfNone result (BeginsNothing ram.now.registers at limit) }
 {
     first_bytes();
-    let byte = byte_at(ram, at);
     if is_one_byte(byte) {
         return Some(LinePlace {
             position: at,
@@ -275,12 +277,13 @@ pub fn place_from<const REGS: usize>(ram: &Ram<REGS>, at: u16) -> Option<LinePla
     if at > last {
         return None;
     }
-    let position = past_nulls(ram, at, last);
-    if position < last {
-        place_at(ram, position, last)
+    let (position, byte) = past_nulls(ram, at, last);
+    let limit = if position < last {
+        last
     } else {
-        place_at(ram, position, last + END_BYTES)
-    }
+        last + END_BYTES
+    };
+    place_at(ram, position, byte, limit)
 }
 
 /// The first line from a position on, nulls passed over, and the byte behind it; `None` where no line follows. The list goes on

@@ -238,7 +238,7 @@ spelled_lines labels (line ∷ rest) number address ready none =
     let parts = or_none (at_line number (read_fault labels address (reading_of line.code))) _ none in
     let own =
     spelled_line labels address (reading_of line.code) ready.0
-        (at_no_line number (read_fault labels address (reading_of line.code)) parts.0) in
+    (at_no_line number (read_fault labels address (reading_of line.code)) parts.0) in
     let long : line_length line ≡ length own.0 = sym (length-line labels address (reading_of line.code) own.0 own.1) in
     let others = spelled_lines labels rest (suc number) (address + line_length line) ready.3 parts.1 in (
       own.0 ++ others.0,

@@ -81,8 +81,12 @@ none_line : (earlier : List SourceLine) (address : ℕ) (line : SourceLine) → 
     → own_fault (is_labelled_twice earlier line.label) address line ≡ None
 none_line earlier address line fits =
     let long : nat_lt address_count (address + line_length line) ≡ false = grind (arith, nat_tests, fits.ends) in
-    rw (none_readable (reading_of line.code) fits.readable, none_new earlier line.label fits.new, none_low address line.label fits.low,
-        long)
+    rw (
+      none_readable (reading_of line.code) fits.readable,
+      none_new earlier line.label fits.new,
+      none_low address line.label fits.low,
+      long,
+    )
     refl
 
 -- and those of all

@@ -57,7 +57,7 @@ abbrev pub one_of_two : List ℕ → ℕ → List ℕ → ℕ → List ℕ → L
     → Result Statement SourceFault
 one_of_two name number other_name other second others =
     if bytes_eq second name then without_operand number others else pair other_name other second
-        others
+    others
 
 abbrev pub then_a : ℕ → List (List ℕ) → Result Statement SourceFault
 then_a number words = by_second (pair (codes "A") number) words
@@ -70,7 +70,7 @@ logic second others =
 abbrev pub at_carry : Condition → List ℕ → List (List ℕ) → Result Statement SourceFault
 at_carry condition second others =
     if bytes_eq second (codes "RTN") then without_operand (number_of (rows.ReturnIf condition))
-        others
+    others
     else (if bytes_eq second (codes "XQ") then statement_by (takes_address condition Execute) others
     else (if bytes_eq second (codes "GO") then statement_by (takes_address condition Go) others
     else Err BadLine))

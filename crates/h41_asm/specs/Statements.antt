@@ -106,7 +106,7 @@ takes_number least count row word =
 abbrev pub takes_address : Condition → LongJumpKind → Taking
 takes_address condition kind word =
     or_else (value_statement (λ address. Words (long_jump_words condition kind address))
-        (address_in word))
+    (address_in word))
     (value_statement (λ name. LongJumpTo condition kind name) (reference_in word))
 
 abbrev pub takes_displacement : Condition → Taking

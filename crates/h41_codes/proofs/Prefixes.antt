@@ -89,10 +89,10 @@ function_once : (function : ParameterFunction) (operand : Operand)
     → canonical_line (shortest_function function operand) ≡ shortest_function function operand
 function_once Recall (Direct register) =
     cond_both (nat_lt register 16) _ _ (λ line. canonical_line line ≡ line) (λ short. refl)
-        (λ long. cond-false (nat_lt register 16) _ _ long)
+    (λ long. cond-false (nat_lt register 16) _ _ long)
 function_once Store (Direct register) =
     cond_both (nat_lt register 16) _ _ (λ line. canonical_line line ≡ line) (λ short. refl)
-        (λ long. cond-false (nat_lt register 16) _ _ long)
+    (λ long. cond-false (nat_lt register 16) _ _ long)
 function_once Label (Direct label) =
     cond_both (nat_lt label 15) _ _ (λ line. canonical_line line ≡ line) (λ short. refl) (λ long. cond-false (nat_lt label 15) _ _ long)
 function_once function operand = refl

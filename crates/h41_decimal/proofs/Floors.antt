@@ -62,7 +62,7 @@ pub rest_of_same : (s : Sign) (Y X q r : ℕ) (answer : Result Ten DecimalFault)
     → RoundsRest (with_sign s Y) (with_sign s X) answer
 rest_of_same s Y X q r answer e less nearest =
     let x : with_sign s X *ℤ with_sign Plus q ≡ with_sign s (X * q) = signed-mul s Plus X q
-        ∙ ap (λ t. with_sign t (X * q)) (product_with_plus s) in
+    ∙ ap (λ t. with_sign t (X * q)) (product_with_plus s) in
     let d : with_sign s Y -ℤ with_sign s X *ℤ with_sign Plus q ≡ with_sign s r =
     ap (λ z. with_sign s Y -ℤ z) x ∙ signed-sub s Y (X * q) r (omega arith) in
     record {

@@ -75,7 +75,7 @@ packed_two_more count number =
 
 packed_four_more : (count number : ℕ)
     → word_of_digits (suc (suc (suc (suc count)))) number
-        ≡ word_of_digits 4 (number % 10000) + 65536 * word_of_digits count (number / 10000)
+    ≡ word_of_digits 4 (number % 10000) + 65536 * word_of_digits count (number / 10000)
 packed_four_more count number =
     let low : number % 10000 % 100 ≡ number % 100 = omega arith in
     let high : number % 10000 / 100 ≡ number / 100 % 100 = omega arith in

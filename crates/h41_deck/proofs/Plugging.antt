@@ -49,7 +49,7 @@ module _ (s : BenchState) (page : ℕ) (writable : Bool) (words items : List ℕ
       → PlugsWords page writable (Ok words) s (with_calculator c s) (ends_by (Some (of_plug why)))
   plugs_refused why refuses other stays =
       let refused : Some (of_plug why) ≡ block_refusal s page words =
-          refused_page s.calculator.nut.pages page items (page_of_words words) why same
+      refused_page s.calculator.nut.pages page items (page_of_words words) why same
       (subst (λ (of : CalculatorState). RefusesPage of page 1 items why) is refuses) other in (
         ap (λ d. with_calculator d s) (stays ∙ is) ∙ ap (λ why. state_unless why (with_words page writable words s) s) refused,
         ap ends_by refused,

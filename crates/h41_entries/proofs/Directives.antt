@@ -120,6 +120,6 @@ function_is_read labels source words fill name text origin entry label other
     let offset : entry_offset (words ++ fill) entry ≡ lines_length first + length text =
     read.2.offset ∙ omega (arith, target, size, at.size, start, inside) in
     ap (λ keystroke. if keystroke then None else spelled_name (words_before (words ++ fill) (entry_offset (words ++ fill) entry)))
-        read.2.kind
+    read.2.kind
     ∙ ap (λ o. spelled_name (words_before (words ++ fill) o)) offset
     ∙ name_is_read labels source words fill text origin other first (next ∷ rest) quoted by_name

@@ -47,7 +47,7 @@ never left answer old is own elsewhere = absurd (true≢false (sym elsewhere ∙
 stepped_fails : (flag : Bool) (machine : Machine) (fault : LineFault) (left : Left)
     → MatchBool flag
     ((next : Position) × NextAt machine.memory machine.focal.position (Ok next)
-        × (left ≡ left_done (at_line next (with_fault_caught machine))))
+    × (left ≡ left_done (at_line next (with_fault_caught machine))))
     (left ≡ left_failed (at_line machine.focal.position machine) fault)
     → is_elsewhere left.answer ≡ false
 stepped_fails true machine fault left (next, answers, is) = ap (λ (of : Left). is_elsewhere of.answer) is

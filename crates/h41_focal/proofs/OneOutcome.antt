@@ -43,7 +43,7 @@ use Rattle.h41_rows.specs.declared.fault.LineFault.TheVariants.{AlphaData, Nonex
 abbrev GoesOn : Machine → Left → Type 0
 GoesOn machine left =
     (next : Position) × NextAt machine.memory machine.focal.position (Ok next)
-        × (left ≡ left_done (at_line next (with_fault_caught machine)))
+    × (left ≡ left_done (at_line next (with_fault_caught machine)))
 
 -- what holds of the line at the position, or of there being none
 abbrev ByFirst : Machine → (Result PlacedLine program.ProgramRefusal → Type 0) → Type 0

@@ -36,7 +36,7 @@ pub row_done :
 row_done origin row named machine memory focal register brief new after opened knows goes works answers makes ends =
     opened_row origin row named machine memory focal (Ok (ended (machine_with new after) brief)) opened knows
     (λ next. rw (makes, ends) (row_applied origin row named (machine_with memory focal) register brief next goes works
-        (rw makes at answers)))
+    (rw makes at answers)))
 
 -- arithmetic in a register works on the numbers of its value alone
 pub works_in_register :

@@ -82,7 +82,7 @@ typed_fault flag_25 machine fault = if flag_25 then left_done (with_fault_caught
 fails_alike : (flag_25 : Bool) (machine : Machine) (focal : FocalState) (fault : LineFault) (left : Left)
     → MatchBool flag_25
     ((next : Position) × NextAt machine.memory machine.focal.position (Ok next)
-        × (left ≡ left_done (at_line next (with_fault_caught machine))))
+    × (left ≡ left_done (at_line next (with_fault_caught machine))))
     (left ≡ left_failed (at_line machine.focal.position machine) fault)
     → AreAlike left.machine (typed_fault flag_25 (beside machine focal) fault).machine × (is_elsewhere left.answer ≡ false)
 fails_alike true machine focal fault left (next, answers, is) =

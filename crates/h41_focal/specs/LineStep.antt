@@ -136,7 +136,7 @@ Fails Stepped machine fault left =
 Fails Typed machine fault left =
     left
     ≡ (if flag_of machine.memory error_flag then left_done (with_fault_caught machine) else
-        left_failed machine fault)
+    left_failed machine fault)
 
 -- a line is carried out, or refused
 abbrev pub FailsIn : Manner → Machine → LineFault → Result Left FocalRefusal → Type 0
@@ -155,8 +155,11 @@ Ends how old new answer Stays carried = carried ≡ Ok (record { machine = new; 
 Ends how old new answer (Tells holds) carried =
     carried ≡ Ok (record { machine = new; answer = answers.Answered holds })
 Ends how old new answer (Runs position) carried =
-    carried ≡ Ok (record { machine = at_line position (with_returns [] new); answer =
-        answers.Runs })
+    carried ≡ Ok (record {
+      machine = at_line position (with_returns [] new);
+      answer =
+          answers.Runs;
+    })
 -- nothing is changed where the calculator looks elsewhere, and where the line that is to be passed
 -- over is none
 Ends how old new answer (Seeks name) carried =

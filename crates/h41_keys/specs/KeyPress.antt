@@ -192,7 +192,7 @@ program_mode_turned input = record (without_entry input) { program_mode = not in
 abbrev pub with_prompt : Input → PromptFunction → Input
 with_prompt input function =
     record (with_entry input (without_number input.entry))
-        { prompt = Some (opened_prompt function) }
+    { prompt = Some (opened_prompt function) }
 
 abbrev pub acts : Input → Meaning → Option Pressed
 acts input meanings.Nothing = None

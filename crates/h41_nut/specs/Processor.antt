@@ -61,5 +61,9 @@ initial_state = record {
 -- is
 abbrev pub at_function : Processor → ℕ → Processor
 at_function s address =
-    record initial_state { pc = address; returns = end_of_function ∷ 0 ∷ 0 ∷ 0 ∷ []; display =
-        s.display }
+    record initial_state {
+      pc = address;
+      returns = end_of_function ∷ 0 ∷ 0 ∷ 0 ∷ [];
+      display =
+          s.display;
+    }

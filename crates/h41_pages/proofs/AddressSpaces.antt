@@ -112,7 +112,7 @@ plugged_at pages numbers page number writable words address is space whole size 
 
 pub space_plugged : (pages : PageMap) (numbers : List ℕ) (page number : ℕ) (writable : Bool) (words : List ℕ) → IsPages pages numbers
     → plug_refusal pages page number words ≡ None → IsSpaceOf (with_page_image pages page number writable words)
-        (with_page numbers page words)
+    (with_page numbers page words)
 space_plugged pages numbers page number writable words is none address below =
     let held = plugged_held pages page number writable words none in
     let place = bank_place (bank_numbered number) in
@@ -190,7 +190,7 @@ pages_at_start = record { map = none_is_page_map; size = length-replicate addres
 
 pub pages_plugged : (pages : PageMap) (numbers : List ℕ) (page number : ℕ) (writable : Bool) (words : List ℕ) → IsPages pages numbers
     → plug_refusal pages page number words ≡ None → IsPages (with_page_image pages page number writable words)
-        (with_page numbers page words)
+    (with_page numbers page words)
 pages_plugged pages numbers page number writable words is none =
     let held = plugged_held pages page number writable words none in
     let place = bank_place (bank_numbered number) in

@@ -24,7 +24,7 @@ pub name_goes_on : (name : List ℕ) (word : ℕ) (words : List ℕ) → is_last
 name_goes_on name word words fails =
     ap (λ b.
     option_map (λ rest. name ++ rest) (cond b (Some (character word ∷ []))
-        (option_map (λ rest. character word ∷ rest) (spelled_name words))))
+    (option_map (λ rest. character word ∷ rest) (spelled_name words))))
     fails
     ∙ joined name (character word) (spelled_name words)
 
@@ -33,5 +33,5 @@ pub name_ends : (name : List ℕ) (word : ℕ) (words : List ℕ) → is_last wo
 name_ends name word words passes =
     ap (λ b.
     option_map (λ rest. name ++ rest) (cond b (Some (character word ∷ []))
-        (option_map (λ rest. character word ∷ rest) (spelled_name words))))
+    (option_map (λ rest. character word ∷ rest) (spelled_name words))))
     passes

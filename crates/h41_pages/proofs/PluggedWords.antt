@@ -25,7 +25,7 @@ word_plugged pages page number offset writable words whole first last below chos
 pub others_plugged : PluggingKeepsOthers
 others_plugged pages page number writable words address different =
     same_fetch (with_page_image pages page number writable words) pages address
-        (other_banks pages.images _ page (page_of address) different) refl
+    (other_banks pages.images _ page (page_of address) different) refl
 
 none_of : (bank : Bank) → slice_index_or no_banks (bank_place bank) None ≡ None
 none_of First = refl

@@ -71,7 +71,7 @@ module _ (again : ByteRoundTrip) (old left : RegisterMap) (lines before : List L
     (own : before_end lines ≡ Some before) where
   leaves_lines : (b : Bool) → is_open (lines_of before) ≡ b
       → HasOutcome {A = Unit {0}} old left (Ok tt) (if b then memory_with_answer tt
-          (with_program_lines old (with_last_end (lines_of before))) else Ok (old, tt))
+      (with_program_lines old (with_last_end (lines_of before))) else Ok (old, tt))
       → LeavesClosed old left
   leaves_lines true wants has =
       let all = with_last_end (lines_of before) in

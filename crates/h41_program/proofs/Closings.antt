@@ -44,10 +44,10 @@ closed_none old lines other = rw other (refl, refl)
 
 pub closed_some : (old left : RegisterMap) (result : Result (Unit {0}) ProgramRefusal) (lines : List Line) → is_open lines ≡ true
     → HasOutcome old left result (memory_with_answer tt (with_program_lines old (with_last_end lines)))
-        → HasOutcome old left result (close_outcome old lines)
+    → HasOutcome old left result (close_outcome old lines)
 closed_some old left result lines some has =
     subst (λ (b : Bool). HasOutcome old left result (if b then memory_with_answer tt (with_program_lines old (with_last_end lines)) else Ok
-        (old, tt))) (sym some) has
+    (old, tt))) (sym some) has
 
 pub close_ok : (old left : RegisterMap) (before : Option (List ListedLine))
     (first : Result Packer ProgramRefusal) (packer : Packer) (result : Result (Unit {0}) ProgramRefusal)

@@ -167,8 +167,11 @@ changed_refused old change lines result refusal false matches err = (same_refusa
 module _ (old : RegisterMap) (change : ℕ → ListedLine → List Line) (at : ℕ) where
   pub edit_none : (result : Result ℕ ProgramRefusal) (refusal : ProgramRefusal) → AnswersFirst old at (Err refusal) → result ≡ Err refusal
       → Edits old old change at (without_answer result)
-  edit_none result refusal none is = (Err BrokenProgram, inr (none.1, refl),
-      (ap without_answer is ∙ ap (λ (r : ProgramRefusal). Err r) none.0, refl))
+  edit_none result refusal none is = (
+    Err BrokenProgram,
+    inr (none.1, refl),
+    (ap without_answer is ∙ ap (λ (r : ProgramRefusal). Err r) none.0, refl),
+  )
 
   module _ (first : ListedLine) (stands : FirstFrom (program_bytes old) (final_position old) at first)
       (packed : Result Packer ProgramRefusal)

@@ -22,7 +22,7 @@ use Rattle.h41_program.proofs.Cases.{not_both, same_error}
 gives_ok : {A : Type 0} (old new : RegisterMap) (result : Result (Unit {0}) ProgramRefusal)
     (answer : A) (outcome : Result RegisterMap ProgramRefusal)
     → result ≡ Ok tt → HasOutcome old new result (memory_with_answer tt outcome)
-        → HasOutcome old new (Ok answer) (memory_with_answer answer outcome)
+    → HasOutcome old new (Ok answer) (memory_with_answer answer outcome)
 gives_ok old new result answer (Ok memory) ok gives = (refl, gives.1)
 gives_ok old new result answer (Err refusal) ok gives = absurd (not_both result tt refusal ok gives.0)
 
@@ -63,7 +63,7 @@ was_written old new result (Err refusal) ok gives = absurd (not_both result tt r
 gives_start : (old new : RegisterMap) (result : Result (Unit {0}) ProgramRefusal)
     (start place : ℕ) (outcome : Result RegisterMap ProgramRefusal)
     → result ≡ Ok tt → ((after : RegisterMap) → outcome ≡ Ok after → start ≡ place)
-        → HasOutcome old new result (memory_with_answer tt outcome)
+    → HasOutcome old new result (memory_with_answer tt outcome)
     → HasOutcome old new (Ok start) (memory_with_answer place outcome)
 gives_start old new result start place (Ok memory) ok same gives = (ap (λ (n : ℕ). Ok n) (same memory refl), gives.1)
 gives_start old new result start place (Err refusal) ok same gives = absurd (not_both result tt refusal ok gives.0)
@@ -156,7 +156,7 @@ module _ (memory after : RegisterMap) (first : Result Packer ProgramRefusal)
       → Loading before loaded first packer closed_packer new put → put ≡ Ok tt → wrote ≡ Ok tt → start ≡ length closed_packer.bytes.items
       → curtain_of memory ≤ main_start + 320
       → ((lines : List Line) → Packs new lines → HasOutcome memory after wrote (memory_with_answer tt (with_program_lines memory lines)))
-          → start ≤ 2237
+      → start ≤ 2237
   load_bound None loaded wrote start is ok done same small writes = absurd (not_both first packer BrokenProgram is.begun is.program)
   load_bound (Some listed) None wrote start is ok done same small writes =
       absurd (not_both put tt BrokenProgram ok (is.puts (with_last_end (lines_of listed)) (packs_closed listed None is)))
@@ -164,12 +164,12 @@ module _ (memory after : RegisterMap) (first : Result Packer ProgramRefusal)
       let all = with_last_end (lines_of listed) in
       let begun = packs_closed listed (Some lines) is in
       let after_all = was_written memory after wrote (with_program_lines memory (all ++ lines)) done
-          (writes (all ++ lines) (is.puts all begun).1) in
+      (writes (all ++ lines) (is.puts all begun).1) in
       let there = begins_there memory closed_packer all lines after_all.0 start small begun same after_all.1 in
       elim (cases_lt 2237 start) [
         | inl above ↦
             let many : 2237 < length (packed_lines all) = omega (arith, above, there) in
             absurd (not_both (with_program_lines memory (all ++ lines)) after_all.0 NoRoom after_all.1
-                (too_many memory all lines small many))
+            (too_many memory all lines small many))
         | inr below ↦ below
       ]

@@ -31,7 +31,7 @@ refused_sound old new result refusal sound has = subst (λ (m : RegisterMap). is
 answered_sound : {A : Type 0} (old new : RegisterMap) (result : Result A ProgramRefusal)
     (answer : A) (outcome : Result RegisterMap ProgramRefusal)
     → is_sound old ≡ true → ((m : RegisterMap) → outcome ≡ Ok m → is_sound m ≡ true)
-        → HasOutcome old new result (memory_with_answer answer outcome)
+    → HasOutcome old new result (memory_with_answer answer outcome)
     → is_sound new ≡ true
 answered_sound old new result answer (Ok memory) sound each has =
     subst (λ (m : RegisterMap). is_sound m ≡ true) (sym has.1) (each memory refl)
@@ -67,7 +67,7 @@ loaded_sound : (old new : RegisterMap) (lines : List ListedLine) (loaded : Optio
 loaded_sound old new lines None result sound has = refused_sound old new result BrokenProgram sound has
 loaded_sound old new lines (Some loaded) result sound has =
     written_outcome old new result (length (packed_lines (with_last_end (lines_of lines)))) (with_last_end (lines_of lines) ++ loaded) sound
-        has
+    has
 
 behind_sound : (old new : RegisterMap) (bytes : List ℕ) (before : Option (List ListedLine))
     (outcome : Result (RegisterMap × ℕ) ProgramRefusal) (result : Result ℕ ProgramRefusal)
@@ -160,7 +160,7 @@ load_read again memory new bytes start loads = elim (cases_Bool (is_sound memory
 written_reads : ByteRoundTrip
     → (old left : RegisterMap) (result : Result (Unit {0}) ProgramRefusal) (lines : List Line) (outcome : Result RegisterMap ProgramRefusal)
     → is_sound old ≡ true → All IsInner lines → with_program_lines old lines ≡ outcome
-        → HasOutcome old left result (memory_with_answer tt outcome)
+    → HasOutcome old left result (memory_with_answer tt outcome)
     → OnOk result (HasLines left 0 lines)
 written_reads again old left result lines (Ok memory) sound inner is has =
     rw has.0 (written_read again old left lines sound inner (is ∙ ap (λ (m : RegisterMap). Ok m) (sym has.1)))

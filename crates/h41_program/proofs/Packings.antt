@@ -27,7 +27,7 @@ packed-more (one ∷ next ∷ lines) line =
 -- lines behind others are parted from the last of them
 pub packed-join : (lines : List Line) (line : Line) (rest : List Line)
     → packed_lines (lines ++ line ∷ rest) ≡ packed_lines lines ++ null_between (is_number line) (last_line lines)
-        ++ packed_lines (line ∷ rest)
+    ++ packed_lines (line ∷ rest)
 packed-join [] line rest = refl
 packed-join (one ∷ []) line rest = simp (append-nil, append_assoc)
 packed-join (one ∷ next ∷ lines) line rest =

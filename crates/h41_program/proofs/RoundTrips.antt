@@ -127,7 +127,7 @@ module _ (again : ByteRoundTrip) where
       → ((k : ℕ) → at ≤ k → k < length front → get_or front k 0 ≡ 0)
       → (listed : List ListedLine)
       × Reads ((front ++ (packed_lines lines ++ replicate n 0)) ++ written_end) (length (front ++ (packed_lines lines ++ replicate n 0))) at
-          listed
+      listed
       × (lines_of listed ≡ lines ++ FinalEnd 0 0 ∷ [])
   trip [] front at n inner inside nulls =
       let body = front ++ replicate n 0 in
@@ -190,7 +190,7 @@ module _ (again : ByteRoundTrip) where
       let count = filler (length (packed_lines lines)) in
       let found =
       trip [] (packed_lines lines) (length (packed_lines lines)) count inner (omega arith) (λ k low high. absurd (omega (arith, low, high)))
-          in
+      in
       let none : lines ++ [] ≡ lines = append-nil lines in
       let size : length (packed_lines lines ++ replicate count 0) ≡ length (packing lines) - 3 =
       omega (arith, length-packing lines, length-append (packed_lines lines) (replicate count 0), length-replicate {A = ℕ} count 0) in
@@ -214,7 +214,7 @@ module _ (again : ByteRoundTrip) where
       let size : length (packed_lines all ++ replicate count 0) ≡ length (packing all) - 3 =
       omega (arith, length-packing all, length-append (packed_lines all) (replicate count 0), length-replicate {A = ℕ} count 0) in
       let read = subst (λ (bytes : List ℕ). Reads (bytes ++ written_end) (length bytes) (length (packed_lines lines)) found.0) body found.1
-          in
+      in
       (found.0, subst (λ (n : ℕ). Reads (packing all) n (length (packed_lines lines)) found.0) size read, found.2)
 
 pub reads_packing : ByteRoundTrip → PackingRoundTrip

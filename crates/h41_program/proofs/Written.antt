@@ -59,35 +59,35 @@ is_rewritten memory new lines done =
     same_memory (with_program_bytes memory (packing lines)) new (sym (written-some memory lines (has_room memory new lines done)) ∙ done)
 
 module _ (memory new : RegisterMap) (lines : List Line) (sound : is_sound memory ≡ true) (done : with_program_lines memory lines ≡ Ok new)
-    where
-  abbrev count : ℕ
-  count = length (packing lines) / 7
+  where
+    abbrev count : ℕ
+    count = length (packing lines) / 7
 
-  pub written_sound : is_sound new ≡ true
-  written_sound =
-      let first : get_or (packing lines) (length (packing lines) - 3) 0 ≡ 0xC0 =
-      ap (λ n. get_or (packing lines) n 0) (omega arith) ∙ final_bytes lines 0 in
-      let last : get_or (packing lines) (length (packing lines) - 1) 0 ≡ 0x20 =
-      ap (λ n. get_or (packing lines) n 0) (omega (arith, length-packing lines)) ∙ final_bytes lines 2 in
-      subst (λ (m : RegisterMap). is_sound m ≡ true) (is_rewritten memory new lines done)
-      (sound_new memory sound (packing lines) count (registers_filled lines)
-      (some_registers lines) (has_room memory new lines done) first last)
+    pub written_sound : is_sound new ≡ true
+    written_sound =
+        let first : get_or (packing lines) (length (packing lines) - 3) 0 ≡ 0xC0 =
+        ap (λ n. get_or (packing lines) n 0) (omega arith) ∙ final_bytes lines 0 in
+        let last : get_or (packing lines) (length (packing lines) - 1) 0 ≡ 0x20 =
+        ap (λ n. get_or (packing lines) n 0) (omega (arith, length-packing lines)) ∙ final_bytes lines 2 in
+        subst (λ (m : RegisterMap). is_sound m ≡ true) (is_rewritten memory new lines done)
+        (sound_new memory sound (packing lines) count (registers_filled lines)
+        (some_registers lines) (has_room memory new lines done) first last)
 
-  pub written_bytes : program_bytes new ≡ packing lines
-  written_bytes =
-      ap program_bytes (sym (is_rewritten memory new lines done))
-      ∙ program_new memory sound (packing lines) count (registers_filled lines) (some_registers lines) (has_room memory new lines done)
+    pub written_bytes : program_bytes new ≡ packing lines
+    written_bytes =
+        ap program_bytes (sym (is_rewritten memory new lines done))
+        ∙ program_new memory sound (packing lines) count (registers_filled lines) (some_registers lines) (has_room memory new lines done)
 
-  pub written_final : final_position new ≡ length (packing lines) - 3
-  written_final =
-      ap final_position (sym (is_rewritten memory new lines done))
-      ∙ final_new memory sound (packing lines) count (registers_filled lines) (some_registers lines) (has_room memory new lines done)
+    pub written_final : final_position new ≡ length (packing lines) - 3
+    written_final =
+        ap final_position (sym (is_rewritten memory new lines done))
+        ∙ final_new memory sound (packing lines) count (registers_filled lines) (some_registers lines) (has_room memory new lines done)
 
-  pub written_reads : (at : ℕ) (listed : List ListedLine) → Reads (packing lines) (length (packing lines) - 3) at listed
-      → Reads (program_bytes new) (final_position new) at listed
-  written_reads at listed reads =
-      subst (λ (n : ℕ). Reads (program_bytes new) n at listed) (sym written_final)
-      (subst (λ (bytes : List ℕ). Reads bytes (length (packing lines) - 3) at listed) (sym written_bytes) reads)
+    pub written_reads : (at : ℕ) (listed : List ListedLine) → Reads (packing lines) (length (packing lines) - 3) at listed
+        → Reads (program_bytes new) (final_position new) at listed
+    written_reads at listed reads =
+        subst (λ (n : ℕ). Reads (program_bytes new) n at listed) (sym written_final)
+        (subst (λ (bytes : List ℕ). Reads bytes (length (packing lines) - 3) at listed) (sym written_bytes) reads)
 
 -- lines behind others, from the byte behind these on
 pub written_behind : ByteRoundTrip → (memory new : RegisterMap) (lines rest : List Line) → is_sound memory ≡ true → All IsInner rest

@@ -70,7 +70,7 @@ abbrev pub load_behind : RegisterMap → List Line → List Line
     → Result (RegisterMap × ℕ) ProgramRefusal
 load_behind memory lines loaded =
     memory_with_answer (length (packed_lines (with_last_end lines)))
-        (with_program_lines memory (with_last_end lines ++ loaded))
+    (with_program_lines memory (with_last_end lines ++ loaded))
 
 -- the same where the bytes have lines to be loaded
 abbrev pub load_outcome : RegisterMap → List ListedLine → Option (List Line)
@@ -108,7 +108,7 @@ Loads old new bytes result =
 abbrev pub close_outcome : RegisterMap → List Line → Result (RegisterMap × Unit {0}) ProgramRefusal
 close_outcome memory lines =
     if is_open lines then memory_with_answer tt (with_program_lines memory (with_last_end lines))
-        else Ok (memory, tt)
+    else Ok (memory, tt)
 
 abbrev pub close_behind : RegisterMap → Option (List ListedLine)
     → Result (RegisterMap × Unit {0}) ProgramRefusal

@@ -72,8 +72,8 @@ pub fn local<const REGS: usize>(ram: &Ram<REGS>, at: u16, label: Parameter) -> O
 /// Where the first `LBL n` stands from a position to the END.
 fn label_from<const REGS: usize>(ram: &Ram<REGS>, at: u16, label: Parameter) -> Option<u16>
     requires { IsTrue (is_sound ram.now.registers) }
-    ensures { AnswersFrom (λ lines. position_of (label_in label lines)) ram.now.registers at result
-        }
+    ensures { AnswersFrom (λ lines. position_of (label_in label lines))
+        ram.now.registers at result }
 {
     let mut position = at;
     while let Some(place) = place_from(ram, position) {
@@ -117,8 +117,8 @@ fn is_label_at<const REGS: usize>(
 /// Where the last `LBL` of a name stands in memory.
 pub fn global<const REGS: usize>(ram: &Ram<REGS>, name: &[u8]) -> Option<u16>
     requires { IsTrue (is_sound ram.now.registers) }
-    ensures { AnswersOf (λ lines. position_of (named_in name.now lines)) ram.now.registers 0 result
-        }
+    ensures { AnswersOf (λ lines. position_of (named_in name.now lines))
+        ram.now.registers 0 result }
 {
     let mut last = None;
     let mut position = 0;
@@ -140,8 +140,8 @@ pub fn global<const REGS: usize>(ram: &Ram<REGS>, name: &[u8]) -> Option<u16>
 fn is_named_at<const REGS: usize>(ram: &Ram<REGS>, at: u16, place: &LinePlace, name: &[u8]) -> bool
     requires sound { IsTrue (is_sound ram.now.registers) }
     requires place { HasPlace ram.now.registers at place.now }
-    ensures { OfPlace ram.now.registers at place.now (λ line. result ≡ spec.is_named name.now line)
-        }
+    ensures { OfPlace ram.now.registers at place.now
+        (λ line. result ≡ spec.is_named name.now line) }
 {
     if usize::from(place.behind - place.position) != name.len() + 4 {
         return false;

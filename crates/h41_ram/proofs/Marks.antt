@@ -25,11 +25,11 @@ same_at memory main address size none from below =
     ap (λ rest. if nat_lt address 16 then get_or memory.status address zeros else rest)
     (elim (nat_lt address 192) as (λ low. nat_lt address 192 ≡ low
     → (if low then zeros else get_or memory.main (address - 192) zeros) ≡ (if low then zeros else get_or main (address - 192) zeros)) [
-      true ↦ λ is. refl
-    | false ↦ λ is.
-        let above : 192 ≤ address = grind (arith, nat_tests) in
-        let behind = behind_top memory address none from below above in
-        past memory.main address behind ∙ sym (past main address (omega (arith, size, behind)))
+      | true ↦ λ is. refl
+      | false ↦ λ is.
+          let above : 192 ≤ address = grind (arith, nat_tests) in
+          let behind = behind_top memory address none from below above in
+          past memory.main address behind ∙ sym (past main address (omega (arith, size, behind)))
     ] refl)
 
 pub main_keeps : (ram : RamState) (main : List (List ℕ)) → length ram.registers.main ≡ length main
@@ -52,10 +52,10 @@ same_in_turn memory between other first second = record {
   size = first.size ∙ second.size;
   c = first.c ∙ second.c;
   program = λ address from below.
-    let end : end_of between ≡ end_of memory = sym (ap (λ c. three_digits c 0) first.c) in
-    let curtain : curtain_of between ≡ curtain_of memory = sym (ap (λ c. three_digits c 3) first.c) in
-    first.program address from below
-    ∙ second.program address (omega (arith, end, from)) (omega (arith, curtain, below));
+      let end : end_of between ≡ end_of memory = sym (ap (λ c. three_digits c 0) first.c) in
+      let curtain : curtain_of between ≡ curtain_of memory = sym (ap (λ c. three_digits c 3) first.c) in
+      first.program address from below
+      ∙ second.program address (omega (arith, end, from)) (omega (arith, curtain, below));
 }
 
 -- calls in turn
@@ -63,7 +63,7 @@ pub in_turn : MarkIsKeptInTurn
 in_turn old middle new first second = record {
   set = λ was. second.set (first.set was);
   clear = λ off.
-    same_in_turn old.registers middle.registers new.registers (first.clear (clear_between middle new second off)) (second.clear off);
+      same_in_turn old.registers middle.registers new.registers (first.clear (clear_between middle new second off)) (second.clear off);
 }
 
 pub stays : MarkStays

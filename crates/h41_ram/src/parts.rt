@@ -35,8 +35,9 @@ impl Parts {
     {
         let curtain = three_digits(c, 3);
         let end = three_digits(c, 0);
-        let in_order =
-            usize::from(end) >= MAIN_START && end < curtain && usize::from(curtain) <= top;
+        let in_order = usize::from(end) >= MAIN_START
+            && end < curtain
+            && usize::from(curtain) <= top;
         Parts {
             curtain,
             end,

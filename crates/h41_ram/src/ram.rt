@@ -169,9 +169,9 @@ impl<const REGS: usize> Ram<REGS> {
     #[inline(always)]
     fn put_main(&mut self, index: usize, register: Reg)
         requires { index < 65536 }
-        ensures registers { self.new.registers
-            ≡ record self.old.registers { main = slice_set self.old.registers.main index register }
-                }
+        ensures registers { self.new.registers ≡ record self.old.registers {
+          main = slice_set self.old.registers.main index register;
+        } }
         ensures mark { self.new.touched ≡ self.old.touched }
         ensures size { length self.old.registers.main ≡ REGS }
     {

@@ -34,8 +34,11 @@ function_row functions.Modulo = Some (of_y_and_x (values.Remainder Y X))
 -- Y stays, for the sum that comes next
 function_row functions.Percent =
     Some
-    (record lifting_row { value = Some (values.Percentage Y X); takes = compute X ∷ copy LastX X
-        ∷ [] })
+    (record lifting_row {
+      value = Some (values.Percentage Y X);
+      takes = compute X ∷ copy LastX X
+          ∷ [];
+    })
 -- X alone: L keeps it
 function_row functions.Square = Some (of_x (values.Product X X))
 function_row functions.SquareRoot = Some (of_x (values.Root X))

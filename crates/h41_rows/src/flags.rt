@@ -32,7 +32,7 @@ pub fn set_format<const REGS: usize>(
 pub fn set_angles<const REGS: usize>(ram: &mut Ram<REGS>, grads: bool, radians: bool)
     ensures change { ram.new.registers
         ≡ with_flags (change named.grads grads ∷ change named.radians radians ∷ [])
-            ram.old.registers }
+        ram.old.registers }
     ensures mark { KeepsMark ram.old ram.new }
 {
     ram.set_flag(flags::GRADS, grads);

@@ -111,8 +111,8 @@ pub fn roll_down<const REGS: usize>(ram: &mut Ram<REGS>)
 
 /// The stack is lifted, and X stays.
 pub fn enter<const REGS: usize>(ram: &mut Ram<REGS>)
-    ensures change { Moved ram.old.registers ram.new.registers (copy T Z ∷ copy Z Y ∷ copy Y X ∷ [])
-        }
+    ensures change { Moved ram.old.registers ram.new.registers
+        (copy T Z ∷ copy Z Y ∷ copy Y X ∷ []) }
     ensures mark { KeepsMark ram.old ram.new }
 {
     let z = ram.status_register(StatusRegister::Z);

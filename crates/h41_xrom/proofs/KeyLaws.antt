@@ -63,13 +63,13 @@ module _ (same_value : ValuesAreDetermined) where
       → a ≡ b
   same_beginning text machine a b (p, p_computes, p_is) (q, q_computes, q_is) =
       p_is ∙ ap (λ (of : List ℕ). Ok (Leaves (with_line_begun machine of))) (same_written text machine.memory p q p_computes q_computes)
-          ∙ sym q_is
+      ∙ sym q_is
 
   same_change : (text : List Character) (machine : Machine) (a b : Made) → ChangesNumber text machine a → ChangesNumber text machine b
       → a ≡ b
   same_change text machine a b (p, p_computes, p_is) (q, q_computes, q_is) =
       p_is ∙ ap (λ (of : List ℕ). Ok (Leaves (with_line_changed machine of))) (same_written text machine.memory p q p_computes q_computes)
-          ∙ sym q_is
+      ∙ sym q_is
 
 module _ (same_step : StepIsDetermined) (same_typing : TypedIsDetermined) (same_failure : FailureIsDetermined)
     (same_passing : PassingIsDetermined) (one_line : OneLineOfText) where
@@ -168,16 +168,16 @@ module _ (same_step : StepIsDetermined) (same_typing : TypedIsDetermined) (same_
           (action : Action) (input : Input) (a b : Result CalculatorState CalculatorRefusal)
           → MatchOption why
           ((effect : Made) × Acts s.nut.pages input.program_mode action (machine_of s) effect
-              × (a ≡ after_outcome (with_key_told key input s) effect))
+          × (a ≡ after_outcome (with_key_told key input s) effect))
           (λ why. a ≡ Err why)
           → MatchOption why
           ((effect : Made) × Acts s.nut.pages input.program_mode action (machine_of s) effect
-              × (b ≡ after_outcome (with_key_told key input s) effect))
+          × (b ≡ after_outcome (with_key_told key input s) effect))
           (λ why. b ≡ Err why)
           → a ≡ b
       same_made None s key action input a b p q =
           p.2 ∙ ap (after_outcome (with_key_told key input s))
-              (same_act action s.nut.pages input.program_mode (machine_of s) p.0 q.0 p.1 q.1) ∙ sym q.2
+          (same_act action s.nut.pages input.program_mode (machine_of s) p.0 q.0 p.1 q.1) ∙ sym q.2
       same_made (Some why) s key action input a b p q = p ∙ sym q
 
       same_key : (of : Option Pressed) (s : CalculatorState) (key : Key) (a b : Result CalculatorState CalculatorRefusal)

@@ -63,7 +63,7 @@ load_done bytes from s memory position after is place accepted loads =
 size_refused : (from : CalculatorState) (memory : RegisterMap) (why : program.ProgramRefusal)
     (outcome : Result (RegisterMap × Unit {0}) program.ProgramRefusal)
     → HasOutcome from.nut.ram memory (Err why) outcome → Becomes (after_size from outcome) from (with_memory memory from)
-        (Some (Program why))
+    (Some (Program why))
 size_refused from memory why (Ok made) gives =
     let never : ◌≡◌ {A = Result (Unit {0}) program.ProgramRefusal} (Err why) (Ok made.1) = gives.0 in cc
 size_refused from memory why (Err other) gives =

@@ -96,7 +96,7 @@ key_quiet input s key mode flags action after waits accepts =
 -- it has no meaning
 pub key_unknown : (from s : CalculatorState) (key : Key) (mode : Activity) (flags : Flags) (why : CalculatorRefusal) → from ≡ s
     → mode ≡ activity_of s.mode → flags ≡ flags_of s → presses from.input key mode flags ≡ None → why ≡ KeyNotHeld
-        → Presses key s s (Some why)
+    → Presses key s s (Some why)
 key_unknown from s key mode flags why is waits held none same =
     (Err KeyNotHeld, rw (sym (asked from s key mode flags is waits held) ∙ none) refl, (refl, ap Some same))
 

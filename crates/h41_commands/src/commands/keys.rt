@@ -29,8 +29,10 @@ impl Model for PressedKeys {
 
     ghost invariant = { λ keys. Keeps On most_keys keys.count keys.cells };
 
-    ghost inverse = { λ keys. record { cells = with_cells On most_keys keys; count = length keys }
-        };
+    ghost inverse = { λ keys. record {
+      cells = with_cells On most_keys keys;
+      count = length keys;
+    } };
 
     ghost inverse_ok = { λ keys h i. record {
       cells = filled_again On most_keys keys.count keys.cells h.0 h.1 h.2 i;

@@ -72,8 +72,11 @@ row_of_work (works.OfYAndX value) = of_y_and_x (value_of_two value Y X)
 row_of_work (works.OfX value) = of_x (value_of_one value X)
 row_of_work works.Square = of_x (values.Product X X)
 row_of_work works.Percent =
-    record lifting_row { value = Some (values.Percentage Y X); takes = compute X ∷ copy LastX X
-        ∷ [] }
+    record lifting_row {
+      value = Some (values.Percentage Y X);
+      takes = compute X ∷ copy LastX X
+          ∷ [];
+    }
 row_of_work works.ChangeSign =
     record lifting_row { value = Some (values.Negative X); takes = compute X ∷ [] }
 row_of_work (works.Ask asked) = test (condition_of asked)

@@ -11,7 +11,7 @@ returns-in-Some-clause-item c =
     let line = c.in-Some.line.now in
     let rest = lines c.next.new.self.rest.now in
     let first : deck.commands (line ∷ rest) ≡ what_is_spelled c.if-is_opening.item ∷ deck.commands (lines c.if-is_opening.rest.rest.now) =
-        elim
+    elim
     c.if-is_opening.branch [
       | then-is_opening+in_ok-item w ↦
           rw (w.item-is, w.rest-is)

@@ -63,7 +63,7 @@ returns-in_err-next-clause-left g c =
     (told_fault g.W.Sink.contents c.args.writer.now c.loop-bench.writer c.answer.new.writer
     _ _ _ c.loop-bench.bench c.answer.new.bench c.loop-bench.outcome
     (what_is_spelled c.in-Some.item) _ c.loop-bench.invariant.told (answered-some c.args.is_whole _ _ _ first shut)
-        c.in_err-next.ensures.reply)
+    c.in_err-next.ensures.reply)
 
 pub returns-in_err-flush-clause-left : goal.returns-in_err-flush-clause-left
 returns-in_err-flush-clause-left g c =

@@ -9,7 +9,7 @@ returns-in_err-byte-clause-line g c =
     let place = c.in_ok-before-in-Some.before in
     rw (refused.1, refused.2)
     (insert_refused c.args.line _ c.args.machine.now c.insert.new.ram.registers c.in-Some.shown place (byte_of place)
-        c.in_err-byte.field-0.0
+    c.in_err-byte.field-0.0
     c.machine.view_is c.in-Some.ensures c.in_ok-before-in-Some.ensures.place (byte_is place) c.in_err-byte.ensures.lines)
 
 pub returns-clause-line : goal.returns-clause-line

@@ -12,6 +12,6 @@ use Rattle.h41_focal.proofs.register_lines.recall.Goals as goal
 pub returns : goal.returns
 returns g c =
     let opened = ap (λ (inside : Inside g.row.REGS). machine_with inside.ram.registers inside.focal) c.machine-inside.view_is
-        ∙ c.machine.view_is in
+    ∙ c.machine.view_is in
     row_done _ (register_use_row registers.Recall) c.args.address _ _ _ zeros briefs.Done _ _ opened c.requires.next refl refl refl
     (c.bring_in_from.ensures.change c.args.address Named zeros refl) c.go_on_lifting.ensures

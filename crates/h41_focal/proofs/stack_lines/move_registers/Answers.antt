@@ -28,5 +28,8 @@ returns-in-ClearStack-clause-change g c = λ named. rw c.in-ClearStack.is
 
 pub returns-in-ClearX-clause-change : goal.returns-in-ClearX-clause-change
 returns-in-ClearX-clause-change g c =
-    λ named. rw c.in-ClearX.is (c.zero-in-ClearX.result, c.zero-in-ClearX.ensures _ named,
-        (ap (λ (ram : RamState). ram.registers) c.set_status_register.ensures.written))
+    λ named. rw c.in-ClearX.is (
+      c.zero-in-ClearX.result,
+      c.zero-in-ClearX.ensures _ named,
+      (ap (λ (ram : RamState). ram.registers) c.set_status_register.ensures.written),
+    )

@@ -38,6 +38,6 @@ pub returns : goal.returns
 returns g c = λ named.
     let moved = c.move_registers.ensures.change named in
     let opened = ap (λ (inside : Inside g.row.REGS). machine_with inside.ram.registers inside.focal) c.machine-inside.view_is
-        ∙ c.machine.view_is in
+    ∙ c.machine.view_is in
     row_done _ (move_row c.args.movement) named _ _ _ moved.0 briefs.Done _ _ opened c.requires.next
     (goes_on c.args.movement) moved.1 (answers_done _ c.args.movement named) moved.2 c.go_on_behind.ensures

@@ -11,7 +11,7 @@ use Rattle.h41_focal.specs.declared.outcome.BriefOutcome.TheVariants as briefs
 pub returns : goal.returns
 returns g c = λ named.
     let opened = ap (λ (inside : Inside g.row.REGS). machine_with inside.ram.registers inside.focal) c.machine-inside.view_is
-        ∙ c.machine.view_is in
+    ∙ c.machine.view_is in
     row_done _ (row_of (lines.Number c.args.number.now) NoOperand) named _ _ _ c.written.result briefs.Done _ _ opened
     c.requires.next refl (c.written.ensures _ named) refl (c.bring_in.ensures.change named)
     c.go_on_lifting.ensures

@@ -14,7 +14,7 @@ returns-in-Nonzero-Nonzero c =
     let x : units c.args.first ≡ with_sign a.first_sign (size a.field-1-0) = ap units a.is-0 in
     let y : units c.args.second ≡ with_sign a.second_sign (size a.field-1-1) = ap units a.is-1 in
     let e : units c.args.first *ℤ units c.args.second ≡ with_sign a.first_sign (size a.field-1-0) *ℤ with_sign a.second_sign
-        (size a.field-1-1) =
+    (size a.field-1-1) =
     cc in
     let some : 0 < size a.field-1-0 * size a.field-1-1 = mul-pos (size_pos a.field-1-0) (size_pos a.field-1-1) in
     c.times.ensures

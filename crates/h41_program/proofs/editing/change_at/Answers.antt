@@ -18,7 +18,7 @@ returns-in_err-packed_changed-clause-lines g c =
     let first = c.in_ok-place.field-0 in
     let stands = subst (λ r. AnswersFirst c.args.ram.now.registers c.args.at r) c.in_ok-place.was c.line_at.ensures in
     edit_refused c.args.ram.now.registers (lines_of_change c.args.change) c.args.at first stands c.packed_changed.result
-        c.packed_changed.ensures
+    c.packed_changed.ensures
     c.from_residual-in_err-packed_changed.result c.in_err-packed_changed.field-0.0 c.in_err-packed_changed.was
     (let p =
     err_from_is_err_and c.from_residual-in_err-packed_changed.result c.from_residual-in_err-packed_changed.ensures.1 in
@@ -31,7 +31,7 @@ returns-in_err-write-clause-lines g c =
     let err : c.from_residual-in_err-write.result ≡ Err c.in_err-write.field-0.0 =
     (let p = err_from_is_err_and c.from_residual-in_err-write.result c.from_residual-in_err-write.ensures.1 in rw (p.1, p.2) refl) in
     edit_written c.args.ram.now.registers (lines_of_change c.args.change) c.args.at first stands c.packed_changed.result
-        c.packed_changed.ensures
+    c.packed_changed.ensures
     c.write.new.ram.registers c.in_ok-packed_changed.field-0 c.write.result
     (without_answer c.from_residual-in_err-write.result) c.in_ok-packed_changed.was c.write.ensures.lines
     (c.in_err-write.was ∙ sym (ap without_answer err))
@@ -41,9 +41,9 @@ returns-clause-lines g c =
     let first = c.in_ok-place.field-0 in
     let stands = subst (λ r. AnswersFirst c.args.ram.now.registers c.args.at r) c.in_ok-place.was c.line_at.ensures in
     edit_written c.args.ram.now.registers (lines_of_change c.args.change) c.args.at first stands c.packed_changed.result
-        c.packed_changed.ensures
+    c.packed_changed.ensures
     c.write.new.ram.registers c.in_ok-packed_changed.field-0 c.write.result (Ok tt) c.in_ok-packed_changed.was c.write.ensures.lines
-        c.in_ok-write.was
+    c.in_ok-write.was
 
 pub returns-in_err-write-clause-sound : goal.returns-in_err-write-clause-sound
 returns-in_err-write-clause-sound g c =
@@ -53,4 +53,4 @@ returns-in_err-write-clause-sound g c =
 pub returns-clause-sound : goal.returns-clause-sound
 returns-clause-sound g c =
     edit_sound c.args.ram.now.registers c.write.new.ram.registers (lines_of_change c.args.change) c.args.at (Ok tt) c.requires.sound
-        (returns-clause-lines g c)
+    (returns-clause-lines g c)

@@ -8,7 +8,7 @@ use Rattle.h41_program.proofs.editing.line_behind.Given as goal
 abbrev pub invariant-loop-found : goal.invariant-loop-found
 invariant-loop-found g l =
     (before : List ListedLine) × UpTo (program_bytes l.ram.registers) (final_position l.ram.registers) 0 before l.at
-        × (length before + l.left ≡ l.count)
+    × (length before + l.left ≡ l.count)
 
 -- the bytes that are left
 abbrev pub decreases-loop-found : goal.decreases-loop-found

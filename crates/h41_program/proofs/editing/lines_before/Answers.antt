@@ -6,8 +6,12 @@ use Rattle.h41_program.proofs.Walks.{up_to_none, up_to_more, ends_none, ends_fin
 use Rattle.h41_program.proofs.editing.lines_before.Goals as goal
 
 pub loop-found-init : goal.loop-found-init
-loop-found-init g c = ([], up_to_none (program_bytes c.args.ram.now.registers) (final_position c.args.ram.now.registers) 0, refl,
-    omega arith)
+loop-found-init g c = (
+  [],
+  up_to_none (program_bytes c.args.ram.now.registers) (final_position c.args.ram.now.registers) 0,
+  refl,
+  omega arith,
+)
 
 pub overflow_add-count : goal.overflow_add-count
 overflow_add-count g c =

@@ -10,7 +10,7 @@ abbrev pub invariant-loop-found : goal.invariant-loop-found
 invariant-loop-found g l =
     (before : List ListedLine)
     × Changed (program_bytes l.ram.registers) (final_position l.ram.registers) l.packer l.met (lines_of_change l.change l.place) l.place
-        l.at before
+    l.at before
 
 -- the bytes that are left
 abbrev pub decreases-loop-found : goal.decreases-loop-found

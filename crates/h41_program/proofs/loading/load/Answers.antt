@@ -79,4 +79,4 @@ returns-in_err-write-clause-sound g c =
 pub returns-clause-sound : goal.returns-clause-sound
 returns-clause-sound g c =
     load_sound c.args.ram.now.registers c.write.new.ram.registers c.args.bytes.now (Ok c.len-start.result) c.requires
-        (returns-clause-lines g c)
+    (returns-clause-lines g c)

@@ -7,8 +7,11 @@ use Rattle.h41_program.proofs.Walks.{up_to_none, up_to_more, all_none, all_final
 use Rattle.h41_program.proofs.loading.packed_program.Goals as goal
 
 pub loop-found-init : goal.loop-found-init
-loop-found-init g c = ([], up_to_none (program_bytes c.args.ram.now.registers) (final_position c.args.ram.now.registers) 0,
-    c.new-packer.ensures)
+loop-found-init g c = (
+  [],
+  up_to_none (program_bytes c.args.ram.now.registers) (final_position c.args.ram.now.registers) 0,
+  c.new-packer.ensures,
+)
 
 pub returns-then-is_final_end : goal.returns-then-is_final_end
 returns-then-is_final_end g c =

@@ -10,7 +10,7 @@ use Rattle.h41_program.proofs.loading.packed_program.Given as goal
 abbrev pub invariant-loop-found : goal.invariant-loop-found
 invariant-loop-found g l =
     (before : List ListedLine) × UpTo (program_bytes l.ram.registers) (final_position l.ram.registers) 0 before l.at
-        × Packs l.packer (lines_of before)
+    × Packs l.packer (lines_of before)
 
 -- the bytes that are left
 abbrev pub decreases-loop-found : goal.decreases-loop-found

@@ -5,8 +5,11 @@ use Rattle.h41_program.proofs.Walks.{up_to_none, up_to_more, ends_none, goes_on,
 use Rattle.h41_program.proofs.numbering.numbered_from.Goals as goal
 
 pub loop-found-init : goal.loop-found-init
-loop-found-init g c = ([], up_to_none (program_bytes c.args.ram.now.registers) (final_position c.args.ram.now.registers) c.args.from,
-    λ rest. refl)
+loop-found-init g c = (
+  [],
+  up_to_none (program_bytes c.args.ram.now.registers) (final_position c.args.ram.now.registers) c.args.from,
+  λ rest. refl,
+)
 
 pub returns-then-left-eq1 : goal.returns-then-left-eq1
 returns-then-left-eq1 g c lines from =

@@ -9,7 +9,7 @@ use Rattle.h41_program.proofs.numbering.numbered_from.Given as goal
 abbrev pub invariant-loop-found : goal.invariant-loop-found
 invariant-loop-found g l =
     (before : List ListedLine) × UpTo (program_bytes l.ram.registers) (final_position l.ram.registers) l.from before l.at
-        × Left l.number l.left before
+    × Left l.number l.left before
 
 -- the bytes that are left
 abbrev pub decreases-loop-found : goal.decreases-loop-found

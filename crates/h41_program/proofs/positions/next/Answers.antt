@@ -4,7 +4,7 @@ use Rattle.h41_program.proofs.positions.next.Goals as goal
 pub returns-in-Some : goal.returns-in-Some
 returns-in-Some g c =
     (both_found c.args.ram.now.registers c.args.at c.in-Some.first c.position_behind.result c.in-Some.ensures.first
-        c.position_behind.ensures).1
+    c.position_behind.ensures).1
 
 pub returns-in-None : goal.returns-in-None
 returns-in-None g c = no_next c.args.ram.now.registers c.args.at c.in-None.ensures.none

@@ -5,7 +5,7 @@ use Rattle.h41_program.proofs.reading.linked_at.Goals as goal
 pub returns-then-limit-at-lt-END_BYTES-clause-none : goal.returns-then-limit-at-lt-END_BYTES-clause-none
 returns-then-limit-at-lt-END_BYTES-clause-none g c =
     linked_cut c.args.ram.now.registers c.args.at c.args.limit c.requires.from c.requires.first
-        (omega (arith, c.if-limit-at-lt-END_BYTES.true))
+    (omega (arith, c.if-limit-at-lt-END_BYTES.true))
 
 pub returns-then-third-clause-none : goal.returns-then-third-clause-none
 returns-then-third-clause-none g c =

@@ -32,8 +32,8 @@ pub loop-position-preserved : goal.loop-position-preserved
 loop-position-preserved g c = λ k from below.
     elim (nat_lt k c.loop-position.position) as (λ before. nat_lt k c.loop-position.position ≡ before
     → IsIn 0x10 0x1D (program_byte c.args.ram.now.registers k)) [
-      true ↦ λ is. c.loop-position.invariant k from (ltb-true k c.loop-position.position is)
-    | false ↦ λ is.
-        let here : k ≡ c.loop-position.position = grind (arith, nat_tests) in
-        rw (here, ← c.byte_at-byte.ensures) (omega (arith, c.if-byte-lt16.false), omega (arith, c.if-byte-gt28.false))
+      | true ↦ λ is. c.loop-position.invariant k from (ltb-true k c.loop-position.position is)
+      | false ↦ λ is.
+          let here : k ≡ c.loop-position.position = grind (arith, nat_tests) in
+          rw (here, ← c.byte_at-byte.ensures) (omega (arith, c.if-byte-lt16.false), omega (arith, c.if-byte-gt28.false))
     ] refl

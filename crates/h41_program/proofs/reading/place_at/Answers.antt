@@ -8,7 +8,7 @@ use Rattle.h41_program.proofs.reading.place_at.Goals as goal
 pub returns-then-is_one_byte-clause-some : goal.returns-then-is_one_byte-clause-some
 returns-then-is_one_byte-clause-some g c =
     alone_there c.args.ram.now.registers c.args.at c.args.limit c.first_bytes.ensures.number c.requires.from c.args.byte c.requires.byte
-        (c.is_one_byte.ensures.which.0 c.if-is_one_byte.true) (c.is_one_byte.ensures.line c.if-is_one_byte.true)
+    (c.is_one_byte.ensures.which.0 c.if-is_one_byte.true) (c.is_one_byte.ensures.line c.if-is_one_byte.true)
 
 pub returns-in-175-clause-none : goal.returns-in-175-clause-none
 returns-in-175-clause-none g c =

@@ -9,8 +9,11 @@ use Rattle.h41_program.proofs.Walks.{up_to_none, up_to_more, ends_none, goes_on}
 use Rattle.h41_program.proofs.searches.end_from.Goals as goal
 
 pub loop-place-init : goal.loop-place-init
-loop-place-init g c = ([], up_to_none (program_bytes c.args.ram.now.registers) (final_position c.args.ram.now.registers) c.args.from,
-    λ rest. refl)
+loop-place-init g c = (
+  [],
+  up_to_none (program_bytes c.args.ram.now.registers) (final_position c.args.ram.now.registers) c.args.from,
+  λ rest. refl,
+)
 
 pub returns-then-place : goal.returns-then-place
 returns-then-place g c lines from =

@@ -7,8 +7,11 @@ use Rattle.h41_program.proofs.Walks.{up_to_none, up_to_more, ends_none, goes_on,
 use Rattle.h41_program.proofs.searches.label_from.Goals as goal
 
 pub loop-place-init : goal.loop-place-init
-loop-place-init g c = ([], up_to_none (program_bytes c.args.ram.now.registers) (final_position c.args.ram.now.registers) c.args.at,
-    λ rest. refl)
+loop-place-init g c = (
+  [],
+  up_to_none (program_bytes c.args.ram.now.registers) (final_position c.args.ram.now.registers) c.args.at,
+  λ rest. refl,
+)
 
 pub returns-then-is_label_at : goal.returns-then-is_label_at
 returns-then-is_label_at g c lines from =

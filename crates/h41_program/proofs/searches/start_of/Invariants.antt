@@ -9,7 +9,7 @@ use Rattle.h41_program.proofs.searches.start_of.Given as goal
 abbrev pub invariant-loop-place : goal.invariant-loop-place
 invariant-loop-place g l =
     (before : List ListedLine) × UpTo (program_bytes l.ram.registers) (final_position l.ram.registers) 0 before l.position
-        × (l.start ≡ start_in l.at before)
+    × (l.start ≡ start_in l.at before)
 
 -- the bytes that are left
 abbrev pub decreases-loop-place : goal.decreases-loop-place

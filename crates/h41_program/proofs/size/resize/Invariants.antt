@@ -7,4 +7,4 @@ use Rattle.h41_program.proofs.size.resize.Given as goal
 abbrev pub invariant-loop-index : goal.invariant-loop-index
 invariant-loop-index g l =
     (k : ℕ) → k < l.index → get_or l.register-items k zeros
-        ≡ resized_register l.ram.registers (top_of l.ram.registers - l.curtain) (main_start + k)
+    ≡ resized_register l.ram.registers (top_of l.ram.registers - l.curtain) (main_start + k)

@@ -8,4 +8,4 @@ pub returns-clause-change : goal.returns-clause-change
 returns-clause-change g c named =
     ap (λ (ram : RamState). ram.registers) c.set_alpha.ensures.written
     ∙ ap (with_alpha c.args.ram.now.registers) (c.put_behind.ensures
-        ∙ ap (λ (old : List ℕ). last_24 (old ++ c.args.text.now)) c.alpha.ensures)
+    ∙ ap (λ (old : List ℕ). last_24 (old ++ c.args.text.now)) c.alpha.ensures)

@@ -7,4 +7,4 @@ use Rattle.h41_rows.proofs.alpha.replace_text.Goals as goal
 pub returns-clause-change : goal.returns-clause-change
 returns-clause-change g c named =
     ap (λ (ram : RamState). ram.registers) c.set_alpha.ensures.written
-        ∙ ap (with_alpha c.args.ram.now.registers) (c.put_behind.ensures ∙ over_nulls c.args.text.now)
+    ∙ ap (with_alpha c.args.ram.now.registers) (c.put_behind.ensures ∙ over_nulls c.args.text.now)

@@ -13,7 +13,7 @@ pub returns-in-XGreaterThanY : goal.returns-in-XGreaterThanY
 returns-in-XGreaterThanY g c =
     rw c.in-XGreaterThanY.is
     (λ named. registers_asked int_lt (register_at c.args.ram.now.registers 2) (register_at c.args.ram.now.registers 3) _ _
-        c.below-in-XGreaterThanY.result
+    c.below-in-XGreaterThanY.result
     c.number_in_y-in-XGreaterThanY.ensures c.number_in_x-in-XGreaterThanY.ensures c.below-in-XGreaterThanY.ensures)
 
 pub returns-in-XAtMostY : goal.returns-in-XAtMostY

@@ -18,7 +18,7 @@ pub returns-in-Minus : goal.returns-in-Minus
 returns-in-Minus g c =
     rw c.in-Minus.is
     (goes_on_down (amount_at c.args.ram.now.registers c.args.address) (units c.counter_at-counter.result) c.sign-in-Minus.result
-        c.ones-ones.result
+    c.ones-ones.result
     c.five_decimals-decimals.result c.increment-count.result c.is_above.result
     c.counter_at-counter.ensures c.sign-in-Minus.ensures c.ones-ones.ensures
     c.five_decimals-decimals.ensures.value c.increment-count.ensures.value

@@ -7,5 +7,5 @@ pub returns-clause-change : goal.returns-clause-change
 returns-clause-change g c named place register same =
     c.bring_in.ensures.change named
     ∙ ap (λ r. with_coming c.args.ram.now.registers named r c.args.lift)
-        (c.read-register.ensures ∙ ap (register_at c.args.ram.now.registers) (sym same))
+    (c.read-register.ensures ∙ ap (register_at c.args.ram.now.registers) (sym same))
     ∙ from_place c.args.ram.now.registers named place register c.args.lift

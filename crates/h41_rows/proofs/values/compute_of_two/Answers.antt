@@ -7,14 +7,14 @@ returns-in_err-x g c =
     let p = err_from_is_err_and c.from_residual.result c.from_residual.ensures.1 in
     rw (p.1, p.2)
     (first_fails c.args.value c.args.ram.now.registers c.args.first c.args.second c.in_err-x.field-0.0 c.in_err-x.ensures.0
-        c.in_err-x.ensures.1)
+    c.in_err-x.ensures.1)
 
 pub returns-in_err-y : goal.returns-in_err-y
 returns-in_err-y g c =
     let p = err_from_is_err_and c.from_residual-in_err-y.result c.from_residual-in_err-y.ensures.1 in
     rw (p.1, p.2)
     (second_fails c.args.value c.args.ram.now.registers c.args.first c.args.second c.in_err-y.field-0.0 c.in_err-y.ensures.0
-        c.in_err-y.ensures.1)
+    c.in_err-y.ensures.1)
 
 pub returns : goal.returns
 returns g c =

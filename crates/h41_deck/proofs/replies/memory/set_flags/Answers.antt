@@ -14,18 +14,18 @@ loop-flag-preserved c =
         | then-flag w ↦ rw w.flags-is (elim w.if-not-is_empty.branch [
           | then-not-is_empty v ↦
               next_flag c.args.ram.now.registers flag (flag + 1) c.loop-flag.flags.bytes _ refl (sym w.if-flag.ensures)
-                  c.loop-flag.invariant.text
+              c.loop-flag.invariant.text
               (eqb-false _ 0 (sym w.is_empty.ensures ∙ v.if-not-is_empty.true)) (w.push_number.ensures
               ∙ ap (λ front. front ++ two_digits flag) (ap (λ (f : ArrayString). f.bytes) v.flags-is ∙ v.push.ensures.ascii (lit< tt)))
           | else-not-is_empty v ↦
               first_flag c.args.ram.now.registers flag (flag + 1) c.loop-flag.flags.bytes _ refl (sym w.if-flag.ensures)
-                  c.loop-flag.invariant.text
+              c.loop-flag.invariant.text
               (eqb-true _ 0 (sym w.is_empty.ensures ∙ v.if-not-is_empty.false))
               (w.push_number.ensures ∙ ap (λ front. front ++ two_digits flag) (ap (λ (f : ArrayString). f.bytes) v.flags-is))
         ])
         | else-flag w ↦
             rw w.flags-is (c.loop-flag.invariant.text ∙ sym
-                (clear_flag c.args.ram.now.registers flag (flag + 1) refl (sym w.if-flag.ensures)))
+            (clear_flag c.args.ram.now.registers flag (flag + 1) refl (sym w.if-flag.ensures)))
       ];
       short = elim c.if-flag.branch [
         | then-flag w ↦ rw w.flags-is (elim w.if-not-is_empty.branch [

@@ -19,7 +19,7 @@ pub returns-in_default : goal.returns-in_default
 returns-in_default g c = record {
   line =
       line_passed c.args.self.now (machine_with c.self.inside.ram.registers c.go_on.new.focal) c.in_ok-line.line c.in_ok-line.next
-          c.in_ok-line.ensures
+      c.in_ok-line.ensures
       (rw (← c.self.view_is, c.go_on.ensures, lift_kept c.in_ok-line.line c.self.inside.focal.lift c.in_default.not-Module) refl);
   unchanged = tt;
 }

@@ -18,5 +18,5 @@ returns-clause-written g c =
     let registers = alpha_set c.args.self.now.registers c.self.inside.status c.self.inside.main c.args.text c.seven_bytes.result
     c.seven_bytes-2.result c.seven_bytes-3.result c.first_bytes.result c.index-self-8.result
     (ap (λ (ram : RamState). ram.registers) c.self.view_is) (omega arith) c.seven_bytes.ensures c.seven_bytes-2.ensures
-        c.seven_bytes-3.ensures c.first_bytes.ensures in
+    c.seven_bytes-3.ensures c.first_bytes.ensures in
     search rules

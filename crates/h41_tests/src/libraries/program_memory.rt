@@ -68,7 +68,7 @@ fn is_recall(listed: ListedLine, position: u16) -> bool {
 
 /// Whether this is the first line from a position on, by both of the calls that tell it.
 fn finds_recall(ram: &Ram<320>, at: u16, position: u16, behind: u16) -> bool
-    requires { IsTrue (is_sound ram.now) }
+    requires { IsTrue (is_sound ram.now.registers) }
 {
     match (line_at(ram, Position::Memory(at)), first_from(ram, at)) {
         (Ok(placed), Some(found)) => {
@@ -106,7 +106,7 @@ fn next_byte(next: Result<Position, ProgramRefusal>) -> Result<u16, ProgramRefus
 
 /// Makes the step, and says whether its answer is the one that is wanted.
 fn makes(ram: &mut Ram<320>, step: &Step) -> bool
-    requires { IsTrue (is_sound ram.old) }
+    requires { IsTrue (is_sound ram.old.registers) }
 {
     match step {
         Step::Load(bytes, answer) => load(ram, bytes) == *answer,

@@ -339,3 +339,9 @@ class Dialect:
         if kept and changed:
             self.notes.append(f"numbers behind LDI, CON and short jumps are hexadecimal, as in line {kept[0][0]}, {kept[0][1]}"
                               f"{f', and {len(kept) - 1} more' if kept[1:] else ''}: with --decimal they are decimal")
+
+
+def as_own(line):
+    """A line of another dialect as the assembler here reads it, a comment where it gives no word; none where it is none."""
+    own = Dialect([line]).lines[0]
+    return None if own == line else " ".join(own.decode(errors="replace").split())

@@ -11,6 +11,7 @@ from string import ascii_letters
 
 from decks import (BENCH, LONGEST_LINE, MARK_OF_UTF8, NO_ANSWER, Failure, block, bytes_of, items_of, lines_of, refused, shown,
                    text_of, words_of)
+from dialects import as_own
 from documents import codes_of, plain, section_of, tables_of
 
 BLANKS = b" \t"
@@ -512,6 +513,11 @@ def operands():
             for name in codes_of(instructions)}
 
 
+def of_another_dialect(own):
+    """What is told of a line of another dialect, by what it is here."""
+    return "a line of another dialect, which tools/import " + ("leaves out" if own.startswith(";") else f"reads: `{own}`")
+
+
 def tell_causes(faults):
     """Adds the usual cause to what is known of each fault, as docs/ASSEMBLER.md has it: of the rows with its refusal and of its
     kind that with the line most like it."""
@@ -526,13 +532,15 @@ def tell_causes(faults):
     classes = classes_of({name for one, _ in rows + asked for name in one.instructions()})
     for one, fault in asked:
         kind = one.kind(classes, others)
-        like = [(SequenceMatcher(None, row.shape, one.shape).ratio(), why) for row, why in rows if row.refusal == one.refusal
-                and (kind and row.kind(classes, others) == kind or row.first == one.first) and one.may_be_as(row, kind)]
+        like = [(row.first == one.first, SequenceMatcher(None, row.shape, one.shape).ratio(), why) for row, why in rows
+                if row.refusal == one.refusal and (kind and row.kind(classes, others) == kind or row.first == one.first)
+                and one.may_be_as(row, kind)]
         if kind == "another dialect":
             fault.told.append(f"{one.first.decode()} is a name of another dialect, which tools/import reads: `{others[one.first]}`")
         elif like:
-            fault.told.append(max(like)[1])
+            fault.told.append(max(like)[-1])
         elif one.refusal == OF_THE_LINE[0]:
-            fault.told.append("no such label, mnemonic or directive can be read")
+            own = as_own(fault.text)
+            fault.told.append(of_another_dialect(own) if own else "no such label, mnemonic or directive can be read")
         else:
             fault.told += [f"`{name}` takes {takes[name]}" for name in one.names() if name in takes]

@@ -171,9 +171,10 @@ class Listing:
         if text.count('"') % 2:
             for whole in (f'{text}"', re.sub(r"\A((?:LBL|GTO|XEQ) )?", r'\1"', text, flags=re.I)):
                 yield from ((found, "a quote is missing") for found, _ in speller.spellings(whole) or [])
-        command = re.match(r"[A-Z]+", text.upper())
-        if command and command[0] in commands():
-            yield None, f"a command, and no line of a program{commands()[command[0]]}"
+        found = re.match(r"GTO ?\.|[A-Z]+", text.upper())
+        command = re.sub(r" ?\.", " .", found[0]) if found else ""
+        if command in commands():
+            yield None, f"a command, and no line of a program{commands()[command]}"
         touching = TOUCHING.fullmatch(text)
         if touching:
             apart = f"{speller.tables.name(touching[1])} {int(touching[2]):02}"

@@ -40,9 +40,14 @@ def letter_keys(letter):
     return ["SHIFT", letter] if letter in OWN else []
 
 
+def characters(text):
+    """The characters of a text, of which some are a backslash and two digits."""
+    return re.findall(r"\\[0-9A-F]{2}|.", text, re.S)
+
+
 def untyped(text):
     """The characters of a text that no key writes."""
-    return "".join(dict.fromkeys(letter for letter in text if not letter_keys(letter)))
+    return list(dict.fromkeys(letter for letter in characters(text) if not letter_keys(letter)))
 
 
 def text_keys(text):
@@ -54,8 +59,8 @@ def text_keys(text):
 
 def why_no_name(name):
     """Why no keys write this name of a label; nothing where some do."""
-    if len(name) > LONGEST_NAME:
-        return f"{len(name)} characters"
+    if len(characters(name)) > LONGEST_NAME:
+        return f"{len(characters(name))} characters"
     if untyped(name):
         return f"no key writes {' '.join(untyped(name))}"
     return "keys find the label of one letter" if re.fullmatch("[A-J]", name) else ""

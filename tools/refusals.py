@@ -3,6 +3,7 @@ import re
 
 from decks import (LONGEST_LINE, MARK_OF_UTF8, MARKS_OF_UTF16, Failure, block, is_skipped, lines_of, refused, refused_key, shown,
                    text_of, words_of)
+from programs import broken, whole_lines
 
 BLANKS = b" \t"
 
@@ -12,6 +13,7 @@ OF_A_LINE = re.compile(r"! (?:3[0-5]|41) \w+ ([0-9]+)")
 # Blocks whose refusals name no line, with such an opener, and the refusals that are looked for in their lines.
 OF_DIGITS = {b"words": b"words 8", b"image": b"image 8", b"load": b"load"}
 BAD_NUMBER, BAD_IMAGE, LINE_TOO_LONG = "! 51 BadNumber", "! 04 BadImage", "! 53 LineTooLong"
+BROKEN_PROGRAM = "! 14 BrokenProgram"
 
 MOST_WORDS = 4096
 IMAGE_SIZE = 2 * MOST_WORDS
@@ -111,6 +113,9 @@ def look_into_blocks(found):
         places[len(deck)] = (one, at)
         deck.extend(lines_of(block(opener, lines)))
 
+    for one in found:
+        if one.opener() == b"load" and one.refusal == BROKEN_PROGRAM:
+            look_into_bytes(one)
     looked = [one for one in found if one.opener() in OF_DIGITS and one.refusal in (BAD_NUMBER, BAD_IMAGE)]
     for one in looked:
         ask(one, one.first, text_of(one.lines[one.first]), [])
@@ -144,6 +149,16 @@ def look_into(one, answers):
     elif one.refusal == BAD_IMAGE:
         one.inner = line_of(MOST_WORDS, counts)
         one.told.append(f"a page has {MOST_WORDS:,} words, and the block {sum(counts.values()):,}")
+
+
+def look_into_bytes(one):
+    """Finds the faulty line of a block of a program's bytes, where these are the fault."""
+    parts = {at: bytes.fromhex(text_of(one.lines[at]).decode()) for at in one.inside()}
+    data = b"".join(parts.values())
+    place = whole_lines(data)
+    one.inner = line_of(place, {at: len(part) for at, part in parts.items()})
+    if one.inner is not None:
+        one.told.append(broken(data))
 
 
 def line_of(number, counts):

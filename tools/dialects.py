@@ -341,7 +341,7 @@ class Dialect:
                               f"{f', and {len(kept) - 1} more' if kept[1:] else ''}: with --decimal they are decimal")
 
 
-def as_own(line):
-    """A line of another dialect as the assembler here reads it, a comment where it gives no word; none where it is none."""
-    own = Dialect([line]).lines[0]
-    return None if own == line else " ".join(own.decode(errors="replace").split())
+def as_own(lines):
+    """Lines of another dialect as the assembler here reads them, a comment where one gives no word; none for one that is none."""
+    found = Dialect(lines).lines
+    return [None if own == line else " ".join(own.decode(errors="replace").split()) for own, line in zip(found, lines)]

@@ -9,8 +9,8 @@ from difflib import SequenceMatcher
 from itertools import product
 from string import ascii_letters
 
-from decks import (BENCH, LONGEST_LINE, MARK_OF_UTF8, NO_ANSWER, Failure, block, bytes_of, items_of, lines_of, refused, shown,
-                   text_of, words_of)
+from decks import (BENCH, LONGEST_LINE, MARK_OF_UTF8, MARKS_OF_UTF16, NO_ANSWER, Failure, block, bytes_of, items_of, lines_of,
+                   refused, shown, text_of, words_of)
 from dialects import as_own
 from documents import codes_of, plain, section_of, tables_of
 
@@ -47,6 +47,14 @@ OF_THE_LINE = ("! 30 BadLine", "! 31 BadOperand")
 
 class Faulty(Failure):
     """A source has faults: its text has a line for each, and what is known of it."""
+
+
+def text_in(path):
+    """The bytes of a text, which is not in UTF-16."""
+    data = bytes_of(path)
+    if data.startswith(MARKS_OF_UTF16):
+        raise Faulty(f"{path}: the text is in UTF-16: save it as UTF-8")
+    return data
 
 
 def source_lines(data):
@@ -250,7 +258,7 @@ class Whole:
         self.origins = [(path, number) for number in range(1, len(self.lines) + 1)]
         self.fills, self.checksum, self.faults = set(), None, []
         if end is not None:
-            self.describe(end, source_lines(bytes_of(end)))
+            self.describe(end, source_lines(text_in(end)))
 
     def data(self):
         return b"".join(line + b"\n" for line in self.lines)
@@ -338,7 +346,7 @@ class Assembled(Source):
     refused, with all of them."""
 
     def __init__(self, path, page, end=None):
-        whole = Whole(path, bytes_of(path), end)
+        whole = Whole(path, text_in(path), end)
         super().__init__(whole.data())
         self.page, self.whole = page, whole
         faults = [f"{whole.place(fault.at)}: {fault}" for fault in self.faults] + whole.faults
@@ -529,7 +537,7 @@ def tell_causes(faults):
         lines = codes_of(deck)[0].split(" / ")
         name, number = codes_of(refusal)[0].rsplit(" ", 1)
         rows.append((Asked(lines[int(number)].encode(), name), plain(why)))
-    classes = classes_of({name for one, _ in rows + asked for name in one.instructions()})
+    classes, unknown = classes_of({name for one, _ in rows + asked for name in one.instructions()}), []
     for one, fault in asked:
         kind = one.kind(classes, others)
         like = [(row.first == one.first, SequenceMatcher(None, row.shape, one.shape).ratio(), why) for row, why in rows
@@ -540,7 +548,8 @@ def tell_causes(faults):
         elif like:
             fault.told.append(max(like)[-1])
         elif one.refusal == OF_THE_LINE[0]:
-            own = as_own(fault.text)
-            fault.told.append(of_another_dialect(own) if own else "no such label, mnemonic or directive can be read")
+            unknown.append(fault)
         else:
             fault.told += [f"`{name}` takes {takes[name]}" for name in one.names() if name in takes]
+    for fault, own in zip(unknown, as_own([fault.text for fault in unknown])):
+        fault.told.append(of_another_dialect(own) if own else "no such label, mnemonic or directive can be read")

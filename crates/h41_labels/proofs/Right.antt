@@ -1,9 +1,9 @@
 -- Answers that are those of the searches.
-use Rattle.std.proofs.Common.{◌≡◌, ℕ, Bool, true, false, Some, refl, sym, subst, arith}
+use Rattle.std.proofs.Common.{◌≡◌, ℕ, Bool, true, false, None, Some, refl, sym, subst, arith}
 use Rattle.std.proofs.Common.{List, [], ◌∷◌, drop, length}
-use Rattle.std.specs.Prelude.{Option, nat_lt, if◌then◌else◌}
+use Rattle.std.specs.Prelude.{MatchOption, Option, is_some, nat_lt, if◌then◌else◌}
 use Rattle.std.proofs.lemmas.List.Elements.{All-drop, All-push, All-tail}
-use Rattle.h41_labels.specs.KeptAnswers.{Finds, IsRight, answer_of, is_same, with_answer}
+use Rattle.h41_labels.specs.KeptAnswers.{Finds, IsRight, KeepsSearch, answer_of, is_same, with_answer}
 use Rattle.h41_labels.specs.declared.search.KeptAnswer.{KeptAnswer}
 use Rattle.h41_labels.specs.declared.search.Search.{Search}
 use Rattle.h41_labels.proofs.Kept.{same_search}
@@ -40,3 +40,15 @@ right_put memory search answer kept right finds =
     left_right : (room : Bool) → IsRight (left room) memory
     left_right true = right
     left_right false = All-drop (λ one. Finds memory one.search one.answer) 1 kept right
+
+-- behind a search all stay so, whether its answer was kept or not
+pub stays_right : (memory : RegisterMap) (search : Option Search) (old new : List KeptAnswer) → KeepsSearch memory search old new
+    → IsRight old memory → IsRight new memory
+stays_right memory None old new is right = rw is right
+stays_right memory (Some search) old new (answer, answers, is) right =
+    rw is (by_known (answer_of search old) answers)
+  where
+    by_known : (known : Option (Option ℕ)) → MatchOption known (Finds memory search answer) (λ one. answer ≡ one)
+        → IsRight (if is_some known then old else with_answer search answer old) memory
+    by_known None finds = right_put memory search answer old right finds
+    by_known (Some one) same = right

@@ -1,7 +1,8 @@
 -- Searches for labels that are kept with their answers, as a list, the oldest first. That searches
 -- are kept, and how many, is this project's choice.
 use Rattle.std.specs.Prelude.{◌≡◌, ℕ, Bool, false, ◌&&◌, ◌==◌, All, List, [], ◌∷◌, ◌++◌, drop}
-use Rattle.std.specs.Prelude.{find, if◌then◌else◌, is_some, length, nat_lt, MatchOption, Option}
+use Rattle.std.specs.Prelude.{find, if◌then◌else◌, is_some, length, nat_lt, MatchOption, None, Option}
+use Rattle.std.specs.Prelude.{Some}
 use Rattle.std.specs.Option.{option_map}
 use Rattle.std.specs.Str.{bytes_eq}
 use Rattle.h41_labels.specs.declared.search.KeptAnswer.{KeptAnswer}
@@ -54,3 +55,9 @@ Answers memory kept search answer =
 -- each kept answer is what its search finds in memory
 abbrev pub IsRight : List KeptAnswer → RegisterMap → Type 0
 IsRight kept memory = All (λ one. Finds memory one.search one.answer) kept
+
+-- what is kept behind a search, or where none is made: its answer is the kept one, or is kept then
+abbrev pub KeepsSearch : RegisterMap → Option Search → (old new : List KeptAnswer) → Type 0
+KeepsSearch memory None old new = new ≡ old
+KeepsSearch memory (Some search) old new =
+    (answer : Option ℕ) × Answers memory old search answer × (new ≡ after_search search answer old)

@@ -1,5 +1,5 @@
 //! Laws of kept answers: each is the contract of a function whose result is not looked at.
-ghost use Rattle.h41_labels.specs.KeptLaws.{RightnessDepends};
+ghost use Rattle.h41_labels.specs.KeptLaws.{RightnessDepends, SearchesStayRight};
 
 use h41_program::laws::programs_depend_on_their_registers;
 
@@ -10,3 +10,8 @@ pub fn kept_answers_depend_on_the_program()
 {
     programs_depend_on_their_registers();
 }
+
+/// Answers that are those of the searches stay so behind a search, and where none is made.
+pub fn answers_stay_right()
+    ensures { SearchesStayRight }
+{}

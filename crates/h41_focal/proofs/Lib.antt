@@ -1,7 +1,9 @@
 mod Briefly
 mod Elsewhere
 mod LabelsMet
+mod LabelsRight
 mod LinesTaken
+mod MemoryBytes
 mod OneOutcome
 mod RowApplied
 mod RowAsked

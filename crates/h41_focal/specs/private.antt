@@ -2,5 +2,6 @@
 -- files.
 pub mod Arrivals
 pub mod Carrying
+pub mod Searching
 pub mod StackMoves
 pub mod Works

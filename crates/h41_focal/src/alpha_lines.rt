@@ -2,6 +2,7 @@
 
 ghost use Rattle.std.specs.Prelude.{◌≡◌, ◌≤◌, ℕ, IfNone, IfSome, length};
 ghost use Rattle.h41_codes.specs.declared.line.Line.TheVariants as lines;
+ghost use Rattle.h41_focal.specs.LabelledMachine.{Keeps, machine_of};
 ghost use Rattle.h41_focal.specs.private.Carrying.{DoesLine, DoesWork, IsBehind, IsWhole, IsReady};
 ghost use Rattle.h41_focal.specs.private.Carrying.{PutsText};
 ghost use Rattle.h41_focal.specs.declared.works.FunctionWork.TheVariants.{Alpha};
@@ -26,8 +27,10 @@ pub fn change_alpha<const REGS: usize>(
     origin: Origin,
     work: AlphaWork,
 ) -> BriefOutcome
-    requires { IsReady origin machine.old }
-    ensures { DoesWork origin (Alpha work) machine.old machine.new result }
+    requires { IsReady origin (machine_of machine.old) }
+    ensures done { DoesWork origin (Alpha work) (machine_of machine.old)
+        (machine_of machine.new) result }
+    ensures keeps { Keeps machine.old machine.new }
 {
     match work {
         AlphaWork::Clear => {
@@ -55,8 +58,10 @@ pub fn text_line<const REGS: usize>(
     origin: Origin,
     text: &Text<15>,
 ) -> BriefOutcome
-    requires { IsReady origin machine.old }
-    ensures { DoesLine origin (lines.Text text.now) machine.old machine.new result }
+    requires { IsReady origin (machine_of machine.old) }
+    ensures done { DoesLine origin (lines.Text text.now) (machine_of machine.old)
+        (machine_of machine.new) result }
+    ensures keeps { Keeps machine.old machine.new }
 {
     put_text(&mut machine.ram, text.characters());
     go_on_lifting(&mut machine.focal, origin);

@@ -1,6 +1,7 @@
 //! Functions that compute.
 
 ghost use Rattle.std.specs.Prelude.{ℕ};
+ghost use Rattle.h41_focal.specs.LabelledMachine.{Keeps, machine_of};
 ghost use Rattle.h41_focal.specs.private.Carrying.{DoesWork, IsReady};
 ghost use Rattle.h41_focal.specs.declared.works.FunctionWork.TheVariants.{ChangeSign, OfX, OfYAndX};
 ghost use Rattle.h41_focal.specs.declared.works.FunctionWork.TheVariants.{Percent, Square};
@@ -24,8 +25,10 @@ pub fn of_y_and_x<const REGS: usize>(
     origin: Origin,
     value: ValueOfTwo,
 ) -> BriefOutcome
-    requires { IsReady origin machine.old }
-    ensures { DoesWork origin (OfYAndX value) machine.old machine.new result }
+    requires { IsReady origin (machine_of machine.old) }
+    ensures done { DoesWork origin (OfYAndX value) (machine_of machine.old)
+        (machine_of machine.new) result }
+    ensures keeps { Keeps machine.old machine.new }
 {
     match compute_of_two(&machine.ram, value, Y, X) {
         Ok(register) => {
@@ -43,8 +46,10 @@ pub fn of_x<const REGS: usize>(
     origin: Origin,
     value: ValueOfOne,
 ) -> BriefOutcome
-    requires { IsReady origin machine.old }
-    ensures { DoesWork origin (OfX value) machine.old machine.new result }
+    requires { IsReady origin (machine_of machine.old) }
+    ensures done { DoesWork origin (OfX value) (machine_of machine.old)
+        (machine_of machine.new) result }
+    ensures keeps { Keeps machine.old machine.new }
 {
     match compute_of_one(&machine.ram, value, X) {
         Ok(register) => {
@@ -58,8 +63,9 @@ pub fn of_x<const REGS: usize>(
 
 /// X takes its square, and LAST X what X held.
 pub fn square<const REGS: usize>(machine: &mut Machine<REGS>, origin: Origin) -> BriefOutcome
-    requires { IsReady origin machine.old }
-    ensures { DoesWork origin Square machine.old machine.new result }
+    requires { IsReady origin (machine_of machine.old) }
+    ensures done { DoesWork origin Square (machine_of machine.old) (machine_of machine.new) result }
+    ensures keeps { Keeps machine.old machine.new }
 {
     match compute_of_two(&machine.ram, ValueOfTwo::Product, X, X) {
         Ok(register) => {
@@ -73,8 +79,10 @@ pub fn square<const REGS: usize>(machine: &mut Machine<REGS>, origin: Origin) ->
 
 /// X takes so many hundredths of Y, and LAST X what X held; Y stays.
 pub fn percent<const REGS: usize>(machine: &mut Machine<REGS>, origin: Origin) -> BriefOutcome
-    requires { IsReady origin machine.old }
-    ensures { DoesWork origin Percent machine.old machine.new result }
+    requires { IsReady origin (machine_of machine.old) }
+    ensures done { DoesWork origin Percent (machine_of machine.old)
+        (machine_of machine.new) result }
+    ensures keeps { Keeps machine.old machine.new }
 {
     match compute_of_two(&machine.ram, ValueOfTwo::Percentage, Y, X) {
         Ok(register) => {
@@ -88,8 +96,10 @@ pub fn percent<const REGS: usize>(machine: &mut Machine<REGS>, origin: Origin) -
 
 /// X changes its sign; LAST X stays.
 pub fn change_sign<const REGS: usize>(machine: &mut Machine<REGS>, origin: Origin) -> BriefOutcome
-    requires { IsReady origin machine.old }
-    ensures { DoesWork origin ChangeSign machine.old machine.new result }
+    requires { IsReady origin (machine_of machine.old) }
+    ensures done { DoesWork origin ChangeSign (machine_of machine.old)
+        (machine_of machine.new) result }
+    ensures keeps { Keeps machine.old machine.new }
 {
     match compute_of_one(&machine.ram, ValueOfOne::Negative, X) {
         Ok(register) => {

@@ -1,8 +1,11 @@
 //! The three calls of lines for who holds memory apart from what else lines work on.
 
 ghost use Rattle.std.specs.Prelude.{◌≡◌, None, Some, OnErr};
+ghost use Rattle.h41_focal.specs.LabelSearches.{StepKeeps, TypingKeeps};
+ghost use Rattle.h41_focal.specs.LabelledMachine.{AreRight, begun_ram, labelled_with};
 ghost use Rattle.h41_focal.specs.LineStep.{machine_with};
 ghost use Rattle.h41_focal.specs.MachineCalls.{KeepsElsewhere, Steps, Types};
+ghost use Rattle.h41_ram.specs.RamState.{KeepsMark};
 
 use crate::focal::Focal;
 use crate::machine::Machine;
@@ -18,13 +21,18 @@ pub fn step_line<const REGS: usize>(
     ram: &mut Ram<REGS>,
     focal: &mut Focal,
 ) -> Result<LineOutcome, FocalRefusal>
-    ensures line { Steps None (machine_with ram.old.registers focal.old)
-        (machine_with ram.new.registers focal.new)
+    requires { AreRight (labelled_with ram.old focal.old) }
+    ensures line { Steps None (machine_with ram.old.registers focal.old.state)
+        (machine_with ram.new.registers focal.new.state)
         result }
-    ensures unchanged { OnErr result (machine_with ram.new.registers focal.new
-        ≡ machine_with ram.old.registers focal.old) }
-    ensures elsewhere { KeepsElsewhere (machine_with ram.old.registers focal.old)
-        (machine_with ram.new.registers focal.new) result }
+    ensures unchanged { OnErr result (machine_with ram.new.registers focal.new.state
+        ≡ machine_with ram.old.registers focal.old.state) }
+    ensures elsewhere { KeepsElsewhere (machine_with ram.old.registers focal.old.state)
+        (machine_with ram.new.registers focal.new.state) result }
+    ensures kept { StepKeeps None (labelled_with ram.old focal.old)
+        (labelled_with ram.new focal.new) }
+    ensures mark { KeepsMark (begun_ram ram.old) ram.new }
+    ensures right { AreRight (labelled_with ram.new focal.new) }
 {
     let mut machine = Machine {
         ram: ram.take(),
@@ -41,10 +49,15 @@ pub fn step_as<const REGS: usize>(
     focal: &mut Focal,
     function: Function,
 ) -> Result<LineOutcome, FocalRefusal>
-    ensures line { Steps (Some function) (machine_with ram.old.registers focal.old)
-        (machine_with ram.new.registers focal.new) result }
-    ensures unchanged { OnErr result (machine_with ram.new.registers focal.new
-        ≡ machine_with ram.old.registers focal.old) }
+    requires { AreRight (labelled_with ram.old focal.old) }
+    ensures line { Steps (Some function) (machine_with ram.old.registers focal.old.state)
+        (machine_with ram.new.registers focal.new.state) result }
+    ensures unchanged { OnErr result (machine_with ram.new.registers focal.new.state
+        ≡ machine_with ram.old.registers focal.old.state) }
+    ensures kept { StepKeeps (Some function) (labelled_with ram.old focal.old)
+        (labelled_with ram.new focal.new) }
+    ensures mark { KeepsMark (begun_ram ram.old) ram.new }
+    ensures right { AreRight (labelled_with ram.new focal.new) }
 {
     let mut machine = Machine {
         ram: ram.take(),
@@ -61,13 +74,18 @@ pub fn key_line<const REGS: usize>(
     focal: &mut Focal,
     line: &Line,
 ) -> Result<LineOutcome, FocalRefusal>
-    ensures line { Types line.now (machine_with ram.old.registers focal.old)
-        (machine_with ram.new.registers focal.new)
+    requires { AreRight (labelled_with ram.old focal.old) }
+    ensures line { Types line.now (machine_with ram.old.registers focal.old.state)
+        (machine_with ram.new.registers focal.new.state)
         result }
-    ensures unchanged { OnErr result (machine_with ram.new.registers focal.new
-        ≡ machine_with ram.old.registers focal.old) }
-    ensures elsewhere { KeepsElsewhere (machine_with ram.old.registers focal.old)
-        (machine_with ram.new.registers focal.new) result }
+    ensures unchanged { OnErr result (machine_with ram.new.registers focal.new.state
+        ≡ machine_with ram.old.registers focal.old.state) }
+    ensures elsewhere { KeepsElsewhere (machine_with ram.old.registers focal.old.state)
+        (machine_with ram.new.registers focal.new.state) result }
+    ensures kept { TypingKeeps line.now (labelled_with ram.old focal.old)
+        (labelled_with ram.new focal.new) }
+    ensures mark { KeepsMark (begun_ram ram.old) ram.new }
+    ensures right { AreRight (labelled_with ram.new focal.new) }
 {
     let mut machine = Machine {
         ram: ram.take(),

@@ -1,6 +1,7 @@
 //! Where a line goes once its work is done, or where it cannot be done.
 
 ghost use Rattle.std.specs.Prelude.{◌≡◌};
+ghost use Rattle.h41_focal.specs.LabelledMachine.{Keeps, machine_of};
 ghost use Rattle.h41_focal.specs.private.Carrying.{FailsAs, IsReady, on_to_next};
 ghost use Rattle.h41_rows.specs.Rows.{AsItWas, Off, On};
 
@@ -13,7 +14,8 @@ use h41_rows::LineFault;
 
 /// On to the next line; a typed line stays. Lift stays.
 pub fn go_on(focal: &mut Focal, origin: Origin)
-    ensures { focal.new ≡ on_to_next origin AsItWas focal.old }
+    ensures state { focal.new.state ≡ on_to_next origin AsItWas focal.old.state }
+    ensures labels { focal.new.labels ≡ focal.old.labels }
 {
     if let Origin::Program(next) = origin {
         focal.go_to(next);
@@ -22,7 +24,8 @@ pub fn go_on(focal: &mut Focal, origin: Origin)
 
 /// On to the next line, with lift.
 pub fn go_on_lifting(focal: &mut Focal, origin: Origin)
-    ensures { focal.new ≡ on_to_next origin On focal.old }
+    ensures state { focal.new.state ≡ on_to_next origin On focal.old.state }
+    ensures labels { focal.new.labels ≡ focal.old.labels }
 {
     go_on(focal, origin);
     focal.lift = true;
@@ -30,7 +33,8 @@ pub fn go_on_lifting(focal: &mut Focal, origin: Origin)
 
 /// On to the next line, without lift: the next number takes the place of X.
 pub fn go_on_replacing(focal: &mut Focal, origin: Origin)
-    ensures { focal.new ≡ on_to_next origin Off focal.old }
+    ensures state { focal.new.state ≡ on_to_next origin Off focal.old.state }
+    ensures labels { focal.new.labels ≡ focal.old.labels }
 {
     go_on(focal, origin);
     focal.lift = false;
@@ -43,8 +47,9 @@ pub fn fail<const REGS: usize>(
     origin: Origin,
     fault: LineFault,
 ) -> BriefOutcome
-    requires { IsReady origin machine.old }
-    ensures { FailsAs origin fault machine.old machine.new result }
+    requires { IsReady origin (machine_of machine.old) }
+    ensures done { FailsAs origin fault (machine_of machine.old) (machine_of machine.new) result }
+    ensures keeps { Keeps machine.old machine.new }
 {
     if machine.ram.flag(ERROR_IGNORE) {
         machine.ram.set_flag(ERROR_IGNORE, false);

@@ -1,6 +1,7 @@
 //! Lines that work on the display, and those that stop the program.
 
 ghost use Rattle.std.specs.Prelude.{ℕ};
+ghost use Rattle.h41_focal.specs.LabelledMachine.{Keeps, machine_of};
 ghost use Rattle.h41_focal.specs.private.Carrying.{DoesWork, IsReady};
 ghost use Rattle.h41_focal.specs.declared.works.FunctionWork.TheVariants.{Display};
 
@@ -16,8 +17,10 @@ pub fn show<const REGS: usize>(
     origin: Origin,
     work: DisplayWork,
 ) -> BriefOutcome
-    requires { IsReady origin machine.old }
-    ensures { DoesWork origin (Display work) machine.old machine.new result }
+    requires { IsReady origin (machine_of machine.old) }
+    ensures done { DoesWork origin (Display work) (machine_of machine.old)
+        (machine_of machine.new) result }
+    ensures keeps { Keeps machine.old machine.new }
 {
     match work {
         DisplayWork::ViewAlpha => {

@@ -1,6 +1,7 @@
 //! Lines of a flag: it is set or cleared, or asked.
 
 ghost use Rattle.std.specs.Prelude.{◌≡◌, ℕ, ◌<◌, OnErr};
+ghost use Rattle.h41_focal.specs.LabelledMachine.{Keeps, machine_of};
 ghost use Rattle.h41_focal.specs.private.Carrying.{CarriesFlag, ClearsFlag, IsReady, LeavesFlag};
 ghost use Rattle.h41_rows.specs.RowEffects.{agrees};
 ghost use Rattle.h41_focal.specs.declared.uses.FlagUse.TheVariants.{Ask, Change};
@@ -32,8 +33,10 @@ fn change_flag<const REGS: usize>(
     on: bool,
 ) -> BriefOutcome
     requires flag { flag < 56 }
-    requires ready { IsReady origin machine.old }
-    ensures { LeavesFlag origin (Change on) flag machine.old machine.new result }
+    requires ready { IsReady origin (machine_of machine.old) }
+    ensures done { LeavesFlag origin (Change on) flag (machine_of machine.old)
+        (machine_of machine.new) result }
+    ensures keeps { Keeps machine.old machine.new }
 {
     machine.ram.set_flag(usize::from(flag), on);
     go_on_lifting(&mut machine.focal, origin);
@@ -50,9 +53,11 @@ fn ask_flag<const REGS: usize>(
     on: bool,
 ) -> Result<BriefOutcome, FocalRefusal>
     requires flag { flag < 56 }
-    requires ready { IsReady origin machine.old }
-    ensures carried { CarriesFlag origin (Ask on) flag machine.old machine.new result }
+    requires ready { IsReady origin (machine_of machine.old) }
+    ensures carried { CarriesFlag origin (Ask on) flag (machine_of machine.old)
+        (machine_of machine.new) result }
     ensures unchanged { OnErr result (machine.new ≡ machine.old) }
+    ensures keeps { Keeps machine.old machine.new }
 {
     let holds = agrees_with(&machine.ram, flag, on);
     let lead = lead(&machine.ram, origin, holds)?;
@@ -68,9 +73,11 @@ fn ask_and_clear_flag<const REGS: usize>(
     on: bool,
 ) -> Result<BriefOutcome, FocalRefusal>
     requires flag { flag < 56 }
-    requires ready { IsReady origin machine.old }
-    ensures carried { ClearsFlag origin on flag machine.old machine.new result }
+    requires ready { IsReady origin (machine_of machine.old) }
+    ensures carried { ClearsFlag origin on flag (machine_of machine.old)
+        (machine_of machine.new) result }
     ensures unchanged { OnErr result (machine.new ≡ machine.old) }
+    ensures keeps { Keeps machine.old machine.new }
 {
     let holds = agrees_with(&machine.ram, flag, on);
     let lead = lead(&machine.ram, origin, holds)?;
@@ -88,9 +95,11 @@ pub fn use_flag<const REGS: usize>(
     flag: u8,
 ) -> Result<BriefOutcome, FocalRefusal>
     requires flag { flag < 56 }
-    requires ready { IsReady origin machine.old }
-    ensures carried { CarriesFlag origin taken flag machine.old machine.new result }
+    requires ready { IsReady origin (machine_of machine.old) }
+    ensures carried { CarriesFlag origin taken flag (machine_of machine.old)
+        (machine_of machine.new) result }
     ensures unchanged { OnErr result (machine.new ≡ machine.old) }
+    ensures keeps { Keeps machine.old machine.new }
 {
     match taken {
         FlagUse::Change(on) => Ok(change_flag(machine, origin, flag, on)),

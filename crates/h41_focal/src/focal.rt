@@ -1,9 +1,19 @@
 //! What lines work on, beside memory.
-ghost use Rattle.std.specs.Prelude.{◌≡◌};
+ghost use Rattle.std.specs.Prelude.{◌≡◌, [], IsTrue, Some};
+ghost use Rattle.h41_focal.specs.LabelSearches.{local_search};
 ghost use Rattle.h41_focal.specs.LineStep.{at_line_00, at_position, halted_at, start};
+ghost use Rattle.h41_labels.specs.KeptAnswers.{IsRight, KeepsSearch};
+ghost use Rattle.h41_labels.specs.declared.search.Search.TheVariants.{Global};
+ghost use Rattle.h41_program.specs.Positions.{LocalFrom};
+ghost use Rattle.h41_program.specs.ProgramLines.{AnswersOf};
+ghost use Rattle.h41_program.specs.Searches.{named_in, position_of};
+ghost use Rattle.h41_ram.specs.RegisterMap.{is_sound};
 
 use arrayvec::ArrayVec;
+use h41_codes::{Parameter, Text};
+use h41_labels::LabelCache;
 use h41_program::Position;
+use h41_ram::Ram;
 use std::marker::Model;
 
 /// How many positions can be returned to at most.
@@ -20,36 +30,52 @@ pub struct Focal {
     pub returns: ArrayVec<Position, RETURNS>,
     /// Whether the stack is lifted when a number comes in.
     pub lift: bool,
+    /// The searches for labels that lines made, with their answers.
+    labels: LabelCache,
 }
 
 impl Model for Focal {
-    ghost use Rattle.h41_focal.specs.LineStep.{FocalState};
+    ghost use Rattle.h41_focal.specs.LabelledMachine.{LabelledFocal};
 
-    ghost Value = { FocalState };
+    ghost Value = { LabelledFocal };
 
     ghost view = { λ focal. record {
-      position = focal.position;
-      at_line_00 = focal.is_at_line_00;
-      returns = focal.returns.items;
-      lift = focal.lift;
+      state = record {
+        position = focal.position;
+        at_line_00 = focal.is_at_line_00;
+        returns = focal.returns.items;
+        lift = focal.lift;
+      };
+      labels = focal.labels;
     } };
 }
 
 impl Focal {
-    /// The start: line 00 of the first program, nowhere to return to, lift on.
+    /// The start: line 00 of the first program, nowhere to return to, lift on, no search kept.
     pub fn new() -> Self
-        ensures { result ≡ start }
+        ensures state { result.state ≡ start }
+        ensures labels { result.labels ≡ [] }
     {
         Focal {
             position: Position::default(),
             is_at_line_00: true,
             returns: ArrayVec::new(),
             lift: true,
+            labels: LabelCache::new(),
         }
     }
+
+    /// The searches for labels that are kept, with their answers.
+    pub fn cache(&self) -> &LabelCache
+        ensures { result.now ≡ self.now.labels }
+    {
+        &self.labels
+    }
+
     /// On to the line at a position.
     pub fn go_to(&mut self, position: Position)
-        ensures { self.new ≡ at_position position self.old }
+        ensures state { self.new.state ≡ at_position position self.old.state }
+        ensures labels { self.new.labels ≡ self.old.labels }
     {
         self.position = position;
         self.is_at_line_00 = false;
@@ -57,7 +83,8 @@ impl Focal {
 
     /// To line 00 of the program that begins at a position.
     pub fn go_to_line_00(&mut self, start: Position)
-        ensures { self.new ≡ at_line_00 start self.old }
+        ensures state { self.new.state ≡ at_line_00 start self.old.state }
+        ensures labels { self.new.labels ≡ self.old.labels }
     {
         self.position = start;
         self.is_at_line_00 = true;
@@ -65,9 +92,53 @@ impl Focal {
 
     /// To line 00 of the program that begins at a position, with nowhere to return to.
     pub fn halt_at(&mut self, start: Position)
-        ensures { self.new ≡ halted_at start self.old }
+        ensures state { self.new.state ≡ halted_at start self.old.state }
+        ensures labels { self.new.labels ≡ self.old.labels }
     {
         self.go_to_line_00(start);
         self.returns.clear();
+    }
+
+    /// No search is kept any more.
+    pub(crate) fn forget_labels(&mut self)
+        ensures state { self.new.state ≡ self.old.state }
+        ensures labels { self.new.labels ≡ [] }
+    {
+        self.labels.forget();
+    }
+
+    /// Where the local label stands that a position finds: a kept answer, else what the search finds, which is then kept.
+    pub(crate) fn local<const REGS: usize>(
+        &mut self,
+        ram: &Ram<REGS>,
+        from: Position,
+        label: Parameter,
+    ) -> Option<Position>
+        requires sound { IsTrue (is_sound ram.now.registers) }
+        requires right { IsRight self.old.labels ram.now.registers }
+        ensures found { LocalFrom label ram.now.registers from result }
+        ensures kept { KeepsSearch ram.now.registers (Some (local_search from label))
+            self.old.labels self.new.labels }
+        ensures state { self.new.state ≡ self.old.state }
+    {
+        match from {
+            Position::Memory(byte) => match self.labels.local(ram, byte, label) {
+                Some(found) => Some(Position::Memory(found)),
+                None => None,
+            },
+        }
+    }
+
+    /// Where the last label of a name stands in memory: likewise.
+    pub(crate) fn global<const REGS: usize>(&mut self, ram: &Ram<REGS>, name: Text<15>) -> Option<u16>
+        requires sound { IsTrue (is_sound ram.now.registers) }
+        requires right { IsRight self.old.labels ram.now.registers }
+        ensures found {
+            AnswersOf (λ lines. position_of (named_in name lines)) ram.now.registers 0 result }
+        ensures kept { KeepsSearch ram.now.registers (Some (Global name))
+            self.old.labels self.new.labels }
+        ensures state { self.new.state ≡ self.old.state }
+    {
+        self.labels.global(ram, name)
     }
 }

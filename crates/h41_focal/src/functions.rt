@@ -1,6 +1,7 @@
 //! Functions without an operand.
 
 ghost use Rattle.std.specs.Prelude.{ℕ, ◌≡◌, OnErr};
+ghost use Rattle.h41_focal.specs.LabelledMachine.{Keeps, machine_of};
 ghost use Rattle.h41_focal.specs.private.Carrying.{CarriesWork, IsReady, TakesBriefly};
 ghost use Rattle.h41_codes.specs.declared.line.Line.TheVariants.{Plain};
 
@@ -24,9 +25,11 @@ pub fn plain<const REGS: usize>(
     origin: Origin,
     function: Function,
 ) -> Result<BriefOutcome, FocalRefusal>
-    requires { IsReady origin machine.old }
-    ensures taken { TakesBriefly origin (Plain function) machine.old machine.new result }
+    requires { IsReady origin (machine_of machine.old) }
+    ensures taken { TakesBriefly origin (Plain function) (machine_of machine.old)
+        (machine_of machine.new) result }
     ensures unchanged { OnErr result (machine.new ≡ machine.old) }
+    ensures keeps { Keeps machine.old machine.new }
 {
     match work_of(function) {
         Some(work) => perform(machine, origin, work),
@@ -40,9 +43,11 @@ fn perform<const REGS: usize>(
     origin: Origin,
     work: FunctionWork,
 ) -> Result<BriefOutcome, FocalRefusal>
-    requires { IsReady origin machine.old }
-    ensures carried { CarriesWork origin work machine.old machine.new result }
+    requires { IsReady origin (machine_of machine.old) }
+    ensures carried { CarriesWork origin work (machine_of machine.old)
+        (machine_of machine.new) result }
     ensures unchanged { OnErr result (machine.new ≡ machine.old) }
+    ensures keeps { Keeps machine.old machine.new }
 {
     match work {
         FunctionWork::OfYAndX(value) => Ok(of_y_and_x(machine, origin, value)),

@@ -1,10 +1,16 @@
 //! Labels, subroutines and returns.
 
-ghost use Rattle.std.specs.Prelude.{◌≡◌, ℕ, IsTrue};
+ghost use Rattle.std.specs.Prelude.{◌≡◌, ℕ, IsTrue, Some};
+ghost use Rattle.h41_focal.specs.LabelSearches.{local_search};
+ghost use Rattle.h41_focal.specs.LabelledMachine.{Keeps, machine_of};
 ghost use Rattle.h41_focal.specs.private.Arrivals.{ReturnsFrom, answer_at, focal_at, from_of};
 ghost use Rattle.h41_focal.specs.private.Carrying.{DoesWork, IsReady, GoesToLabel, GoesToName};
 ghost use Rattle.h41_focal.specs.Destinations.{with_return};
+ghost use Rattle.h41_focal.specs.private.Searching.{AsksFrom};
 ghost use Rattle.h41_focal.specs.declared.works.FunctionWork.TheVariants.{Return};
+ghost use Rattle.h41_labels.specs.KeptAnswers.{IsRight};
+ghost use Rattle.h41_labels.specs.declared.search.Search.TheVariants.{Global};
+ghost use Rattle.h41_ram.specs.RamState.{KeepsMark};
 ghost use Rattle.h41_ram.specs.RegisterMap.{is_sound};
 
 use crate::course::fail;
@@ -14,7 +20,7 @@ use crate::origin::Origin;
 use crate::outcome::BriefOutcome;
 use arrayvec::ArrayVec;
 use h41_codes::{Branch, Parameter, Text};
-use h41_program::{Position, global, local, start_of};
+use h41_program::{Position, start_of};
 use h41_rows::LineFault;
 
 /// A line goes to a local label; `NONEXISTENT` where it stands nowhere in the program.
@@ -24,10 +30,16 @@ pub fn to_label<const REGS: usize>(
     branch: Branch,
     label: Parameter,
 ) -> BriefOutcome
-    requires { IsReady origin machine.old }
-    ensures { GoesToLabel origin branch label machine.old machine.new result }
+    requires ready { IsReady origin (machine_of machine.old) }
+    requires right { IsRight machine.old.focal.labels machine.old.ram.registers }
+    ensures done { GoesToLabel origin branch label (machine_of machine.old)
+        (machine_of machine.new) result }
+    ensures kept { AsksFrom origin (λ from. Some (local_search from label))
+        machine.old machine.new }
+    ensures mark { KeepsMark machine.old.ram machine.new.ram }
 {
-    match local(&machine.ram, searched_from(&machine.focal, origin), label) {
+    let from = searched_from(&machine.focal, origin);
+    match machine.focal.local(&machine.ram, from, label) {
         Some(position) => arrive(&mut machine.focal, origin, branch, position),
         None => fail(machine, origin, LineFault::Nonexistent),
     }
@@ -35,7 +47,7 @@ pub fn to_label<const REGS: usize>(
 
 /// Where the search for a local label begins: behind a line of the program, at the position for a typed one.
 fn searched_from(focal: &Focal, origin: Origin) -> Position
-    ensures { result ≡ from_of origin focal.now.position }
+    ensures { result ≡ from_of origin focal.now.state.position }
 {
     match origin {
         Origin::Program(next) => next,
@@ -50,10 +62,14 @@ pub fn to_name<const REGS: usize>(
     branch: Branch,
     name: Text<15>,
 ) -> BriefOutcome
-    requires { IsReady origin machine.old }
-    ensures { GoesToName origin branch name machine.old machine.new result }
+    requires ready { IsReady origin (machine_of machine.old) }
+    requires right { IsRight machine.old.focal.labels machine.old.ram.registers }
+    ensures done { GoesToName origin branch name (machine_of machine.old)
+        (machine_of machine.new) result }
+    ensures kept { AsksFrom origin (λ from. Some (Global name)) machine.old machine.new }
+    ensures mark { KeepsMark machine.old.ram machine.new.ram }
 {
-    match (global(&machine.ram, name.characters()), branch) {
+    match (machine.focal.global(&machine.ram, name), branch) {
         (Some(byte), _) => {
             let label = Position::Memory(byte);
             arrive(&mut machine.focal, origin, branch, label)
@@ -65,7 +81,8 @@ pub fn to_name<const REGS: usize>(
 
 /// The label was found. XEQ returns to the next line; typed, it has the program run, with nowhere to return to.
 fn arrive(focal: &mut Focal, origin: Origin, branch: Branch, position: Position) -> BriefOutcome
-    ensures focal { focal.new ≡ focal_at origin branch position focal.old }
+    ensures state { focal.new.state ≡ focal_at origin branch position focal.old.state }
+    ensures labels { focal.new.labels ≡ focal.old.labels }
     ensures answer { result ≡ answer_at origin branch }
 {
     focal.go_to(position);
@@ -96,8 +113,9 @@ fn push_return(returns: &mut ArrayVec<Position, RETURNS>, position: Position)
 
 /// Back to the latest position to return to. Where there is none, and where the line is typed, to line 00 of the program.
 pub fn go_back<const REGS: usize>(machine: &mut Machine<REGS>, origin: Origin) -> BriefOutcome
-    requires { IsReady origin machine.old }
-    ensures { DoesWork origin Return machine.old machine.new result }
+    requires { IsReady origin (machine_of machine.old) }
+    ensures done { DoesWork origin Return (machine_of machine.old) (machine_of machine.new) result }
+    ensures keeps { Keeps machine.old machine.new }
 {
     match origin {
         Origin::Program(_) => return_from(machine),
@@ -111,8 +129,9 @@ pub fn go_back<const REGS: usize>(machine: &mut Machine<REGS>, origin: Origin) -
 
 /// Back to the latest position to return to, or to line 00 of the program, where it stops.
 fn return_from<const REGS: usize>(machine: &mut Machine<REGS>) -> BriefOutcome
-    requires { IsTrue (is_sound machine.old.memory) }
-    ensures { ReturnsFrom machine.old machine.new result }
+    requires { IsTrue (is_sound machine.old.ram.registers) }
+    ensures done { ReturnsFrom (machine_of machine.old) (machine_of machine.new) result }
+    ensures keeps { Keeps machine.old machine.new }
 {
     match machine.focal.returns.pop() {
         Some(position) => {

@@ -1,9 +1,16 @@
 //! A line is read where it stands, and carried out by what it is.
 
-ghost use Rattle.std.specs.Prelude.{◌≡◌, ℕ, OnErr};
+ghost use Rattle.std.specs.Prelude.{◌≡◌, ℕ, Ok, OnErr};
+ghost use Rattle.h41_codes.specs.declared.line.Line.TheVariants.{BranchIndirect, Named};
+ghost use Rattle.h41_focal.specs.LabelSearches.{search_for};
+ghost use Rattle.h41_focal.specs.LabelledMachine.{Keeps, machine_of};
 ghost use Rattle.h41_focal.specs.private.Carrying.{GoesToTarget, IsReady, Stands, StandsAt};
 ghost use Rattle.h41_focal.specs.private.Carrying.{TakesAs, TakesBriefly};
 ghost use Rattle.h41_focal.specs.private.Carrying.{TakesBranch, TakesNamed, TakesShort};
+ghost use Rattle.h41_focal.specs.private.Searching.{AsksFrom, AsksOf};
+ghost use Rattle.h41_labels.specs.KeptAnswers.{IsRight};
+ghost use Rattle.h41_ram.specs.RamState.{KeepsMark};
+ghost use Rattle.h41_rows.specs.Computing.{meant_by};
 
 use crate::alpha_lines::text_line;
 use crate::called::outcome_of;
@@ -27,7 +34,7 @@ use h41_rows::{BranchTarget, branch_target, data_address};
 pub fn standing<const REGS: usize>(
     machine: &Machine<REGS>,
 ) -> Result<(Line, Position), FocalRefusal>
-    ensures { Stands machine.now result }
+    ensures { Stands (machine_of machine.now) result }
 {
     standing_at(&machine.ram, machine.focal.position)
 }
@@ -55,9 +62,13 @@ pub fn carry_out<const REGS: usize>(
     origin: Origin,
     line: &Line,
 ) -> Result<LineOutcome, FocalRefusal>
-    requires { IsReady origin machine.old }
-    ensures taken { TakesAs origin line.now machine.old machine.new result }
+    requires ready { IsReady origin (machine_of machine.old) }
+    requires right { IsRight machine.old.focal.labels machine.old.ram.registers }
+    ensures taken { TakesAs origin line.now (machine_of machine.old)
+        (machine_of machine.new) result }
     ensures unchanged { OnErr result (machine.new ≡ machine.old) }
+    ensures kept { AsksOf origin line.now machine.old machine.new }
+    ensures mark { KeepsMark machine.old.ram machine.new.ram }
 {
     let brief = carry_briefly(machine, origin, line)?;
     Ok(outcome_of(&machine.ram, line, brief))
@@ -69,9 +80,13 @@ pub fn carry_briefly<const REGS: usize>(
     origin: Origin,
     line: &Line,
 ) -> Result<BriefOutcome, FocalRefusal>
-    requires { IsReady origin machine.old }
-    ensures taken { TakesBriefly origin line.now machine.old machine.new result }
+    requires ready { IsReady origin (machine_of machine.old) }
+    requires right { IsRight machine.old.focal.labels machine.old.ram.registers }
+    ensures taken { TakesBriefly origin line.now (machine_of machine.old)
+        (machine_of machine.new) result }
     ensures unchanged { OnErr result (machine.new ≡ machine.old) }
+    ensures kept { AsksOf origin line.now machine.old machine.new }
+    ensures mark { KeepsMark machine.old.ram machine.new.ram }
 {
     match line {
         Line::Null => Ok(do_nothing(machine, origin)),
@@ -106,9 +121,13 @@ fn named<const REGS: usize>(
     function: NameFunction,
     name: Text<15>,
 ) -> Result<BriefOutcome, FocalRefusal>
-    requires { IsReady origin machine.old }
-    ensures taken { TakesNamed origin function name machine.old machine.new result }
+    requires ready { IsReady origin (machine_of machine.old) }
+    requires right { IsRight machine.old.focal.labels machine.old.ram.registers }
+    ensures taken { TakesNamed origin function name (machine_of machine.old)
+        (machine_of machine.new) result }
     ensures unchanged { OnErr result (machine.new ≡ machine.old) }
+    ensures kept { AsksOf origin (Named function name) machine.old machine.new }
+    ensures mark { KeepsMark machine.old.ram machine.new.ram }
 {
     match function {
         NameFunction::GoToName => Ok(to_name(machine, origin, Branch::GoTo, name)),
@@ -124,9 +143,11 @@ fn short<const REGS: usize>(
     function: RegisterFunction,
     register: ShortRegister,
 ) -> Result<BriefOutcome, FocalRefusal>
-    requires { IsReady origin machine.old }
-    ensures taken { TakesShort origin function register machine.old machine.new result }
+    requires { IsReady origin (machine_of machine.old) }
+    ensures taken { TakesShort origin function register (machine_of machine.old)
+        (machine_of machine.new) result }
     ensures unchanged { OnErr result (machine.new ≡ machine.old) }
+    ensures keeps { Keeps machine.old machine.new }
 {
     match (
         data_address(&machine.ram, u16::from(register.number())),
@@ -145,9 +166,13 @@ fn indirect<const REGS: usize>(
     branch: Branch,
     register: Parameter,
 ) -> Result<BriefOutcome, FocalRefusal>
-    requires { IsReady origin machine.old }
-    ensures taken { TakesBranch origin branch register machine.old machine.new result }
+    requires ready { IsReady origin (machine_of machine.old) }
+    requires right { IsRight machine.old.focal.labels machine.old.ram.registers }
+    ensures taken { TakesBranch origin branch register (machine_of machine.old)
+        (machine_of machine.new) result }
     ensures unchanged { OnErr result (machine.new ≡ machine.old) }
+    ensures kept { AsksOf origin (BranchIndirect branch register) machine.old machine.new }
+    ensures mark { KeepsMark machine.old.ram machine.new.ram }
 {
     if is_parameter_out(register) {
         return Err(FocalRefusal::NotInProfile);
@@ -165,8 +190,13 @@ fn to_target<const REGS: usize>(
     branch: Branch,
     target: BranchTarget,
 ) -> BriefOutcome
-    requires { IsReady origin machine.old }
-    ensures { GoesToTarget origin branch target machine.old machine.new result }
+    requires ready { IsReady origin (machine_of machine.old) }
+    requires right { IsRight machine.old.focal.labels machine.old.ram.registers }
+    ensures done { GoesToTarget origin branch target (machine_of machine.old)
+        (machine_of machine.new) result }
+    ensures kept { AsksFrom origin (λ from. search_for from (Ok (meant_by target)))
+        machine.old machine.new }
+    ensures mark { KeepsMark machine.old.ram machine.new.ram }
 {
     match target {
         BranchTarget::Label(label) => to_label(machine, origin, branch, label),

@@ -1,6 +1,7 @@
 //! Lines that count by a register, and go on past the next line once the loop is over.
 
 ghost use Rattle.std.specs.Prelude.{IsTrue, ◌≡◌, OnErr};
+ghost use Rattle.h41_focal.specs.LabelledMachine.{Keeps, machine_of};
 ghost use Rattle.h41_focal.specs.private.Carrying.{DoesUse, IsReady};
 ghost use Rattle.h41_focal.specs.declared.uses.RegisterUse.TheVariants.{CountDown, CountUp};
 
@@ -19,9 +20,11 @@ pub fn count_up<const REGS: usize>(
     origin: Origin,
     address: u16,
 ) -> Result<BriefOutcome, FocalRefusal>
-    requires { IsReady origin machine.old }
-    ensures carried { DoesUse origin CountUp address machine.old machine.new result }
+    requires { IsReady origin (machine_of machine.old) }
+    ensures carried { DoesUse origin CountUp address (machine_of machine.old)
+        (machine_of machine.new) result }
     ensures unchanged { OnErr result (machine.new ≡ machine.old) }
+    ensures keeps { Keeps machine.old machine.new }
 {
     match compute_of_one(&machine.ram, ValueOfOne::CountedUp, address) {
         Ok(register) => {
@@ -41,9 +44,11 @@ pub fn count_down<const REGS: usize>(
     origin: Origin,
     address: u16,
 ) -> Result<BriefOutcome, FocalRefusal>
-    requires { IsReady origin machine.old }
-    ensures carried { DoesUse origin CountDown address machine.old machine.new result }
+    requires { IsReady origin (machine_of machine.old) }
+    ensures carried { DoesUse origin CountDown address (machine_of machine.old)
+        (machine_of machine.new) result }
     ensures unchanged { OnErr result (machine.new ≡ machine.old) }
+    ensures keeps { Keeps machine.old machine.new }
 {
     match compute_of_one(&machine.ram, ValueOfOne::CountedDown, address) {
         Ok(register) => {

@@ -5,11 +5,17 @@ ghost use Rattle.h41_focal.specs.BriefOutcomes.{StepsBriefly};
 ghost use Rattle.h41_focal.specs.declared.outcome.BriefOutcome.TheVariants.{Elsewhere};
 ghost use Rattle.h41_focal.specs.MachineCalls.{Fails, FailsTyped, KeepsElsewhere, Passes, Steps};
 ghost use Rattle.h41_focal.specs.MachineCalls.{Types};
+ghost use Rattle.h41_focal.specs.LabelSearches.{StepKeeps, TypingKeeps};
+ghost use Rattle.h41_focal.specs.LabelledMachine.{AreRight, Keeps, begun, begun_ram, labelled_with};
+ghost use Rattle.h41_focal.specs.LabelledMachine.{machine_of};
 ghost use Rattle.h41_focal.specs.LineStep.{machine_with, start};
+ghost use Rattle.h41_labels.specs.KeptAnswers.{IsRight};
+ghost use Rattle.h41_ram.specs.RamState.{KeepsMark};
 ghost use Rattle.h41_ram.specs.RegisterMap as registers;
 
 use crate::course::{fail, go_on, go_on_lifting};
 use crate::focal::Focal;
+use crate::laws::kept_answers_stay_right;
 use crate::lines::{carry_briefly, carry_out, standing};
 use crate::origin::Origin;
 use crate::outcome::{BriefOutcome, LineOutcome};
@@ -29,19 +35,20 @@ pub struct Machine<const REGS: usize> {
 }
 
 impl<const REGS: usize> Model for Machine<REGS> {
-    ghost use Rattle.h41_focal.specs.LineStep as states;
+    ghost use Rattle.h41_focal.specs.LabelledMachine.{LabelledMachine};
 
-    ghost Value = { states.Machine };
+    ghost Value = { LabelledMachine };
 
-    ghost view = { λ machine. record { memory = machine.ram.registers; focal = machine.focal } };
+    ghost view = { λ machine. record { ram = machine.ram; focal = machine.focal } };
 }
 
 impl<const REGS: usize> Machine<REGS> {
-    /// The start: memory as it is then, line 00 of its empty program, nowhere to return to, lift on.
+    /// The start: memory as it is then, line 00 of its empty program, nowhere to return to, lift on, no search kept.
     pub fn new() -> Self
         requires at_least { 64 ≤ REGS }
         requires at_most { REGS ≤ 320 }
-        ensures { result ≡ record { memory = registers.start REGS; focal = start } }
+        ensures machine { machine_of result ≡ machine_with (registers.start REGS) start }
+        ensures right { AreRight result }
     {
         Machine {
             ram: Ram::new(),
@@ -49,14 +56,33 @@ impl<const REGS: usize> Machine<REGS> {
         }
     }
 
+    /// A line begins: where the mark of memory is set it is cleared, and no search is kept any more.
+    #[inline(always)]
+    fn begin(&mut self)
+        requires { AreRight self.old }
+        ensures begun { self.new ≡ begun self.old }
+        ensures right { IsRight self.new.focal.labels self.new.ram.registers }
+    {
+        if self.ram.program_touched() {
+            self.focal.forget_labels();
+            self.ram.clear_touched();
+        }
+    }
+
     /// The line at the position is carried out: 15 where memory is not sound, 14 where no line stands there, 13 where it is left
     /// out, in this order, and last 14 where a line that a test or a loop would pass over is none. Nothing is changed then.
     #[inline(always)]
     pub fn step(&mut self) -> Result<LineOutcome, FocalRefusal>
-        ensures line { Steps None self.old self.new result }
-        ensures unchanged { OnErr result (self.new ≡ self.old) }
-        ensures elsewhere { KeepsElsewhere self.old self.new result }
+        requires { AreRight self.old }
+        ensures line { Steps None (machine_of self.old) (machine_of self.new) result }
+        ensures unchanged { OnErr result (machine_of self.new ≡ machine_of self.old) }
+        ensures elsewhere { KeepsElsewhere (machine_of self.old) (machine_of self.new) result }
+        ensures kept { StepKeeps None self.old self.new }
+        ensures mark { KeepsMark (begun_ram self.old.ram) self.new.ram }
+        ensures right { AreRight self.new }
     {
+        kept_answers_stay_right();
+        self.begin();
         let (line, next) = standing(self)?;
         carry_out(self, Origin::Program(next), &line)
     }
@@ -65,10 +91,17 @@ impl<const REGS: usize> Machine<REGS> {
     /// calls what memory does not have changes nothing; `step` tells what it calls.
     #[inline(always)]
     pub fn step_briefly(&mut self) -> Result<BriefOutcome, FocalRefusal>
-        ensures line { StepsBriefly self.old self.new result }
-        ensures unchanged { OnErr result (self.new ≡ self.old) }
-        ensures elsewhere { result ≡ Ok Elsewhere → self.new ≡ self.old }
+        requires { AreRight self.old }
+        ensures line { StepsBriefly (machine_of self.old) (machine_of self.new) result }
+        ensures unchanged { OnErr result (machine_of self.new ≡ machine_of self.old) }
+        ensures elsewhere { result ≡ Ok Elsewhere
+            → machine_of self.new ≡ machine_of self.old }
+        ensures kept { StepKeeps None self.old self.new }
+        ensures mark { KeepsMark (begun_ram self.old.ram) self.new.ram }
+        ensures right { AreRight self.new }
     {
+        kept_answers_stay_right();
+        self.begin();
         let (line, next) = standing(self)?;
         carry_briefly(self, Origin::Program(next), &line)
     }
@@ -76,9 +109,15 @@ impl<const REGS: usize> Machine<REGS> {
     /// A function is carried out in place of the line at the position, whatever that is, as for an XEQ that names it: refused as
     /// in `step`.
     pub fn step_as(&mut self, function: Function) -> Result<LineOutcome, FocalRefusal>
-        ensures line { Steps (Some function) self.old self.new result }
-        ensures unchanged { OnErr result (self.new ≡ self.old) }
+        requires { AreRight self.old }
+        ensures line { Steps (Some function) (machine_of self.old) (machine_of self.new) result }
+        ensures unchanged { OnErr result (machine_of self.new ≡ machine_of self.old) }
+        ensures kept { StepKeeps (Some function) self.old self.new }
+        ensures mark { KeepsMark (begun_ram self.old.ram) self.new.ram }
+        ensures right { AreRight self.new }
     {
+        kept_answers_stay_right();
+        self.begin();
         let (_, next) = standing(self)?;
         carry_out(self, Origin::Program(next), &Line::Plain(function))
     }
@@ -86,8 +125,9 @@ impl<const REGS: usize> Machine<REGS> {
     /// The line at the position fails, as where what it calls is nowhere: its fault is answered, or flag 25 has the program go
     /// on. 15 and 14 as in `step`, nothing else.
     pub fn fail(&mut self, fault: LineFault) -> Result<LineOutcome, FocalRefusal>
-        ensures line { Fails fault self.old self.new result }
-        ensures unchanged { OnErr result (self.new ≡ self.old) }
+        ensures line { Fails fault (machine_of self.old) (machine_of self.new) result }
+        ensures unchanged { OnErr result (machine_of self.new ≡ machine_of self.old) }
+        ensures keeps { Keeps self.old self.new }
     {
         let (_, next) = standing(self)?;
         Ok(fail(self, Origin::Program(next), fault).outcome(&self.ram))
@@ -95,8 +135,9 @@ impl<const REGS: usize> Machine<REGS> {
 
     /// A typed line fails, as where what it calls is nowhere: its fault is answered, or flag 25 is cleared. 15 as in `step`.
     pub fn fail_typed(&mut self, fault: LineFault) -> Result<LineOutcome, FocalRefusal>
-        ensures line { FailsTyped fault self.old self.new result }
-        ensures unchanged { OnErr result (self.new ≡ self.old) }
+        ensures line { FailsTyped fault (machine_of self.old) (machine_of self.new) result }
+        ensures unchanged { OnErr result (machine_of self.new ≡ machine_of self.old) }
+        ensures keeps { Keeps self.old self.new }
     {
         if !self.ram.is_sound() {
             return Err(FocalRefusal::MemoryLost);
@@ -107,8 +148,9 @@ impl<const REGS: usize> Machine<REGS> {
     /// The line at the position is passed, since what it calls is carried out elsewhere: on to the next line, with lift behind an
     /// XROM line. 15 and 14 as in `step`; nothing is changed then.
     pub fn pass(&mut self) -> Result<(), FocalRefusal>
-        ensures line { Passes self.old self.new result }
-        ensures unchanged { OnErr result (self.new ≡ self.old) }
+        ensures line { Passes (machine_of self.old) (machine_of self.new) result }
+        ensures unchanged { OnErr result (machine_of self.new ≡ machine_of self.old) }
+        ensures keeps { Keeps self.old self.new }
     {
         let (line, next) = standing(self)?;
         match line {
@@ -120,10 +162,16 @@ impl<const REGS: usize> Machine<REGS> {
 
     /// A typed line is carried out: 15 where memory is not sound, 13 where the line is left out.
     pub fn key(&mut self, line: &Line) -> Result<LineOutcome, FocalRefusal>
-        ensures line { Types line.now self.old self.new result }
-        ensures unchanged { OnErr result (self.new ≡ self.old) }
-        ensures elsewhere { KeepsElsewhere self.old self.new result }
+        requires { AreRight self.old }
+        ensures line { Types line.now (machine_of self.old) (machine_of self.new) result }
+        ensures unchanged { OnErr result (machine_of self.new ≡ machine_of self.old) }
+        ensures elsewhere { KeepsElsewhere (machine_of self.old) (machine_of self.new) result }
+        ensures kept { TypingKeeps line.now self.old self.new }
+        ensures mark { KeepsMark (begun_ram self.old.ram) self.new.ram }
+        ensures right { AreRight self.new }
     {
+        kept_answers_stay_right();
+        self.begin();
         if !self.ram.is_sound() {
             return Err(FocalRefusal::MemoryLost);
         }
@@ -131,7 +179,7 @@ impl<const REGS: usize> Machine<REGS> {
     }
     /// Memory and what else lines work on, each where it is held apart.
     pub fn part(self, ram: &mut Ram<REGS>, focal: &mut Focal)
-        ensures { machine_with ram.new.registers focal.new ≡ self.entry }
+        ensures { labelled_with ram.new focal.new ≡ self.entry }
     {
         *ram = self.ram;
         *focal = self.focal;

@@ -1,6 +1,7 @@
 //! Lines that set the unit of angles and the display format.
 
 ghost use Rattle.std.specs.Prelude.{◌<◌, ℕ};
+ghost use Rattle.h41_focal.specs.LabelledMachine.{Keeps, machine_of};
 ghost use Rattle.h41_focal.specs.private.Carrying.{DoesWork, IsReady, LeavesDigits};
 ghost use Rattle.h41_focal.specs.declared.works.FunctionWork.TheVariants.{Angles};
 
@@ -18,8 +19,10 @@ pub fn set_angle_unit<const REGS: usize>(
     grads: bool,
     radians: bool,
 ) -> BriefOutcome
-    requires { IsReady origin machine.old }
-    ensures { DoesWork origin (Angles grads radians) machine.old machine.new result }
+    requires { IsReady origin (machine_of machine.old) }
+    ensures done { DoesWork origin (Angles grads radians) (machine_of machine.old)
+        (machine_of machine.new) result }
+    ensures keeps { Keeps machine.old machine.new }
 {
     set_angles(&mut machine.ram, grads, radians);
     go_on_lifting(&mut machine.focal, origin);
@@ -33,9 +36,11 @@ pub fn use_digits<const REGS: usize>(
     taken: DigitsUse,
     digits: u8,
 ) -> BriefOutcome
-    requires ready { IsReady origin machine.old }
+    requires ready { IsReady origin (machine_of machine.old) }
     requires few { digits < 10 }
-    ensures { LeavesDigits origin taken digits machine.old machine.new result }
+    ensures done { LeavesDigits origin taken digits (machine_of machine.old)
+        (machine_of machine.new) result }
+    ensures keeps { Keeps machine.old machine.new }
 {
     match taken {
         DigitsUse::Format(fixed, engineering) => {

@@ -1,6 +1,7 @@
 //! Functions with an operand.
 
 ghost use Rattle.std.specs.Prelude.{◌≡◌, false, OnErr};
+ghost use Rattle.h41_focal.specs.LabelledMachine.{Keeps, machine_of};
 ghost use Rattle.h41_focal.specs.private.Carrying.{IsReady, TakenBy, UsesDigits, UsesFlag};
 ghost use Rattle.h41_focal.specs.private.Carrying.{UsesAddress};
 ghost use Rattle.h41_rows.specs.Profile.{is_operand_left_out, is_parameter_left_out};
@@ -26,9 +27,11 @@ pub fn with_operand<const REGS: usize>(
     function: ParameterFunction,
     operand: &Operand,
 ) -> Result<BriefOutcome, FocalRefusal>
-    requires { IsReady origin machine.old }
-    ensures taken { TakenBy origin function operand.now machine.old machine.new result }
+    requires { IsReady origin (machine_of machine.old) }
+    ensures taken { TakenBy origin function operand.now (machine_of machine.old)
+        (machine_of machine.new) result }
     ensures unchanged { OnErr result (machine.new ≡ machine.old) }
+    ensures keeps { Keeps machine.old machine.new }
 {
     if is_left_out(function, operand) {
         return Err(FocalRefusal::NotInProfile);
@@ -77,10 +80,12 @@ fn with_register<const REGS: usize>(
     taken: RegisterUse,
     operand: &Operand,
 ) -> Result<BriefOutcome, FocalRefusal>
-    requires ready { IsReady origin machine.old }
+    requires ready { IsReady origin (machine_of machine.old) }
     requires held { is_operand_left_out operand.now ≡ false }
-    ensures used { UsesAddress origin taken operand.now machine.old machine.new result }
+    ensures used { UsesAddress origin taken operand.now (machine_of machine.old)
+        (machine_of machine.new) result }
     ensures unchanged { OnErr result (machine.new ≡ machine.old) }
+    ensures keeps { Keeps machine.old machine.new }
 {
     match register_of(&machine.ram, operand) {
         Ok(address) => use_register(machine, origin, taken, address),
@@ -95,10 +100,12 @@ fn with_digits<const REGS: usize>(
     taken: DigitsUse,
     operand: &Operand,
 ) -> Result<BriefOutcome, FocalRefusal>
-    requires ready { IsReady origin machine.old }
+    requires ready { IsReady origin (machine_of machine.old) }
     requires held { is_operand_left_out operand.now ≡ false }
-    ensures used { UsesDigits origin taken operand.now machine.old machine.new result }
+    ensures used { UsesDigits origin taken operand.now (machine_of machine.old)
+        (machine_of machine.new) result }
     ensures unchanged { OnErr result (machine.new ≡ machine.old) }
+    ensures keeps { Keeps machine.old machine.new }
 {
     match digit_of(&machine.ram, operand) {
         Ok(digits) => Ok(use_digits(machine, origin, taken, digits)),
@@ -113,10 +120,12 @@ fn with_flag<const REGS: usize>(
     taken: FlagUse,
     operand: &Operand,
 ) -> Result<BriefOutcome, FocalRefusal>
-    requires ready { IsReady origin machine.old }
+    requires ready { IsReady origin (machine_of machine.old) }
     requires held { is_operand_left_out operand.now ≡ false }
-    ensures used { UsesFlag origin taken operand.now machine.old machine.new result }
+    ensures used { UsesFlag origin taken operand.now (machine_of machine.old)
+        (machine_of machine.new) result }
     ensures unchanged { OnErr result (machine.new ≡ machine.old) }
+    ensures keeps { Keeps machine.old machine.new }
 {
     match flag_of(&machine.ram, operand, taken.highest()) {
         Ok(flag) => use_flag(machine, origin, taken, flag),

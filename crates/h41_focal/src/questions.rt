@@ -1,6 +1,7 @@
 //! Lines that ask, and go on past the next line where the answer is no.
 
 ghost use Rattle.std.specs.Prelude.{◌≡◌, ℕ, IsTrue, OnErr};
+ghost use Rattle.h41_focal.specs.LabelledMachine.{Keeps, machine_of};
 ghost use Rattle.h41_focal.specs.private.Carrying.{CarriesWork, IsReady, Leads, test_answer};
 ghost use Rattle.h41_focal.specs.declared.works.FunctionWork.TheVariants.{Ask};
 ghost use Rattle.h41_ram.specs.RegisterMap.{is_sound};
@@ -51,9 +52,11 @@ pub fn ask<const REGS: usize>(
     origin: Origin,
     test: Test,
 ) -> Result<BriefOutcome, FocalRefusal>
-    requires { IsReady origin machine.old }
-    ensures carried { CarriesWork origin (Ask test) machine.old machine.new result }
+    requires { IsReady origin (machine_of machine.old) }
+    ensures carried { CarriesWork origin (Ask test) (machine_of machine.old)
+        (machine_of machine.new) result }
     ensures unchanged { OnErr result (machine.new ≡ machine.old) }
+    ensures keeps { Keeps machine.old machine.new }
 {
     match asks(&machine.ram, test) {
         Ok(holds) => {

@@ -1,5 +1,6 @@
 //! Lines that work on a register.
 
+ghost use Rattle.h41_focal.specs.LabelledMachine.{Keeps, machine_of};
 ghost use Rattle.h41_focal.specs.private.Carrying.{IsReady, UsesAt};
 ghost use Rattle.h41_focal.specs.declared.uses.RegisterUse.TheVariants.{Combine, Exchange, Recall};
 ghost use Rattle.h41_focal.specs.declared.uses.RegisterUse.TheVariants.{RecallAlpha, Store};
@@ -22,8 +23,10 @@ pub fn recall<const REGS: usize>(
     origin: Origin,
     address: u16,
 ) -> BriefOutcome
-    requires { IsReady origin machine.old }
-    ensures { UsesAt origin Recall address machine.old machine.new result }
+    requires { IsReady origin (machine_of machine.old) }
+    ensures done { UsesAt origin Recall address (machine_of machine.old)
+        (machine_of machine.new) result }
+    ensures keeps { Keeps machine.old machine.new }
 {
     bring_in_from(&mut machine.ram, address, machine.focal.lift);
     go_on_lifting(&mut machine.focal, origin);
@@ -36,8 +39,10 @@ pub fn store<const REGS: usize>(
     origin: Origin,
     address: u16,
 ) -> BriefOutcome
-    requires { IsReady origin machine.old }
-    ensures { UsesAt origin Store address machine.old machine.new result }
+    requires { IsReady origin (machine_of machine.old) }
+    ensures done { UsesAt origin Store address (machine_of machine.old)
+        (machine_of machine.new) result }
+    ensures keeps { Keeps machine.old machine.new }
 {
     store_x(&mut machine.ram, address);
     go_on_lifting(&mut machine.focal, origin);
@@ -51,8 +56,10 @@ pub fn combine<const REGS: usize>(
     value: ValueOfTwo,
     address: u16,
 ) -> BriefOutcome
-    requires { IsReady origin machine.old }
-    ensures { UsesAt origin (Combine value) address machine.old machine.new result }
+    requires { IsReady origin (machine_of machine.old) }
+    ensures done { UsesAt origin (Combine value) address (machine_of machine.old)
+        (machine_of machine.new) result }
+    ensures keeps { Keeps machine.old machine.new }
 {
     match compute_of_two(&machine.ram, value, address, X) {
         Ok(register) => {
@@ -70,8 +77,10 @@ pub fn view<const REGS: usize>(
     origin: Origin,
     address: u16,
 ) -> BriefOutcome
-    requires { IsReady origin machine.old }
-    ensures { UsesAt origin View address machine.old machine.new result }
+    requires { IsReady origin (machine_of machine.old) }
+    ensures done { UsesAt origin View address (machine_of machine.old)
+        (machine_of machine.new) result }
+    ensures keeps { Keeps machine.old machine.new }
 {
     go_on_lifting(&mut machine.focal, origin);
     BriefOutcome::ViewedRegister(address)
@@ -83,8 +92,10 @@ pub fn store_alpha<const REGS: usize>(
     origin: Origin,
     address: u16,
 ) -> BriefOutcome
-    requires { IsReady origin machine.old }
-    ensures { UsesAt origin StoreAlpha address machine.old machine.new result }
+    requires { IsReady origin (machine_of machine.old) }
+    ensures done { UsesAt origin StoreAlpha address (machine_of machine.old)
+        (machine_of machine.new) result }
+    ensures keeps { Keeps machine.old machine.new }
 {
     let characters = first_six(&machine.ram);
     machine.ram.write(address, characters);
@@ -98,8 +109,10 @@ pub fn recall_alpha<const REGS: usize>(
     origin: Origin,
     address: u16,
 ) -> BriefOutcome
-    requires { IsReady origin machine.old }
-    ensures { UsesAt origin RecallAlpha address machine.old machine.new result }
+    requires { IsReady origin (machine_of machine.old) }
+    ensures done { UsesAt origin RecallAlpha address (machine_of machine.old)
+        (machine_of machine.new) result }
+    ensures keeps { Keeps machine.old machine.new }
 {
     append_register(&mut machine.ram, address);
     go_on_lifting(&mut machine.focal, origin);
@@ -112,8 +125,10 @@ pub fn exchange_x<const REGS: usize>(
     origin: Origin,
     address: u16,
 ) -> BriefOutcome
-    requires { IsReady origin machine.old }
-    ensures { UsesAt origin Exchange address machine.old machine.new result }
+    requires { IsReady origin (machine_of machine.old) }
+    ensures done { UsesAt origin Exchange address (machine_of machine.old)
+        (machine_of machine.new) result }
+    ensures keeps { Keeps machine.old machine.new }
 {
     exchange(&mut machine.ram, address);
     go_on_lifting(&mut machine.focal, origin);

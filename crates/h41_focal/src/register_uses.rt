@@ -1,6 +1,7 @@
 //! What is done with a register.
 
 ghost use Rattle.std.specs.Prelude.{IsTrue, ◌≡◌, OnErr};
+ghost use Rattle.h41_focal.specs.LabelledMachine.{Keeps, machine_of};
 ghost use Rattle.h41_focal.specs.private.Carrying.{DoesUse, IsReady};
 
 use crate::loop_lines::{count_down, count_up};
@@ -18,9 +19,11 @@ pub fn use_register<const REGS: usize>(
     taken: RegisterUse,
     address: u16,
 ) -> Result<BriefOutcome, FocalRefusal>
-    requires { IsReady origin machine.old }
-    ensures carried { DoesUse origin taken address machine.old machine.new result }
+    requires { IsReady origin (machine_of machine.old) }
+    ensures carried { DoesUse origin taken address (machine_of machine.old)
+        (machine_of machine.new) result }
     ensures unchanged { OnErr result (machine.new ≡ machine.old) }
+    ensures keeps { Keeps machine.old machine.new }
 {
     match taken {
         RegisterUse::Recall => Ok(recall(machine, origin, address)),

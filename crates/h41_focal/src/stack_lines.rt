@@ -2,6 +2,7 @@
 
 ghost use Rattle.std.specs.Prelude.{◌≡◌, ℕ};
 ghost use Rattle.h41_codes.specs.declared.line.Line.TheVariants as lines;
+ghost use Rattle.h41_focal.specs.LabelledMachine.{Keeps, machine_of};
 ghost use Rattle.h41_focal.specs.private.Carrying.{DoesLine, DoesWork, IsReady, LeavesRow};
 ghost use Rattle.h41_focal.specs.private.Carrying.{on_to_next};
 ghost use Rattle.h41_rows.specs.Rows.{lifting_row, silent_row};
@@ -35,8 +36,10 @@ pub fn move_stack<const REGS: usize>(
     origin: Origin,
     movement: Movement,
 ) -> BriefOutcome
-    requires { IsReady origin machine.old }
-    ensures { DoesWork origin (Move movement) machine.old machine.new result }
+    requires { IsReady origin (machine_of machine.old) }
+    ensures done { DoesWork origin (Move movement) (machine_of machine.old)
+        (machine_of machine.new) result }
+    ensures keeps { Keeps machine.old machine.new }
 {
     move_registers(&mut machine.ram, movement, machine.focal.lift);
     go_on_behind(&mut machine.focal, origin, movement);
@@ -62,7 +65,9 @@ fn move_registers<const REGS: usize>(ram: &mut Ram<REGS>, movement: Movement, li
 
 /// On to the next line: the next number takes the place of X behind `ENTER^` and `CLX`.
 fn go_on_behind(focal: &mut Focal, origin: Origin, movement: Movement)
-    ensures { focal.new ≡ on_to_next origin (move_row movement).lift focal.old }
+    ensures state { focal.new.state
+        ≡ on_to_next origin (move_row movement).lift focal.old.state }
+    ensures labels { focal.new.labels ≡ focal.old.labels }
 {
     match movement {
         Movement::Enter | Movement::ClearX => go_on_replacing(focal, origin),
@@ -81,8 +86,10 @@ pub fn number_line<const REGS: usize>(
     origin: Origin,
     number: &Number,
 ) -> BriefOutcome
-    requires { IsReady origin machine.old }
-    ensures { DoesLine origin (lines.Number number.now) machine.old machine.new result }
+    requires { IsReady origin (machine_of machine.old) }
+    ensures done { DoesLine origin (lines.Number number.now) (machine_of machine.old)
+        (machine_of machine.new) result }
+    ensures keeps { Keeps machine.old machine.new }
 {
     bring_in(&mut machine.ram, written(number), machine.focal.lift);
     go_on_lifting(&mut machine.focal, origin);
@@ -94,8 +101,10 @@ pub fn clear_registers<const REGS: usize>(
     machine: &mut Machine<REGS>,
     origin: Origin,
 ) -> BriefOutcome
-    requires { IsReady origin machine.old }
-    ensures { DoesWork origin ClearRegisters machine.old machine.new result }
+    requires { IsReady origin (machine_of machine.old) }
+    ensures done { DoesWork origin ClearRegisters (machine_of machine.old)
+        (machine_of machine.new) result }
+    ensures keeps { Keeps machine.old machine.new }
 {
     clear_data(&mut machine.ram);
     go_on_lifting(&mut machine.focal, origin);
@@ -104,8 +113,10 @@ pub fn clear_registers<const REGS: usize>(
 
 /// A line that does nothing but turn lift on.
 pub fn do_nothing<const REGS: usize>(machine: &mut Machine<REGS>, origin: Origin) -> BriefOutcome
-    requires { IsReady origin machine.old }
-    ensures { LeavesRow origin lifting_row machine.old machine.new result }
+    requires { IsReady origin (machine_of machine.old) }
+    ensures done { LeavesRow origin lifting_row (machine_of machine.old)
+        (machine_of machine.new) result }
+    ensures keeps { Keeps machine.old machine.new }
 {
     go_on_lifting(&mut machine.focal, origin);
     BriefOutcome::Done
@@ -113,8 +124,10 @@ pub fn do_nothing<const REGS: usize>(machine: &mut Machine<REGS>, origin: Origin
 
 /// A line that does nothing, and leaves lift.
 pub fn be_silent<const REGS: usize>(machine: &mut Machine<REGS>, origin: Origin) -> BriefOutcome
-    requires { IsReady origin machine.old }
-    ensures { LeavesRow origin silent_row machine.old machine.new result }
+    requires { IsReady origin (machine_of machine.old) }
+    ensures done { LeavesRow origin silent_row (machine_of machine.old)
+        (machine_of machine.new) result }
+    ensures keeps { Keeps machine.old machine.new }
 {
     go_on(&mut machine.focal, origin);
     BriefOutcome::Done

@@ -1,4 +1,5 @@
 use Rattle.std.proofs.Common.{ap, refl}
+use Rattle.h41_focal.specs.LabelledMachine.{machine_of}
 use Rattle.h41_focal.proofs.RowDone.{row_done}
 use Rattle.h41_rows.specs.Places.{X}
 use Rattle.h41_focal.specs.private.Works.{row_of_work}
@@ -7,8 +8,8 @@ use Rattle.h41_focal.specs.declared.outcome.BriefOutcome.TheVariants as briefs
 use Rattle.h41_ram.specs.RamState.{RamState}
 use Rattle.h41_focal.proofs.arithmetic.change_sign.Goals as goal
 
-pub returns-in-Ok : goal.returns-in-Ok
-returns-in-Ok g c = λ named.
-    row_done _ (row_of_work works.ChangeSign) named _ _ _ c.in-Ok.register briefs.Done _ _ c.machine.view_is c.requires.next refl
+pub returns-in-Ok-clause-done : goal.returns-in-Ok-clause-done
+returns-in-Ok-clause-done g c = λ named.
+    row_done _ (row_of_work works.ChangeSign) named _ _ _ c.in-Ok.register briefs.Done _ _ (ap machine_of c.machine.view_is) c.requires.next refl
     (let worked = c.compute_of_one.ensures named X refl in rw c.in-Ok.is at worked) refl
-    (ap (λ (ram : RamState). ram.registers) c.set_status_register.ensures.written) c.go_on_lifting.ensures
+    (ap (λ (ram : RamState). ram.registers) c.set_status_register.ensures.written) c.go_on_lifting.ensures.state

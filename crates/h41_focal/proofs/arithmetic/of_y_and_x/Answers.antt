@@ -1,4 +1,5 @@
-use Rattle.std.proofs.Common.{refl}
+use Rattle.std.proofs.Common.{ap, refl}
+use Rattle.h41_focal.specs.LabelledMachine.{machine_of}
 use Rattle.h41_focal.proofs.RowApplied.{row_failed}
 use Rattle.h41_focal.proofs.RowDone.{row_done}
 use Rattle.h41_focal.proofs.ValueComputed.{value_computed}
@@ -9,18 +10,18 @@ use Rattle.h41_focal.specs.declared.works.FunctionWork.TheVariants as works
 use Rattle.h41_focal.specs.declared.outcome.BriefOutcome.TheVariants as briefs
 use Rattle.h41_focal.proofs.arithmetic.of_y_and_x.Goals as goal
 
-pub returns-in-Ok : goal.returns-in-Ok
-returns-in-Ok g c = λ named.
+pub returns-in-Ok-clause-done : goal.returns-in-Ok-clause-done
+returns-in-Ok-clause-done g c = λ named.
     row_done _ (row_of_work (works.OfYAndX c.args.value)) named _ _ _
-    c.in-Ok.register briefs.Done _ _ c.machine.view_is c.requires.next refl
+    c.in-Ok.register briefs.Done _ _ (ap machine_of c.machine.view_is) c.requires.next refl
     (value_computed _ named (row_of_work (works.OfYAndX c.args.value)) (value_of_two c.args.value Y X) _
     refl refl (c.in-Ok.ensures c.machine.inside.ram.registers named Y X refl refl refl))
     refl
-    (c.drop_into.ensures.change named) c.go_on_lifting.ensures
+    (c.drop_into.ensures.change named) c.go_on_lifting.ensures.state
 
-pub returns-in-Err : goal.returns-in-Err
-returns-in-Err g c = λ named.
-    row_failed _ (row_of_work (works.OfYAndX c.args.value)) named _ _ _ _ c.in-Err.fault _ c.machine.view_is
+pub returns-in-Err-clause-done : goal.returns-in-Err-clause-done
+returns-in-Err-clause-done g c = λ named.
+    row_failed _ (row_of_work (works.OfYAndX c.args.value)) named _ _ _ _ c.in-Err.fault _ (ap machine_of c.machine.view_is)
     (value_computed _ named (row_of_work (works.OfYAndX c.args.value)) (value_of_two c.args.value Y X) _
     refl refl (c.in-Err.ensures c.machine.inside.ram.registers named Y X refl refl refl))
-    c.fail.ensures
+    c.fail.ensures.done

@@ -1,4 +1,5 @@
 use Rattle.std.proofs.Common.{ap, refl}
+use Rattle.h41_focal.specs.LabelledMachine.{machine_of}
 use Rattle.h41_focal.proofs.RowDone.{row_done}
 use Rattle.h41_focal.specs.private.Works.{flag_use_row}
 use Rattle.h41_focal.specs.declared.uses.FlagUse.TheVariants as flags
@@ -7,8 +8,8 @@ use Rattle.h41_ram.specs.RegisterMap.{zeros}
 use Rattle.h41_ram.specs.RamState.{RamState}
 use Rattle.h41_focal.proofs.flag_lines.change_flag.Goals as goal
 
-pub returns : goal.returns
-returns g c = λ named.
+pub returns-clause-done : goal.returns-clause-done
+returns-clause-done g c = λ named.
     row_done _ (flag_use_row (flags.Change c.args.on) c.args.flag) named _ _ _
-    zeros briefs.Done _ _ c.machine.view_is c.requires.ready.next refl refl
-    refl (rw ((ap (λ (ram : RamState). ram.registers) c.set_flag.ensures.written), c.from.ensures) refl) c.go_on_lifting.ensures
+    zeros briefs.Done _ _ (ap machine_of c.machine.view_is) c.requires.ready.next refl refl
+    refl (rw ((ap (λ (ram : RamState). ram.registers) c.set_flag.ensures.written), c.from.ensures) refl) c.go_on_lifting.ensures.state

@@ -1,25 +1,50 @@
-use Rattle.std.proofs.Common.{None, subst}
+use Rattle.std.proofs.Common.{◌≡◌, ap, None, Some, subst, ◌∙◌}
 use Rattle.h41_focal.proofs.RowApplied.{opened_row}
+use Rattle.h41_focal.specs.LabelledMachine.{LabelledMachine, machine_of}
+use Rattle.h41_focal.specs.LabelSearches.{local_search}
 use Rattle.h41_focal.specs.private.Arrivals.{from_of}
+use Rattle.h41_focal.specs.private.Carrying.{FailsAs}
 use Rattle.h41_focal.specs.LineStep.{Machine, machine_with}
+use Rattle.h41_labels.specs.KeptAnswers.{KeepsSearch}
 use Rattle.h41_program.specs.Positions.{LocalFrom}
 use Rattle.h41_rows.specs.LineRows.{to_label}
+use Rattle.h41_rows.specs.declared.fault.LineFault.TheVariants.{Nonexistent}
 use Rattle.h41_focal.proofs.LabelsMet.{label_found, label_lost}
 use Rattle.h41_focal.proofs.labels.to_label.Goals as goal
 
-pub returns-in-Some : goal.returns-in-Some
-returns-in-Some g c = λ named.
-    rw c.arrive.ensures.focal
-    (opened_row _ (to_label c.args.branch c.args.label) named _ _ _ _ c.machine.view_is c.requires.next
+pub returns-in-Some-clause-done : goal.returns-in-Some-clause-done
+returns-in-Some-clause-done g c = λ named.
+    rw (c.arrive.ensures.state, c.local.ensures.state)
+    (opened_row _ (to_label c.args.branch c.args.label) named _ _ _ _ (ap machine_of c.machine.view_is) c.requires.ready.next
     (λ knows. label_found c.args.origin c.args.branch c.args.label named
-    (machine_with c.machine.inside.ram.registers c.machine.inside.focal) c.in-Some.position c.arrive.result knows
-    (let found = c.local.ensures in rw (c.in-Some.is, c.searched_from.ensures) at found) c.arrive.ensures.answer))
+    (machine_with c.machine.inside.ram.registers c.machine.inside.focal.state) c.in-Some.position c.arrive.result knows
+    (let found = c.local.ensures.found in rw (c.in-Some.is, c.searched_from-from.ensures) at found) c.arrive.ensures.answer))
 
-pub returns-in-None : goal.returns-in-None
-returns-in-None g c = λ named.
-    let found = c.local.ensures in
-    let lost = rw (c.in-None.is, c.searched_from.ensures) at found in
-    label_lost c.args.origin c.args.branch c.args.label named _ _ _ c.requires.next
+pub returns-in-Some-clause-kept : goal.returns-in-Some-clause-kept
+returns-in-Some-clause-kept g c =
+    let kept = c.local.ensures.kept in
+    subst
+    (λ (machine : LabelledMachine). KeepsSearch machine.ram.registers
+    (Some (local_search (from_of c.args.origin machine.focal.state.position) c.args.label)) machine.focal.labels c.arrive.new.focal.labels)
+    c.machine.view_is (rw c.arrive.ensures.labels (rw c.searched_from-from.ensures at kept))
+
+pub returns-in-None-clause-done : goal.returns-in-None-clause-done
+returns-in-None-clause-done g c = λ named.
+    let found = c.local.ensures.found in
+    let lost = rw (c.in-None.is, c.searched_from-from.ensures) at found in
+    let same : machine_with c.machine.inside.ram.registers c.local.new.self.state ≡ machine_of c.args.machine.now =
+    ap (machine_with c.machine.inside.ram.registers) c.local.ensures.state ∙ ap machine_of c.machine.view_is in
+    label_lost c.args.origin c.args.branch c.args.label named _ _ _ c.requires.ready.next
     (subst (λ (machine : Machine). LocalFrom c.args.label machine.memory (from_of c.args.origin machine.focal.position) None)
-    c.machine.view_is lost)
-    c.fail.ensures
+    (ap machine_of c.machine.view_is) lost)
+    (subst (λ (machine : Machine). FailsAs c.args.origin Nonexistent machine (machine_of c.fail.new.machine) c.fail.result) same
+    c.fail.ensures.done)
+
+pub returns-in-None-clause-kept : goal.returns-in-None-clause-kept
+returns-in-None-clause-kept g c =
+    let kept = c.local.ensures.kept in
+    subst
+    (λ (machine : LabelledMachine). KeepsSearch machine.ram.registers
+    (Some (local_search (from_of c.args.origin machine.focal.state.position) c.args.label)) machine.focal.labels
+    c.fail.new.machine.focal.labels)
+    c.machine.view_is (rw c.fail.ensures.keeps.labels (rw c.searched_from-from.ensures at kept))

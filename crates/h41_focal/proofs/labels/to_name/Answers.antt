@@ -1,7 +1,13 @@
-use Rattle.std.proofs.Common.{None, subst}
+use Rattle.std.proofs.Common.{◌≡◌, ap, None, Some, subst, sym, ◌∙◌}
+use Rattle.h41_codes.specs.declared.functions.Branch.TheVariants.{Execute}
+use Rattle.h41_focal.specs.declared.outcome.BriefOutcome.TheVariants as briefs
+use Rattle.h41_focal.specs.LabelledMachine.{LabelledMachine, machine_of}
 use Rattle.h41_focal.proofs.Briefly.{failure_calling}
 use Rattle.h41_focal.proofs.RowApplied.{opened_row}
+use Rattle.h41_focal.specs.private.Carrying.{FailsAs, LeavesCalling}
 use Rattle.h41_focal.specs.LineStep.{Machine, machine_with}
+use Rattle.h41_labels.specs.KeptAnswers.{KeepsSearch}
+use Rattle.h41_labels.specs.declared.search.Search.TheVariants.{Global}
 use Rattle.h41_program.specs.ProgramLines.{AnswersOf}
 use Rattle.h41_program.specs.Searches.{named_in, position_of}
 use Rattle.h41_focal.specs.Outcomes.{Seeks}
@@ -10,29 +16,59 @@ use Rattle.h41_rows.specs.declared.fault.LineFault.TheVariants.{Nonexistent}
 use Rattle.h41_focal.proofs.LabelsMet.{name_found, name_lost, name_sought}
 use Rattle.h41_focal.proofs.labels.to_name.Goals as goal
 
-pub returns-in-Some-default : goal.returns-in-Some-default
-returns-in-Some-default g c = λ named.
-    rw c.arrive.ensures.focal
-    (opened_row _ (to_name c.args.branch c.args.name) named _ _ _ _ c.machine.view_is c.requires.next
+pub returns-in-Some-default-clause-done : goal.returns-in-Some-default-clause-done
+returns-in-Some-default-clause-done g c = λ named.
+    rw (c.arrive.ensures.state, c.global.ensures.state)
+    (opened_row _ (to_name c.args.branch c.args.name) named _ _ _ _ (ap machine_of c.machine.view_is) c.requires.ready.next
     (λ knows. name_found c.args.origin c.args.branch c.args.name named
-    (machine_with c.machine.inside.ram.registers c.machine.inside.focal) c.in-Some-default.byte c.arrive.result knows
-    (let found = c.global.ensures in rw (c.in-Some-default.is-0, c.characters.ensures.value) at found) c.arrive.ensures.answer))
+    (machine_with c.machine.inside.ram.registers c.machine.inside.focal.state) c.in-Some-default.byte c.arrive.result knows
+    (let found = c.global.ensures.found in rw c.in-Some-default.is-0 at found) c.arrive.ensures.answer))
 
-pub returns-in-None-GoTo : goal.returns-in-None-GoTo
-returns-in-None-GoTo g c = λ named.
-    let found = c.global.ensures in
-    let lost = rw (c.in-None-GoTo.is-0, c.characters.ensures.value) at found in
+pub returns-in-Some-default-clause-kept : goal.returns-in-Some-default-clause-kept
+returns-in-Some-default-clause-kept g c =
+    subst
+    (λ (machine : LabelledMachine). KeepsSearch machine.ram.registers (Some (Global c.args.name)) machine.focal.labels
+    c.arrive.new.focal.labels)
+    c.machine.view_is (rw c.arrive.ensures.labels c.global.ensures.kept)
+
+pub returns-in-None-GoTo-clause-done : goal.returns-in-None-GoTo-clause-done
+returns-in-None-GoTo-clause-done g c = λ named.
+    let found = c.global.ensures.found in
+    let lost = rw c.in-None-GoTo.is-0 at found in
+    let same : machine_with c.machine.inside.ram.registers c.global.new.self.state ≡ machine_of c.args.machine.now =
+    ap (machine_with c.machine.inside.ram.registers) c.global.ensures.state ∙ ap machine_of c.machine.view_is in
     rw c.in-None-GoTo.is-1
-    (name_lost c.args.origin c.args.name named _ _ _ c.requires.next
+    (name_lost c.args.origin c.args.name named _ _ _ c.requires.ready.next
     (subst (λ (machine : Machine). AnswersOf (λ lines. position_of (named_in c.args.name lines)) machine.memory 0 None)
-    c.machine.view_is lost)
-    (failure_calling (Seeks c.args.name) c.args.origin Nonexistent c.args.machine.now c.fail.new.machine c.fail.result c.fail.ensures))
+    (ap machine_of c.machine.view_is) lost)
+    (failure_calling (Seeks c.args.name) c.args.origin Nonexistent (machine_of c.args.machine.now)
+    (machine_of c.fail.new.machine) c.fail.result
+    (subst (λ (machine : Machine). FailsAs c.args.origin Nonexistent machine (machine_of c.fail.new.machine) c.fail.result) same
+    c.fail.ensures.done)))
 
-pub returns-in-None-Execute : goal.returns-in-None-Execute
-returns-in-None-Execute g c = λ named.
-    let found = c.global.ensures in
-    let lost = rw (c.in-None-Execute.is-0, c.characters.ensures.value) at found in
-    rw c.in-None-Execute.is-1
-    (name_sought c.args.origin c.args.name named c.args.machine.now c.requires.next
+pub returns-in-None-GoTo-clause-kept : goal.returns-in-None-GoTo-clause-kept
+returns-in-None-GoTo-clause-kept g c =
+    subst
+    (λ (machine : LabelledMachine). KeepsSearch machine.ram.registers (Some (Global c.args.name)) machine.focal.labels
+    c.fail.new.machine.focal.labels)
+    c.machine.view_is (rw c.fail.ensures.keeps.labels c.global.ensures.kept)
+
+pub returns-in-None-Execute-clause-done : goal.returns-in-None-Execute-clause-done
+returns-in-None-Execute-clause-done g c = λ named.
+    let found = c.global.ensures.found in
+    let lost = rw c.in-None-Execute.is-0 at found in
+    rw (c.in-None-Execute.is-1, c.global.ensures.state)
+    (subst
+    (λ (machine : Machine). LeavesCalling (Seeks c.args.name) c.args.origin (to_name Execute c.args.name) named
+    (machine_of c.args.machine.now) machine briefs.Elsewhere)
+    (sym (ap machine_of c.machine.view_is))
+    (name_sought c.args.origin c.args.name named (machine_of c.args.machine.now) c.requires.ready.next
     (subst (λ (machine : Machine). AnswersOf (λ lines. position_of (named_in c.args.name lines)) machine.memory 0 None)
-    c.machine.view_is lost))
+    (ap machine_of c.machine.view_is) lost)))
+
+pub returns-in-None-Execute-clause-kept : goal.returns-in-None-Execute-clause-kept
+returns-in-None-Execute-clause-kept g c =
+    subst
+    (λ (machine : LabelledMachine). KeepsSearch machine.ram.registers (Some (Global c.args.name)) machine.focal.labels
+    c.global.new.self.labels)
+    c.machine.view_is c.global.ensures.kept

@@ -1,5 +1,6 @@
 use Rattle.std.proofs.Common.{ap, rules, ◌∙◌}
 use Rattle.std.proofs.lemmas.Result.{err_from_is_err_and}
+use Rattle.h41_focal.specs.LabelledMachine.{machine_of}
 use Rattle.h41_focal.proofs.Briefly.{outcome_taken, taken_is_held}
 use Rattle.h41_focal.specs.BriefOutcomes.{brief_answer}
 use Rattle.h41_focal.specs.LineStep.{Machine}
@@ -14,13 +15,13 @@ returns-in_err-brief-clause-taken g c =
 pub outcome_of-requires : goal.outcome_of-requires
 outcome_of-requires g c = (
   search rules,
-  taken_is_held c.args.origin c.args.line.now c.args.machine.now c.carry_briefly.new.machine c.in_ok-brief.brief
+  taken_is_held c.args.origin c.args.line.now (machine_of c.args.machine.now) (machine_of c.carry_briefly.new.machine) c.in_ok-brief.brief
       c.in_ok-brief.ensures.taken,
 )
 
 pub returns-clause-taken : goal.returns-clause-taken
 returns-clause-taken g c =
-    outcome_taken c.args.origin c.args.line.now c.args.machine.now c.carry_briefly.new.machine c.in_ok-brief.brief c.outcome_of.result
+    outcome_taken c.args.origin c.args.line.now (machine_of c.args.machine.now) (machine_of c.carry_briefly.new.machine) c.in_ok-brief.brief c.outcome_of.result
     c.in_ok-brief.ensures.taken
     (c.outcome_of.ensures
-    ∙ ap (λ (of : Machine). brief_answer (called_by of.memory c.args.line.now) of.memory c.in_ok-brief.brief) c.machine.view_is)
+    ∙ ap (λ (of : Machine). brief_answer (called_by of.memory c.args.line.now) of.memory c.in_ok-brief.brief) (ap machine_of c.machine.view_is))

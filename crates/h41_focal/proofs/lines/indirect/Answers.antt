@@ -1,5 +1,6 @@
-use Rattle.std.proofs.Common.{◌≡◌, false, Ok, Result, rules, subst}
+use Rattle.std.proofs.Common.{ap, ◌≡◌, false, Ok, Result, rules, subst}
 use Rattle.h41_codes.specs.declared.line.Line.TheVariants.{BranchIndirect}
+use Rattle.h41_focal.specs.LabelledMachine.{machine_of}
 use Rattle.h41_focal.proofs.Briefly.{target_taken}
 use Rattle.h41_focal.specs.LineStep.{Machine}
 use Rattle.h41_rows.specs.Computing.{meant_by}
@@ -12,11 +13,11 @@ pub returns-in-Ok-clause-taken : goal.returns-in-Ok-clause-taken
 returns-in-Ok-clause-taken g c =
     let held : is_parameter_left_out c.args.register ≡ false = search rules in
     let found = c.branch_target.ensures in
-    target_taken c.args.origin c.args.branch c.args.register c.in-Ok.target c.args.machine.now c.to_target.new.machine
+    target_taken c.args.origin c.args.branch c.args.register c.in-Ok.target (machine_of c.args.machine.now) (machine_of c.to_target.new.machine)
     c.to_target.result held
     (subst
     (λ (machine : Machine).
     ◌≡◌ {A = Result Meant LineFault} (Ok (meant_by c.in-Ok.target))
     (meant_of machine.memory (BranchIndirect c.args.branch c.args.register)))
-    c.machine.view_is (rw c.in-Ok.is at found))
-    c.to_target.ensures
+    (ap machine_of c.machine.view_is) (rw c.in-Ok.is at found))
+    c.to_target.ensures.done

@@ -1,5 +1,6 @@
 use Rattle.std.proofs.Common.{ap, refl}
 use Rattle.std.proofs.lemmas.Result.{err_from_is_err_and}
+use Rattle.h41_focal.specs.LabelledMachine.{machine_of}
 use Rattle.h41_focal.proofs.RowApplied.{opened_row, row_failed}
 use Rattle.h41_focal.proofs.RowAsked.{loop_leads, loop_refused, loop_works}
 use Rattle.h41_rows.specs.Counters.{Down}
@@ -15,7 +16,7 @@ returns-in_err-lead-in-Ok-clause-carried g c =
     let works = loop_works Down _ c.args.address _ (c.compute_of_one.ensures c.args.address Named refl) in
     let refused = err_from_is_err_and c.from_residual.result c.from_residual.ensures.1 in
     rw (refused.1, refused.2)
-    (opened_row _ (loop Down) c.args.address _ _ _ _ c.machine.view_is c.requires.next
+    (opened_row _ (loop Down) c.args.address _ _ _ _ (ap machine_of c.machine.view_is) c.requires.next
     (λ knows.
     loop_refused _ (loop Down) (Loops Down Named) c.goes_on_down.result c.args.address _ c.in-Ok.register c.in_err-lead-in-Ok.field-0.0
     knows refl (rw c.in-Ok.is at works) c.goes_on_down.ensures c.in_err-lead-in-Ok.ensures))
@@ -23,8 +24,8 @@ returns-in_err-lead-in-Ok-clause-carried g c =
 pub returns-in_ok-lead-in-Ok-clause-carried : goal.returns-in_ok-lead-in-Ok-clause-carried
 returns-in_ok-lead-in-Ok-clause-carried g c =
     let works = loop_works Down _ c.args.address _ (c.compute_of_one.ensures c.args.address Named refl) in
-    rw (c.go_on_lifting.ensures, (ap (λ (ram : RamState). ram.registers) c.write.ensures.written))
-    (opened_row _ (loop Down) c.args.address _ _ _ _ c.machine.view_is c.requires.next
+    rw (c.go_on_lifting.ensures.state, (ap (λ (ram : RamState). ram.registers) c.write.ensures.written))
+    (opened_row _ (loop Down) c.args.address _ _ _ _ (ap machine_of c.machine.view_is) c.requires.next
     (λ knows. loop_leads _ c.in_ok-lead-in-Ok.lead (loop Down) (Loops Down Named)
     c.goes_on_down.result c.args.address _ c.in-Ok.register briefs.Done
     knows refl refl refl (rw c.in-Ok.is at works) c.goes_on_down.ensures c.in_ok-lead-in-Ok.ensures refl))
@@ -32,4 +33,4 @@ returns-in_ok-lead-in-Ok-clause-carried g c =
 pub returns-in-Err-clause-carried : goal.returns-in-Err-clause-carried
 returns-in-Err-clause-carried g c =
     let works = loop_works Down _ c.args.address _ (c.compute_of_one.ensures c.args.address Named refl) in
-    row_failed _ (loop Down) c.args.address _ _ _ _ c.in-Err.fault c.fail.result c.machine.view_is (rw c.in-Err.is at works) c.fail.ensures
+    row_failed _ (loop Down) c.args.address _ _ _ _ c.in-Err.fault c.fail.result (ap machine_of c.machine.view_is) (rw c.in-Err.is at works) c.fail.ensures.done

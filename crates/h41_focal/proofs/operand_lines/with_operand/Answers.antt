@@ -30,4 +30,4 @@ returns-in-Label-clause-taken g c =
     let taken = c.use_of.ensures in
     let row = rw c.in-Label.is at taken in
     label_taken c.args.origin c.args.function c.args.operand.now _ _ (Ok c.be_silent.result) held row.0 row.1
-    (c.be_silent.ensures 0)
+    (c.be_silent.ensures.done 0)

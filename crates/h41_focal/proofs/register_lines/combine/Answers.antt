@@ -1,4 +1,5 @@
 use Rattle.std.proofs.Common.{ap, refl}
+use Rattle.h41_focal.specs.LabelledMachine.{machine_of}
 use Rattle.h41_focal.proofs.RowApplied.{row_failed}
 use Rattle.h41_focal.proofs.RowDone.{row_done, works_in_register}
 use Rattle.h41_rows.specs.Places.{Named, X}
@@ -8,17 +9,17 @@ use Rattle.h41_focal.specs.declared.outcome.BriefOutcome.TheVariants as briefs
 use Rattle.h41_ram.specs.RamState.{RamState}
 use Rattle.h41_focal.proofs.register_lines.combine.Goals as goal
 
-pub returns-in-Ok : goal.returns-in-Ok
-returns-in-Ok g c =
+pub returns-in-Ok-clause-done : goal.returns-in-Ok-clause-done
+returns-in-Ok-clause-done g c =
     row_done _ (register_use_row (registers.Combine c.args.value)) c.args.address _
-    _ _ c.in-Ok.register briefs.Done _ _ c.machine.view_is c.requires.next refl
+    _ _ c.in-Ok.register briefs.Done _ _ (ap machine_of c.machine.view_is) c.requires.next refl
     (let worked = c.compute_of_two.ensures c.machine.inside.ram.registers c.args.address Named X refl refl refl in
     works_in_register c.args.value _ c.args.address _ (rw c.in-Ok.is at worked))
-    refl (ap (λ (ram : RamState). ram.registers) c.write.ensures.written) c.go_on_lifting.ensures
+    refl (ap (λ (ram : RamState). ram.registers) c.write.ensures.written) c.go_on_lifting.ensures.state
 
-pub returns-in-Err : goal.returns-in-Err
-returns-in-Err g c =
-    row_failed _ (register_use_row (registers.Combine c.args.value)) c.args.address _ _ _ _ c.in-Err.fault _ c.machine.view_is
+pub returns-in-Err-clause-done : goal.returns-in-Err-clause-done
+returns-in-Err-clause-done g c =
+    row_failed _ (register_use_row (registers.Combine c.args.value)) c.args.address _ _ _ _ c.in-Err.fault _ (ap machine_of c.machine.view_is)
     (let worked = c.compute_of_two.ensures c.machine.inside.ram.registers c.args.address Named X refl refl refl in
     works_in_register c.args.value _ c.args.address _ (rw c.in-Err.is at worked))
-    c.fail.ensures
+    c.fail.ensures.done

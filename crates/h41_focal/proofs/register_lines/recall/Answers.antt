@@ -1,4 +1,5 @@
 use Rattle.std.proofs.Common.{ap, refl, ◌∙◌}
+use Rattle.h41_focal.specs.LabelledMachine.{machine_of}
 use Rattle.h41_focal.specs.declared.machine.Machine.TheInside.{Inside}
 use Rattle.h41_focal.specs.LineStep.{machine_with}
 use Rattle.h41_focal.proofs.RowDone.{row_done}
@@ -9,9 +10,9 @@ use Rattle.h41_focal.specs.declared.outcome.BriefOutcome.TheVariants as briefs
 use Rattle.h41_ram.specs.RegisterMap.{zeros}
 use Rattle.h41_focal.proofs.register_lines.recall.Goals as goal
 
-pub returns : goal.returns
-returns g c =
-    let opened = ap (λ (inside : Inside g.row.REGS). machine_with inside.ram.registers inside.focal) c.machine-inside.view_is
-    ∙ c.machine.view_is in
+pub returns-clause-done : goal.returns-clause-done
+returns-clause-done g c =
+    let opened = ap (λ (inside : Inside g.row.REGS). machine_with inside.ram.registers inside.focal.state) c.machine-inside.view_is
+    ∙ (ap machine_of c.machine.view_is) in
     row_done _ (register_use_row registers.Recall) c.args.address _ _ _ zeros briefs.Done _ _ opened c.requires.next refl refl refl
-    (c.bring_in_from.ensures.change c.args.address Named zeros refl) c.go_on_lifting.ensures
+    (c.bring_in_from.ensures.change c.args.address Named zeros refl) c.go_on_lifting.ensures.state

@@ -1,4 +1,5 @@
 use Rattle.std.proofs.Common.{◌≡◌, ℕ, ap, refl, ◌∙◌}
+use Rattle.h41_focal.specs.LabelledMachine.{machine_of}
 use Rattle.h41_focal.specs.declared.machine.Machine.TheInside.{Inside}
 use Rattle.h41_focal.proofs.RowDone.{row_done}
 use Rattle.h41_focal.proofs.stack_lines.move_stack.Goals as goal
@@ -34,10 +35,10 @@ answers_done memory moves.Pi named = refl
 answers_done memory moves.ClearStack named = refl
 answers_done memory moves.ClearX named = refl
 
-pub returns : goal.returns
-returns g c = λ named.
+pub returns-clause-done : goal.returns-clause-done
+returns-clause-done g c = λ named.
     let moved = c.move_registers.ensures.change named in
-    let opened = ap (λ (inside : Inside g.row.REGS). machine_with inside.ram.registers inside.focal) c.machine-inside.view_is
-    ∙ c.machine.view_is in
+    let opened = ap (λ (inside : Inside g.row.REGS). machine_with inside.ram.registers inside.focal.state) c.machine-inside.view_is
+    ∙ (ap machine_of c.machine.view_is) in
     row_done _ (move_row c.args.movement) named _ _ _ moved.0 briefs.Done _ _ opened c.requires.next
-    (goes_on c.args.movement) moved.1 (answers_done _ c.args.movement named) moved.2 c.go_on_behind.ensures
+    (goes_on c.args.movement) moved.1 (answers_done _ c.args.movement named) moved.2 c.go_on_behind.ensures.state

@@ -1,5 +1,6 @@
 use Rattle.std.proofs.Common.{ap, refl, ◌∙◌}
 use Rattle.h41_codes.specs.declared.line.Line.TheVariants as lines
+use Rattle.h41_focal.specs.LabelledMachine.{machine_of}
 use Rattle.h41_focal.specs.declared.machine.Machine.TheInside.{Inside}
 use Rattle.h41_focal.specs.LineStep.{machine_with}
 use Rattle.h41_focal.proofs.RowDone.{row_done}
@@ -8,10 +9,10 @@ use Rattle.h41_rows.specs.LineRows.{row_of}
 use Rattle.h41_rows.specs.Operands.{NoOperand}
 use Rattle.h41_focal.specs.declared.outcome.BriefOutcome.TheVariants as briefs
 
-pub returns : goal.returns
-returns g c = λ named.
-    let opened = ap (λ (inside : Inside g.row.REGS). machine_with inside.ram.registers inside.focal) c.machine-inside.view_is
-    ∙ c.machine.view_is in
+pub returns-clause-done : goal.returns-clause-done
+returns-clause-done g c = λ named.
+    let opened = ap (λ (inside : Inside g.row.REGS). machine_with inside.ram.registers inside.focal.state) c.machine-inside.view_is
+    ∙ (ap machine_of c.machine.view_is) in
     row_done _ (row_of (lines.Number c.args.number.now) NoOperand) named _ _ _ c.written.result briefs.Done _ _ opened
     c.requires.next refl (c.written.ensures _ named) refl (c.bring_in.ensures.change named)
-    c.go_on_lifting.ensures
+    c.go_on_lifting.ensures.state

@@ -1,4 +1,5 @@
 use Rattle.std.proofs.Common.{◌≡◌, true, ap, refl, rules, ◌∙◌}
+use Rattle.h41_focal.specs.LabelledMachine.{machine_of}
 use Rattle.h41_focal.proofs.Briefly.{same_left}
 use Rattle.h41_focal.proofs.machine.Machine.fail_typed.Goals as goal
 use Rattle.h41_focal.specs.BriefOutcomes.{brief_answer}
@@ -8,7 +9,7 @@ use Rattle.h41_ram.specs.RegisterMap.{is_sound}
 
 pub returns-clause-line : goal.returns-clause-line
 returns-clause-line g c =
-    let sound : is_sound c.args.self.now.memory ≡ true = search rules in
-    rw (same_left c.fail.new.machine c.fail.result c.outcome.result
-    (λ called. c.outcome.ensures called ∙ ap (λ (of : Machine). brief_answer called of.memory c.fail.result) c.self-2.view_is))
-    (rw sound (ended c.fail.new.machine c.fail.result, c.fail.ensures, refl))
+    let sound : is_sound c.args.self.now.ram.registers ≡ true = search rules in
+    rw (same_left (machine_of c.fail.new.machine) c.fail.result c.outcome.result
+    (λ called. c.outcome.ensures called ∙ ap (λ (of : Machine). brief_answer called of.memory c.fail.result) (ap machine_of c.self-2.view_is)))
+    (rw sound (ended (machine_of c.fail.new.machine) c.fail.result, c.fail.ensures.done, refl))

@@ -1,6 +1,18 @@
+use Rattle.std.proofs.Common.{◌≡◌, ap, subst}
+use Rattle.h41_focal.specs.LabelledMachine.{machine_of}
+use Rattle.h41_focal.specs.LineStep.{Machine}
+use Rattle.h41_focal.specs.MachineCalls.{KeepsElsewhere}
 use Rattle.h41_focal.proofs.Elsewhere.{kept_elsewhere}
 use Rattle.h41_focal.proofs.machine.Machine.key.Goals as goal
 use Rattle.h41_focal.specs.declared.origin.Origin.TheVariants.{Typed}
 
 pub returns-clause-elsewhere : goal.returns-clause-elsewhere
-returns-clause-elsewhere g c = kept_elsewhere Typed c.args.line.now _ _ _ c.carry_out.ensures.taken
+returns-clause-elsewhere g c =
+    subst (λ (machine : Machine). KeepsElsewhere machine (machine_of c.carry_out.new.machine) c.carry_out.result)
+    (ap machine_of c.begin.ensures.begun)
+    (kept_elsewhere Typed c.args.line.now _ _ _ c.carry_out.ensures.taken)
+
+pub returns-clause-right : goal.returns-clause-right
+returns-clause-right g c =
+    c.kept_answers_stay_right.ensures.searching c.begin.new.self c.carry_out.new.machine _ c.begin.ensures.right
+    c.carry_out.ensures.kept c.carry_out.ensures.mark

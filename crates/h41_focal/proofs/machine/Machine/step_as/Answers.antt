@@ -1,13 +1,29 @@
-use Rattle.std.proofs.Common.{Some}
+use Rattle.std.proofs.Common.{◌≡◌, ap, subst, Err, Some}
 use Rattle.std.proofs.lemmas.Result.{err_from_is_err_and}
+use Rattle.h41_focal.specs.LabelledMachine.{machine_of}
+use Rattle.h41_focal.specs.LineStep.{Machine, StepsLine}
+use Rattle.h41_focal.specs.MachineCalls.{Steps}
 use Rattle.h41_focal.proofs.LinesTaken.{step_refused, step_taken}
 use Rattle.h41_focal.proofs.machine.Machine.step_as.Goals as goal
 
 pub returns-in_err-next-clause-line : goal.returns-in_err-next-clause-line
 returns-in_err-next-clause-line g c =
     let refused = err_from_is_err_and c.from_residual.result c.from_residual.ensures.1 in
-    rw (refused.1, refused.2) (step_refused (Some c.args.function) c.args.self.now c.in_err-next.field-0.0 c.in_err-next.ensures)
+    rw (refused.1, refused.2)
+    (subst (λ (machine : Machine). StepsLine (Some c.args.function) machine (Err c.in_err-next.field-0.0))
+    (ap machine_of c.begin.ensures.begun)
+    (step_refused (Some c.args.function) (machine_of c.begin.new.self) c.in_err-next.field-0.0 c.in_err-next.ensures))
+
+pub returns-in_err-next-clause-right : goal.returns-in_err-next-clause-right
+returns-in_err-next-clause-right g c = λ clear. c.begin.ensures.right
 
 pub returns-clause-line : goal.returns-clause-line
 returns-clause-line g c =
-    step_taken (Some c.args.function) _ c.in_ok-next.field-0-0 c.in_ok-next.next _ c.in_ok-next.ensures c.carry_out.ensures.taken
+    subst (λ (machine : Machine). Steps (Some c.args.function) machine (machine_of c.carry_out.new.machine) c.carry_out.result)
+    (ap machine_of c.begin.ensures.begun)
+    (step_taken (Some c.args.function) _ c.in_ok-next.field-0-0 c.in_ok-next.next _ c.in_ok-next.ensures c.carry_out.ensures.taken)
+
+pub returns-clause-right : goal.returns-clause-right
+returns-clause-right g c =
+    c.kept_answers_stay_right.ensures.searching c.begin.new.self c.carry_out.new.machine _ c.begin.ensures.right
+    c.carry_out.ensures.kept c.carry_out.ensures.mark

@@ -1,0 +1,78 @@
+-- Which search for a label a line asks for, and what is kept behind it.
+use Rattle.std.specs.Prelude.{◌≡◌, ℕ, List, MatchBool, None, Option, Some, if◌then◌else◌}
+use Rattle.std.specs.Prelude.{Result, Ok, Err}
+use Rattle.h41_codes.specs.declared.functions.Function.{Function}
+use Rattle.h41_codes.specs.declared.line.Line.{Line}
+use Rattle.h41_codes.specs.declared.line.Line.TheVariants as lines
+use Rattle.h41_focal.specs.LabelledMachine.{LabelledMachine, begun_labels, machine_of}
+use Rattle.h41_focal.specs.LineStep.{Machine, line_as}
+use Rattle.h41_labels.specs.KeptAnswers.{KeepsSearch}
+use Rattle.h41_labels.specs.declared.search.KeptAnswer.{KeptAnswer}
+use Rattle.h41_labels.specs.declared.search.Search.{Search}
+use Rattle.h41_labels.specs.declared.search.Search.TheVariants.{Global, Local}
+use Rattle.h41_program.specs.Positions.{LineAt, NextAt}
+use Rattle.h41_program.specs.declared.position.PlacedLine.{PlacedLine}
+use Rattle.h41_program.specs.declared.position.Position.{Position}
+use Rattle.h41_program.specs.declared.position.Position.TheVariants.{Memory}
+use Rattle.h41_program.specs.declared.refusal.ProgramRefusal as program
+use Rattle.h41_ram.specs.RegisterMap.{RegisterMap, is_sound}
+use Rattle.h41_rows.specs.Operands.{Count, Meant, Name, meant_of}
+use Rattle.h41_rows.specs.Profile.{is_left_out}
+use Rattle.h41_rows.specs.declared.fault.LineFault.{LineFault}
+
+-- a search for LBL n, from a position on
+abbrev pub local_search : Position → ℕ → Search
+local_search (Memory byte) label = Local byte label
+
+-- the search for what a register holds: a label's number, or a name; a fault has none
+abbrev pub search_for : Position → Result Meant LineFault → Option Search
+search_for from (Ok (Count label)) = Some (local_search from label)
+search_for from (Ok (Name name)) = Some (Global name)
+search_for from other = None
+
+-- the search that a line makes, by the position from which on a local label is looked for: GTO and
+-- XEQ make one, and no other line
+abbrev pub search_by : RegisterMap → Position → Line → Option Search
+search_by memory from (lines.ShortGoTo label distance) = Some (local_search from label)
+search_by memory from (lines.BranchTo branch distance far label) = Some (local_search from label)
+search_by memory from (lines.Named function name) = Some (Global name)
+search_by memory from (lines.BranchIndirect branch register) =
+    search_for from (meant_of memory (lines.BranchIndirect branch register))
+search_by memory from line = None
+
+-- a line that is left out makes none
+abbrev pub search_of : RegisterMap → Position → Line → Option Search
+search_of memory from line = if is_left_out line then None else search_by memory from line
+
+-- the kept answers behind a line that is typed, and behind one of a program, from the next line on
+abbrev pub KeepsTyped : Line → Machine → (before after : List KeptAnswer) → Type 0
+KeepsTyped line machine before after =
+    KeepsSearch machine.memory (search_of machine.memory machine.focal.position line) before after
+
+abbrev pub KeepsStepped : Line → Machine → (before after : List KeptAnswer) → Type 0
+KeepsStepped line machine before after =
+    (next : Position) × NextAt machine.memory machine.focal.position (Ok next)
+    × KeepsSearch machine.memory (search_of machine.memory next line) before after
+
+-- where none stands there, nothing is searched
+abbrev pub KeepsPlaced : Option Function → Machine → Result PlacedLine program.ProgramRefusal
+    → (before after : List KeptAnswer) → Type 0
+KeepsPlaced function machine (Ok first) before after =
+    KeepsStepped (line_as function first.line) machine before after
+KeepsPlaced function machine (Err refusal) before after = after ≡ before
+
+-- the kept answers behind the line at the position, or behind a function in its place
+abbrev pub StepKeeps : Option Function → (old new : LabelledMachine) → Type 0
+StepKeeps function old new =
+    MatchBool (is_sound old.ram.registers)
+    ((first : Result PlacedLine program.ProgramRefusal)
+    × LineAt old.ram.registers old.focal.state.position first
+    × KeepsPlaced function (machine_of old) first (begun_labels old) new.focal.labels)
+    (new.focal.labels ≡ begun_labels old)
+
+-- and behind a typed line
+abbrev pub TypingKeeps : Line → (old new : LabelledMachine) → Type 0
+TypingKeeps line old new =
+    MatchBool (is_sound old.ram.registers)
+    (KeepsTyped line (machine_of old) (begun_labels old) new.focal.labels)
+    (new.focal.labels ≡ begun_labels old)

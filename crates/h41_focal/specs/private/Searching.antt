@@ -1,0 +1,21 @@
+-- What private functions promise one another of the searches for labels that lines make.
+use Rattle.std.specs.Prelude.{Option}
+use Rattle.h41_codes.specs.declared.line.Line.{Line}
+use Rattle.h41_focal.specs.LabelledMachine.{LabelledMachine}
+use Rattle.h41_focal.specs.LabelSearches.{search_of}
+use Rattle.h41_focal.specs.declared.origin.Origin.{Origin}
+use Rattle.h41_focal.specs.private.Arrivals.{from_of}
+use Rattle.h41_labels.specs.KeptAnswers.{KeepsSearch}
+use Rattle.h41_labels.specs.declared.search.Search.{Search}
+use Rattle.h41_program.specs.declared.position.Position.{Position}
+
+-- a search was made from where the line has local labels looked for, or none
+abbrev pub AsksFrom : Origin → (Position → Option Search) → (old new : LabelledMachine) → Type 0
+AsksFrom origin search old new =
+    KeepsSearch old.ram.registers (search (from_of origin old.focal.state.position))
+    old.focal.labels new.focal.labels
+
+-- the search of a line
+abbrev pub AsksOf : Origin → Line → (old new : LabelledMachine) → Type 0
+AsksOf origin line old new =
+    AsksFrom origin (λ from. search_of old.ram.registers from line) old new

@@ -1,5 +1,6 @@
 //! Lines inserted, replaced and deleted by keys.
 ghost use Rattle.std.specs.Prelude.{◌≡◌, IfErr, IfOk, IsTrue, OnErr};
+ghost use Rattle.h41_focal.specs.LabelledMachine.{Keeps, machine_of};
 ghost use Rattle.h41_editor.specs.Changes.{Deletes, Inserts, InsertsAt, Replaces, with_line_shown};
 ghost use Rattle.h41_editor.specs.Moves.{made_as};
 ghost use Rattle.h41_editor.specs.private.Placing.{HasNoNext};
@@ -24,11 +25,12 @@ pub fn insert_line<const REGS: usize>(
     machine: &mut Machine<REGS>,
     line: Line,
 ) -> Result<(), ProgramRefusal>
-    requires sound { IsTrue (is_sound machine.old.memory) }
+    requires sound { IsTrue (is_sound machine.old.ram.registers) }
     requires inner { IsTrue (is_inner line) }
-    ensures line { Inserts line machine.old (made_as machine.new result) }
-    ensures unchanged { OnErr result (machine.new ≡ machine.old) }
-    ensures sound { IsTrue (is_sound machine.new.memory) }
+    ensures line { Inserts line (machine_of machine.old) (made_as (machine_of machine.new) result) }
+    ensures unchanged { OnErr result (machine_of machine.new ≡ machine_of machine.old) }
+    ensures sound { IsTrue (is_sound machine.new.ram.registers) }
+    ensures keeps { Keeps machine.old machine.new }
 {
     positions_are_read();
     let before = match numbered_line(machine) {
@@ -49,9 +51,9 @@ fn place_for_line<const REGS: usize>(
     machine: &Machine<REGS>,
     shown: &PlacedLine,
 ) -> Result<Position, ProgramRefusal>
-    requires { IsTrue (is_sound machine.now.memory) }
-    ensures place { IfOk result (InsertsAt machine.now shown.now) }
-    ensures none { IfErr result (HasNoNext machine.now) }
+    requires { IsTrue (is_sound machine.now.ram.registers) }
+    ensures place { IfOk result (InsertsAt (machine_of machine.now) shown.now) }
+    ensures none { IfErr result (HasNoNext (machine_of machine.now)) }
 {
     if machine.focal.is_at_line_00 {
         Ok(start_of(&machine.ram, machine.focal.position))
@@ -68,11 +70,13 @@ pub fn replace_line<const REGS: usize>(
     machine: &mut Machine<REGS>,
     line: Line,
 ) -> Result<(), ProgramRefusal>
-    requires sound { IsTrue (is_sound machine.old.memory) }
+    requires sound { IsTrue (is_sound machine.old.ram.registers) }
     requires inner { IsTrue (is_inner line) }
-    ensures line { Replaces line machine.old (made_as machine.new result) }
-    ensures unchanged { OnErr result (machine.new ≡ machine.old) }
-    ensures sound { IsTrue (is_sound machine.new.memory) }
+    ensures line { Replaces line (machine_of machine.old)
+        (made_as (machine_of machine.new) result) }
+    ensures unchanged { OnErr result (machine_of machine.new ≡ machine_of machine.old) }
+    ensures sound { IsTrue (is_sound machine.new.ram.registers) }
+    ensures keeps { Keeps machine.old machine.new }
 {
     match machine.focal.position {
         Position::Memory(at) => {
@@ -87,10 +91,11 @@ pub fn replace_line<const REGS: usize>(
 /// At line 00 and at `.END.` nothing is changed. 14 where no line can be read at the position, where the list of lines has none there
 /// or does not reach `.END.`, 16 where there is no room; nothing is changed then.
 pub fn delete_line<const REGS: usize>(machine: &mut Machine<REGS>) -> Result<(), ProgramRefusal>
-    requires { IsTrue (is_sound machine.old.memory) }
-    ensures line { Deletes machine.old (made_as machine.new result) }
-    ensures unchanged { OnErr result (machine.new ≡ machine.old) }
-    ensures sound { IsTrue (is_sound machine.new.memory) }
+    requires { IsTrue (is_sound machine.old.ram.registers) }
+    ensures line { Deletes (machine_of machine.old) (made_as (machine_of machine.new) result) }
+    ensures unchanged { OnErr result (machine_of machine.new ≡ machine_of machine.old) }
+    ensures sound { IsTrue (is_sound machine.new.ram.registers) }
+    ensures keeps { Keeps machine.old machine.new }
 {
     let position = machine.focal.position;
     if machine.focal.is_at_line_00 || is_final_end(line_at(&machine.ram, position)?.line) {
@@ -109,7 +114,8 @@ pub fn delete_line<const REGS: usize>(machine: &mut Machine<REGS>) -> Result<(),
 
 /// A line in memory is shown, and nothing is left to return to.
 fn show_line(focal: &mut Focal, byte: u16)
-    ensures { focal.new ≡ with_line_shown (Memory byte) focal.old }
+    ensures state { focal.new.state ≡ with_line_shown (Memory byte) focal.old.state }
+    ensures labels { focal.new.labels ≡ focal.old.labels }
 {
     focal.go_to(Position::Memory(byte));
     focal.returns.clear();

@@ -1,5 +1,6 @@
 //! What SST, BST and `GTO . .` do to the position.
 ghost use Rattle.std.specs.Prelude.{◌≡◌, IsTrue, Ok, OnErr};
+ghost use Rattle.h41_focal.specs.LabelledMachine.{Keeps, machine_of};
 ghost use Rattle.h41_editor.specs.Moves.{GoesToEnd, ShowsBefore, ShowsEnd, ShowsNext, ShowsStart};
 ghost use Rattle.h41_editor.specs.Moves.{made_as};
 ghost use Rattle.h41_editor.specs.Moves as spec;
@@ -16,9 +17,10 @@ use h41_program::{
 /// `SST` in program mode shows the next line: from line 00 the line that the position stands for, from the last of a program its
 /// line 00. 14 where the shown line cannot be read; nothing is changed then.
 pub fn show_next<const REGS: usize>(machine: &mut Machine<REGS>) -> Result<(), ProgramRefusal>
-    requires { IsTrue (is_sound machine.old.memory) }
-    ensures line { ShowsNext machine.old (made_as machine.new result) }
+    requires { IsTrue (is_sound machine.old.ram.registers) }
+    ensures line { ShowsNext (machine_of machine.old) (made_as (machine_of machine.new) result) }
     ensures unchanged { OnErr result (machine.new ≡ machine.old) }
+    ensures keeps { Keeps machine.old machine.new }
 {
     let position = machine.focal.position;
     if machine.focal.is_at_line_00 {
@@ -37,9 +39,10 @@ pub fn show_next<const REGS: usize>(machine: &mut Machine<REGS>) -> Result<(), P
 /// `BST` shows the line before: from line 1 line 00, from line 00 the program's END or `.END.`. 14 where the program has no line
 /// at the position, and from line 00 where it has no end; nothing is changed then.
 pub fn show_before<const REGS: usize>(machine: &mut Machine<REGS>) -> Result<(), ProgramRefusal>
-    requires { IsTrue (is_sound machine.old.memory) }
-    ensures line { ShowsBefore machine.old (made_as machine.new result) }
+    requires { IsTrue (is_sound machine.old.ram.registers) }
+    ensures line { ShowsBefore (machine_of machine.old) (made_as (machine_of machine.new) result) }
     ensures unchanged { OnErr result (machine.new ≡ machine.old) }
+    ensures keeps { Keeps machine.old machine.new }
 {
     let shown = match numbered_line(machine) {
         Some(shown) => shown.placed,
@@ -58,10 +61,11 @@ pub fn show_before<const REGS: usize>(machine: &mut Machine<REGS>) -> Result<(),
 /// `GTO . .` goes to line 00 of the last program, with an END behind it first where it has lines and none; what there is to return
 /// to goes then. 14 where the list of lines does not reach `.END.`, 16 where there is no room; nothing is changed then.
 pub fn go_to_end<const REGS: usize>(machine: &mut Machine<REGS>) -> Result<(), ProgramRefusal>
-    requires { IsTrue (is_sound machine.old.memory) }
-    ensures line { GoesToEnd machine.old (made_as machine.new result) }
-    ensures unchanged { OnErr result (machine.new ≡ machine.old) }
-    ensures sound { IsTrue (is_sound machine.new.memory) }
+    requires { IsTrue (is_sound machine.old.ram.registers) }
+    ensures line { GoesToEnd (machine_of machine.old) (made_as (machine_of machine.new) result) }
+    ensures unchanged { OnErr result (machine_of machine.new ≡ machine_of machine.old) }
+    ensures sound { IsTrue (is_sound machine.new.ram.registers) }
+    ensures keeps { Keeps machine.old machine.new }
 {
     lists_are_determined();
     let open = is_last_open(&machine.ram)?;
@@ -85,8 +89,9 @@ pub fn is_last(placed: &PlacedLine) -> bool
 
 /// Line 00 of the position's program is shown.
 fn show_start<const REGS: usize>(machine: &mut Machine<REGS>)
-    requires { IsTrue (is_sound machine.old.memory) }
-    ensures { ShowsStart machine.old (Ok machine.new) }
+    requires { IsTrue (is_sound machine.old.ram.registers) }
+    ensures done { ShowsStart (machine_of machine.old) (Ok (machine_of machine.new)) }
+    ensures keeps { Keeps machine.old machine.new }
 {
     let start = start_of(&machine.ram, machine.focal.position);
     machine.focal.go_to_line_00(start);
@@ -97,9 +102,11 @@ fn show_end<const REGS: usize>(
     machine: &mut Machine<REGS>,
     shown: &PlacedLine,
 ) -> Result<(), ProgramRefusal>
-    requires { IsTrue (is_sound machine.old.memory) }
-    ensures line { ShowsEnd machine.old shown.now (made_as machine.new result) }
+    requires { IsTrue (is_sound machine.old.ram.registers) }
+    ensures line { ShowsEnd (machine_of machine.old) shown.now
+        (made_as (machine_of machine.new) result) }
     ensures unchanged { OnErr result (machine.new ≡ machine.old) }
+    ensures keeps { Keeps machine.old machine.new }
 {
     match end_of(&machine.ram, shown.position) {
         Some(end) => {

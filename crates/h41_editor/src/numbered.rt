@@ -1,5 +1,6 @@
 //! The line that a position stands for, with its number.
 ghost use Rattle.std.specs.Prelude.{IsTrue};
+ghost use Rattle.h41_focal.specs.LabelledMachine.{machine_of};
 ghost use Rattle.h41_editor.specs.NumberedLines.{HasNumbered};
 ghost use Rattle.h41_ram.specs.RegisterMap.{is_sound};
 
@@ -18,8 +19,8 @@ pub struct NumberedLine {
 /// The line that the position stands for: the first from there on. `None` where no line can be read there, and where its program
 /// has none there, as within a line.
 pub fn numbered_line<const REGS: usize>(machine: &Machine<REGS>) -> Option<NumberedLine>
-    requires { IsTrue (is_sound machine.now.memory) }
-    ensures { HasNumbered machine.now.memory machine.now.focal.position result }
+    requires { IsTrue (is_sound machine.now.ram.registers) }
+    ensures { HasNumbered machine.now.ram.registers machine.now.focal.state.position result }
 {
     match line_at(&machine.ram, machine.focal.position) {
         Ok(placed) => {

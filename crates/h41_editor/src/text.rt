@@ -1,5 +1,6 @@
 //! What the display shows in program mode.
 ghost use Rattle.std.specs.Prelude.{◌≡◌, ◌≤◌, ◌++◌, length, IsTrue};
+ghost use Rattle.h41_focal.specs.LabelledMachine.{machine_of};
 ghost use Rattle.h41_editor.specs.ProgramText as spec;
 ghost use Rattle.h41_ram.specs.RegisterMap.{is_sound};
 
@@ -21,7 +22,7 @@ const MAIN_START: u16 = 0x0C0;
 pub fn program_text<const REGS: usize>(
     machine: &Machine<REGS>,
 ) -> ArrayString<PROGRAM_TEXT_CAPACITY>
-    ensures { spec.ShowsProgram machine.now result.bytes }
+    ensures { spec.ShowsProgram (machine_of machine.now) result.bytes }
 {
     if !machine.ram.is_sound() {
         unknown_text()

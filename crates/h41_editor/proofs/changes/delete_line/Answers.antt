@@ -1,5 +1,6 @@
-use Rattle.std.proofs.Common.{refl}
+use Rattle.std.proofs.Common.{subst, ap, refl, ◌∙◌}
 use Rattle.std.proofs.lemmas.Result.{err_from_is_err_and}
+use Rattle.h41_focal.specs.LabelledMachine.{Keeps, LabelledMachine, labelled_with, machine_of}
 use Rattle.h41_editor.proofs.Edited.{delete_refused, line_deleted}
 use Rattle.h41_editor.proofs.MemoryBytes.{byte_is}
 use Rattle.h41_editor.proofs.Opened.{read_of}
@@ -9,20 +10,34 @@ pub returns-in_err-byte-clause-line : goal.returns-in_err-byte-clause-line
 returns-in_err-byte-clause-line g c =
     let refused = err_from_is_err_and c.from_residual-in_err-byte.result c.from_residual-in_err-byte.ensures.1 in
     rw (refused.1, refused.2)
-    (delete_refused _ c.args.machine.now c.delete.new.ram.registers c.in_ok-line_at.field-0 _ c.in_err-byte.field-0.0
-    (read_of _ _ _ _ _ (λ i. (c.machine-inside.view_is i).ram.registers) (λ i. (c.machine-inside.view_is i).focal) c.machine.view_is)
+    (delete_refused _ (machine_of c.args.machine.now) c.delete.new.ram.registers c.in_ok-line_at.field-0 _ c.in_err-byte.field-0.0
+    (read_of _ _ _ _ _ (λ i. (c.machine-inside.view_is i).ram.registers) (λ i. (c.machine-inside.view_is i).focal.state) (ap machine_of c.machine.view_is))
     c.if-machine.false c.in_ok-line_at.ensures c.if-is_final_end.ensures (byte_is _) c.in_err-byte.ensures.lines)
 
 pub returns-in-Line-clause-line : goal.returns-in-Line-clause-line
 returns-in-Line-clause-line g c =
-    line_deleted _ c.args.machine.now _ c.delete.new.ram.registers c.in_ok-line_at.field-0 _ c.in_ok-byte.field-0
-    (read_of _ _ _ _ _ (λ i. (c.machine-inside.view_is i).ram.registers) (λ i. (c.machine-inside.view_is i).focal) c.machine.view_is)
+    line_deleted _ (machine_of c.args.machine.now) _ c.delete.new.ram.registers c.in_ok-line_at.field-0 _ c.in_ok-byte.field-0
+    (read_of _ _ _ _ _ (λ i. (c.machine-inside.view_is i).ram.registers) (λ i. (c.machine-inside.view_is i).focal.state) (ap machine_of c.machine.view_is))
     c.if-machine.false c.in_ok-line_at.ensures c.if-is_final_end.ensures (byte_is _) c.in_ok-byte.ensures.lines c.in_ok-byte.ensures.answer
-    (rw (c.show_line.ensures, c.in-Line.is) refl)
+    (rw (c.show_line.ensures.state, c.in-Line.is) refl)
 
 pub returns-in-Start-clause-line : goal.returns-in-Start-clause-line
 returns-in-Start-clause-line g c =
-    line_deleted _ c.args.machine.now _ c.delete.new.ram.registers c.in_ok-line_at.field-0 _ c.in_ok-byte.field-0
-    (read_of _ _ _ _ _ (λ i. (c.machine-inside.view_is i).ram.registers) (λ i. (c.machine-inside.view_is i).focal) c.machine.view_is)
+    line_deleted _ (machine_of c.args.machine.now) _ c.delete.new.ram.registers c.in_ok-line_at.field-0 _ c.in_ok-byte.field-0
+    (read_of _ _ _ _ _ (λ i. (c.machine-inside.view_is i).ram.registers) (λ i. (c.machine-inside.view_is i).focal.state) (ap machine_of c.machine.view_is))
     c.if-machine.false c.in_ok-line_at.ensures c.if-is_final_end.ensures (byte_is _) c.in_ok-byte.ensures.lines c.in_ok-byte.ensures.answer
-    (rw (c.halt_at.ensures, c.in-Start.is) refl)
+    (rw (c.halt_at.ensures.state, c.in-Start.is) refl)
+
+pub returns-in-Line-clause-keeps : goal.returns-in-Line-clause-keeps
+returns-in-Line-clause-keeps g c =
+    subst
+    (λ (machine : LabelledMachine). Keeps machine (labelled_with c.delete.new.ram c.show_line.new.focal))
+    ((λ i. labelled_with (c.machine-inside.view_is i).ram (c.machine-inside.view_is i).focal) ∙ c.machine.view_is)
+    (record { mark = c.in_ok-byte.ensures.mark; labels = c.show_line.ensures.labels })
+
+pub returns-in-Start-clause-keeps : goal.returns-in-Start-clause-keeps
+returns-in-Start-clause-keeps g c =
+    subst
+    (λ (machine : LabelledMachine). Keeps machine (labelled_with c.delete.new.ram c.halt_at.new.self))
+    ((λ i. labelled_with (c.machine-inside.view_is i).ram (c.machine-inside.view_is i).focal) ∙ c.machine.view_is)
+    (record { mark = c.in_ok-byte.ensures.mark; labels = c.halt_at.ensures.labels })

@@ -130,11 +130,14 @@ impl Focal {
     }
 
     /// Where the last label of a name stands in memory: likewise.
-    pub(crate) fn global<const REGS: usize>(&mut self, ram: &Ram<REGS>, name: Text<15>) -> Option<u16>
+    pub(crate) fn global<const REGS: usize>(
+        &mut self,
+        ram: &Ram<REGS>,
+        name: Text<15>,
+    ) -> Option<u16>
         requires sound { IsTrue (is_sound ram.now.registers) }
         requires right { IsRight self.old.labels ram.now.registers }
-        ensures found {
-            AnswersOf (λ lines. position_of (named_in name lines)) ram.now.registers 0 result }
+        ensures found { AnswersOf (λ lines. position_of (named_in name lines)) ram.now.registers 0 result }
         ensures kept { KeepsSearch ram.now.registers (Some (Global name))
             self.old.labels self.new.labels }
         ensures state { self.new.state ≡ self.old.state }

@@ -1,6 +1,7 @@
 pub mod DisplayLaws
 pub mod KeyLaws
 pub mod Keying
+pub mod LabelsStay
 pub mod Loading
 pub mod Named
 pub mod Pressing

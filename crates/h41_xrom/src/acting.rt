@@ -1,6 +1,7 @@
 //! What a key's action makes of memory and of what lines work on.
 
 ghost use Rattle.std.specs.Prelude.{◌≡◌, OnErr};
+ghost use Rattle.h41_focal.specs.LabelledMachine.{AreRight, machine_of};
 ghost use Rattle.h41_xrom.specs.KeyActions.{Acts, Carries};
 ghost use Rattle.h41_xrom.specs.private.PrivateCalls.{IsActed, edited_as, effect_as};
 
@@ -13,6 +14,7 @@ use crate::typing::{
 use h41_codes::{Function, Line};
 use h41_editor::{delete_line, go_to_end, insert_line, replace_line, show_before, show_next};
 use h41_focal::Machine;
+use h41_focal::laws::kept_answers_stay_right;
 use h41_keys::Action;
 use h41_pages::Pages;
 use h41_program::ProgramRefusal;
@@ -40,10 +42,14 @@ pub fn act<const REGS: usize>(
     program_mode: bool,
     action: Action,
 ) -> Result<KeyEffect, CalculatorRefusal>
-    requires { IsActed action machine.old.memory }
-    ensures effect { Acts pages.now program_mode action machine.old (effect_as machine.new result) }
-    ensures unchanged { OnErr result (machine.new ≡ machine.old) }
+    requires acted { IsActed action machine.old.ram.registers }
+    requires right { AreRight machine.old }
+    ensures effect { Acts pages.now program_mode action (machine_of machine.old)
+        (effect_as (machine_of machine.new) result) }
+    ensures unchanged { OnErr result (machine_of machine.new ≡ machine_of machine.old) }
+    ensures right { AreRight machine.new }
 {
+    kept_answers_stay_right();
     match action {
         Action::Nothing => Ok(KeyEffect::Nothing),
         Action::Stop => Ok(KeyEffect::Stops),
@@ -83,8 +89,11 @@ fn carried<const REGS: usize>(
     pages: &Pages,
     source: &LineSource,
 ) -> Result<KeyEffect, CalculatorRefusal>
-    ensures line { Carries source.now pages.now machine.old (effect_as machine.new result) }
-    ensures unchanged { OnErr result (machine.new ≡ machine.old) }
+    requires { AreRight machine.old }
+    ensures line { Carries source.now pages.now (machine_of machine.old)
+        (effect_as (machine_of machine.new) result) }
+    ensures unchanged { OnErr result (machine_of machine.new ≡ machine_of machine.old) }
+    ensures right { AreRight machine.new }
 {
     Ok(KeyEffect::Line(carry_line(machine, pages, source)?))
 }

@@ -2,6 +2,7 @@
 
 ghost use Rattle.std.specs.Prelude.{◌≡◌, ◌≢◌, None, IfOk, IfErr, OnOk, OnErr, option_map};
 ghost use Rattle.std.specs.Result.{result_err};
+ghost use Rattle.h41_focal.specs.LabelledMachine as labelled;
 ghost use Rattle.h41_pages.specs.PageMap.{unplug_refusal};
 ghost use Rattle.h41_xrom.specs.Calculator.{RefusesLine, RefusesPage, RefusesStep, RefusesStepIn};
 ghost use Rattle.h41_xrom.specs.Calculator.{Step, StepIn, StepsByLine, TakesPage, after_answer};
@@ -23,6 +24,7 @@ use crate::acting::{KeyEffect, act};
 use crate::lines::{LineEnd, LineSource, carry_line};
 use crate::messages::{fault_text, test_text};
 use crate::refusal::CalculatorRefusal;
+use h41_focal::laws::kept_answers_stay_right;
 use h41_focal::{BriefOutcome, DisplayText, Focal, LineOutcome, Machine};
 use h41_keys::{Action, Flags, Input, Key, TypedEntry, press};
 use h41_nut::{Cpu, END_OF_FUNCTION, Keys, WordRefusal, step};
@@ -96,18 +98,22 @@ pub struct Calculator {
 
 impl Model for Calculator {
     ghost use Rattle.std.specs.Prelude.{option_map};
+    ghost use Rattle.h41_focal.specs.LabelledMachine.{AreRight};
     ghost use Rattle.h41_nut.specs.WordStep.{nut_of};
     ghost use Rattle.h41_xrom.specs.Calculator.{CalculatorState};
 
     ghost Value = { CalculatorState };
 
     ghost view = { λ all. record {
-      nut = nut_of all.cpu all.machine.memory all.pages all.keys;
-      focal = all.machine.focal;
+      nut = nut_of all.cpu all.machine.ram.registers all.pages all.keys;
+      focal = all.machine.focal.state;
       input = all.input;
       message = option_map (λ text. text.bytes) all.message;
       mode = all.mode;
     } };
+
+    // Where the mark of memory is clear each label that is kept is where its search finds it.
+    ghost invariant = { λ all. AreRight all.machine };
 }
 
 impl Calculator {
@@ -163,14 +169,14 @@ impl Calculator {
 
     /// What lines work on, beside memory.
     pub fn focal(&self) -> &Focal
-        ensures { result.now ≡ self.now.focal }
+        ensures { result.now.state ≡ self.now.focal }
     {
         &self.machine.focal
     }
 
     /// Memory, and what lines work on beside it.
     pub fn machine(&self) -> &Machine<REGISTERS>
-        ensures { result.now ≡ machine_of self.now }
+        ensures { labelled.machine_of result.now ≡ machine_of self.now }
     {
         &self.machine
     }
@@ -429,6 +435,7 @@ impl Calculator {
         ensures running { IfOk result (λ runs. self.new.mode ≡ mode_behind_word runs caller) }
         ensures unchanged { OnErr result (self.new ≡ self.old) }
     {
+        kept_answers_stay_right();
         step(
             &mut self.cpu,
             &mut self.machine.ram,
@@ -450,6 +457,7 @@ impl Calculator {
     pub fn load(&mut self, bytes: &[u8]) -> Result<(), CalculatorRefusal>
         ensures { Loads bytes.now self.old self.new (result_err result) }
     {
+        kept_answers_stay_right();
         self.check_change()?;
         let start = load(&mut self.machine.ram, bytes)?;
         self.machine.focal.halt_at(Position::Memory(start));
@@ -462,6 +470,7 @@ impl Calculator {
     pub fn set_size(&mut self, count: u16) -> Result<(), CalculatorRefusal>
         ensures { Becomes (size_makes self.old count) self.old self.new (result_err result) }
     {
+        kept_answers_stay_right();
         self.check_change()?;
         set_size(&mut self.machine.ram, count)?;
         self.end_entry();

@@ -1,6 +1,7 @@
 //! What the display shows.
 
 ghost use Rattle.std.specs.Prelude.{◌≡◌, ◌≤◌, length};
+ghost use Rattle.h41_focal.specs.LabelledMachine.{machine_of};
 ghost use Rattle.h41_xrom.specs.Display as spec;
 ghost use Rattle.h41_xrom.specs.Display.{ShowsDisplay};
 
@@ -54,7 +55,7 @@ fn shown_line<const REGS: usize>(
     machine: &Machine<REGS>,
     entry: TypedEntry,
 ) -> ArrayString<TEXT_CAPACITY>
-    ensures { spec.ShowsShownLine machine.now entry result.bytes }
+    ensures { spec.ShowsShownLine (machine_of machine.now) entry result.bytes }
 {
     let mut text = ArrayString::new();
     text.push_str(program_text(machine).as_str());

@@ -1,12 +1,14 @@
 //! A line that calls what memory does not have.
 
 ghost use Rattle.std.specs.Prelude.{◌≡◌, None, Some, OnErr};
+ghost use Rattle.h41_focal.specs.LabelledMachine.{AreRight, machine_of};
 ghost use Rattle.h41_focal.specs.MachineCalls.{KeepsElsewhere, carried_as, passed_as};
 ghost use Rattle.h41_xrom.specs.Lines.{BeginsEntry, CallsEntry, CarriesFrom, CarriesLine, Fails};
 ghost use Rattle.h41_xrom.specs.Lines.{FailsFrom, IsNamed, PassesFrom, Seeks};
 ghost use Rattle.h41_xrom.specs.private.PrivateCalls.{CarriesFunction, IsFunction, ended_as};
 
 use h41_codes::{Function, Line};
+use h41_focal::laws::kept_answers_stay_right;
 use h41_focal::{FocalRefusal, LineFault, LineOutcome, Machine};
 use h41_pages::{Entry, Pages};
 use h41_text::read_line;
@@ -37,8 +39,11 @@ pub fn carry_line<const REGS: usize>(
     pages: &Pages,
     source: &LineSource,
 ) -> Result<LineEnd, FocalRefusal>
-    ensures line { CarriesLine source.now pages.now machine.old (ended_as machine.new result) }
-    ensures unchanged { OnErr result (machine.new ≡ machine.old) }
+    requires { AreRight machine.old }
+    ensures line { CarriesLine source.now pages.now (machine_of machine.old)
+        (ended_as (machine_of machine.new) result) }
+    ensures unchanged { OnErr result (machine_of machine.new ≡ machine_of machine.old) }
+    ensures right { AreRight machine.new }
 {
     match carry(machine, source)? {
         LineOutcome::Calls(number, entry) => {
@@ -59,9 +64,12 @@ fn carry<const REGS: usize>(
     machine: &mut Machine<REGS>,
     source: &LineSource,
 ) -> Result<LineOutcome, FocalRefusal>
-    ensures line { CarriesFrom source.now None machine.old (carried_as machine.new result) }
-    ensures unchanged { OnErr result (machine.new ≡ machine.old) }
-    ensures elsewhere { KeepsElsewhere machine.old machine.new result }
+    requires { AreRight machine.old }
+    ensures line { CarriesFrom source.now None (machine_of machine.old)
+        (carried_as (machine_of machine.new) result) }
+    ensures unchanged { OnErr result (machine_of machine.new ≡ machine_of machine.old) }
+    ensures elsewhere { KeepsElsewhere (machine_of machine.old) (machine_of machine.new) result }
+    ensures right { AreRight machine.new }
 {
     match source {
         LineSource::Program => machine.step(),
@@ -75,8 +83,11 @@ fn carry_function<const REGS: usize>(
     source: &LineSource,
     function: Function,
 ) -> Result<LineOutcome, FocalRefusal>
-    ensures line { CarriesFunction source.now function machine.old (carried_as machine.new result) }
-    ensures unchanged { OnErr result (machine.new ≡ machine.old) }
+    requires { AreRight machine.old }
+    ensures line { CarriesFunction source.now function (machine_of machine.old)
+        (carried_as (machine_of machine.new) result) }
+    ensures unchanged { OnErr result (machine_of machine.new ≡ machine_of machine.old) }
+    ensures right { AreRight machine.new }
 {
     match source {
         LineSource::Program => machine.step_as(function),
@@ -91,8 +102,11 @@ fn call_entry<const REGS: usize>(
     source: &LineSource,
     entry: Option<Entry>,
 ) -> Result<LineEnd, FocalRefusal>
-    ensures line { CallsEntry source.now entry machine.old (ended_as machine.new result) }
-    ensures unchanged { OnErr result (machine.new ≡ machine.old) }
+    requires { AreRight machine.old }
+    ensures line { CallsEntry source.now entry (machine_of machine.old)
+        (ended_as (machine_of machine.new) result) }
+    ensures unchanged { OnErr result (machine_of machine.new ≡ machine_of machine.old) }
+    ensures right { AreRight machine.new }
 {
     match entry {
         Some(entry) => begin_entry(machine, source, entry),
@@ -106,8 +120,11 @@ fn begin_entry<const REGS: usize>(
     source: &LineSource,
     entry: Entry,
 ) -> Result<LineEnd, FocalRefusal>
-    ensures line { BeginsEntry source.now entry machine.old (ended_as machine.new result) }
-    ensures unchanged { OnErr result (machine.new ≡ machine.old) }
+    requires { AreRight machine.old }
+    ensures line { BeginsEntry source.now entry (machine_of machine.old)
+        (ended_as (machine_of machine.new) result) }
+    ensures unchanged { OnErr result (machine_of machine.new ≡ machine_of machine.old) }
+    ensures right { AreRight machine.new }
 {
     if entry.keystroke {
         return Err(FocalRefusal::NotInProfile);
@@ -121,9 +138,13 @@ fn pass<const REGS: usize>(
     machine: &mut Machine<REGS>,
     source: &LineSource,
 ) -> Result<(), FocalRefusal>
-    ensures line { PassesFrom source.now machine.old (passed_as machine.new result) }
-    ensures unchanged { OnErr result (machine.new ≡ machine.old) }
+    requires { AreRight machine.old }
+    ensures line { PassesFrom source.now (machine_of machine.old)
+        (passed_as (machine_of machine.new) result) }
+    ensures unchanged { OnErr result (machine_of machine.new ≡ machine_of machine.old) }
+    ensures right { AreRight machine.new }
 {
+    kept_answers_stay_right();
     match source {
         LineSource::Program => machine.pass(),
         LineSource::Keys(_) => Ok(()),
@@ -135,8 +156,11 @@ fn fail<const REGS: usize>(
     machine: &mut Machine<REGS>,
     source: &LineSource,
 ) -> Result<LineEnd, FocalRefusal>
-    ensures line { Fails source.now machine.old (ended_as machine.new result) }
-    ensures unchanged { OnErr result (machine.new ≡ machine.old) }
+    requires { AreRight machine.old }
+    ensures line { Fails source.now (machine_of machine.old)
+        (ended_as (machine_of machine.new) result) }
+    ensures unchanged { OnErr result (machine_of machine.new ≡ machine_of machine.old) }
+    ensures right { AreRight machine.new }
 {
     Ok(LineEnd::Answers(fault_of(machine, source)?))
 }
@@ -146,9 +170,13 @@ fn fault_of<const REGS: usize>(
     machine: &mut Machine<REGS>,
     source: &LineSource,
 ) -> Result<LineOutcome, FocalRefusal>
-    ensures line { FailsFrom source.now machine.old (carried_as machine.new result) }
-    ensures unchanged { OnErr result (machine.new ≡ machine.old) }
+    requires { AreRight machine.old }
+    ensures line { FailsFrom source.now (machine_of machine.old)
+        (carried_as (machine_of machine.new) result) }
+    ensures unchanged { OnErr result (machine_of machine.new ≡ machine_of machine.old) }
+    ensures right { AreRight machine.new }
 {
+    kept_answers_stay_right();
     match source {
         LineSource::Program => machine.fail(LineFault::Nonexistent),
         LineSource::Keys(_) => machine.fail_typed(LineFault::Nonexistent),
@@ -162,8 +190,11 @@ fn call_named<const REGS: usize>(
     source: &LineSource,
     name: &[u8],
 ) -> Result<LineEnd, FocalRefusal>
-    ensures line { Seeks source.now pages.now name.now machine.old (ended_as machine.new result) }
-    ensures unchanged { OnErr result (machine.new ≡ machine.old) }
+    requires { AreRight machine.old }
+    ensures line { Seeks source.now pages.now name.now (machine_of machine.old)
+        (ended_as (machine_of machine.new) result) }
+    ensures unchanged { OnErr result (machine_of machine.new ≡ machine_of machine.old) }
+    ensures right { AreRight machine.new }
 {
     if let Some((number, entry)) = pages.find(name) {
         return call_entry(machine, source, pages.entry(number, entry));

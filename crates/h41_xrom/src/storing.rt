@@ -1,6 +1,7 @@
 //! The line that is stored where one was typed in program mode.
 
 ghost use Rattle.std.specs.Prelude.{IfSome, IsTrue};
+ghost use Rattle.h41_focal.specs.LabelledMachine.{machine_of};
 ghost use Rattle.h41_program.specs.Lines.{is_inner};
 ghost use Rattle.h41_ram.specs.RegisterMap.{is_sound};
 ghost use Rattle.h41_xrom.specs.KeyActions.{IsStoredAs};
@@ -15,9 +16,9 @@ use h41_program::global;
 /// The line that is stored for one that was typed: itself, but for XEQ of a name that memory does not have as a label, which is the
 /// XROM of a module's function of the name, or else the calculator's own, where there is one.
 pub fn stored_line<const REGS: usize>(machine: &Machine<REGS>, pages: &Pages, line: Line) -> Line
-    requires sound { IsTrue (is_sound machine.now.memory) }
+    requires sound { IsTrue (is_sound machine.now.ram.registers) }
     requires inner { IsTrue (is_inner line) }
-    ensures line { IsStoredAs pages.now machine.now.memory line result }
+    ensures line { IsStoredAs pages.now machine.now.ram.registers line result }
     ensures inner { IsTrue (is_inner result) }
 {
     match &line {
@@ -37,8 +38,8 @@ fn stored_for<const REGS: usize>(
     pages: &Pages,
     name: &[u8],
 ) -> Option<Line>
-    requires { IsTrue (is_sound machine.now.memory) }
-    ensures line { StoresFor pages.now machine.now.memory name.now result }
+    requires { IsTrue (is_sound machine.now.ram.registers) }
+    ensures line { StoresFor pages.now machine.now.ram.registers name.now result }
     ensures inner { IfSome result (λ line. IsTrue (is_inner line)) }
 {
     if global(&machine.ram, name).is_some() {

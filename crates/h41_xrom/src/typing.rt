@@ -1,6 +1,7 @@
 //! What numbers and letters that are typed make of memory. Nothing more is to be done then.
 
 ghost use Rattle.std.specs.Prelude.{◌≡◌, [], ◌∷◌, ◌++◌, take, Ok};
+ghost use Rattle.h41_focal.specs.LabelledMachine.{Keeps, machine_of};
 ghost use Rattle.h41_ram.specs.RegisterMap.{alpha_of};
 ghost use Rattle.h41_xrom.specs.KeyActions.{BeginsNumber, ChangesNumber, Leaves};
 ghost use Rattle.h41_xrom.specs.KeyActions.{with_alpha_toggled, with_letters, with_text};
@@ -16,8 +17,10 @@ use h41_rows::{append_text, bring_in, replace_text, written};
 
 /// A number comes into X as it begins; the stack is lifted first where lift is on, which it is then.
 pub fn begin_number<const REGS: usize>(machine: &mut Machine<REGS>, number: &Number) -> KeyEffect
-    ensures number { BeginsNumber number.now machine.old (Ok (Leaves machine.new)) }
+    ensures number { BeginsNumber number.now (machine_of machine.old)
+        (Ok (Leaves (machine_of machine.new))) }
     ensures effect { result ≡ Nothing }
+    ensures keeps { Keeps machine.old machine.new }
 {
     let focal = &mut machine.focal;
     bring_in(&mut machine.ram, written(number), focal.lift);
@@ -28,8 +31,10 @@ pub fn begin_number<const REGS: usize>(machine: &mut Machine<REGS>, number: &Num
 
 /// The number in X changes.
 pub fn change_number<const REGS: usize>(machine: &mut Machine<REGS>, number: &Number) -> KeyEffect
-    ensures number { ChangesNumber number.now machine.old (Ok (Leaves machine.new)) }
+    ensures number { ChangesNumber number.now (machine_of machine.old)
+        (Ok (Leaves (machine_of machine.new))) }
     ensures effect { result ≡ Nothing }
+    ensures keeps { Keeps machine.old machine.new }
 {
     bring_in(&mut machine.ram, written(number), false);
     KeyEffect::Nothing

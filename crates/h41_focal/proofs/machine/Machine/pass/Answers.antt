@@ -21,10 +21,10 @@ returns-in-Module-clause-line g c =
 
 pub returns-in_default-clause-line : goal.returns-in_default-clause-line
 returns-in_default-clause-line g c =
-      line_passed (machine_of c.args.self.now) (machine_with c.self.inside.ram.registers c.go_on.new.focal.state) c.in_ok-line.line c.in_ok-line.next
-      c.in_ok-line.ensures
-      (subst
-      (λ (machine : Machine). machine_with c.self.inside.ram.registers c.go_on.new.focal.state
-      ≡ with_line_passed c.in_ok-line.line c.in_ok-line.next machine)
-      (ap machine_of c.self.view_is)
-      (rw (c.go_on.ensures.state, lift_kept c.in_ok-line.line c.self.inside.focal.state.lift c.in_default.not-Module) refl))
+    line_passed (machine_of c.args.self.now) (machine_with c.self.inside.ram.registers c.go_on.new.focal.state) c.in_ok-line.line c.in_ok-line.next
+    c.in_ok-line.ensures
+    (subst
+    (λ (machine : Machine). machine_with c.self.inside.ram.registers c.go_on.new.focal.state
+    ≡ with_line_passed c.in_ok-line.line c.in_ok-line.next machine)
+    (ap machine_of c.self.view_is)
+    (rw (c.go_on.ensures.state, lift_kept c.in_ok-line.line c.self.inside.focal.state.lift c.in_default.not-Module) refl))

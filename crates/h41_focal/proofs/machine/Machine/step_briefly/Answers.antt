@@ -11,10 +11,13 @@ use Rattle.h41_focal.specs.declared.origin.Origin.TheVariants.{Program}
 
 pub returns-in_err-line-clause-line : goal.returns-in_err-line-clause-line
 returns-in_err-line-clause-line g c =
-    let refused = err_from_is_err_and c.from_residual.result c.from_residual.ensures.1 in
-    (nowhere, refl, rw (refused.1, refused.2)
-    (subst (λ (machine : Machine). StepsLine None machine (Err c.in_err-line.field-0.0)) (ap machine_of c.begin.ensures.begun)
-    (step_refused None (machine_of c.begin.new.self) c.in_err-line.field-0.0 c.in_err-line.ensures)))
+    let refused = err_from_is_err_and c.from_residual.result c.from_residual.ensures.1 in (
+      nowhere,
+      refl,
+      rw (refused.1, refused.2)
+          (subst (λ (machine : Machine). StepsLine None machine (Err c.in_err-line.field-0.0)) (ap machine_of c.begin.ensures.begun)
+          (step_refused None (machine_of c.begin.new.self) c.in_err-line.field-0.0 c.in_err-line.ensures)),
+    )
 
 pub returns-in_err-line-clause-right : goal.returns-in_err-line-clause-right
 returns-in_err-line-clause-right g c = λ clear. c.begin.ensures.right
@@ -22,10 +25,11 @@ returns-in_err-line-clause-right g c = λ clear. c.begin.ensures.right
 pub returns-clause-line : goal.returns-clause-line
 returns-clause-line g c =
     subst (λ (machine : Machine). StepsBriefly machine (machine_of c.carry_briefly.new.machine) c.carry_briefly.result)
-    (ap machine_of c.begin.ensures.begun)
-    ( called_by c.begin.new.self.ram.registers c.in_ok-line.line,
+    (ap machine_of c.begin.ensures.begun) (
+      called_by c.begin.new.self.ram.registers c.in_ok-line.line,
       calls_elsewhere c.begin.new.self.ram.registers c.in_ok-line.line,
-      step_taken None _ c.in_ok-line.line c.in_ok-line.next _ c.in_ok-line.ensures c.carry_briefly.ensures.taken )
+      step_taken None _ c.in_ok-line.line c.in_ok-line.next _ c.in_ok-line.ensures c.carry_briefly.ensures.taken,
+    )
 
 pub returns-clause-elsewhere : goal.returns-clause-elsewhere
 returns-clause-elsewhere g c = λ elsewhere.

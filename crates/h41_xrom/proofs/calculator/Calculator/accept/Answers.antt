@@ -1,5 +1,6 @@
 use Rattle.std.proofs.Common.{ap, ◌∙◌}
 use Rattle.std.proofs.lemmas.Result.{err_from_is_err_and}
+use Rattle.h41_focal.specs.LabelledMachine.{machine_of}
 use Rattle.h41_xrom.proofs.Keying.{key_done, key_failed, key_lost}
 use Rattle.h41_xrom.specs.private.PrivateCalls.{after_effect}
 use Rattle.h41_xrom.proofs.calculator.Calculator.accept.Goals as goal
@@ -12,10 +13,10 @@ returns-in_err-check_memory c =
 pub returns-in-Ok : goal.returns-in-Ok
 returns-in-Ok c =
     key_done c.args.key c.args.input c.args.action _ c.args.self.now _
-    c.act.new.machine c.in-Ok.effect c.self.view_is (c.in_ok-check_memory.ensures)
+    (machine_of c.act.new.machine) c.in-Ok.effect c.self.view_is (c.in_ok-check_memory.ensures)
     (c.in-Ok.ensures).effect (c.finish.ensures ∙ ap (after_effect c.in-Ok.effect) c.tell.ensures)
 
 pub returns-in-Err : goal.returns-in-Err
 returns-in-Err c =
-    key_failed c.args.key c.args.input c.args.action _ c.args.self.now c.act.new.machine c.in-Err.refusal c.self.view_is
+    key_failed c.args.key c.args.input c.args.action _ c.args.self.now (machine_of c.act.new.machine) c.in-Err.refusal c.self.view_is
     (c.in_ok-check_memory.ensures) (c.in-Err.ensures).effect (c.in-Err.ensures).unchanged

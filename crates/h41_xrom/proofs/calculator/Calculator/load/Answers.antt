@@ -1,5 +1,7 @@
 use Rattle.std.proofs.Common.{ap, ◌∙◌}
 use Rattle.std.proofs.lemmas.Result.{err_from_is_err_and}
+use Rattle.h41_xrom.specs.declared.calculator.Calculator.TheInside.{Inside}
+use Rattle.h41_xrom.proofs.LabelsStay.{right_with}
 use Rattle.h41_xrom.proofs.Loading.{load_done, load_failed, load_refused}
 use Rattle.h41_xrom.specs.contracts.calculator.Calculator.{the_view}
 use Rattle.h41_xrom.proofs.calculator.Calculator.load.Goals as goal
@@ -18,5 +20,10 @@ returns-in_err-start c =
 pub returns : goal.returns
 returns c =
     load_done c.args.bytes.now _ c.args.self.now c.load.new.ram.registers c.in_ok-start.start
-    c.halt_at.new.self (ap the_view c.self-inside.view_is ∙ c.self.view_is) c.halt_at.ensures
+    c.halt_at.new.self.state (ap the_view c.self-inside.view_is ∙ c.self.view_is) c.halt_at.ensures.state
     (c.in_ok-check_change.ensures) (c.in_ok-start.ensures).lines
+
+pub invariant_of-self-2 : goal.invariant_of-self-2
+invariant_of-self-2 c =
+    right_with c.kept_answers_stay_right.ensures.keeping c.self.inside.machine _ c.load.new.ram c.halt_at.new.self.labels
+    (ap (λ (inside : Inside). inside.machine) c.self-inside.view_is) c.load.ensures.mark c.halt_at.ensures.labels c.self.invariant

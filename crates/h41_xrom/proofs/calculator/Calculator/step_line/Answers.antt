@@ -1,6 +1,7 @@
 use Rattle.std.proofs.Common.{Some, Ok, ap, subst, ◌∙◌}
 use Rattle.std.specs.Prelude.{OnOk}
 use Rattle.std.specs.Result.{result_err}
+use Rattle.h41_focal.specs.LabelledMachine.{machine_of}
 use Rattle.h41_focal.specs.declared.outcome.BriefOutcome.TheVariants as briefs
 use Rattle.h41_xrom.proofs.Stepping.{brief_accepted, brief_left, brief_refused, nothing_called}
 use Rattle.h41_xrom.specs.Calculator.{CalculatorState, RefusesLine, StepsByLine}
@@ -11,37 +12,37 @@ pub returns-in-Done-clause-refusal : goal.returns-in-Done-clause-refusal
 returns-in-Done-clause-refusal c =
     let steps = c.in-Ok.ensures.line in
     let steps = rw c.in-Done.is at steps in
-    brief_accepted steps.0 _ c.args.self.now c.step_briefly.new.self briefs.Done c.self.view_is steps.2 (λ is. cc is)
+    brief_accepted steps.0 _ c.args.self.now (machine_of c.step_briefly.new.self) briefs.Done c.self.view_is steps.2 (λ is. cc is)
 
 pub returns-in-Done-clause-change : goal.returns-in-Done-clause-change
 returns-in-Done-clause-change c =
     let steps = c.in-Ok.ensures.line in
     let steps = rw c.in-Done.is at steps in
-    brief_left steps.0 _ c.args.self.now _ c.step_briefly.new.self briefs.Done c.self.view_is steps.2 (λ is. cc is) c.end_entry.ensures
+    brief_left steps.0 _ c.args.self.now _ (machine_of c.step_briefly.new.self) briefs.Done c.self.view_is steps.2 (λ is. cc is) c.end_entry.ensures
 
 pub returns-in-Elsewhere-clause-refusal : goal.returns-in-Elsewhere-clause-refusal
 returns-in-Elsewhere-clause-refusal c =
     subst (λ (of : CalculatorState). RefusesLine of (result_err c.call_by_line.result))
-    (nothing_called _ c.args.self.now c.step_briefly.new.self c.self.view_is
+    (nothing_called _ c.args.self.now (machine_of c.step_briefly.new.self) c.self.view_is
     (c.step_briefly.ensures.elsewhere (c.in-Ok.is ∙ ap Ok c.in-Elsewhere.is)))
     c.call_by_line.ensures.refusal
 
 pub returns-in-Elsewhere-clause-change : goal.returns-in-Elsewhere-clause-change
 returns-in-Elsewhere-clause-change c =
     subst (λ (of : CalculatorState). OnOk c.call_by_line.result (StepsByLine of c.call_by_line.new.self))
-    (nothing_called _ c.args.self.now c.step_briefly.new.self c.self.view_is
+    (nothing_called _ c.args.self.now (machine_of c.step_briefly.new.self) c.self.view_is
     (c.step_briefly.ensures.elsewhere (c.in-Ok.is ∙ ap Ok c.in-Elsewhere.is)))
     c.call_by_line.ensures.change
 
 pub returns-in_default-clause-refusal : goal.returns-in_default-clause-refusal
 returns-in_default-clause-refusal c =
     let steps = c.in-Ok.ensures.line in
-    brief_accepted steps.0 _ c.args.self.now c.step_briefly.new.self c.in-Ok.brief c.self.view_is steps.2 c.in_default.not-Elsewhere
+    brief_accepted steps.0 _ c.args.self.now (machine_of c.step_briefly.new.self) c.in-Ok.brief c.self.view_is steps.2 c.in_default.not-Elsewhere
 
 pub returns-in_default-clause-change : goal.returns-in_default-clause-change
 returns-in_default-clause-change c =
     let steps = c.in-Ok.ensures.line in
-    brief_left steps.0 _ c.args.self.now _ c.step_briefly.new.self c.in-Ok.brief c.self.view_is steps.2 c.in_default.not-Elsewhere
+    brief_left steps.0 _ c.args.self.now _ (machine_of c.step_briefly.new.self) c.in-Ok.brief c.self.view_is steps.2 c.in_default.not-Elsewhere
     (c.answer_briefly.ensures steps.0 ∙ ap (answered_briefly steps.0 c.in-Ok.brief) c.end_entry-in_default.ensures)
 
 pub returns-in-Err-clause-refusal : goal.returns-in-Err-clause-refusal

@@ -1,0 +1,22 @@
+-- Kept labels stay right where memory keeps its mark.
+use Rattle.std.proofs.Common.{◌≡◌, List, refl, subst, sym}
+use Rattle.std.specs.Prelude.{IsFalse}
+use Rattle.h41_focal.specs.LabelLaws.{KeepingStaysRight}
+use Rattle.h41_focal.specs.LabelledMachine.{AreRight, Keeps, LabelledMachine, labelled_with}
+use Rattle.h41_labels.specs.KeptAnswers.{IsRight}
+use Rattle.h41_labels.specs.declared.search.KeptAnswer.{KeptAnswer}
+use Rattle.h41_ram.specs.RamState.{KeepsMark, RamState}
+
+-- with memory changed alone
+pub right_over : KeepingStaysRight → (old from : LabelledMachine) (ram : RamState) → from ≡ old → KeepsMark from.ram ram → AreRight old
+    → AreRight (labelled_with ram from.focal)
+right_over keeping old from ram is mark right =
+    keeping from (labelled_with ram from.focal) (record { mark = mark; labels = refl })
+    (subst (λ (machine : LabelledMachine). AreRight machine) (sym is) right)
+
+-- and with labels that are the same
+pub right_with : KeepingStaysRight → (old from : LabelledMachine) (ram : RamState) (labels : List KeptAnswer) → from ≡ old
+    → KeepsMark from.ram ram → labels ≡ from.focal.labels → AreRight old → IsFalse ram.touched → IsRight labels ram.registers
+right_with keeping old from ram labels is mark same right =
+    keeping from (record { ram = ram; focal = record from.focal { labels = labels } }) (record { mark = mark; labels = same })
+    (subst (λ (machine : LabelledMachine). AreRight machine) (sym is) right)

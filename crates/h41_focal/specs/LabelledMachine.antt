@@ -1,5 +1,5 @@
--- What a contract sees of a machine in the code: memory with its mark, and beside what lines work on
--- the answers of the searches for labels that are kept. Lines, by their definition, know neither
+-- What a contract sees of a machine in the code: memory with its mark, and beside what lines work
+-- on the answers of the searches for labels that are kept. Lines, by their definition, know neither
 -- mark nor kept answers: what a line finds is what the search finds.
 use Rattle.std.specs.Prelude.{◌≡◌, false, List, [], IsFalse, if◌then◌else◌}
 use Rattle.h41_focal.specs.LineStep.{FocalState, Machine, machine_with}

@@ -2,11 +2,9 @@
 ghost use Rattle.std.specs.Prelude.{◌≡◌, [], IsTrue, Some};
 ghost use Rattle.h41_focal.specs.LabelSearches.{local_search};
 ghost use Rattle.h41_focal.specs.LineStep.{at_line_00, at_position, halted_at, start};
-ghost use Rattle.h41_labels.specs.KeptAnswers.{IsRight, KeepsSearch};
+ghost use Rattle.h41_labels.specs.KeptAnswers.{Finds, IsRight, KeepsSearch};
 ghost use Rattle.h41_labels.specs.declared.search.Search.TheVariants.{Global};
 ghost use Rattle.h41_program.specs.Positions.{LocalFrom};
-ghost use Rattle.h41_program.specs.ProgramLines.{AnswersOf};
-ghost use Rattle.h41_program.specs.Searches.{named_in, position_of};
 ghost use Rattle.h41_ram.specs.RegisterMap.{is_sound};
 
 use arrayvec::ArrayVec;
@@ -137,7 +135,7 @@ impl Focal {
     ) -> Option<u16>
         requires sound { IsTrue (is_sound ram.now.registers) }
         requires right { IsRight self.old.labels ram.now.registers }
-        ensures found { AnswersOf (λ lines. position_of (named_in name lines)) ram.now.registers 0 result }
+        ensures found { Finds ram.now.registers (Global name) result }
         ensures kept { KeepsSearch ram.now.registers (Some (Global name))
             self.old.labels self.new.labels }
         ensures state { self.new.state ≡ self.old.state }

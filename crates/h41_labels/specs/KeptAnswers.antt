@@ -1,8 +1,8 @@
 -- Searches for labels that are kept with their answers, as a list, the oldest first. That searches
 -- are kept, and how many, is this project's choice.
 use Rattle.std.specs.Prelude.{◌≡◌, ℕ, Bool, false, ◌&&◌, ◌==◌, All, List, [], ◌∷◌, ◌++◌, drop}
-use Rattle.std.specs.Prelude.{find, if◌then◌else◌, is_some, length, nat_lt, MatchOption, None, Option}
-use Rattle.std.specs.Prelude.{Some}
+use Rattle.std.specs.Prelude.{find, if◌then◌else◌, is_some, length, nat_lt, MatchOption, None}
+use Rattle.std.specs.Prelude.{Option, Some}
 use Rattle.std.specs.Option.{option_map}
 use Rattle.std.specs.Str.{bytes_eq}
 use Rattle.h41_labels.specs.declared.search.KeptAnswer.{KeptAnswer}

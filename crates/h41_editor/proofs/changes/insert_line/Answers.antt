@@ -17,7 +17,8 @@ returns-in_err-byte-clause-line g c =
 pub returns-clause-line : goal.returns-clause-line
 returns-clause-line g c =
     let place = c.in_ok-before-in-Some.before in
-    line_inserted c.args.line _ (machine_of c.args.machine.now) c.insert.new.ram.registers c.show_line.new.focal.state c.in-Some.shown place (byte_of place)
+    line_inserted c.args.line _ (machine_of c.args.machine.now) c.insert.new.ram.registers c.show_line.new.focal.state c.in-Some.shown
+    place (byte_of place)
     c.in_ok-byte.byte
     (ap machine_of c.machine.view_is) c.in-Some.ensures c.in_ok-before-in-Some.ensures.place (byte_is place) c.in_ok-byte.ensures.lines
     c.in_ok-byte.ensures.answer c.show_line.ensures.state

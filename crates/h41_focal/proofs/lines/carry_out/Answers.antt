@@ -21,7 +21,9 @@ outcome_of-requires g c = (
 
 pub returns-clause-taken : goal.returns-clause-taken
 returns-clause-taken g c =
-    outcome_taken c.args.origin c.args.line.now (machine_of c.args.machine.now) (machine_of c.carry_briefly.new.machine) c.in_ok-brief.brief c.outcome_of.result
+    outcome_taken c.args.origin c.args.line.now (machine_of c.args.machine.now)
+    (machine_of c.carry_briefly.new.machine) c.in_ok-brief.brief c.outcome_of.result
     c.in_ok-brief.ensures.taken
     (c.outcome_of.ensures
-    ∙ ap (λ (of : Machine). brief_answer (called_by of.memory c.args.line.now) of.memory c.in_ok-brief.brief) (ap machine_of c.machine.view_is))
+    ∙ ap (λ (of : Machine). brief_answer (called_by of.memory c.args.line.now) of.memory c.in_ok-brief.brief)
+    (ap machine_of c.machine.view_is))

@@ -8,5 +8,6 @@ use Rattle.h41_focal.proofs.lines.standing.Goals as goal
 pub returns : goal.returns
 returns g c =
     subst (λ (machine : Machine). Stands machine c.standing_at.result)
-    (ap (λ (inside : Inside g.row.REGS). machine_with inside.ram.registers inside.focal.state) c.machine-inside.view_is ∙ (ap machine_of c.machine.view_is))
+    (ap (λ (inside : Inside g.row.REGS). machine_with inside.ram.registers inside.focal.state) c.machine-inside.view_is ∙
+    (ap machine_of c.machine.view_is))
     c.standing_at.ensures

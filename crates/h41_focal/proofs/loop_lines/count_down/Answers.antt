@@ -33,4 +33,5 @@ returns-in_ok-lead-in-Ok-clause-carried g c =
 pub returns-in-Err-clause-carried : goal.returns-in-Err-clause-carried
 returns-in-Err-clause-carried g c =
     let works = loop_works Down _ c.args.address _ (c.compute_of_one.ensures c.args.address Named refl) in
-    row_failed _ (loop Down) c.args.address _ _ _ _ c.in-Err.fault c.fail.result (ap machine_of c.machine.view_is) (rw c.in-Err.is at works) c.fail.ensures.done
+    row_failed _ (loop Down) c.args.address _ _ _ _ c.in-Err.fault c.fail.result (ap machine_of c.machine.view_is)
+    (rw c.in-Err.is at works) c.fail.ensures.done

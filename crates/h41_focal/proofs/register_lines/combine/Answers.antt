@@ -19,7 +19,8 @@ returns-in-Ok-clause-done g c =
 
 pub returns-in-Err-clause-done : goal.returns-in-Err-clause-done
 returns-in-Err-clause-done g c =
-    row_failed _ (register_use_row (registers.Combine c.args.value)) c.args.address _ _ _ _ c.in-Err.fault _ (ap machine_of c.machine.view_is)
+    row_failed _ (register_use_row (registers.Combine c.args.value)) c.args.address _ _ _ _ c.in-Err.fault _
+    (ap machine_of c.machine.view_is)
     (let worked = c.compute_of_two.ensures c.machine.inside.ram.registers c.args.address Named X refl refl refl in
     works_in_register c.args.value _ c.args.address _ (rw c.in-Err.is at worked))
     c.fail.ensures.done

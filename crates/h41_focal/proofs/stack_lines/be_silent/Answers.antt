@@ -8,4 +8,5 @@ use Rattle.h41_ram.specs.RegisterMap.{zeros}
 
 pub returns-clause-done : goal.returns-clause-done
 returns-clause-done g c = λ named.
-    row_done _ silent_row named _ _ _ zeros briefs.Done _ _ (ap machine_of c.machine.view_is) c.requires.next refl refl refl refl c.go_on.ensures.state
+    row_done _ silent_row named _ _ _ zeros briefs.Done _ _
+    (ap machine_of c.machine.view_is) c.requires.next refl refl refl refl c.go_on.ensures.state

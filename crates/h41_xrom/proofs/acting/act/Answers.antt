@@ -37,25 +37,30 @@ returns-in-ChangeNumber-clause-right g c =
 
 pub returns-in-ToggleAlpha-clause-right : goal.returns-in-ToggleAlpha-clause-right
 returns-in-ToggleAlpha-clause-right g c =
-    right_over c.kept_answers_stay_right.ensures.keeping c.args.machine.now _ c.toggle_alpha.new.ram c.machine.view_is c.toggle_alpha.ensures.mark
+    right_over c.kept_answers_stay_right.ensures.keeping c.args.machine.now _ c.toggle_alpha.new.ram c.machine.view_is
+    c.toggle_alpha.ensures.mark
     c.requires.right
 
 pub returns-in-BeginText-clause-right : goal.returns-in-BeginText-clause-right
 returns-in-BeginText-clause-right g c =
-    right_over c.kept_answers_stay_right.ensures.keeping c.args.machine.now _ c.begin_text.new.ram c.machine-in-BeginText.view_is c.begin_text.ensures.mark
+    right_over c.kept_answers_stay_right.ensures.keeping c.args.machine.now _ c.begin_text.new.ram c.machine-in-BeginText.view_is
+    c.begin_text.ensures.mark
     c.requires.right
 
 pub returns-in-AddLetter-clause-right : goal.returns-in-AddLetter-clause-right
 returns-in-AddLetter-clause-right g c =
-    right_over c.kept_answers_stay_right.ensures.keeping c.args.machine.now _ c.add_letter.new.ram c.machine-in-AddLetter.view_is c.add_letter.ensures.mark
+    right_over c.kept_answers_stay_right.ensures.keeping c.args.machine.now _ c.add_letter.new.ram c.machine-in-AddLetter.view_is
+    c.add_letter.ensures.mark
     c.requires.right
 
 pub returns-in-TakeLetter-clause-right : goal.returns-in-TakeLetter-clause-right
 returns-in-TakeLetter-clause-right g c =
-    right_over c.kept_answers_stay_right.ensures.keeping c.args.machine.now _ c.take_letter.new.ram c.machine-in-TakeLetter.view_is c.take_letter.ensures.mark
+    right_over c.kept_answers_stay_right.ensures.keeping c.args.machine.now _ c.take_letter.new.ram c.machine-in-TakeLetter.view_is
+    c.take_letter.ensures.mark
     c.requires.right
 
 pub returns-in-ClearAlpha-clause-right : goal.returns-in-ClearAlpha-clause-right
 returns-in-ClearAlpha-clause-right g c =
-    right_over c.kept_answers_stay_right.ensures.keeping c.args.machine.now _ c.clear_alpha.new.ram c.machine-in-ClearAlpha.view_is c.clear_alpha.ensures.mark
+    right_over c.kept_answers_stay_right.ensures.keeping c.args.machine.now _ c.clear_alpha.new.ram c.machine-in-ClearAlpha.view_is
+    c.clear_alpha.ensures.mark
     c.requires.right

@@ -22,7 +22,9 @@ returns-clause-found g c =
 
 pub returns-clause-kept : goal.returns-clause-kept
 returns-clause-kept g c =
-    subst (λ (focal : LabelledFocal). KeepsSearch c.args.ram.now.registers (Some (local_search c.args.from c.args.label)) focal.labels c.local.new.self)
+    subst (λ (focal : LabelledFocal). KeepsSearch c.args.ram.now.registers (Some
+    (local_search c.args.from c.args.label)) focal.labels c.local.new.self)
     c.self.view_is
-    (subst (λ (from : Position). KeepsSearch c.args.ram.now.registers (Some (local_search from c.args.label)) c.self.inside.labels c.local.new.self)
+    (subst (λ (from : Position). KeepsSearch c.args.ram.now.registers (Some
+    (local_search from c.args.label)) c.self.inside.labels c.local.new.self)
     (sym (byte_is c.args.from)) (c.local.result, c.local.ensures.answer, c.local.ensures.kept))

@@ -15,6 +15,7 @@ returns-in_err-next-clause-line g c =
 pub returns-clause-line : goal.returns-clause-line
 returns-clause-line g c =
     rw (same_left (machine_of c.fail.new.machine) c.fail.result c.outcome.result
-    (λ called. c.outcome.ensures called ∙ ap (λ (of : Machine). brief_answer called of.memory c.fail.result) (ap machine_of c.self.view_is)))
+    (λ called. c.outcome.ensures called ∙ ap (λ (of : Machine). brief_answer called of.memory c.fail.result)
+    (ap machine_of c.self.view_is)))
     (line_fails c.args.fault (machine_of c.args.self.now) (machine_of c.fail.new.machine) c.in_ok-next.field-0-0
     c.in_ok-next.next c.fail.result c.in_ok-next.ensures c.fail.ensures.done)

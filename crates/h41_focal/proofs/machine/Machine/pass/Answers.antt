@@ -12,7 +12,8 @@ returns-in_err-line-clause-line g c =
 
 pub returns-in-Module-clause-line : goal.returns-in-Module-clause-line
 returns-in-Module-clause-line g c =
-    line_passed (machine_of c.args.self.now) (machine_with c.self.inside.ram.registers c.go_on_lifting.new.focal.state) c.in_ok-line.line c.in_ok-line.next
+    line_passed (machine_of c.args.self.now)
+    (machine_with c.self.inside.ram.registers c.go_on_lifting.new.focal.state) c.in_ok-line.line c.in_ok-line.next
     c.in_ok-line.ensures
     (subst
     (λ (machine : Machine). machine_with c.self.inside.ram.registers c.go_on_lifting.new.focal.state
@@ -21,7 +22,8 @@ returns-in-Module-clause-line g c =
 
 pub returns-in_default-clause-line : goal.returns-in_default-clause-line
 returns-in_default-clause-line g c =
-    line_passed (machine_of c.args.self.now) (machine_with c.self.inside.ram.registers c.go_on.new.focal.state) c.in_ok-line.line c.in_ok-line.next
+    line_passed (machine_of c.args.self.now)
+    (machine_with c.self.inside.ram.registers c.go_on.new.focal.state) c.in_ok-line.line c.in_ok-line.next
     c.in_ok-line.ensures
     (subst
     (λ (machine : Machine). machine_with c.self.inside.ram.registers c.go_on.new.focal.state

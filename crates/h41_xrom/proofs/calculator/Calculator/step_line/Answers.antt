@@ -18,7 +18,8 @@ pub returns-in-Done-clause-change : goal.returns-in-Done-clause-change
 returns-in-Done-clause-change c =
     let steps = c.in-Ok.ensures.line in
     let steps = rw c.in-Done.is at steps in
-    brief_left steps.0 _ c.args.self.now _ (machine_of c.step_briefly.new.self) briefs.Done c.self.view_is steps.2 (λ is. cc is) c.end_entry.ensures
+    brief_left steps.0 _ c.args.self.now _ (machine_of c.step_briefly.new.self) briefs.Done c.self.view_is steps.2
+    (λ is. cc is) c.end_entry.ensures
 
 pub returns-in-Elsewhere-clause-refusal : goal.returns-in-Elsewhere-clause-refusal
 returns-in-Elsewhere-clause-refusal c =
@@ -37,12 +38,14 @@ returns-in-Elsewhere-clause-change c =
 pub returns-in_default-clause-refusal : goal.returns-in_default-clause-refusal
 returns-in_default-clause-refusal c =
     let steps = c.in-Ok.ensures.line in
-    brief_accepted steps.0 _ c.args.self.now (machine_of c.step_briefly.new.self) c.in-Ok.brief c.self.view_is steps.2 c.in_default.not-Elsewhere
+    brief_accepted steps.0 _ c.args.self.now
+    (machine_of c.step_briefly.new.self) c.in-Ok.brief c.self.view_is steps.2 c.in_default.not-Elsewhere
 
 pub returns-in_default-clause-change : goal.returns-in_default-clause-change
 returns-in_default-clause-change c =
     let steps = c.in-Ok.ensures.line in
-    brief_left steps.0 _ c.args.self.now _ (machine_of c.step_briefly.new.self) c.in-Ok.brief c.self.view_is steps.2 c.in_default.not-Elsewhere
+    brief_left steps.0 _ c.args.self.now _ (machine_of c.step_briefly.new.self) c.in-Ok.brief c.self.view_is steps.2
+    c.in_default.not-Elsewhere
     (c.answer_briefly.ensures steps.0 ∙ ap (answered_briefly steps.0 c.in-Ok.brief) c.end_entry-in_default.ensures)
 
 pub returns-in-Err-clause-refusal : goal.returns-in-Err-clause-refusal

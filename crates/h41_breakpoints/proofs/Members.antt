@@ -1,6 +1,6 @@
 -- Sets of breakpoints by the lists of their members.
-use Rattle.std.proofs.Common.{◌≡◌, ◌≢◌, ◌≤◌, ◌<◌, ℕ, suc, ◌+◌, Bool, true, false, cond, inl, inr, Some, None}
-use Rattle.std.proofs.Common.{List, [], ◌∷◌, ◌++◌, length, length-append, get_or, get_or-set_other, get_or-set_same, set}
+use Rattle.std.proofs.Common.{◌≡◌, ◌≤◌, ◌<◌, ℕ, suc, ◌+◌, Bool, true, false, cond, Some, None}
+use Rattle.std.proofs.Common.{List, [], ◌∷◌, ◌++◌, length, length-append, get_or, set}
 use Rattle.std.proofs.Common.{refl, sym, ap, subst, ◌∙◌, arith}
 use Rattle.std.specs.Prelude.{not, ◌&&◌, ◌||◌, nat_lt, position}
 use Rattle.std.specs.Cmp.{IsTotalOrder, Equal-is, unsigned_tied}
@@ -15,8 +15,7 @@ use Rattle.std.proofs.lemmas.List.Quantifiers.{position-Some}
 use Rattle.std.proofs.lemmas.List.Sorted.{IsPermutation-swap_remove, list_any-IsPermutation}
 use Rattle.std.specs.Ordering.{ordering_reverse}
 use Rattle.h41_breakpoints.specs.Breakpoints.{BreakpointSet, location_cmp, is_set, with_breakpoint, without_breakpoint}
-use Rattle.std.proofs.lemmas.Bool.{cases_eq}
-use Rattle.h41_breakpoints.specs.private.Members.{AreMarked, IsEachOnce, is_same, low_byte, set_of}
+use Rattle.h41_breakpoints.specs.private.Members.{IsEachOnce, is_same, set_of}
 use Rattle.h41_breakpoints.specs.declared.location.Location.{Location}
 use Rattle.h41_breakpoints.specs.declared.location.Location.TheVariants.{Line, Word}
 use Rattle.h41_program.specs.declared.position.Position.TheVariants.{Memory}
@@ -54,13 +53,13 @@ cmp_apart (Word a) (Line (Memory b)) p = cc
 cmp_apart (Line (Memory a)) (Word b) p = cc
 cmp_apart (Line (Memory a)) (Line (Memory b)) p = ap (λ (n : ℕ). Line (Memory n)) (nat_cmp-IsAntisymmetric a b p)
 
-same_is : (x y : Location) → is_same x y ≡ eq_by_cmp location_cmp x y
+pub same_is : (x y : Location) → is_same x y ≡ eq_by_cmp location_cmp x y
 same_is (Word a) (Word b) = sym (unsigned_tied a b)
 same_is (Word a) (Line (Memory b)) = refl
 same_is (Line (Memory a)) (Word b) = refl
 same_is (Line (Memory a)) (Line (Memory b)) = sym (unsigned_tied a b)
 
-equal_are : (x y : Location) → eq_by_cmp location_cmp x y ≡ true → x ≡ y
+pub equal_are : (x y : Location) → eq_by_cmp location_cmp x y ≡ true → x ≡ y
 equal_are x y p = cmp_apart x y ((Equal-is (location_cmp x y)).0 p)
 
 -- a member is found in the list
@@ -188,47 +187,6 @@ taken members fewer b x i once found at is size =
       once = once_taken members b x i once place.0 at same sizes;
       set = set_taken members b x i once place.0 at same sizes;
     })
-
--- one that is in a set with one more is that one or was in it
-was_in : (members : List Location) (b q : Location) → is_set (set_of (members ++ b ∷ [])) q ≡ true
-    → eq_by_cmp location_cmp q b ≡ false → is_set (set_of members) q ≡ true
-was_in members b q had apart =
-    ap (λ (tied : Bool). tied || contains (set_of members) q) (sym apart)
-    ∙ sym (contains-insert cmp_total (set_of members) b q) ∙ ap (λ (set : BreakpointSet). is_set set q) (sym (set_pushed members b)) ∙ had
-
-pub marked_pushed : (marks : List Bool) (members : List Location) (b : Location) → low_byte b < length marks → AreMarked marks members
-    → AreMarked (set marks (low_byte b) true) (members ++ b ∷ [])
-marked_pushed marks members b within marked q had =
-    elim (cases_eq (low_byte q) (low_byte b)) [
-      | inl same ↦ ap (λ i. get_or (set marks (low_byte b) true) i false) same ∙ get_or-set_same marks (low_byte b) true false within
-      | inr other ↦ get_or-set_other marks (low_byte b) (low_byte q) true false other ∙ marked q (was_in members b q had (apart other))
-    ]
-  where
-    apart : low_byte q ≢ low_byte b → eq_by_cmp location_cmp q b ≡ false
-    apart other = elim (eq_by_cmp location_cmp q b) as (λ tied. eq_by_cmp location_cmp q b ≡ tied → tied ≡ false) [
-      | true ↦ λ is. absurd (other (ap low_byte (equal_are q b is)))
-      | false ↦ λ _. refl
-    ] refl
-
-pub none_in : (q : Location) → is_set (set_of []) q ≡ true → ⊥
-none_in q had =
-    let no : false ≡ true = sym (contains-from_list cmp_total [] q) ∙ had in
-    cc
-
--- those that are left are marked as before
-pub marked_left : (marks : List Bool) (members fewer : List Location) (b : Location) → set_of fewer ≡ without_breakpoint b (set_of members)
-    → AreMarked marks members → AreMarked marks fewer
-marked_left marks members fewer b taken marked q had = marked q (was q had)
-  where
-    last_holds : (p q : Bool) → (p && q) ≡ true → q ≡ true
-    last_holds true q both = both
-    last_holds false q both = cc
-
-    was : (q : Location) → is_set (set_of fewer) q ≡ true → is_set (set_of members) q ≡ true
-    was q had =
-        let both : (not (eq_by_cmp location_cmp q b) && contains (set_of members) q) ≡ true =
-        sym (contains-remove cmp_total (set_of members) b q) ∙ ap (λ (set : BreakpointSet). contains set q) (sym taken) ∙ had in
-        last_holds (not (eq_by_cmp location_cmp q b)) (contains (set_of members) q) both
 
 -- none is in a set of none
 pub none_set : (set : BreakpointSet) (q : Location) → len set ≡ 0 → false ≡ is_set set q

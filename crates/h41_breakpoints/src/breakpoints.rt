@@ -1,24 +1,21 @@
 //! The breakpoints that are set: where a run stops.
 
-ghost use Rattle.std.specs.Prelude.{◌≡◌, ◌≤◌, ◌<◌, false, OnErr, OnOk, is_err, position};
+ghost use Rattle.std.specs.Prelude.{◌≡◌, ◌≤◌, IfOk, OnErr, OnOk, is_err, position};
 ghost use Rattle.std.specs.FinSet.{len};
 ghost use Rattle.std.specs.List.{list_any};
-ghost use Rattle.h41_breakpoints.specs.declared.location.Location.TheVariants.{Line, Word};
 ghost use Rattle.h41_breakpoints.specs.Breakpoints.{is_set, most_breakpoints, no_breakpoints};
 ghost use Rattle.h41_breakpoints.specs.Breakpoints.{lacks_breakpoint, refuses_breakpoint};
 ghost use Rattle.h41_breakpoints.specs.Breakpoints.{with_breakpoint, without_breakpoint};
-ghost use Rattle.h41_breakpoints.specs.private.Members.{is_same, low_byte};
+ghost use Rattle.h41_breakpoints.specs.private.Members.{is_same};
 
 use crate::location::Location;
+use crate::tables::Tables;
 use arrayvec::ArrayVec;
-use h41_program::Position;
+use std::alloc::{AllocError, Global};
 use std::marker::Model;
 
 /// How many breakpoints can be set.
 const MOST: usize = 16;
-
-/// How many low bytes a number can have.
-const LOW_BYTES: usize = 256;
 
 /// 19: as many others are set as there can be.
 #[derive(Clone, Copy, Debug, PartialEq, Eq)]
@@ -32,15 +29,15 @@ pub struct NoBreak;
 #[derive(Drop)]
 pub struct Breakpoints {
     items: ArrayVec<Location, MOST>,
-    /// By the low byte of a number: whether a breakpoint may have it. Most steps are told apart from
-    /// all breakpoints by it alone.
-    low_bytes: [bool; LOW_BYTES],
+    /// Which words and lines have one, so that a step looks in no list.
+    tables: Tables,
 }
 
 impl Model for Breakpoints {
     ghost use Rattle.std.specs.FinSet as set;
     ghost use Rattle.h41_breakpoints.specs.Breakpoints.{BreakpointSet};
-    ghost use Rattle.h41_breakpoints.specs.private.Members.{AreMarked, IsEachOnce, set_of};
+    ghost use Rattle.h41_breakpoints.specs.private.Members.{IsEachOnce, set_of};
+    ghost use Rattle.h41_breakpoints.specs.private.Tables.{AreMarksOf};
     ghost use Rattle.h41_breakpoints.specs.contracts.location.Location as member;
 
     ghost Value = { BreakpointSet };
@@ -50,46 +47,28 @@ impl Model for Breakpoints {
     ghost view = { λ set. set_of set.items.items };
 
     ghost invariant = { λ set.
-        IsEachOnce set.items.items × AreMarked set.low_bytes set.items.items };
+        IsEachOnce set.items.items × AreMarksOf set.items.items set.tables };
 }
 
 impl Breakpoints {
-    /// None is set.
-    pub fn new() -> Self
-        ensures { result ≡ no_breakpoints }
+    /// None is set. 21 where memory is refused.
+    pub fn new(alloc: Global) -> Result<Self, AllocError>
+        ensures { IfOk result (λ breakpoints. breakpoints ≡ no_breakpoints) }
     {
-        Breakpoints {
+        Ok(Breakpoints {
             items: ArrayVec::new(),
-            low_bytes: [false; LOW_BYTES],
-        }
+            tables: Tables::new(alloc)?,
+        })
     }
 
     /// Whether a breakpoint is set.
+    #[inline(always)]
     pub fn contains(&self, location: Location) -> bool
         ensures { result ≡ is_set self.now location }
     {
-        self.may_contain(location) && is_among(self.items.as_slice(), location)
-    }
-
-    /// Whether a breakpoint may be set: most are told apart from all that are by their low byte.
-    #[inline(always)]
-    fn may_contain(&self, location: Location) -> bool
-        ensures { result ≡ false → is_set self.now location ≡ false }
-    {
-        match location {
-            Location::Word(address) => self.low_bytes[usize::from(address % 256)],
-            Location::Line(position) => self.may_contain_line(position),
-        }
-    }
-
-    /// Whether a line's breakpoint may be set. Its machine code stands apart, so that words have the
-    /// shorter way.
-    #[inline(never)]
-    fn may_contain_line(&self, position: Position) -> bool
-        ensures { result ≡ false → is_set self.now (Line position) ≡ false }
-    {
-        match position {
-            Position::Memory(byte) => self.low_bytes[usize::from(byte % 256)],
+        match self.tables.get(location) {
+            Some(is_set) => is_set,
+            None => is_among(self.items.as_slice(), location),
         }
     }
 
@@ -115,7 +94,7 @@ impl Breakpoints {
             return Err(BreakFull);
         }
         self.items.push(location);
-        self.low_bytes[location.low_byte()] = true;
+        self.tables.set(location, true);
         Ok(())
     }
 
@@ -128,6 +107,7 @@ impl Breakpoints {
         match index_among(self.items.as_slice(), location) {
             Some(index) => {
                 self.items.swap_remove(index);
+                self.tables.set(location, false);
                 Ok(())
             }
             None => Err(NoBreak),
@@ -136,6 +116,7 @@ impl Breakpoints {
 }
 
 /// Whether a location is among these.
+#[inline(never)]
 fn is_among(set: &[Location], location: Location) -> bool
     ensures { result ≡ list_any (is_same location) set.now }
 {

@@ -1,8 +1,10 @@
 //! Breakpoints: the places where a run can stop, and the set of those where it does.
 #![tactic(auto)]
 
+mod bit_table;
 mod breakpoints;
 mod location;
+mod tables;
 
 pub use breakpoints::{BreakFull, Breakpoints, NoBreak};
 pub use location::Location;

@@ -1,7 +1,7 @@
 //! Where the calculator can be, and a run can stop.
 
-ghost use Rattle.std.specs.Prelude.{◌≡◌, ◌<◌};
-ghost use Rattle.h41_breakpoints.specs.private.Members.{is_same, low_byte};
+ghost use Rattle.std.specs.Prelude.{◌≡◌};
+ghost use Rattle.h41_breakpoints.specs.private.Members.{is_same};
 ghost use Rattle.h41_breakpoints.specs.declared.location.Location.TheVariants.{Word};
 
 use h41_program::Position;
@@ -33,18 +33,6 @@ impl Location {
             (Location::Line(Position::Memory(byte)), Location::Line(Position::Memory(other))) =>
                 byte == other,
             _ => false,
-        }
-    }
-
-    /// The low byte of its number.
-    pub(crate) fn low_byte(self) -> usize
-        ensures value { result ≡ low_byte self }
-        ensures bound { result < 256 }
-    {
-        match self {
-            Location::Word(number) | Location::Line(Position::Memory(number)) => {
-                usize::from(number % 256)
-            }
         }
     }
 }

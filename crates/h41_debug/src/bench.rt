@@ -51,7 +51,7 @@ impl Bench {
     {
         Ok(Bench {
             calculator: Calculator::new(alloc)?,
-            breakpoints: Breakpoints::new(),
+            breakpoints: Breakpoints::new(alloc)?,
         })
     }
 

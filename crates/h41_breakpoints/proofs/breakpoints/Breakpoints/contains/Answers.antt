@@ -5,7 +5,7 @@ use Rattle.h41_breakpoints.specs.private.Members.{is_same}
 use Rattle.h41_breakpoints.proofs.Members.{set_has}
 use Rattle.h41_breakpoints.proofs.breakpoints.Breakpoints.contains.Goals as goal
 
-pub returns-then-may_contain : goal.returns-then-may_contain
-returns-then-may_contain c =
+pub returns-in-None : goal.returns-in-None
+returns-in-None c =
     c.is_among.ensures ∙ ap (list_any (is_same c.args.location)) c.as_slice.ensures.value
     ∙ set_has c.self.inside.items.items c.args.location ∙ ap (λ (set : BreakpointSet). is_set set c.args.location) c.self.view_is

@@ -7,9 +7,7 @@ ghost use Rattle.h41_codes.specs.ShortLines.{BeginsNoShort, line_of};
 
 use crate::functions::{Branch, Function, ParameterFunction, RegisterFunction};
 use crate::line::{Line, Operand};
-use crate::numbers::{
-    Distance, EntryNumber, ModuleNumber, Parameter, ShortLabel, ShortRegister,
-};
+use crate::numbers::{Distance, EntryNumber, ModuleNumber, Parameter, ShortLabel, ShortRegister};
 use crate::table::{function, parameter_function};
 
 /// A line of one to three bytes, but for a null, a number, a text, `END` and `.END.`: what a `Line` has, without room for

@@ -7,4 +7,5 @@ pub mod Intervals
 pub mod LineLengths
 pub mod Prefixes
 pub mod Reading
+pub mod ShortHeads
 pub mod Tables

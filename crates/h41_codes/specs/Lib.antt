@@ -7,3 +7,4 @@ pub mod Counts
 pub mod Functions
 pub mod Heads
 pub mod NumberCharacters
+pub mod ShortLines

@@ -3,22 +3,19 @@ ghost use Rattle.std.specs.Prelude.{◌≡◌, ℕ, ◌+◌, ◌*◌, ◌<◌, �
 ghost use Rattle.std.specs.Prelude.{take, drop, slice_index, IfOk, OnErr, IfSome, IfNone, IsErr};
 ghost use Rattle.std.specs.Prelude.{IsTrue, Ok};
 ghost use Rattle.h41_codes.specs.ByteGrammar.{spelling, text_bytes, IsBytes, IsLine, Spells};
-ghost use Rattle.h41_codes.specs.ByteGrammar.{Begins, BeginsNoLine, operand_byte, AnswersLine};
+ghost use Rattle.h41_codes.specs.ByteGrammar.{Begins, BeginsNoLine, AnswersLine};
 ghost use Rattle.h41_codes.specs.ByteGrammar.{link_high, link_low};
-ghost use Rattle.h41_codes.specs.ByteGrammar as grammar;
 ghost use Rattle.h41_codes.specs.Codes as code;
 ghost use Rattle.h41_codes.specs.Heads.{IsAlone, IsOneByte, IsTwoBytes, IsIn, LacksText};
 ghost use Rattle.h41_codes.specs.Heads.{IsWholeRun};
 
 use crate::characters::{Character, NUMBER_MOST, Number, Text};
 use crate::faults::BrokenProgram;
-use crate::functions::{Branch, NameFunction, RegisterFunction};
-use crate::line::{Line, Operand};
-use crate::numbers::{
-    Distance, EndMarks, EntryNumber, FinalMarks, Link, ModuleNumber, Parameter, ShortLabel,
-    ShortRegister,
-};
-use crate::table::{character, function, parameter_function};
+use crate::functions::NameFunction;
+use crate::line::Line;
+use crate::numbers::{EndMarks, FinalMarks, Link};
+use crate::short_lines::{short_branch, short_byte, short_pair};
+use crate::table::character;
 
 /// Reads the line that bytes begin with, and answers how many bytes it takes. Other bytes may follow. A number takes as
 /// many as it can, up to 16.
@@ -97,19 +94,10 @@ fn one_byte(first: u8) -> Line
     ensures spelled { spelling result ≡ first ∷ [] }
     ensures valid { IsLine result }
 {
-    match first {
-        0x00 => Line::Null,
-        0x01..=0x0F => Line::LocalLabel(ShortLabel::new(first - 0x01)),
-        0x20..=0x2F => Line::Register(
-            RegisterFunction::RecallRegister,
-            ShortRegister::new(first - 0x20),
-        ),
-        0x30..=0x3F => Line::Register(
-            RegisterFunction::StoreRegister,
-            ShortRegister::new(first - 0x30),
-        ),
-        _ => Line::Plain(function(first)),
+    if first == 0x00 {
+        return Line::Null;
     }
+    short_byte(first).line()
 }
 
 /// The line of two bytes that bytes begin with.
@@ -135,7 +123,7 @@ fn triple(bytes: &[u8]) -> Result<(Line, usize), BrokenProgram>
     if bytes.len() < 3 {
         return Err(BrokenProgram);
     }
-    Ok((branch(bytes[0], bytes[1], bytes[2]), 3))
+    Ok((short_branch(bytes[0], bytes[1], bytes[2]).line(), 3))
 }
 
 /// The line of two bytes.
@@ -144,62 +132,7 @@ fn two_bytes(first: u8, second: u8) -> Line
     ensures spelled { spelling result ≡ first ∷ second ∷ [] }
     ensures valid { IsLine result }
 {
-    match first {
-        0xA0..=0xA7 => Line::Module(
-            ModuleNumber::new((first - 0xA0) * 4 + second / 64),
-            EntryNumber::new(second % 64),
-        ),
-        0xAE => indirect_branch(second),
-        0xB1..=0xBF => Line::ShortGoTo(ShortLabel::new(first - 0xB1), second),
-        _ => Line::WithOperand(parameter_function(first), operand(second)),
-    }
-}
-
-/// The operand of a byte.
-fn operand(byte: u8) -> Operand
-    ensures spelled { operand_byte result ≡ byte }
-    ensures valid { grammar.IsOperand result }
-{
-    let parameter = Parameter::new(byte % 0x80);
-    if byte < 0x80 {
-        Operand::Direct(parameter)
-    } else {
-        Operand::Indirect(parameter)
-    }
-}
-
-/// The GTO IND or XEQ IND of a second byte.
-fn indirect_branch(second: u8) -> Line
-    ensures spelled { spelling result ≡ 0xAE ∷ second ∷ [] }
-    ensures valid { IsLine result }
-{
-    let register = Parameter::new(second % 0x80);
-    let branch = if second < 0x80 {
-        Branch::GoTo
-    } else {
-        Branch::Execute
-    };
-    Line::BranchIndirect(branch, register)
-}
-
-/// The GTO or XEQ of three bytes.
-fn branch(first: u8, second: u8, third: u8) -> Line
-    requires { IsIn 0xD0 0xF0 first }
-    ensures spelled { spelling result ≡ first ∷ second ∷ third ∷ [] }
-    ensures valid { IsLine result }
-{
-    let branch = if first < 0xE0 {
-        Branch::GoTo
-    } else {
-        Branch::Execute
-    };
-    let distance = Distance::new(u16::from(first % 16) * 256 + u16::from(second));
-    Line::BranchTo(
-        branch,
-        distance,
-        third >= 0x80,
-        Parameter::new(third % 0x80),
-    )
+    short_pair(first, second).line()
 }
 
 /// The number that bytes begin with, and how many characters it has.

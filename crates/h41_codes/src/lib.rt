@@ -11,6 +11,7 @@ mod functions;
 pub mod laws;
 mod line;
 mod numbers;
+mod short_lines;
 mod table;
 
 pub use canonical::canon;
@@ -24,3 +25,4 @@ pub use numbers::{
     Distance, EndMarks, EntryNumber, FinalMarks, Link, ModuleNumber, Parameter, ShortLabel,
     ShortRegister,
 };
+pub use short_lines::{ShortLine, short_line};

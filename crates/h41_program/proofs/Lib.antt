@@ -34,6 +34,7 @@ pub mod Rooms
 pub mod RoundTrips
 pub mod SearchSteps
 pub mod ShortLines
+pub mod ShortReads
 pub mod Sizes
 pub mod Sound
 pub mod Walks

@@ -60,7 +60,7 @@ whole_alone : (line : Line) → IsWhole line []
 whole_alone (Number characters) = λ goes. absurd goes
 whole_alone line = tt
 
-begins_own : (bytes : List ℕ) (line : Line) (size : ℕ) → Begins bytes line size → Begins (take size bytes) line size
+pub begins_own : (bytes : List ℕ) (line : Line) (size : ℕ) → Begins bytes line size → Begins (take size bytes) line size
 begins_own bytes line size begins =
     let long = length-take-le size bytes begins.inside in
     record {

@@ -12,5 +12,6 @@ pub mod ProgramLines
 pub mod Rewriting
 pub mod SearchLaws
 pub mod Searches
+pub mod ShortLines
 pub mod Size
 pub mod private

@@ -26,7 +26,7 @@ pub use listed_line::ListedLine;
 pub use loading::{close_last, is_last_open, load};
 pub use position::{PlacedLine, Position};
 pub use positions::{
-    end_of, line_and_next, line_at, line_before, line_number, local, next, start_of,
+    end_of, line_and_next, line_at, line_before, line_number, local, next, short_line, start_of,
 };
 pub use reading::{Found, final_position, first_from};
 pub use refusal::ProgramRefusal;

@@ -3,16 +3,17 @@
 ghost use Rattle.std.specs.Prelude.{IsTrue};
 ghost use Rattle.h41_program.specs.Positions.{EndOf, LineAndNext, LineAt, LineBefore};
 ghost use Rattle.h41_program.specs.Positions.{LocalFrom, NextAt, NumberAt, StartOf};
+ghost use Rattle.h41_program.specs.ShortLines.{ShortLineAt};
 ghost use Rattle.h41_ram.specs.RegisterMap.{is_sound};
 
 use crate::laws::one_list;
 use crate::numbering::number_from;
 use crate::position::{PlacedLine, Position};
-use crate::reading::{Found, first_from, position_behind};
+use crate::reading::{Found, first_from, position_behind, short_line_at};
 use crate::refusal::ProgramRefusal;
 use crate::{numbering, reading, searches};
 use h41_codes::laws::byte_round_trip;
-use h41_codes::{Line, Parameter};
+use h41_codes::{Line, Parameter, ShortLine};
 use h41_ram::Ram;
 
 /// The line that a position stands for: the first from there on, nulls passed over. 14 where there is none.
@@ -66,6 +67,21 @@ pub fn line_and_next<const REGS: usize>(
                 Ok((line, Position::Memory(next)))
             }
             None => Err(ProgramRefusal::BrokenProgram),
+        },
+    }
+}
+
+/// The short line that stands at a position itself, and the position of `next`, in numbers alone. `None` where another line stands
+/// there, a null, or no line.
+#[inline(always)]
+pub fn short_line<const REGS: usize>(ram: &Ram<REGS>, at: Position) -> Option<(ShortLine, Position)>
+    requires { IsTrue (is_sound ram.now.registers) }
+    ensures { ShortLineAt ram.now.registers at result }
+{
+    match at {
+        Position::Memory(at) => match short_line_at(ram, at) {
+            Some((line, next)) => Some((line, Position::Memory(next))),
+            None => None,
         },
     }
 }

@@ -2,11 +2,13 @@
 ghost use Rattle.std.specs.Prelude.{◌≡◌, ◌≢◌, ℕ, ◌+◌, ◌-◌, ◌<◌, ◌≤◌, map, slice_index, min, IsSome};
 ghost use Rattle.std.specs.Prelude.{IsTrue, IfSome, IfNone};
 ghost use Rattle.std.specs.List.{range_with_len};
+ghost use Rattle.h41_digits.specs.Register.{byte_at as register_byte};
 ghost use Rattle.h41_ram.specs.RegisterMap.{is_sound};
 ghost use Rattle.h41_program.specs.ProgramBytes.{byte_count, final_position, program_byte};
 ghost use Rattle.h41_program.specs.ProgramBytes as spec;
 ghost use Rattle.h41_program.specs.ProgramLines.{AnswersFirst, HasFirst, HasNoLine};
 ghost use Rattle.h41_program.specs.ProgramLines.{HasPlace, PositionFrom};
+ghost use Rattle.h41_program.specs.ShortLines.{HasNoShort, HasShort};
 ghost use Rattle.h41_program.specs.private.Reading.{bytes_seen, register_holding, BeginsAt, Fits};
 ghost use Rattle.h41_program.specs.private.Reading.{BeginsNothing, BeginsSized, FoundBehind};
 ghost use Rattle.h41_codes.specs.Heads.{IsIn};
@@ -16,7 +18,7 @@ use crate::listed_line::ListedLine;
 use crate::refusal::ProgramRefusal;
 use arrayvec::ArrayVec;
 use h41_codes::laws::{byte_round_trip, first_bytes, line_or_none};
-use h41_codes::{Line, decode, is_one_byte, one_byte_line, two_byte_line};
+use h41_codes::{Line, ShortLine, decode, is_one_byte, one_byte_line, short_line, two_byte_line};
 use h41_digits::Reg;
 use h41_ram::Ram;
 
@@ -372,8 +374,7 @@ pub fn position_behind<const REGS: usize>(ram: &Ram<REGS>, first: Found) -> u16
     position_from(ram, behind)
 }
 
-/// The position of the first line from a position on, or that position where no line follows. Nulls alone stand before a line,
-/// so where the byte is none it need not be looked for.
+/// The position of the first line from a position on, or that position where no line follows.
 #[inline(always)]
 fn position_from<const REGS: usize>(ram: &Ram<REGS>, at: u16) -> u16
     requires { IsTrue (is_sound ram.now.registers) }
@@ -384,11 +385,101 @@ fn position_from<const REGS: usize>(ram: &Ram<REGS>, at: u16) -> u16
     if at >= final_position(ram) {
         return at;
     }
-    if byte_at(ram, at) != 0 {
+    position_by(ram, at, byte_at(ram, at))
+}
+
+/// The same by the byte of that position. Nulls alone stand before a line, so where it is none the line need not be looked for.
+#[inline(always)]
+fn position_by<const REGS: usize>(ram: &Ram<REGS>, at: u16, byte: u8) -> u16
+    requires sound { IsTrue (is_sound ram.now.registers) }
+    requires inside { at < byte_count ram.now.registers }
+    requires byte { byte ≡ program_byte ram.now.registers at }
+    ensures { PositionFrom ram.now.registers at result }
+{
+    byte_round_trip();
+    line_or_none();
+    if byte != 0x00 {
         return at;
     }
+    position_past_nulls(ram, at)
+}
+
+/// The same where nulls are passed over.
+#[inline(never)]
+fn position_past_nulls<const REGS: usize>(ram: &Ram<REGS>, at: u16) -> u16
+    requires { IsTrue (is_sound ram.now.registers) }
+    ensures { PositionFrom ram.now.registers at result }
+{
     match place_from(ram, at) {
         Some(first) => first.position,
         None => at,
+    }
+}
+
+/// The short line that stands at a position itself, in front of `.END.`, and the position of the line behind it, or the byte behind
+/// it where no line follows. `None` where other lines stand there, nulls, or bytes that are no line.
+#[inline(always)]
+pub fn short_line_at<const REGS: usize>(ram: &Ram<REGS>, at: u16) -> Option<(ShortLine, u16)>
+    requires { IsTrue (is_sound ram.now.registers) }
+    ensures some { IfSome result (λ found. HasShort ram.now.registers at found.0 found.1) }
+    ensures none { IfNone result (HasNoShort ram.now.registers at) }
+{
+    byte_round_trip();
+    first_bytes();
+    let last = final_position(ram);
+    if at >= last {
+        return None;
+    }
+    let (first, second, third, fourth) = four_bytes(ram, at);
+    match short_line(first, second, third) {
+        Some((line, size)) => {
+            let behind = at + size;
+            if behind > last {
+                return None;
+            }
+            let byte = match size {
+                1 => second,
+                2 => third,
+                _ => fourth,
+            };
+            Some((line, position_by(ram, behind, byte)))
+        }
+        None => None,
+    }
+}
+
+/// The bytes at a position and at the three behind it.
+#[inline(always)]
+fn four_bytes<const REGS: usize>(ram: &Ram<REGS>, at: u16) -> (u8, u8, u8, u8)
+    requires inside { at + 3 < byte_count ram.now.registers }
+    requires sound { IsTrue (is_sound ram.now.registers) }
+    ensures first { result.0 ≡ program_byte ram.now.registers at }
+    ensures second { result.1 ≡ program_byte ram.now.registers (at + 1) }
+    ensures third { result.2 ≡ program_byte ram.now.registers (at + 2) }
+    ensures fourth { result.3 ≡ program_byte ram.now.registers (at + 3) }
+{
+    let address = ram.curtain() - 1 - at / REGISTER_BYTES;
+    let here = ram.read(address);
+    let below = ram.read(address - 1);
+    let place = at % REGISTER_BYTES;
+    (
+        byte_of_two(here, below, place),
+        byte_of_two(here, below, place + 1),
+        byte_of_two(here, below, place + 2),
+        byte_of_two(here, below, place + 3),
+    )
+}
+
+/// The byte of a place, 0 to 13, of two registers one behind the other.
+#[inline(always)]
+fn byte_of_two(here: Reg, below: Reg, place: u16) -> u8
+    requires { place < 14 }
+    ensures here { place < 7 → result ≡ register_byte here (6 - place) }
+    ensures below { 7 ≤ place → result ≡ register_byte below (13 - place) }
+{
+    if place < REGISTER_BYTES {
+        here.byte(usize::from(6 - place))
+    } else {
+        below.byte(usize::from(13 - place))
     }
 }

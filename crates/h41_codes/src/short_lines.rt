@@ -1,0 +1,159 @@
+//! Lines of one to three bytes, in numbers alone.
+ghost use Rattle.std.specs.Prelude.{◌≡◌, ◌≢◌, ◌∷◌, [], IfSome, IfNone};
+ghost use Rattle.h41_codes.specs.ByteGrammar.{operand_byte, spelling, Begins, IsLine};
+ghost use Rattle.h41_codes.specs.ByteGrammar as grammar;
+ghost use Rattle.h41_codes.specs.Heads.{IsIn, IsOneByte, IsTwoBytes};
+ghost use Rattle.h41_codes.specs.ShortLines.{BeginsNoShort, line_of};
+
+use crate::functions::{Branch, Function, ParameterFunction, RegisterFunction};
+use crate::line::{Line, Operand};
+use crate::numbers::{Distance, EntryNumber, ModuleNumber, Parameter, ShortLabel, ShortRegister};
+use crate::table::{function, parameter_function};
+
+/// A line of one to three bytes, but for a null, a number, a text, `END` and `.END.`: what a `Line` has, without room for
+/// characters.
+#[derive(Clone, Copy, Debug, PartialEq, Eq)]
+pub enum ShortLine {
+    /// `LBL 00` to `LBL 14` in one byte.
+    LocalLabel(ShortLabel),
+    /// `RCL 00` to `RCL 15` and `STO 00` to `STO 15` in one byte.
+    Register(RegisterFunction, ShortRegister),
+    /// A function without a parameter.
+    Plain(Function),
+    /// A function with a parameter.
+    WithOperand(ParameterFunction, Operand),
+    /// `XROM ii,jj`.
+    Module(ModuleNumber, EntryNumber),
+    /// `GTO IND` and `XEQ IND`.
+    BranchIndirect(Branch, Parameter),
+    /// `GTO 00` to `GTO 14` in two bytes.
+    ShortGoTo(ShortLabel, u8),
+    /// `GTO` and `XEQ` of a label in three bytes.
+    BranchTo(Branch, Distance, bool, Parameter),
+}
+
+impl ShortLine {
+    /// The line itself.
+    pub fn line(self) -> Line
+        ensures { result ≡ line_of self }
+    {
+        match self {
+            ShortLine::LocalLabel(label) => Line::LocalLabel(label),
+            ShortLine::Register(function, register) => Line::Register(function, register),
+            ShortLine::Plain(function) => Line::Plain(function),
+            ShortLine::WithOperand(function, operand) => Line::WithOperand(function, operand),
+            ShortLine::Module(number, entry) => Line::Module(number, entry),
+            ShortLine::BranchIndirect(branch, register) => Line::BranchIndirect(branch, register),
+            ShortLine::ShortGoTo(label, distance) => Line::ShortGoTo(label, distance),
+            ShortLine::BranchTo(branch, distance, backwards, label) => {
+                Line::BranchTo(branch, distance, backwards, label)
+            }
+        }
+    }
+}
+
+/// The short line that three bytes begin with, told by the first, and how many of them it takes. `None` where they begin with
+/// another line, or with none.
+#[inline(always)]
+pub fn short_line(first: u8, second: u8, third: u8) -> Option<(ShortLine, u16)>
+    ensures some { IfSome result
+        (λ found. Begins (first ∷ second ∷ third ∷ []) (line_of found.0) found.1) }
+    ensures none { IfNone result (BeginsNoShort (first ∷ second ∷ third ∷ [])) }
+{
+    match first {
+        0x01..=0x0F | 0x20..=0x8F => Some((short_byte(first), 1)),
+        0x90..=0xAE | 0xB1..=0xBF | 0xCE | 0xCF => Some((short_pair(first, second), 2)),
+        0xD0..=0xEF => Some((short_branch(first, second, third), 3)),
+        _ => None,
+    }
+}
+
+/// The line of one byte, which is no null.
+#[inline(always)]
+pub(crate) fn short_byte(first: u8) -> ShortLine
+    requires byte { IsOneByte first }
+    requires some { first ≢ 0x00 }
+    ensures spelled { spelling (line_of result) ≡ first ∷ [] }
+    ensures valid { IsLine (line_of result) }
+{
+    match first {
+        0x01..=0x0F => ShortLine::LocalLabel(ShortLabel::new(first - 0x01)),
+        0x20..=0x2F => ShortLine::Register(
+            RegisterFunction::RecallRegister,
+            ShortRegister::new(first - 0x20),
+        ),
+        0x30..=0x3F => ShortLine::Register(
+            RegisterFunction::StoreRegister,
+            ShortRegister::new(first - 0x30),
+        ),
+        _ => ShortLine::Plain(function(first)),
+    }
+}
+
+/// The line of two bytes.
+#[inline(always)]
+pub(crate) fn short_pair(first: u8, second: u8) -> ShortLine
+    requires { IsTwoBytes first }
+    ensures spelled { spelling (line_of result) ≡ first ∷ second ∷ [] }
+    ensures valid { IsLine (line_of result) }
+{
+    match first {
+        0xA0..=0xA7 => ShortLine::Module(
+            ModuleNumber::new((first - 0xA0) * 4 + second / 64),
+            EntryNumber::new(second % 64),
+        ),
+        0xAE => indirect_branch(second),
+        0xB1..=0xBF => ShortLine::ShortGoTo(ShortLabel::new(first - 0xB1), second),
+        _ => ShortLine::WithOperand(parameter_function(first), operand(second)),
+    }
+}
+
+/// The operand of a byte.
+#[inline(always)]
+fn operand(byte: u8) -> Operand
+    ensures spelled { operand_byte result ≡ byte }
+    ensures valid { grammar.IsOperand result }
+{
+    let parameter = Parameter::new(byte % 0x80);
+    if byte < 0x80 {
+        Operand::Direct(parameter)
+    } else {
+        Operand::Indirect(parameter)
+    }
+}
+
+/// The GTO IND or XEQ IND of a second byte.
+#[inline(always)]
+fn indirect_branch(second: u8) -> ShortLine
+    ensures spelled { spelling (line_of result) ≡ 0xAE ∷ second ∷ [] }
+    ensures valid { IsLine (line_of result) }
+{
+    let register = Parameter::new(second % 0x80);
+    let branch = if second < 0x80 {
+        Branch::GoTo
+    } else {
+        Branch::Execute
+    };
+    ShortLine::BranchIndirect(branch, register)
+}
+
+/// The GTO or XEQ of three bytes.
+#[inline(always)]
+pub(crate) fn short_branch(first: u8, second: u8, third: u8) -> ShortLine
+    requires { IsIn 0xD0 0xF0 first }
+    ensures spelled { spelling (line_of result) ≡ first ∷ second ∷ third ∷ [] }
+    ensures valid { IsLine (line_of result) }
+{
+    let branch = if first < 0xE0 {
+        Branch::GoTo
+    } else {
+        Branch::Execute
+    };
+    let distance = Distance::new(u16::from(first % 16) * 256 + u16::from(second));
+    ShortLine::BranchTo(
+        branch,
+        distance,
+        third >= 0x80,
+        Parameter::new(third % 0x80),
+    )
+}

@@ -1,0 +1,220 @@
+-- A short line of the bytes that were read is that of memory.
+use Rattle.std.proofs.Common.{◌≡◌, ◌≢◌, ℕ, suc, ◌+◌, ◌-◌, ◌/◌, ◌%◌, ◌<◌, ◌≤◌, List, [], ◌∷◌, ◌++◌, map, min, length, take, drop, Ok, Result}
+use Rattle.std.proofs.Common.{inl, inr, true, refl, sym, ap, ◌∙◌, subst, arith}
+use Rattle.std.specs.Prelude.{slice_index, slice_range}
+use Rattle.std.specs.List.{range_with_len}
+use Rattle.std.proofs.lemmas.Bool.{cases_lt}
+use Rattle.std.proofs.lemmas.List.{length-take}
+use Rattle.std.proofs.lemmas.List.FromFn.{take-map-range_with_len}
+use Rattle.h41_codes.specs.ByteGrammar.{spelling, Begins, GoesOn, IsWhole}
+use Rattle.h41_codes.specs.ByteLaws.{IsNumber, NullBegins, NumberBegins, OneLine}
+use Rattle.h41_codes.specs.ShortLines.{BeginsNoShort, line_of}
+use Rattle.h41_codes.specs.declared.faults.BrokenProgram.{BrokenProgram}
+use Rattle.h41_codes.specs.declared.line.Line.{Line}
+use Rattle.h41_codes.specs.declared.line.Line.TheVariants.{Null}
+use Rattle.h41_codes.specs.declared.short_lines.ShortLine.{ShortLine}
+use Rattle.h41_codes.specs.declared.short_lines.ShortLine.TheVariants as short
+use Rattle.h41_digits.specs.Register.{byte_at}
+use Rattle.h41_program.specs.ProgramBytes.{byte_count, final_position, program_byte, program_bytes}
+use Rattle.h41_program.specs.ProgramLines.{HasFirst, PositionFrom}
+use Rattle.h41_program.specs.Positions.{LineAndNext}
+use Rattle.h41_program.specs.ShortLines.{HasNoShort, HasShort}
+use Rattle.h41_program.specs.declared.position.Position.{Position}
+use Rattle.h41_program.specs.declared.position.Position.TheVariants.{Memory}
+use Rattle.h41_program.specs.private.Reading.{bytes_seen, FoundBehind}
+use Rattle.h41_program.proofs.Memory.{Looked, looked_first}
+use Rattle.h41_program.proofs.PlacesFound.{begins_own}
+use Rattle.h41_program.proofs.PositionsRead.{both_found, byte_of}
+use Rattle.h41_program.proofs.ShortLines.{BeginsNoNumber, seen_narrow}
+use Rattle.h41_program.proofs.Windows.{begins_count, begins_least, drop-map-range}
+use Rattle.h41_ram.specs.RegisterMap.{RegisterMap, curtain_of, is_sound, register_at}
+
+-- a byte of two registers one behind the other
+pub two_registers : (memory : RegisterMap) (at k byte : ℕ) → k < 7
+    → (at % 7 + k < 7 → byte ≡ byte_at (register_at memory (curtain_of memory - 1 - at / 7)) (6 - (at % 7 + k)))
+    → (7 ≤ at % 7 + k → byte ≡ byte_at (register_at memory (curtain_of memory - 1 - at / 7 - 1)) (13 - (at % 7 + k)))
+    → byte ≡ program_byte memory (at + k)
+two_registers memory at k byte few here below = elim (cases_lt (at % 7 + k) 7) [
+  | inl inside ↦
+      let q : at / 7 ≡ (at + k) / 7 = omega (arith, inside) in
+      let r : 6 - (at % 7 + k) ≡ 6 - (at + k) % 7 = omega (arith, inside) in
+      here inside ∙ (λ i. byte_at (register_at memory (curtain_of memory - 1 - q i)) (r i))
+  | inr behind ↦
+      let q : curtain_of memory - 1 - at / 7 - 1 ≡ curtain_of memory - 1 - (at + k) / 7 = omega (arith, behind, few) in
+      let r : 13 - (at % 7 + k) ≡ 6 - (at + k) % 7 = omega (arith, behind, few) in
+      below behind ∙ (λ i. byte_at (register_at memory (q i)) (r i))
+]
+
+-- what short lines are not
+no_null : (line : ShortLine) → line_of line ≡ Null → ⊥
+no_null (short.LocalLabel label) same = cc
+no_null (short.Register function register) same = cc
+no_null (short.Plain function) same = cc
+no_null (short.WithOperand function operand) same = cc
+no_null (short.Module number entry) same = cc
+no_null (short.BranchIndirect branch register) same = cc
+no_null (short.ShortGoTo label distance) same = cc
+no_null (short.BranchTo branch distance backwards label) same = cc
+
+no_number : (line : ShortLine) → IsNumber (line_of line) → ⊥
+no_number (short.LocalLabel label) is = is
+no_number (short.Register function register) is = is
+no_number (short.Plain function) is = is
+no_number (short.WithOperand function operand) is = is
+no_number (short.Module number entry) is = is
+no_number (short.BranchIndirect branch register) is = is
+no_number (short.ShortGoTo label distance) is = is
+no_number (short.BranchTo branch distance backwards label) is = is
+
+whole : (line : ShortLine) (rest : List ℕ) → IsWhole (line_of line) rest
+whole (short.LocalLabel label) rest = tt
+whole (short.Register function register) rest = tt
+whole (short.Plain function) rest = tt
+whole (short.WithOperand function operand) rest = tt
+whole (short.Module number entry) rest = tt
+whole (short.BranchIndirect branch register) rest = tt
+whole (short.ShortGoTo label distance) rest = tt
+whole (short.BranchTo branch distance backwards label) rest = tt
+
+three : (line : ShortLine) → length (spelling (line_of line)) ≤ 3
+three (short.LocalLabel label) = omega arith
+three (short.Register function register) = omega arith
+three (short.Plain function) = omega arith
+three (short.WithOperand function operand) = omega arith
+three (short.Module number entry) = omega arith
+three (short.BranchIndirect branch register) = omega arith
+three (short.ShortGoTo label distance) = omega arith
+three (short.BranchTo branch distance backwards label) = omega arith
+
+-- they do not end memory
+pub goes_on : (memory : RegisterMap) (line : ShortLine) (at behind next : ℕ) → PositionFrom memory behind next
+    → FoundBehind memory (record { listed = record { position = at; line = line_of line }; behind = behind }) next
+goes_on memory (short.LocalLabel label) at behind next from = from
+goes_on memory (short.Register function register) at behind next from = from
+goes_on memory (short.Plain function) at behind next from = from
+goes_on memory (short.WithOperand function operand) at behind next from = from
+goes_on memory (short.Module number entry) at behind next from = from
+goes_on memory (short.BranchIndirect branch register) at behind next from = from
+goes_on memory (short.ShortGoTo label distance) at behind next from = from
+goes_on memory (short.BranchTo branch distance backwards label) at behind next from = from
+
+-- what the first byte of a short line is not
+module _ (first : ℕ) (more : List ℕ) (line : ShortLine) (size : ℕ) (begins : Begins (first ∷ more) (line_of line) size) where
+  spelled : first ∷ take (size - 1) more ≡ spelling (line_of line)
+  spelled =
+      let some : size ≡ suc (size - 1) = let least = begins_least (first ∷ more) (line_of line) size begins in omega (arith, least) in
+      subst (λ (n : ℕ). take n (first ∷ more) ≡ spelling (line_of line)) some begins.spells.same
+
+  pub begins_no_null : NullBegins → first ≢ 0
+  begins_no_null nulls null =
+      no_null line ((nulls (line_of line) [] begins.spells.valid).0
+      (subst (λ (bytes : List ℕ). slice_index (bytes ++ []) 0 ≡ 0) spelled null))
+
+  pub begins_no_number : NumberBegins → BeginsNoNumber first
+  begins_no_number numbers from to =
+      no_number line ((numbers (line_of line) [] begins.spells.valid).0
+      (subst (λ (bytes : List ℕ). GoesOn (bytes ++ [])) spelled (from, to)))
+
+pub size_most : (bytes : List ℕ) (line : ShortLine) (size : ℕ) → Begins bytes (line_of line) size → (1 ≤ size) × (size ≤ 3)
+size_most bytes line size begins = (
+  begins_least bytes (line_of line) size begins,
+  omega (arith, three line, begins_count bytes (line_of line) size begins),
+)
+
+-- what was found at the byte of a position
+pub short_found :
+    (memory : RegisterMap) (at : Position) (line : ShortLine) (next : ℕ)
+    → HasShort memory (byte_of at) line next → LineAndNext memory at (Ok (line_of line, Memory next))
+short_found memory at line next has =
+    both_found memory at (record { listed = record { position = byte_of at; line = line_of line }; behind = has.0 }) next has.1
+    (goes_on memory line (byte_of at) has.0 next has.2)
+
+module _ (one : OneLine) (memory : RegisterMap) (at last first second third : ℕ)
+    (last_is : last ≡ final_position memory) (count : last + 3 ≡ byte_count memory) (before : at < last)
+    (is : first ≡ program_byte memory at) (next : second ≡ program_byte memory (at + 1))
+    (behind : third ≡ program_byte memory (at + 2)) where
+  abbrev bytes : List ℕ
+  bytes = first ∷ second ∷ third ∷ []
+
+  seen : bytes ≡ map (program_byte memory) (range_with_len at 3)
+  seen =
+      ap (λ byte. byte ∷ second ∷ third ∷ []) is ∙ ap (λ byte. program_byte memory at ∷ byte ∷ third ∷ []) next
+      ∙ ap (λ byte. program_byte memory at ∷ program_byte memory (at + 1) ∷ byte ∷ [])
+      (behind ∙ ap (program_byte memory) (omega arith))
+
+  taken : (size : ℕ) → size ≤ 3 → take size bytes ≡ map (program_byte memory) (range_with_len at size)
+  taken size few = ap (take size) seen ∙ take-map-range_with_len (program_byte memory) at 3 size few
+
+  -- a line that fits before the final bytes is the first
+  pub short_first : NumberBegins → NullBegins → is_sound memory ≡ true → (line : ShortLine) (size : ℕ) → Begins bytes (line_of line) size
+      → at + size ≤ last
+      → HasFirst memory at (record { listed = record { position = at; line = line_of line }; behind = at + size })
+  short_first numbers nulls sound line size begins inside =
+      let few = begins.inside in
+      let looked : Looked memory at at last last (bytes_seen memory at last) = record {
+        last_is = last_is;
+        count = count;
+        from = omega arith;
+        to = omega (arith, before);
+        nulls = λ k low high. absurd (omega (arith, low, high));
+        stop = λ below null. begins_no_null first (second ∷ third ∷ []) line size begins nulls (is ∙ null);
+        before = λ below. refl;
+        behind = λ here. absurd (omega (arith, here, before));
+        bytes = refl;
+      } in
+      let wide : size ≡ min 18 (at + size - at) = omega (arith, few) in
+      let near : take size bytes ≡ bytes_seen memory at (at + size) =
+      taken size few ∙ ap (λ n. map (program_byte memory) (range_with_len at n)) wide in
+      let own : Begins (bytes_seen memory at (at + size)) (line_of line) size =
+      subst (λ (all : List ℕ). Begins all (line_of line) size) near (begins_own bytes (line_of line) size begins) in
+      let answer : Result (Line × ℕ) BrokenProgram = Ok (line_of line, size) in
+      looked_first one memory sound at at last last (bytes_seen memory at last) looked answer
+      (seen_narrow one numbers memory at (at + size) last first (line_of line) size before inside is
+      (begins_no_number first (second ∷ third ∷ []) line size begins numbers) own)
+      (line_of line) size (at + size) refl refl
+
+  -- a short line of the bytes up to the final ones is that of the three
+  among : (line : ShortLine) (size : ℕ) → Begins (slice_range (program_bytes memory) at (final_position memory)) (line_of line) size
+      → Begins bytes (line_of line) size × (at + size ≤ last)
+  among line size begins =
+      let f = program_byte memory in
+      let n = byte_count memory in
+      let final = final_position memory in
+      let all = program_bytes memory in
+      let inside = begins.inside in
+      let most : size ≤ final - at = omega (arith, inside, length-take (final - at) (drop at all)) in
+      let few : size ≤ 3 = omega (
+        arith,
+        three line,
+        begins_count (slice_range all at final) (line_of line) size begins,
+      ) in
+      let slice : slice_range all at final ≡ map f (range_with_len at (final - at)) =
+      ap (take (final - at)) (drop-map-range f n at (omega (arith, before, count)))
+      ∙ take-map-range_with_len f at (n - at) (final - at) (omega (arith, last_is, count)) in
+      let same : take size bytes ≡ take size (slice_range all at final) =
+      taken size few ∙ sym (ap (take size) slice ∙ take-map-range_with_len f at (final - at) size most) in (
+        record {
+          inside = few;
+          spells = record { valid = begins.spells.valid; same = same ∙ begins.spells.same };
+          whole = whole line (drop size bytes);
+        },
+        omega (arith, most, last_is, before),
+      )
+
+  pub no_short : BeginsNoShort bytes → HasNoShort memory at
+  no_short none line size begins = none line size (among line size begins).0
+
+  pub no_room : (line : ShortLine) (size : ℕ) → Begins bytes (line_of line) size → last < at + size → HasNoShort memory at
+  no_room line size begins over other long begins_other =
+      let found = among other long begins_other in
+      let same = (one bytes (line_of line) (line_of other) size long begins found.0).1 in
+      omega (arith, over, found.1, same)
+
+-- none stands at the final bytes or behind them
+pub none_at_end : (memory : RegisterMap) (at : ℕ) → final_position memory ≤ at → HasNoShort memory at
+none_at_end memory at end line size begins =
+    let all = program_bytes memory in
+    let final = final_position memory in
+    let inside = begins.inside in
+    let least = begins_least (slice_range all at final) (line_of line) size begins in
+    omega (arith, inside, least, end, length-take (final - at) (drop at all))

@@ -39,7 +39,8 @@ module _ (s : BenchState) (page bank : ℕ) (writable : Bool) (words items : Lis
   pub plugs_done : TakesPage from page bank items → c ≡ with_page page bank writable items from
       → PlugsWords page bank writable (Ok words) s (with_calculator c s) (ends_by None)
   plugs_done taken changed =
-      let accepted : None ≡ block_refusal s page bank words = accepted_page s.calculator.nut.pages page bank items (page_of_words words) same
+      let accepted : None ≡ block_refusal s page bank words =
+      accepted_page s.calculator.nut.pages page bank items (page_of_words words) same
       (subst (λ (of : CalculatorState). TakesPage of page bank items) is taken) in (
         ap (λ d. with_calculator d s) (changed ∙ (λ i. with_page page bank writable (same i) (is i)))
             ∙ ap (λ why. state_unless why (with_words page bank writable words s) s) accepted,

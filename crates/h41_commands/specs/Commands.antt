@@ -1,7 +1,8 @@
 -- The commands that the words of a line spell: 50 BadCommand where they spell none, and else 51
 -- BadNumber where a number is wrong. The language is this project's own.
-use Rattle.std.specs.Prelude.{ℕ, Bool, true, false, List, [], ◌∷◌, if◌then◌else◌, Option, Some}
-use Rattle.std.specs.Prelude.{None, is_some, Result, Ok, Err, codes, bytes_eq}
+use Rattle.std.specs.Prelude.{ℕ, Bool, true, false, List, [], ◌∷◌, length, take, drop, ◌==◌}
+use Rattle.std.specs.Prelude.{if◌then◌else◌, Option, Some, None, is_some, Result, Ok, Err, codes}
+use Rattle.std.specs.Prelude.{bytes_eq}
 use Rattle.std.specs.Option.{option_map_or}
 use Rattle.h41_keys.specs.declared.key.Key.{Key}
 use Rattle.h41_keys.specs.Keyboard.{key_named}
@@ -27,7 +28,7 @@ use Rattle.h41_commands.specs.declared.commands.View.TheVariants.{Alpha, Display
 use Rattle.h41_commands.specs.declared.commands.View.TheVariants.{Functions}
 use Rattle.h41_commands.specs.declared.commands.View.TheVariants as views
 use Rattle.h41_commands.specs.declared.refusal.LineRefusal.{LineRefusal}
-use Rattle.h41_commands.specs.declared.refusal.LineRefusal.TheVariants.{BadCommand}
+use Rattle.h41_commands.specs.declared.refusal.LineRefusal.TheVariants.{BadCommand, BadNumber}
 use Rattle.h41_commands.specs.Numbers.{count_up_to, hexadecimal, number_up_to}
 
 -- what goes on with a value, and keeps a refusal
@@ -52,17 +53,45 @@ most_position = 9999
 abbrev pub most_words : ℕ
 most_words = 4096
 
--- a block that fills the page of this number
-abbrev pub plug_at : PageKind → List ℕ → Bool → Result Command LineRefusal
-plug_at kind page writable = and_then (hexadecimal 1 page) (λ page. Ok (Plug kind page writable))
+-- a word that begins with b names a bank: bN, where N is one decimal digit. Banks other than 1 to 4
+-- are refused when the command is carried out
+abbrev pub is_bank_word : List ℕ → Bool
+is_bank_word word = bytes_eq (take 1 word) (codes "b")
 
--- words P [rw], image P [rw] and asm P [rw]: a block that fills a page, which microcode may write
--- with rw
+abbrev pub bank_number : List ℕ → Result ℕ LineRefusal
+bank_number word =
+    if length word == 2 then number_up_to 9 10 (drop 1 word) else Err BadNumber
+
+-- the bank where none is named
+abbrev pub first_bank : ℕ
+first_bank = 1
+
+-- a block that fills the bank with this number of the page with this number
+abbrev pub plug_at : PageKind → List ℕ → ℕ → Bool → Result Command LineRefusal
+plug_at kind page bank writable =
+    and_then (hexadecimal 1 page) (λ page. Ok (Plug kind page bank writable))
+
+abbrev pub plug_at_bank : PageKind → List ℕ → List ℕ → Bool → Result Command LineRefusal
+plug_at_bank kind page bank writable =
+    if is_bank_word bank
+    then and_then (bank_number bank) (λ bank. plug_at kind page bank writable)
+    else Err BadCommand
+
+-- words P [bN] [rw], image P [bN] [rw] and asm P [bN] [rw]: a block that fills a bank of a page,
+-- which microcode may write with rw
+abbrev pub plug_with : PageKind → List ℕ → List (List ℕ) → Result Command LineRefusal
+plug_with kind page [] = plug_at kind page first_bank false
+plug_with kind page (option ∷ []) =
+    if bytes_eq option (codes "rw")
+    then plug_at kind page first_bank true
+    else plug_at_bank kind page option false
+plug_with kind page (bank ∷ option ∷ []) =
+    if bytes_eq option (codes "rw") then plug_at_bank kind page bank true else Err BadCommand
+plug_with kind page options = Err BadCommand
+
 abbrev pub plug_command : PageKind → List (List ℕ) → Result Command LineRefusal
-plug_command kind (page ∷ []) = plug_at kind page false
-plug_command kind (page ∷ option ∷ []) =
-    if bytes_eq option (codes "rw") then plug_at kind page true else Err BadCommand
-plug_command kind operands = Err BadCommand
+plug_command kind [] = Err BadCommand
+plug_command kind (page ∷ options) = plug_with kind page options
 
 -- load and program: a block that is a program
 abbrev pub load_command : ProgramKind → List (List ℕ) → Result Command LineRefusal
@@ -165,15 +194,25 @@ views_by_name =
 unfoldable pub view_named : List ℕ → Result View LineRefusal
 view_named what = option_map_or (λ view. Ok view) (named_in views_by_name what) (Err BadCommand)
 
--- show WHAT
+-- the image of a page's bank
+abbrev pub image_view : List ℕ → ℕ → Result View LineRefusal
+image_view page bank = and_then (hexadecimal 1 page) (λ page. Ok (views.Image page bank))
+
+abbrev pub image_view_at : List ℕ → List ℕ → Result View LineRefusal
+image_view_at page bank =
+    if is_bank_word bank
+    then and_then (bank_number bank) (λ bank. image_view page bank)
+    else Err BadCommand
+
+-- show WHAT, show ram hhh and show image P [bN]
 abbrev pub view_of : List (List ℕ) → Result View LineRefusal
 view_of (what ∷ []) = view_named what
 view_of (what ∷ address ∷ []) =
     if bytes_eq what (codes "ram")
     then and_then (hexadecimal 3 address) (λ address. Ok (Register address))
-    else (if bytes_eq what (codes "image")
-    then and_then (hexadecimal 1 address) (λ page. Ok (views.Image page))
-    else Err BadCommand)
+    else (if bytes_eq what (codes "image") then image_view address first_bank else Err BadCommand)
+view_of (what ∷ page ∷ bank ∷ []) =
+    if bytes_eq what (codes "image") then image_view_at page bank else Err BadCommand
 view_of operands = Err BadCommand
 
 abbrev pub show_command : List (List ℕ) → Result Command LineRefusal
@@ -253,6 +292,6 @@ is_opening (name ∷ operands) = is_some (kind_of_word name)
 
 -- the kind of a command's block, where it has one
 abbrev pub kind_of : Command → Option BlockKind
-kind_of (Plug kind page writable) = Some (Page kind)
+kind_of (Plug kind page bank writable) = Some (Page kind)
 kind_of (Load kind) = Some (Program kind)
 kind_of command = None

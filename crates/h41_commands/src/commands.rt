@@ -133,8 +133,9 @@ pub enum View {
     Position,
     /// `lines`: the lines of program memory.
     Lines,
-    /// `image P`: the image at page P, 0 to 15. Pages 0 to 3 are refused when it is carried out.
-    Image(u8),
+    /// `image P [bN]`: the image at bank N of page P, 0 to 15; at bank 1 where none is named. Pages 0 to 3 and banks other than
+    /// 1 to 4 are refused when it is carried out.
+    Image(u8, u8),
     /// `functions`: the functions of the modules that are plugged.
     Functions,
 }
@@ -142,11 +143,13 @@ pub enum View {
 /// One command of a deck.
 #[derive(Clone, Copy, Debug, PartialEq, Eq)]
 pub enum Command {
-    /// `words P [rw]`, `image P [rw]` or `asm P [rw]`, with a block up to `end`: plugs what the block says at page P, 0 to 15,
-    /// writable with `rw`. Pages 0 to 3 are refused when it is carried out.
+    /// `words P [bN] [rw]`, `image P [bN] [rw]` or `asm P [bN] [rw]`, with a block up to `end`: plugs what the block says at bank
+    /// N of page P, 0 to 15, writable with `rw`; at bank 1 where none is named. Pages 0 to 3 and banks other than 1 to 4 are
+    /// refused when it is carried out.
     Plug {
         kind: PageKind,
         page: u8,
+        bank: u8,
         writable: bool,
     },
     /// `load` or `program`, with a block up to `end`: loads the program that the block says behind those in memory.

@@ -51,17 +51,17 @@ refused_item refusal s old own is =
     record { text = []; reply = (refl, ap (λ (of : Refusal). ends_by (Some of)) is); written = Appends-nil old }
 
 -- as a block for a page, or one that is a program
-pub plug_text : (block : TakenBlock) (command : Command) (kind : PageKind) (page : ℕ)
+pub plug_text : (block : TakenBlock) (command : Command) (kind : PageKind) (page bank : ℕ)
     (writable : Bool) (s t : BenchState) (old : Option (List ℕ)) (refusal : Option Refusal)
-    → command ≡ Plug kind page writable → block.kind ≡ kind_of command → PlugsTaken block page writable s t refusal
+    → command ≡ Plug kind page bank writable → block.kind ≡ kind_of command → PlugsTaken block page bank writable s t refusal
     → SaysText (item_of command block) s t old old refusal
-plug_text block command kind page writable s t old refusal spelt own taken =
+plug_text block command kind page bank writable s t old refusal spelt own taken =
     let kind_is : block.kind ≡ Some (Page kind) = own ∙ ap kind_of spelt in
     let both : Some (Page taken.kind) ≡ Some (Page kind) = sym taken.kind_is ∙ kind_is in
     let same : taken.kind ≡ kind = cc in
     record {
       text = [];
-      reply = rw (spelt, taken.said) (subst (λ of. Plugs of page writable taken.values s t (ends_by refusal)) same taken.plugs);
+      reply = rw (spelt, taken.said) (subst (λ of. Plugs of page bank writable taken.values s t (ends_by refusal)) same taken.plugs);
       written = Appends-nil old;
     }
 

@@ -49,10 +49,10 @@ same_call does same s t u a b p q =
 same_size : (count : ℕ) → IsDetermined (λ old. Becomes (size_makes old count) old)
 same_size count s t u a b p q = (p.0 ∙ sym q.0, p.1 ∙ sym q.1)
 
-same_plug : (page : ℕ) (writable : Bool) (words : Result (List ℕ) LineRefusal) (s t u : BenchState) (a b : Answer)
-    → PlugsWords page writable words s t a → PlugsWords page writable words s u b → (t ≡ u) × (a ≡ b)
-same_plug page writable (Ok words) s t u a b p q = (p.0 ∙ sym q.0, p.1 ∙ sym q.1)
-same_plug page writable (Err why) s t u a b p q = (p.0 ∙ sym q.0, p.1 ∙ sym q.1)
+same_plug : (page bank : ℕ) (writable : Bool) (words : Result (List ℕ) LineRefusal) (s t u : BenchState) (a b : Answer)
+    → PlugsWords page bank writable words s t a → PlugsWords page bank writable words s u b → (t ≡ u) × (a ≡ b)
+same_plug page bank writable (Ok words) s t u a b p q = (p.0 ∙ sym q.0, p.1 ∙ sym q.1)
+same_plug page bank writable (Err why) s t u a b p q = (p.0 ∙ sym q.0, p.1 ∙ sym q.1)
 
 module _ (same_steps : StepsAreDetermined) (same_load : LoadIsDetermined) (same_filling : FillingIsDetermined)
     (same_meaning : MeaningIsDetermined) (same_list : ListsAreDetermined)
@@ -77,14 +77,14 @@ module _ (same_steps : StepsAreDetermined) (same_load : LoadIsDetermined) (same_
   same_view views.Display s a b p q =
       p.2 ∙ ap (λ (text : List ℕ). Ok (line_of text)) (same_display s.calculator p.0 q.0 p.1 q.1) ∙ sym q.2
   same_view views.Position s a b p q = p ∙ sym q
-  same_view (views.Image page) s a b p q = p ∙ sym q
+  same_view (views.Image page bank) s a b p q = p ∙ sym q
   same_view views.Functions s a b p q = p ∙ sym q
 
   same_reply : (command : Command) (values : List ℕ) (s t u : BenchState) (a b : Answer) → Reply command values s t a
       → Reply command values s u b → (t ≡ u) × (a ≡ b)
-  same_reply (commands.Plug kind page writable) values s t u a b p q =
+  same_reply (commands.Plug kind page bank writable) values s t u a b p q =
       let same : p.0 ≡ q.0 = same_filling kind page values p.0 q.0 p.1 q.1 in
-      same_plug page writable q.0 s t u a b (subst (λ made. PlugsWords page writable made s t a) same p.2) q.2
+      same_plug page bank writable q.0 s t u a b (subst (λ made. PlugsWords page bank writable made s t a) same p.2) q.2
   same_reply (commands.Load kind) values s t u a b p q =
       let same : p.0 ≡ q.0 = same_meaning kind values p.0 q.0 p.1 q.1 in
       same_bytes q.0 s t u a b (subst (λ bytes. LoadsBytes bytes s t a) same p.2) q.2

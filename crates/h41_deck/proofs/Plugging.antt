@@ -22,35 +22,37 @@ resized values items count same room e =
     e ∙ (λ i. take_all page_size values short i ++ replicate (page_size - same i) 0)
 
 -- a page that is refused for another reason than memory
-pub refused_page : (all : PageMap) (page : ℕ) (words page_of_words : List ℕ) (why : PlugRefusal) → words ≡ page_of_words
-    → RefusesPlug all page 1 words why → (why ≡ plugs.OutOfMemory → ⊥) → Some (of_plug why) ≡ page_refusal all page page_of_words
-refused_page all page words page_of_words why same (inl e) other =
-    sym (ap (option_map of_plug) (ap (plug_refusal all page 1) (sym same) ∙ e))
-refused_page all page words page_of_words why same (inr e) other = absurd (other e.1)
+pub refused_page : (all : PageMap) (page bank : ℕ) (words page_of_words : List ℕ) (why : PlugRefusal) → words ≡ page_of_words
+    → RefusesPlug all page bank words why → (why ≡ plugs.OutOfMemory → ⊥)
+    → Some (of_plug why) ≡ page_refusal all page bank page_of_words
+refused_page all page bank words page_of_words why same (inl e) other =
+    sym (ap (option_map of_plug) (ap (plug_refusal all page bank) (sym same) ∙ e))
+refused_page all page bank words page_of_words why same (inr e) other = absurd (other e.1)
 
-pub accepted_page : (all : PageMap) (page : ℕ) (words page_of_words : List ℕ) → words ≡ page_of_words → plug_refusal all page 1 words ≡ None
-    → None ≡ page_refusal all page page_of_words
-accepted_page all page words page_of_words same e = sym (ap (option_map of_plug) (ap (plug_refusal all page 1) (sym same) ∙ e))
+pub accepted_page : (all : PageMap) (page bank : ℕ) (words page_of_words : List ℕ) → words ≡ page_of_words
+    → plug_refusal all page bank words ≡ None → None ≡ page_refusal all page bank page_of_words
+accepted_page all page bank words page_of_words same e = sym (ap (option_map of_plug) (ap (plug_refusal all page bank) (sym same) ∙ e))
 
 -- what plugging words leaves of the bench
-module _ (s : BenchState) (page : ℕ) (writable : Bool) (words items : List ℕ) (from c : CalculatorState)
+module _ (s : BenchState) (page bank : ℕ) (writable : Bool) (words items : List ℕ) (from c : CalculatorState)
     (is : from ≡ s.calculator) (same : items ≡ page_of_words words) where
-  pub plugs_done : TakesPage from page 1 items → c ≡ with_page page 1 writable items from
-      → PlugsWords page writable (Ok words) s (with_calculator c s) (ends_by None)
+  pub plugs_done : TakesPage from page bank items → c ≡ with_page page bank writable items from
+      → PlugsWords page bank writable (Ok words) s (with_calculator c s) (ends_by None)
   plugs_done taken changed =
-      let accepted : None ≡ block_refusal s page words = accepted_page s.calculator.nut.pages page items (page_of_words words) same
-      (subst (λ (of : CalculatorState). TakesPage of page 1 items) is taken) in (
-        ap (λ d. with_calculator d s) (changed ∙ (λ i. with_page page 1 writable (same i) (is i)))
-            ∙ ap (λ why. state_unless why (with_words page writable words s) s) accepted,
+      let accepted : None ≡ block_refusal s page bank words =
+      accepted_page s.calculator.nut.pages page bank items (page_of_words words) same
+      (subst (λ (of : CalculatorState). TakesPage of page bank items) is taken) in (
+        ap (λ d. with_calculator d s) (changed ∙ (λ i. with_page page bank writable (same i) (is i)))
+            ∙ ap (λ why. state_unless why (with_words page bank writable words s) s) accepted,
         ap ends_by accepted,
       )
 
-  pub plugs_refused : (why : PlugRefusal) → RefusesPage from page 1 items why → (why ≡ plugs.OutOfMemory → ⊥) → c ≡ from
-      → PlugsWords page writable (Ok words) s (with_calculator c s) (ends_by (Some (of_plug why)))
+  pub plugs_refused : (why : PlugRefusal) → RefusesPage from page bank items why → (why ≡ plugs.OutOfMemory → ⊥) → c ≡ from
+      → PlugsWords page bank writable (Ok words) s (with_calculator c s) (ends_by (Some (of_plug why)))
   plugs_refused why refuses other stays =
-      let refused : Some (of_plug why) ≡ block_refusal s page words =
-      refused_page s.calculator.nut.pages page items (page_of_words words) why same
-      (subst (λ (of : CalculatorState). RefusesPage of page 1 items why) is refuses) other in (
-        ap (λ d. with_calculator d s) (stays ∙ is) ∙ ap (λ why. state_unless why (with_words page writable words s) s) refused,
+      let refused : Some (of_plug why) ≡ block_refusal s page bank words =
+      refused_page s.calculator.nut.pages page bank items (page_of_words words) why same
+      (subst (λ (of : CalculatorState). RefusesPage of page bank items why) is refuses) other in (
+        ap (λ d. with_calculator d s) (stays ∙ is) ∙ ap (λ why. state_unless why (with_words page bank writable words s) s) refused,
         ap ends_by refused,
       )

@@ -12,19 +12,19 @@ use Rattle.h41_deck.specs.Answers.{ends_by}
 use Rattle.h41_deck.specs.Replies.{LoadsBlock, Plugs, PlugsWords}
 
 -- words are plugged, or refused
-abbrev pub PlugsWordsOf : Vec ℕ Global → ℕ → Bool → BenchState → BenchState → Option Refusal
+abbrev pub PlugsWordsOf : Vec ℕ Global → ℕ → ℕ → Bool → BenchState → BenchState → Option Refusal
     → Type 0
-PlugsWordsOf words page writable s t refusal =
-    PlugsWords page writable (Ok words.items) s t (ends_by refusal)
+PlugsWordsOf words page bank writable s t refusal =
+    PlugsWords page bank writable (Ok words.items) s t (ends_by refusal)
 
 -- a block for a page, by what it says
-pub record PlugsTaken (block : TakenBlock) (page : ℕ) (writable : Bool)
+pub record PlugsTaken (block : TakenBlock) (page bank : ℕ) (writable : Bool)
     (s t : BenchState) (refusal : Option Refusal) : Type 0 where
   pub kind : PageKind
   pub kind_is : block.kind ≡ Some (Page kind)
   pub values : List ℕ
   pub said : judgement block ≡ Ok values
-  pub plugs : Plugs kind page writable values s t (ends_by refusal)
+  pub plugs : Plugs kind page bank writable values s t (ends_by refusal)
 
 -- a block that is a program
 pub record LoadsTaken (block : TakenBlock) (s t : BenchState)

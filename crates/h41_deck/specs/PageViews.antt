@@ -7,7 +7,6 @@ use Rattle.h41_pages.specs.Images.{image_bytes}
 use Rattle.h41_pages.specs.PageMap.{PageMap, bank_numbered, image_at}
 use Rattle.h41_pages.specs.declared.functions.ModuleFunction.{ModuleFunction}
 use Rattle.h41_lines.specs.Characters.{characters_text, two_digits}
-use Rattle.h41_deck.specs.Pages.{block_bank}
 
 -- a name by its characters, and `-` where there is none
 abbrev pub name_text : Option (List ℕ) → List ℕ
@@ -41,8 +40,8 @@ image_lines bytes count = flat_map (image_line bytes) (range_with_len 0 count)
 abbrev pub image_text : List ℕ → List ℕ
 image_text bytes = image_lines bytes 256
 
--- the image at the bank of a page that a deck's blocks fill
-abbrev pub image_at_text : PageMap → ℕ → List ℕ
-image_at_text pages page =
+-- the image at a page's bank
+abbrev pub image_at_text : PageMap → ℕ → ℕ → List ℕ
+image_at_text pages page bank =
     option_map_or (λ image. image_text (image_bytes image.words))
-    (image_at pages page (bank_numbered block_bank)) []
+    (image_at pages page (bank_numbered bank)) []

@@ -16,10 +16,6 @@ use Rattle.h41_deck.specs.declared.refusal.Refusal.{Refusal}
 use Rattle.h41_deck.specs.declared.refusal.Refusal.TheVariants.{NoSuchPage, Occupied, NotPlugged}
 use Rattle.h41_deck.specs.declared.refusal.Refusal.TheVariants.{Calculator, Line, OutOfMemory}
 
--- the bank that a deck's blocks fill
-abbrev pub block_bank : ℕ
-block_bank = 1
-
 -- a page's refusal to be plugged
 abbrev pub of_plug : plug.PlugRefusal → Refusal
 of_plug plugs.NoSuchPage = NoSuchPage
@@ -43,13 +39,13 @@ abbrev pub of_fetch : fetch.FetchRefusal → Refusal
 of_fetch refusal = Calculator (Word (words.of_fetch refusal))
 
 -- why words are not plugged at a page's bank
-abbrev pub page_refusal : pages.PageMap → ℕ → List ℕ → Option Refusal
-page_refusal all page words = option_map of_plug (pages.plug_refusal all page block_bank words)
+abbrev pub page_refusal : pages.PageMap → ℕ → ℕ → List ℕ → Option Refusal
+page_refusal all page bank words = option_map of_plug (pages.plug_refusal all page bank words)
 
 -- why a page is not unplugged
 abbrev pub unplug_refusal : pages.PageMap → ℕ → Option Refusal
 unplug_refusal all page = option_map of_unplug (pages.unplug_refusal all page)
 
--- why a page's image is not shown
-abbrev pub image_refusal : pages.PageMap → ℕ → Option Refusal
-image_refusal all page = option_map of_image (images_of.image_refusal all page block_bank)
+-- why the image of a page's bank is not shown
+abbrev pub image_refusal : pages.PageMap → ℕ → ℕ → Option Refusal
+image_refusal all page bank = option_map of_image (images_of.image_refusal all page bank)

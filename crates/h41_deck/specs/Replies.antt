@@ -30,7 +30,7 @@ use Rattle.h41_deck.specs.declared.refusal.Refusal.TheVariants.{BreakFull, Calcu
 use Rattle.h41_deck.specs.declared.refusal.Refusal.TheVariants.{NoBreak}
 use Rattle.h41_deck.specs.Answers.{Answer, ends_by, says_and_ends, says_or_ends}
 use Rattle.h41_deck.specs.Listings.{listing_at}
-use Rattle.h41_deck.specs.Pages.{block_bank, page_refusal, unplug_refusal}
+use Rattle.h41_deck.specs.Pages.{page_refusal, unplug_refusal}
 use Rattle.h41_deck.specs.Runs.{run_answer}
 use Rattle.h41_deck.specs.Views.{Shows}
 
@@ -55,29 +55,31 @@ Calls does s t answer =
     (refusal : Option CalculatorRefusal) × does s.calculator t.calculator refusal
     × (t ≡ with_calculator t.calculator s) × (answer ≡ ends_by (option_map Calculator refusal))
 
--- why the words of a block are not plugged at a page
-abbrev pub block_refusal : BenchState → ℕ → List ℕ → Option Refusal
-block_refusal s page words = page_refusal s.calculator.nut.pages page (page_of_words words)
+-- why the words of a block are not plugged at a page's bank
+abbrev pub block_refusal : BenchState → ℕ → ℕ → List ℕ → Option Refusal
+block_refusal s page bank words =
+    page_refusal s.calculator.nut.pages page bank (page_of_words words)
 
 -- the bench with these words plugged there
-abbrev pub with_words : ℕ → Bool → List ℕ → BenchState → BenchState
-with_words page writable words s =
-    with_calculator (with_page page block_bank writable (page_of_words words) s.calculator) s
+abbrev pub with_words : ℕ → ℕ → Bool → List ℕ → BenchState → BenchState
+with_words page bank writable words s =
+    with_calculator (with_page page bank writable (page_of_words words) s.calculator) s
 
--- a page is plugged with these words, filled with 000, or refused as 1 or 2; nothing changes where
--- there are none
-abbrev pub PlugsWords : ℕ → Bool → Result (List ℕ) LineRefusal → BenchState → BenchState → Answer
-    → Type 0
-PlugsWords page writable (Ok words) s t answer =
-    ChangesUnless (block_refusal s page words) (with_words page writable words s) s t answer
-PlugsWords page writable (Err refusal) s t answer = RefusesLines refusal s t answer
+-- a page's bank is plugged with these words, filled with 000, or refused as 1 or 2; nothing changes
+-- where there are none
+abbrev pub PlugsWords : ℕ → ℕ → Bool → Result (List ℕ) LineRefusal → BenchState → BenchState
+    → Answer → Type 0
+PlugsWords page bank writable (Ok words) s t answer =
+    ChangesUnless (block_refusal s page bank words) (with_words page bank writable words s)
+    s t answer
+PlugsWords page bank writable (Err refusal) s t answer = RefusesLines refusal s t answer
 
 -- with the words that a block's values say for it
-abbrev pub Plugs : PageKind → ℕ → Bool → List ℕ → BenchState → BenchState → Answer → Type 0
-Plugs kind page writable values s t answer =
+abbrev pub Plugs : PageKind → ℕ → ℕ → Bool → List ℕ → BenchState → BenchState → Answer → Type 0
+Plugs kind page bank writable values s t answer =
     (words : Result (List ℕ) LineRefusal)
     × Fills kind page values words
-    × PlugsWords page writable words s t answer
+    × PlugsWords page bank writable words s t answer
 
 -- bytes are loaded, or refused; nothing changes where a block says none
 abbrev pub LoadsBytes : Result (List ℕ) LineRefusal → BenchState → BenchState → Answer → Type 0
@@ -99,9 +101,10 @@ unset_refusal s location = then_some (lacks_breakpoint s.breakpoints location) N
 -- each command's change of the bench, from s to t, and its answer; a command with a block has its
 -- block's values
 abbrev pub Reply : Command → List ℕ → BenchState → BenchState → Answer → Type 0
--- words P [rw], image P [rw], asm P [rw] .. end: the page is plugged with what the block says, or
--- refused
-Reply (Plug kind page writable) values s t answer = Plugs kind page writable values s t answer
+-- words P [bN] [rw], image P [bN] [rw], asm P [bN] [rw] .. end: a bank of the page is plugged with
+-- what the block says, or refused
+Reply (Plug kind page bank writable) values s t answer =
+    Plugs kind page bank writable values s t answer
 -- load .. end, program .. end: the program that the block says is loaded, or refused: 41, 24, 15,
 -- 14, 16
 Reply (Load kind) values s t answer = LoadsBlock kind values s t answer
@@ -156,7 +159,7 @@ ItemReply (Ok given) s t answer = Reply given.0 given.1 s t answer
 
 -- the commands that take memory; the others never end a deck for want of it
 abbrev pub takes_memory : Command → Bool
-takes_memory (Plug kind page writable) = true
+takes_memory (Plug kind page bank writable) = true
 takes_memory (Load kind) = true
 takes_memory (Unplug page) = false
 takes_memory (Size count) = false

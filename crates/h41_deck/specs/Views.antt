@@ -96,9 +96,10 @@ flags_below count ram =
 unfoldable pub flags_line : RegisterMap → List ℕ
 flags_line ram = flags_below 56 ram ++ codes "\n"
 
--- the image of a page, or why it is not shown
-abbrev pub image_view : PageMap → ℕ → Result (List ℕ) Refusal
-image_view pages page = text_unless (image_refusal pages page) (image_at_text pages page)
+-- the image of a page's bank, or why it is not shown
+abbrev pub image_view : PageMap → ℕ → ℕ → Result (List ℕ) Refusal
+image_view pages page bank =
+    text_unless (image_refusal pages page bank) (image_at_text pages page bank)
 
 -- a text that is a line of its own
 abbrev pub line_of : List ℕ → List ℕ
@@ -116,5 +117,5 @@ Shows Display s made =
 Shows Position s made = made ≡ Ok (line_of (position_text s))
 Shows Lines s made =
     (listing : List ℕ) × ListsProgram s.calculator.nut.ram listing × (made ≡ Ok listing)
-Shows (Image page) s made = made ≡ image_view s.calculator.nut.pages page
+Shows (Image page bank) s made = made ≡ image_view s.calculator.nut.pages page bank
 Shows Functions s made = made ≡ Ok (functions_text (functions s.calculator.nut.pages))

@@ -139,8 +139,8 @@ IsRefusalOf made refusal = refusal ≡ result_err made
 abbrev pub IsShown : View → BenchState → Result (Vec ℕ Global) Refusal → Type 0
 IsShown view s made = Shows view s (text_in made)
 
-abbrev pub IsImageShown : PageMap → ℕ → Result (Vec ℕ Global) Refusal → Type 0
-IsImageShown pages page made = text_in made ≡ image_view pages page
+abbrev pub IsImageShown : PageMap → ℕ → ℕ → Result (Vec ℕ Global) Refusal → Type 0
+IsImageShown pages page bank made = text_in made ≡ image_view pages page bank
 
 abbrev pub IsListed : PageMap → ℕ → ℕ → Result (Vec ℕ Global) Refusal → Type 0
 IsListed pages address count made = text_in made ≡ listing_at pages address count

@@ -35,9 +35,6 @@ mod program;
 mod running;
 mod view;
 
-/// The bank of a page that a deck's blocks fill.
-pub(crate) const BANK: u8 = 1;
-
 /// Whether a refusal was printed.
 #[derive(Clone, Copy, Debug, PartialEq, Eq)]
 pub enum Outcome {
@@ -113,7 +110,12 @@ fn say<W: Sink>(
         return Ok(Some(Refusal::from(refusal)));
     }
     match command {
-        Command::Plug { page, writable, .. } => Ok(plug(alloc, bench, block, page, writable)?),
+        Command::Plug {
+            page,
+            bank,
+            writable,
+            ..
+        } => Ok(plug(alloc, bench, block, page, bank, writable)?),
         Command::Load(_kind) => Ok(load(alloc, bench, block)?),
         _ => say_alone(alloc, bench, command, writer),
     }
@@ -157,42 +159,44 @@ fn say_alone<W: Sink>(
     }
 }
 
-/// Plugs what a block says at a page, or tells why not. 21 where memory is refused: nothing is changed then.
+/// Plugs what a block says at a page's bank, or tells why not. 21 where memory is refused: nothing is changed then.
 fn plug(
     alloc: Global,
     bench: &mut Bench,
     block: Block,
     page: u8,
+    bank: u8,
     writable: bool,
 ) -> Result<Option<Refusal>, AllocError>
     requires kind { IsForPage block }
     requires accepted { result_err (judgement block) ≡ None }
-    ensures plugs { IfOk result (PlugsTaken block page writable bench.old bench.new) }
+    ensures plugs { IfOk result (PlugsTaken block page bank writable bench.old bench.new) }
     ensures unchanged { OnErr result (bench.new ≡ bench.old) }
 {
     match block.into_words(alloc, page)? {
-        Ok(words) => plug_words(alloc, bench, page, writable, words),
+        Ok(words) => plug_words(alloc, bench, page, bank, writable, words),
         Err(refusal) => Ok(Some(Refusal::from(refusal))),
     }
 }
 
-/// Plugs words, filled with 000 to a page, or tells why not. 21 where memory is refused: nothing is changed then.
+/// Plugs words, filled with 000 to a page, at its bank, or tells why not. 21 where memory is refused: nothing is changed then.
 fn plug_words(
     alloc: Global,
     bench: &mut Bench,
     page: u8,
+    bank: u8,
     writable: bool,
     words: Vec<u16>,
 ) -> Result<Option<Refusal>, AllocError>
     requires { vec_len words ≤ page_size }
-    ensures plugs { IfOk result (PlugsWordsOf words page writable bench.old bench.new) }
+    ensures plugs { IfOk result (PlugsWordsOf words page bank writable bench.old bench.new) }
     ensures unchanged { OnErr result (bench.new ≡ bench.old) }
 {
     let mut words = words;
     words.resize(PAGE_WORDS, 0)?;
     match bench
         .calculator_mut()
-        .plug(alloc, page, BANK, writable, &words)
+        .plug(alloc, page, bank, writable, &words)
     {
         Ok(()) => Ok(None),
         Err(refusal) => match refusal {

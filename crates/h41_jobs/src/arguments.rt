@@ -99,9 +99,9 @@ A deck is a text file of commands, one a line. Such as:
     step 2
     show cpu
 
-  words P [rw]  fills page P, 4 to F, with the words on the lines up to `end`
-  image P [rw]  likewise with the bytes of an image file, in hexadecimal
-  asm P [rw]    likewise with the words that the source on these lines spells
+  words P [bN] [rw]  fills bank N of page P, 4 to F, with the words up to `end`
+  image P [bN] [rw]  likewise with the bytes of an image file, in hexadecimal
+  asm P [bN] [rw]  likewise with the words that the source on these lines spells
   unplug P      takes the page out again
   load          loads a keystroke program from the bytes up to `end`
   program       likewise from its text, a line of the program on each line
@@ -125,7 +125,7 @@ A deck is a text file of commands, one a line. Such as:
   show display  prints what the display shows
   show pos      prints whether a function runs, and where
   show lines    prints the lines of program memory
-  show image P  prints the page's image in hexadecimal
+  show image P [bN]  prints the image at page P in hexadecimal
   show functions  prints the functions of plugged modules
   # ...         is a comment, where # is the first character of the line
 

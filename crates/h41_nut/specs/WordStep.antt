@@ -9,13 +9,14 @@ use Rattle.h41_words.specs.declared.rows.Row.{Row}
 use Rattle.h41_words.specs.declared.rows.Row.TheVariants as rows
 use Rattle.h41_words.specs.SecondWord.{second_of}
 use Rattle.h41_words.specs.WordTable.{row_of}
-use Rattle.h41_pages.specs.PageMap.{PageMap}
+use Rattle.h41_pages.specs.Addresses.{page_of}
+use Rattle.h41_pages.specs.PageMap.{PageMap, with_chosen}
 use Rattle.h41_ram.specs.RegisterMap.{RegisterMap}
 use Rattle.h41_nut.specs.Arithmetic.{OperatesOn}
 use Rattle.h41_nut.specs.declared.base.Base.TheVariants.{Hexadecimal, Decimal}
 use Rattle.h41_nut.specs.declared.keys.Keys.{Keys}
 use Rattle.h41_nut.specs.declared.refusal.WordRefusal.{WordRefusal}
-use Rattle.h41_nut.specs.declared.refusal.WordRefusal.TheVariants.{WordNotInProfile, Asleep}
+use Rattle.h41_nut.specs.declared.refusal.WordRefusal.TheVariants.{Asleep}
 use Rattle.h41_nut.specs.Arrivals.{next_address, address_after_both, arrival_refusal, at_address}
 use Rattle.h41_nut.specs.Arrivals.{gone_on}
 use Rattle.h41_nut.specs.Jumps as jumps
@@ -132,9 +133,11 @@ ram_after rows.WriteData s = memory.with_c_at s.ram s.processor.selected s.proce
 ram_after (rows.Write register) s = memory.with_c_in_block s.ram register s.processor
 ram_after row s = s.ram
 
--- the pages after a word: WROM writes the word in C at the address in C
+-- the pages after a word: WROM writes the word in C at the address in C; ENBANK1 to ENBANK4 choose
+-- a bank of the page of the word itself
 abbrev pub pages_after : Row → Nut → PageMap
 pages_after rows.WriteRom s = memory.with_word_written s.pages s.processor
+pages_after (rows.EnableBank bank) s = with_chosen s.pages (page_of s.processor.pc) bank
 pages_after row s = s.pages
 
 -- the keyboard after a word: CLRKEY clears the key flag
@@ -159,11 +162,10 @@ WordEffect (rows.Arithmetic operation field) s t =
     × (t ≡ record s { processor = t.processor })
 WordEffect row s t = t ≡ state_after row s
 
--- why a word itself is refused, with its address: no instruction; a bank (7); a peripheral that is
--- selected (10); the processor goes to sleep (11)
+-- why a word itself is refused, with its address: no instruction; a peripheral that is selected
+-- (10); the processor goes to sleep (11)
 abbrev pub word_refusal : Row → Nut → Option WordRefusal
 word_refusal (rows.Constant word) s = Some (unheld.constant_refusal word s.processor.pc)
-word_refusal (rows.EnableBank bank) s = Some (WordNotInProfile s.processor.pc)
 word_refusal rows.SelectPeripheral s = unheld.peripheral_refusal s.processor
 word_refusal rows.PowerOff s = Some (Asleep s.processor.pc)
 word_refusal row s = None

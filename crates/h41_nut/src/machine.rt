@@ -73,7 +73,12 @@ fn execute_row<const REGS: usize>(
         Row::Constant(word) => Err(constant_refusal(word, cpu.pc())),
         Row::Nop | Row::TestLowBattery => cpu.go_on(),
         Row::WriteRom => write_rom(cpu, pages),
-        Row::EnableBank(_bank) => Err(WordRefusal::WordNotInProfile(cpu.pc())),
+        Row::EnableBank(bank) => {
+            let page = (cpu.pc() / 0x1000) as u8;
+            cpu.go_on()?;
+            pages.choose(page, bank);
+            Ok(())
+        }
         Row::ClearStatusByte => cpu.clear_status_byte(),
         Row::ClearKeyFlag => clear_key_flag(cpu, keys),
         Row::TestKeyFlag => cpu.answer(keys.flag),

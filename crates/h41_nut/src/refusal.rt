@@ -12,7 +12,7 @@ pub enum WordRefusal {
     /// 6: the word at this address is neither an instruction nor a peripheral's.
     #[error("the word at {0:04X} is undefined")]
     UndefinedWord(u16),
-    /// 7: the effect of the word at this address is not held: 3FC and the four ENBANK words.
+    /// 7: the effect of the word at this address, 3FC, is not held.
     #[error("the word at {0:04X} is not held")]
     WordNotInProfile(u16),
     /// 8: this address lies in pages 0 to 3, where the system's ROM would be.

@@ -1,29 +1,27 @@
--- The address space follows what is plugged, unplugged, chosen and written.
-use Rattle.std.proofs.Common.{◌≡◌, ◌≢◌, ◌⊎◌, ℕ, ◌+◌, ◌-◌, ◌*◌, ◌<◌, ◌≤◌, Bool, true, false, if◌then◌else◌, List, [], Some, None, ◌++◌, take}
-use Rattle.std.proofs.Common.{drop, length, replicate, arith, refl, sym, ap, subst, ◌∙◌, inl, inr, get_or-set_other, length-set, slice_set}
-use Rattle.std.proofs.Common.{slice_index_or}
-use Rattle.std.specs.Prelude.{is_some, slice_index, nat_le, Err}
-use Rattle.std.proofs.lemmas.Bool.{and_parts, cases_eq, cases_lt}
-use Rattle.std.proofs.lemmas.Bool.Decides.{nat_tests}
+-- The words of all banks follow what is plugged, unplugged and written.
+use Rattle.std.proofs.Common.{◌≡◌, ◌≢◌, ◌⊎◌, ℕ, ◌+◌, ◌-◌, ◌*◌, ◌<◌, ◌≤◌, Bool, true, false, if◌then◌else◌, List, [], Option, Some, None}
+use Rattle.std.proofs.Common.{◌++◌, take, drop, length, replicate, arith, refl, sym, ap, ◌∙◌, inl, inr, get_or-set_other, length-set}
+use Rattle.std.proofs.Common.{slice_set, slice_index_or}
+use Rattle.std.specs.Prelude.{slice_index, option_map, Err}
+use Rattle.std.proofs.lemmas.Bool.{cases_eq, cases_lt}
 use Rattle.std.proofs.lemmas.List.{get_or_append_left, get_or-append_right, get_or-take, get_or-drop, get_or-replicate, length-append}
 use Rattle.std.proofs.lemmas.List.{length-drop, length-replicate, length-take-le}
 use Rattle.std.proofs.Math.Seq.{take-nil}
 use Rattle.std.proofs.lemmas.Grind.{get_or-set_at}
 use Rattle.h41_words.specs.Counts.{word_count}
 use Rattle.h41_words.specs.declared.rows.Bank.{Bank}
-use Rattle.h41_words.specs.declared.rows.Bank.TheVariants.{First}
-use Rattle.h41_pages.specs.Addresses.{page_count, page_size, page_of, offset_of, first_page, last_page, is_pluggable, is_system}
-use Rattle.h41_pages.specs.private.AddressSpace.{address_count, nothing, empty_space, with_page, number_of, IsSpaceOf, IsPages}
-use Rattle.h41_pages.specs.PageLaws.{address_in}
-use Rattle.h41_pages.specs.PageMap.{PageMap, IsPageMap, no_banks, no_pages, fetched, word_in, with_page_image, without_images, written}
-use Rattle.h41_pages.specs.PageMap.{chosen_at}
-use Rattle.h41_pages.specs.PageMap.{chosen_image, bank_place, bank_numbered, image_at, with_first_banks, plug_refusal, write_refusal}
+use Rattle.h41_words.specs.declared.rows.Bank.TheVariants.{First, Second, Third, Fourth}
+use Rattle.h41_pages.specs.Addresses.{page_count, page_size, page_of, offset_of, first_page, last_page, is_system}
+use Rattle.h41_pages.specs.private.AddressSpace.{address_count, space_size, nothing, page_place, word_place, empty_space, with_page}
+use Rattle.h41_pages.specs.private.AddressSpace.{without_bank, without_page, fetched_from, number_of, IsSpaceOf, IsPages}
+use Rattle.h41_pages.specs.PageMap.{PageMap, PageImage, no_banks, no_pages, word_in, with_page_image, without_images, written}
+use Rattle.h41_pages.specs.PageMap.{chosen_at, chosen_image, bank_place, bank_numbered, image_at, with_first_banks, with_word, plug_refusal}
+use Rattle.h41_pages.specs.PageMap.{write_refusal, banks_at, fetched}
 use Rattle.h41_pages.specs.declared.refusal.FetchRefusal.TheVariants.{SystemRom}
-use Rattle.h41_pages.proofs.OtherPages.{same_fetch, bank_below}
-use Rattle.h41_pages.proofs.PageMaps.{none_plugged, none_held, none_is_page_map, first_bank, held_place, plugged_held, plugged_is_first}
+use Rattle.h41_pages.proofs.OtherPages.{bank_below, own_banks, own_changed, others_changed, unplugging_keeps}
+use Rattle.h41_pages.proofs.PageMaps.{none_plugged, none_held, none_is_page_map, plugged_held}
 use Rattle.h41_pages.proofs.PageMaps.{page_changed, image_changed, choice_changed, choices_cleared, word_changed}
-use Rattle.h41_pages.proofs.PluggedWords.{word_plugged, others_plugged, page_emptied, others_unplugged}
-use Rattle.h41_pages.proofs.WrittenWords.{pluggable, image_size, word_fetched, others_stay}
+use Rattle.h41_pages.proofs.WrittenWords.{pluggable, image_size, outside_system, other_word, word_fetched}
 
 -- numbers that an empty list was filled up with
 pub filled : (items : List ℕ) (spare count number : ℕ) → items ≡ [] → spare ≡ 0
@@ -33,207 +31,348 @@ filled items spare count number none short =
     ∙ ap (λ list. list ++ replicate (count - spare) number) (take-nil count)
     ∙ ap (λ n. replicate n number) (omega (arith, short))
 
--- at the addresses of a page the page's own numbers stand
-pub read_in_page : (numbers words : List ℕ) (page address : ℕ) → length numbers ≡ address_count → length words ≡ page_size
-    → page < page_count → page_of address ≡ page
-    → slice_index_or (with_page numbers page words) address 0 ≡ slice_index_or words (offset_of address) 0
-read_in_page numbers words page address whole size below here =
+-- where the word at an address of a bank stands
+page_is : (bank : Bank) (address : ℕ) → address < address_count → page_of (word_place bank address) ≡ page_place bank (page_of address)
+page_is bank address below = omega (arith, below)
+
+offset_is : (bank : Bank) (address : ℕ) → offset_of (word_place bank address) ≡ offset_of address
+offset_is bank address = omega arith
+
+inside : (bank : Bank) (page : ℕ) → page < page_count → page_place bank page < 64
+inside bank page below = omega (arith, below, bank_below bank)
+
+-- at such a place of a page the page's own numbers stand
+pub read_in_page : (numbers words : List ℕ) (page place : ℕ) → length numbers ≡ space_size → length words ≡ page_size
+    → page < 64 → page_of place ≡ page
+    → slice_index_or (with_page numbers page words) place 0 ≡ slice_index_or words (offset_of place) 0
+read_in_page numbers words page place whole size below here =
     let start = page * page_size in
     let front : length (take start numbers) ≡ start = length-take-le start numbers (omega (arith, whole, below)) in
-    let inside : address - start < length words = omega (arith, size, here) in
-    let same : address - start ≡ offset_of address = omega (arith, here) in
-    get_or-append_right (take start numbers) (words ++ drop (start + page_size) numbers) start address 0 front (omega (arith, here))
-    ∙ get_or_append_left words (drop (start + page_size) numbers) 0 (address - start) inside
+    let inside : place - start < length words = omega (arith, size, here) in
+    let same : place - start ≡ offset_of place = omega (arith, here) in
+    get_or-append_right (take start numbers) (words ++ drop (start + page_size) numbers) start place 0 front (omega (arith, here))
+    ∙ get_or_append_left words (drop (start + page_size) numbers) 0 (place - start) inside
     ∙ ap (λ at. slice_index_or words at 0) same
 
 -- and elsewhere those of before
-outside : (numbers words : List ℕ) (page address : ℕ) → length numbers ≡ address_count → length words ≡ page_size → page < page_count
-    → page_of address ≢ page → (address < page * page_size) ⊎ (page * page_size ≤ address)
-    → slice_index_or (with_page numbers page words) address 0 ≡ slice_index_or numbers address 0
-outside numbers words page address whole size below apart (inl before) =
+outside : (numbers words : List ℕ) (page place : ℕ) → length numbers ≡ space_size → length words ≡ page_size → page < 64
+    → page_of place ≢ page → (place < page * page_size) ⊎ (page * page_size ≤ place)
+    → slice_index_or (with_page numbers page words) place 0 ≡ slice_index_or numbers place 0
+outside numbers words page place whole size below apart (inl before) =
     let start = page * page_size in
     let front : length (take start numbers) ≡ start = length-take-le start numbers (omega (arith, whole, below)) in
-    get_or_append_left (take start numbers) (words ++ drop (start + page_size) numbers) 0 address (omega (arith, front, before))
-    ∙ get_or-take start numbers address 0 before
-outside numbers words page address whole size below apart (inr from) =
+    get_or_append_left (take start numbers) (words ++ drop (start + page_size) numbers) 0 place (omega (arith, front, before))
+    ∙ get_or-take start numbers place 0 before
+outside numbers words page place whole size below apart (inr from) =
     let start = page * page_size in
     let front : length (take start numbers) ≡ start = length-take-le start numbers (omega (arith, whole, below)) in
-    let behind : start + page_size ≤ address = past page address apart from in
-    get_or-append_right (take start numbers) (words ++ drop (start + page_size) numbers) start address 0 front from
-    ∙ get_or-append_right words (drop (start + page_size) numbers) page_size (address - start) 0 size (omega (arith, behind))
-    ∙ get_or-drop (start + page_size) numbers (address - start - page_size) 0
-    ∙ ap (λ at. slice_index_or numbers at 0) (again start address behind)
+    let behind : start + page_size ≤ place = past page place apart from in
+    get_or-append_right (take start numbers) (words ++ drop (start + page_size) numbers) start place 0 front from
+    ∙ get_or-append_right words (drop (start + page_size) numbers) page_size (place - start) 0 size (omega (arith, behind))
+    ∙ get_or-drop (start + page_size) numbers (place - start - page_size) 0
+    ∙ ap (λ at. slice_index_or numbers at 0) (again start place behind)
   where
-    past : (page address : ℕ) → page_of address ≢ page → page * page_size ≤ address → page * page_size + page_size ≤ address
-    past page address apart from = omega (arith, apart, from)
+    past : (page place : ℕ) → page_of place ≢ page → page * page_size ≤ place → page * page_size + page_size ≤ place
+    past page place apart from = omega (arith, apart, from)
 
-    again : (start address : ℕ) → start + page_size ≤ address → start + page_size + (address - start - page_size) ≡ address
-    again start address behind = omega (arith, behind)
+    again : (start place : ℕ) → start + page_size ≤ place → start + page_size + (place - start - page_size) ≡ place
+    again start place behind = omega (arith, behind)
 
-pub read_elsewhere : (numbers words : List ℕ) (page address : ℕ) → length numbers ≡ address_count → length words ≡ page_size
-    → page < page_count → page_of address ≢ page
-    → slice_index_or (with_page numbers page words) address 0 ≡ slice_index_or numbers address 0
-read_elsewhere numbers words page address whole size below apart =
-    outside numbers words page address whole size below apart (cases_lt address (page * page_size))
-
--- with nothing plugged nothing is fetched
-none_chosen : (page : ℕ) → page < page_count → chosen_image no_pages page ≡ None
-none_chosen page below =
-    ap (λ banks. slice_index_or banks (bank_place (chosen_at no_pages page)) None) (get_or-replicate page_count page no_banks [] below)
-    ∙ none_plugged (bank_place (chosen_at no_pages page))
-
-none_fetched : (address : ℕ) (system : Bool) → number_of (if system then Err (SystemRom address) else word_in address None) ≡ nothing
-none_fetched address true = refl
-none_fetched address false = refl
-
-pub space_at_start : IsSpaceOf no_pages empty_space
-unfolding fetched
-space_at_start address below =
-    get_or-replicate address_count address nothing 0 below
-    ∙ sym (ap (λ image. number_of (if is_system address then Err (SystemRom address) else word_in address image))
-    (none_chosen (page_of address) (omega (arith, below)))
-    ∙ none_fetched address (is_system address))
-
--- with words plugged at a page
-at_page : (address page : ℕ) → page_of address ≡ page → address ≡ address_in page (offset_of address)
-at_page address page here = omega (arith, here)
-
-plugged_at : (pages : PageMap) (numbers : List ℕ) (page number : ℕ) (writable : Bool) (words : List ℕ) (address : ℕ) → IsPageMap pages
-    → IsSpaceOf pages numbers → length numbers ≡ address_count → length words ≡ page_size → first_page ≤ page → page ≤ last_page
-    → bank_numbered number ≡ First → address < address_count → (page_of address ≡ page) ⊎ (page_of address ≢ page)
-    → slice_index (with_page numbers page words) address ≡ number_of (fetched (with_page_image pages page number writable words) address)
-plugged_at pages numbers page number writable words address is space whole size low high first below (inl here) =
-    read_in_page numbers words page address whole size (omega (arith, high)) here
-    ∙ sym (ap number_of (ap (fetched (with_page_image pages page number writable words)) (at_page address page here)
-    ∙ word_plugged pages page number (offset_of address) writable words is low high (omega arith) (is.first page ∙ sym first)))
-plugged_at pages numbers page number writable words address is space whole size low high first below (inr apart) =
-    read_elsewhere numbers words page address whole size (omega (arith, high)) apart ∙ space address below
-    ∙ sym (ap number_of (others_plugged pages page number writable words address apart))
-
-pub space_plugged : (pages : PageMap) (numbers : List ℕ) (page number : ℕ) (writable : Bool) (words : List ℕ) → IsPages pages numbers
-    → plug_refusal pages page number words ≡ None → IsSpaceOf (with_page_image pages page number writable words)
-    (with_page numbers page words)
-space_plugged pages numbers page number writable words is none address below =
-    let held = plugged_held pages page number writable words none in
-    let place = bank_place (bank_numbered number) in
-    let inside = pluggable page place held.held in
-    plugged_at pages numbers page number writable words address is.map is.space is.size (image_size words held.words) inside.0 inside.1
-    (first_bank (bank_numbered number) (held_place page place held.held)) below (cases_eq (page_of address) page)
-
--- with a page unplugged
-unplugged_at : (pages : PageMap) (numbers : List ℕ) (page address : ℕ) → IsPageMap pages → IsSpaceOf pages numbers
-    → length numbers ≡ address_count → first_page ≤ page → page ≤ last_page → address < address_count
-    → (page_of address ≡ page) ⊎ (page_of address ≢ page)
-    → slice_index (with_page numbers page (replicate page_size nothing)) address ≡ number_of (fetched (without_images pages page) address)
-unplugged_at pages numbers page address is space whole low high below (inl here) =
-    read_in_page numbers (replicate page_size nothing) page address whole (length-replicate page_size nothing) (omega (arith, high)) here
-    ∙ get_or-replicate page_size (offset_of address) nothing 0 (omega arith)
-    ∙ sym (ap number_of (ap (fetched (without_images pages page)) (at_page address page here)
-    ∙ page_emptied pages page (offset_of address) is low high (omega arith)))
-unplugged_at pages numbers page address is space whole low high below (inr apart) =
-    read_elsewhere numbers (replicate page_size nothing) page address whole (length-replicate page_size nothing) (omega (arith, high)) apart
-    ∙ space address below
-    ∙ sym (ap number_of (others_unplugged pages page address apart))
-
-pub space_unplugged : (pages : PageMap) (numbers : List ℕ) (page : ℕ) → IsPages pages numbers → is_pluggable page ≡ true
-    → IsSpaceOf (without_images pages page) (with_page numbers page (replicate page_size nothing))
-space_unplugged pages numbers page is held address below =
-    let both = and_parts (nat_le first_page page) (nat_le page last_page) held in
-    unplugged_at pages numbers page address is.map is.space is.size
-    (low page both.0) (high page both.1) below (cases_eq (page_of address) page)
-  where
-    low : (page : ℕ) → nat_le first_page page ≡ true → first_page ≤ page
-    low page least = grind (arith, nat_tests)
-
-    high : (page : ℕ) → nat_le page last_page ≡ true → page ≤ last_page
-    high page most = grind (arith, nat_tests)
-
--- with other banks chosen, since the first one is chosen always
-pub space_chosen : (pages others : PageMap) (numbers : List ℕ) → IsPages pages numbers → IsPageMap others → others.images ≡ pages.images
-    → IsSpaceOf others numbers
-space_chosen pages others numbers is whole same address below =
-    is.space address below
-    ∙ ap number_of (same_fetch pages others address (ap (λ images. slice_index_or images (page_of address) []) (sym same))
-    (is.map.first (page_of address) ∙ sym (whole.first (page_of address))))
-
--- with a word written
-written_at : (pages : PageMap) (numbers : List ℕ) (written_address word address : ℕ) → IsPages pages numbers
-    → write_refusal pages written_address ≡ None → address < address_count → (address ≡ written_address) ⊎ (address ≢ written_address)
-    → slice_index (slice_set numbers written_address word) address ≡ number_of (fetched (written pages written_address word) address)
-written_at pages numbers written_address word address is none below (inl here) =
-    get_or-set_at numbers written_address address word 0 here (omega (arith, is.size, here, below))
-    ∙ sym (ap number_of (ap (fetched (written pages written_address word)) here ∙ word_fetched pages written_address word is.map none))
-written_at pages numbers written_address word address is none below (inr apart) =
-    get_or-set_other numbers written_address address word 0 apart ∙ is.space address below
-    ∙ sym (ap number_of (others_stay pages written_address word address is.map apart))
-
-pub space_written : (pages : PageMap) (numbers : List ℕ) (address word : ℕ) → IsPages pages numbers → write_refusal pages address ≡ None
-    → IsSpaceOf (written pages address word) (slice_set numbers address word)
-space_written pages numbers written_address word is none address below =
-    written_at pages numbers written_address word address is none below (cases_eq address written_address)
+pub read_elsewhere : (numbers words : List ℕ) (page place : ℕ) → length numbers ≡ space_size → length words ≡ page_size
+    → page < 64 → page_of place ≢ page
+    → slice_index_or (with_page numbers page words) place 0 ≡ slice_index_or numbers place 0
+read_elsewhere numbers words page place whole size below apart =
+    outside numbers words page place whole size below apart (cases_lt place (page * page_size))
 
 -- the numbers are as many as before
-pub count_with_page : (numbers words : List ℕ) (page : ℕ) → length numbers ≡ address_count → length words ≡ page_size → page < page_count
-    → length (with_page numbers page words) ≡ address_count
+pub count_with_page : (numbers words : List ℕ) (page : ℕ) → length numbers ≡ space_size → length words ≡ page_size → page < 64
+    → length (with_page numbers page words) ≡ space_size
 count_with_page numbers words page whole size below =
     let start = page * page_size in
     let front : length (take start numbers) ≡ start = length-take-le start numbers (omega (arith, whole, below)) in
-    let rest : length (drop (start + page_size) numbers) ≡ address_count - (start + page_size) =
+    let rest : length (drop (start + page_size) numbers) ≡ space_size - (start + page_size) =
     length-drop (start + page_size) numbers ∙ ap (λ n. n - (start + page_size)) whole in
     length-append (take start numbers) (words ++ drop (start + page_size) numbers)
     ∙ ap (λ n. length (take start numbers) + n) (length-append words (drop (start + page_size) numbers))
     ∙ omega (arith, front, size, rest, below)
 
--- so each change leaves pages and their address space as they are at any time
+-- the number at an address without an image, and with one outside the system's pages
+nothing_there : (address : ℕ) (image : Option PageImage) → image ≡ None → number_of (fetched_from address image) ≡ nothing
+nothing_there address image none = ap (λ i. number_of (fetched_from address i)) none ∙ either (is_system address)
+  where
+    either : (system : Bool) → number_of (if system then Err (SystemRom address) else word_in address None) ≡ nothing
+    either true = refl
+    either false = refl
+
+word_there : (address : ℕ) (image : Option PageImage) (words : List ℕ) (writable : Bool) → is_system address ≡ false
+    → image ≡ Some (record { words = words; writable = writable })
+    → number_of (fetched_from address image) ≡ slice_index words (offset_of address)
+word_there address image words writable held some =
+    ap (λ system. number_of (if system then Err (SystemRom address) else word_in address image)) held
+    ∙ ap (λ i. number_of (word_in address i)) some
+
+-- with nothing plugged nothing stands anywhere
+pub space_at_start : IsSpaceOf no_pages empty_space
+space_at_start bank address below =
+    get_or-replicate space_size (word_place bank address) nothing 0 (omega (arith, below, bank_below bank))
+    ∙ sym (nothing_there address (image_at no_pages (page_of address) bank) (none_there (page_of address) (omega (arith, below))))
+  where
+    none_there : (page : ℕ) → page < page_count → image_at no_pages page bank ≡ None
+    none_there page below =
+        ap (λ banks. slice_index_or banks (bank_place bank) None) (get_or-replicate page_count page no_banks [] below)
+        ∙ none_plugged (bank_place bank)
+
+-- with words plugged at a page's bank
+plugged_at : (pages : PageMap) (numbers : List ℕ) (page number : ℕ) (writable : Bool) (words : List ℕ) (bank : Bank) (address : ℕ)
+    → IsPages pages numbers → length words ≡ page_size → first_page ≤ page → page ≤ last_page → address < address_count
+    → (page_place bank (page_of address) ≡ page_place (bank_numbered number) page)
+    ⊎ (page_place bank (page_of address) ≢ page_place (bank_numbered number) page)
+    → slice_index (with_page numbers (page_place (bank_numbered number) page) words) (word_place bank address)
+    ≡ number_of (fetched_from address (image_at (with_page_image pages page number writable words) (page_of address) bank))
+plugged_at pages numbers page number writable words bank address is size low high below (inl here) =
+    let own = bank_numbered number in
+    let its_page : page_of address ≡ page = omega (arith, here, below, high) in
+    let its_bank : bank_place bank ≡ bank_place own = omega (arith, here, below, high) in
+    read_in_page numbers words (page_place own page) (word_place bank address) is.size size (inside own page (omega (arith, high)))
+    (page_is bank address below ∙ here)
+    ∙ ap (λ at. slice_index_or words at 0) (offset_is bank address)
+    ∙ sym (word_there address (image_at (with_page_image pages page number writable words) (page_of address) bank) words writable
+    (outside_system address (omega (arith, its_page, low)))
+    (ap (λ at. image_at (with_page_image pages page number writable words) at bank) its_page
+    ∙ own_changed pages page own bank _ is.map (omega (arith, high)) its_bank))
+plugged_at pages numbers page number writable words bank address is size low high below (inr apart) =
+    let own = bank_numbered number in
+    read_elsewhere numbers words (page_place own page) (word_place bank address) is.size size (inside own page (omega (arith, high)))
+    (λ same. apart (sym (page_is bank address below) ∙ same))
+    ∙ is.space bank address below
+    ∙ sym (ap (λ image. number_of (fetched_from address image))
+    (others_changed pages page (page_of address) own bank _ (differs (cases_eq (page_of address) page))))
+  where
+    differs : (page_of address ≡ page) ⊎ (page_of address ≢ page)
+        → (page_of address ≢ page) ⊎ (bank_place bank ≢ bank_place (bank_numbered number))
+    differs (inl same) = inr (λ places. apart (omega (arith, same, places)))
+    differs (inr different) = inl different
+
+pub space_plugged : (pages : PageMap) (numbers : List ℕ) (page number : ℕ) (writable : Bool) (words : List ℕ) → IsPages pages numbers
+    → plug_refusal pages page number words ≡ None
+    → IsSpaceOf (with_page_image pages page number writable words) (with_page numbers (page_place (bank_numbered number) page) words)
+space_plugged pages numbers page number writable words is none bank address below =
+    let held = plugged_held pages page number writable words none in
+    let inside = pluggable page (bank_place (bank_numbered number)) held.held in
+    plugged_at pages numbers page number writable words bank address is (image_size words held.words) inside.0 inside.1 below
+    (cases_eq (page_place bank (page_of address)) (page_place (bank_numbered number) page))
+
+-- with no words at a page's bank: none stands there, and where none stood is still none
+own_emptied : (numbers : List ℕ) (cleared bank : Bank) (page address : ℕ) → length numbers ≡ space_size → page < page_count
+    → address < address_count → page_of address ≡ page → bank_place bank ≡ bank_place cleared
+    → slice_index (without_bank numbers cleared page) (word_place bank address) ≡ nothing
+own_emptied numbers cleared bank page address whole below in_space here same =
+    read_in_page numbers (replicate page_size nothing) (page_place cleared page) (word_place bank address) whole
+    (length-replicate page_size nothing) (inside cleared page below) (page_is bank address in_space ∙ omega (arith, here, same))
+    ∙ get_or-replicate page_size (offset_of (word_place bank address)) nothing 0 (omega arith)
+
+kept_elsewhere : (numbers : List ℕ) (cleared bank : Bank) (page address : ℕ) → length numbers ≡ space_size → page < page_count
+    → address < address_count → page_place bank (page_of address) ≢ page_place cleared page
+    → slice_index (without_bank numbers cleared page) (word_place bank address) ≡ slice_index numbers (word_place bank address)
+kept_elsewhere numbers cleared bank page address whole below in_space apart =
+    read_elsewhere numbers (replicate page_size nothing) (page_place cleared page) (word_place bank address) whole
+    (length-replicate page_size nothing) (inside cleared page below) (λ same. apart (sym (page_is bank address in_space) ∙ same))
+
+still_empty : (numbers : List ℕ) (cleared bank : Bank) (page address : ℕ) → length numbers ≡ space_size → page < page_count
+    → address < address_count → page_of address ≡ page → slice_index numbers (word_place bank address) ≡ nothing
+    → (bank_place bank ≡ bank_place cleared) ⊎ (bank_place bank ≢ bank_place cleared)
+    → slice_index (without_bank numbers cleared page) (word_place bank address) ≡ nothing
+still_empty numbers cleared bank page address whole below in_space here none (inl same) =
+    own_emptied numbers cleared bank page address whole below in_space here same
+still_empty numbers cleared bank page address whole below in_space here none (inr apart) =
+    kept_elsewhere numbers cleared bank page address whole below in_space (λ same. apart (omega (arith, here, same))) ∙ none
+
+count_emptied : (numbers : List ℕ) (cleared : Bank) (page : ℕ) → length numbers ≡ space_size → page < page_count
+    → length (without_bank numbers cleared page) ≡ space_size
+count_emptied numbers cleared page whole below =
+    count_with_page numbers (replicate page_size nothing) (page_place cleared page) whole (length-replicate page_size nothing)
+    (inside cleared page below)
+
+-- with a page unplugged
+module _ (numbers : List ℕ) (page : ℕ) (whole : length numbers ≡ space_size) (below : page < page_count) where
+  abbrev one : List ℕ
+  one = without_bank numbers First page
+
+  abbrev two : List ℕ
+  two = without_bank one Second page
+
+  abbrev three : List ℕ
+  three = without_bank two Third page
+
+  size_one : length one ≡ space_size
+  size_one = count_emptied numbers First page whole below
+
+  size_two : length two ≡ space_size
+  size_two = count_emptied one Second page size_one below
+
+  size_three : length three ≡ space_size
+  size_three = count_emptied two Third page size_two below
+
+  pub count_without_page : length (without_page numbers page) ≡ space_size
+  count_without_page = count_emptied three Fourth page size_three below
+
+  none_left : (bank : Bank) (address : ℕ) → address < address_count → page_of address ≡ page
+      → slice_index (without_page numbers page) (word_place bank address) ≡ nothing
+  none_left First address in_space here =
+      let first = own_emptied numbers First First page address whole below in_space here refl in
+      let second = still_empty one Second First page address size_one below in_space here first (cases_eq 0 1) in
+      let third = still_empty two Third First page address size_two below in_space here second (cases_eq 0 2) in
+      still_empty three Fourth First page address size_three below in_space here third (cases_eq 0 3)
+  none_left Second address in_space here =
+      let second = own_emptied one Second Second page address size_one below in_space here refl in
+      let third = still_empty two Third Second page address size_two below in_space here second (cases_eq 1 2) in
+      still_empty three Fourth Second page address size_three below in_space here third (cases_eq 1 3)
+  none_left Third address in_space here =
+      let third = own_emptied two Third Third page address size_two below in_space here refl in
+      still_empty three Fourth Third page address size_three below in_space here third (cases_eq 2 3)
+  none_left Fourth address in_space here = own_emptied three Fourth Fourth page address size_three below in_space here refl
+
+  others_left : (bank : Bank) (address : ℕ) → address < address_count → page_of address ≢ page
+      → slice_index (without_page numbers page) (word_place bank address) ≡ slice_index numbers (word_place bank address)
+  others_left bank address in_space apart =
+      let differs : (cleared : Bank) → page_place bank (page_of address) ≢ page_place cleared page =
+      λ cleared same. apart (omega (arith, below, in_space, same)) in
+      kept_elsewhere three Fourth bank page address size_three below in_space (differs Fourth)
+      ∙ kept_elsewhere two Third bank page address size_two below in_space (differs Third)
+      ∙ kept_elsewhere one Second bank page address size_one below in_space (differs Second)
+      ∙ kept_elsewhere numbers First bank page address whole below in_space (differs First)
+
+unplugged_at : (pages : PageMap) (numbers : List ℕ) (page : ℕ) (bank : Bank) (address : ℕ) → IsPages pages numbers → page < page_count
+    → address < address_count → (page_of address ≡ page) ⊎ (page_of address ≢ page)
+    → slice_index (without_page numbers page) (word_place bank address)
+    ≡ number_of (fetched_from address (image_at (without_images pages page) (page_of address) bank))
+unplugged_at pages numbers page bank address is below in_space (inl here) =
+    none_left numbers page is.size below bank address in_space here
+    ∙ sym (nothing_there address (image_at (without_images pages page) (page_of address) bank)
+    (ap (λ at. image_at (without_images pages page) at bank) here
+    ∙ ap (λ banks. slice_index_or banks (bank_place bank) None)
+    (own_banks pages.images no_banks page (omega (arith, is.map.images, below)))
+    ∙ none_plugged (bank_place bank)))
+unplugged_at pages numbers page bank address is below in_space (inr apart) =
+    others_left numbers page is.size below bank address in_space apart
+    ∙ is.space bank address in_space
+    ∙ sym (ap (λ image. number_of (fetched_from address image)) (unplugging_keeps pages page (page_of address) bank apart))
+
+-- with a word written
+module _ (pages : PageMap) (numbers : List ℕ) (target word : ℕ) (is : IsPages pages numbers) (in_space : target < address_count) where
+  abbrev chosen : Bank
+  chosen = chosen_at pages (page_of target)
+
+  abbrev after : PageMap
+  after = written pages target word
+
+  image_after : (bank : Bank) (address : ℕ) → page_of address ≡ page_of target → bank_place bank ≡ bank_place chosen
+      → image_at after (page_of address) bank ≡ option_map (with_word (offset_of target) word) (image_at pages (page_of address) bank)
+  unfolding written
+  image_after bank address its_page its_bank =
+      let page = page_of target in
+      let changed = with_word (offset_of target) word in
+      ap (λ at. image_at after at bank) its_page
+      ∙ own_changed pages page chosen bank (option_map changed (chosen_image pages page)) is.map (omega (arith, in_space)) its_bank
+      ∙ ap (λ place. option_map changed (slice_index_or (banks_at pages page) place None)) (sym its_bank)
+      ∙ ap (λ at. option_map changed (image_at pages at bank)) (sym its_page)
+
+  same_chosen : fetched_from target (image_at after (page_of target) chosen) ≡ fetched_from target (chosen_image after (page_of target))
+  unfolding written
+  same_chosen = refl
+
+  written_there : (bank : Bank) (address : ℕ) → write_refusal pages target ≡ None → address ≡ target → bank_place bank ≡ bank_place chosen
+      → number_of (fetched_from address (image_at after (page_of address) bank)) ≡ word
+  unfolding fetched
+  written_there bank address none its_address its_bank =
+      ap (λ place. number_of (fetched_from address (slice_index_or (banks_at after (page_of address)) place None))) its_bank
+      ∙ ap (λ at. number_of (fetched_from at (image_at after (page_of at) chosen))) its_address
+      ∙ ap number_of (same_chosen ∙ word_fetched pages target word is.map none)
+
+  same_place : (bank : Bank) (address : ℕ) → word_place bank address ≢ word_place chosen target
+      → (page_of address ≡ page_of target) ⊎ (page_of address ≢ page_of target)
+      → (bank_place bank ≡ bank_place chosen) ⊎ (bank_place bank ≢ bank_place chosen)
+      → number_of (fetched_from address (image_at after (page_of address) bank))
+      ≡ number_of (fetched_from address (image_at pages (page_of address) bank))
+  unfolding written
+  same_place bank address apart (inl its_page) (inl its_bank) =
+      ap (λ image. number_of (fetched_from address image)) (image_after bank address its_page its_bank)
+      ∙ ap (λ answer. number_of (if is_system address then Err (SystemRom address) else answer))
+      (other_word address (offset_of target) word (image_at pages (page_of address) bank)
+      (λ same. apart (omega (arith, its_page, its_bank, same))))
+  same_place bank address apart (inr different) either =
+      ap (λ image. number_of (fetched_from address image))
+      (others_changed pages (page_of target) (page_of address) chosen bank _ (inl different))
+  same_place bank address apart (inl its_page) (inr different) =
+      ap (λ image. number_of (fetched_from address image))
+      (others_changed pages (page_of target) (page_of address) chosen bank _ (inr different))
+
+  written_at : (bank : Bank) (address : ℕ) → write_refusal pages target ≡ None → address < address_count
+      → (word_place bank address ≡ word_place chosen target) ⊎ (word_place bank address ≢ word_place chosen target)
+      → slice_index (slice_set numbers (word_place chosen target) word) (word_place bank address)
+      ≡ number_of (fetched_from address (image_at after (page_of address) bank))
+  written_at bank address none below (inl here) =
+      get_or-set_at numbers (word_place chosen target) (word_place bank address) word 0 here
+      (omega (arith, is.size, in_space, bank_below chosen, here))
+      ∙ sym (written_there bank address none (omega (arith, in_space, below, here)) (omega (arith, in_space, below, here)))
+  written_at bank address none below (inr apart) =
+      get_or-set_other numbers (word_place chosen target) (word_place bank address) word 0 apart
+      ∙ is.space bank address below
+      ∙ sym (same_place bank address apart (cases_eq (page_of address) (page_of target)) (cases_eq (bank_place bank) (bank_place chosen)))
+
+-- so each change leaves pages and their words as they are at any time
 pub pages_at_start : IsPages no_pages empty_space
-pages_at_start = record { map = none_is_page_map; size = length-replicate address_count nothing; space = space_at_start }
+pages_at_start = record { map = none_is_page_map; size = length-replicate space_size nothing; space = space_at_start }
 
 pub pages_plugged : (pages : PageMap) (numbers : List ℕ) (page number : ℕ) (writable : Bool) (words : List ℕ) → IsPages pages numbers
-    → plug_refusal pages page number words ≡ None → IsPages (with_page_image pages page number writable words)
-    (with_page numbers page words)
+    → plug_refusal pages page number words ≡ None
+    → IsPages (with_page_image pages page number writable words) (with_page numbers (page_place (bank_numbered number) page) words)
 pages_plugged pages numbers page number writable words is none =
     let held = plugged_held pages page number writable words none in
-    let place = bank_place (bank_numbered number) in
-    let below : page < page_count = omega (arith, (pluggable page place held.held).1) in
+    let bank = bank_numbered number in
+    let below : page < page_count = omega (arith, (pluggable page (bank_place bank) held.held).1) in
     record {
       map =
-          image_changed pages page place (Some (record { words = words; writable = writable }))
-          is.map below (bank_below (bank_numbered number)) held;
-      size = count_with_page numbers words page is.size (image_size words held.words) below;
+          image_changed pages page (bank_place bank) (Some (record { words = words; writable = writable }))
+          is.map below (bank_below bank) held;
+      size = count_with_page numbers words (page_place bank page) is.size (image_size words held.words) (inside bank page below);
       space = space_plugged pages numbers page number writable words is none;
     }
 
-pub pages_unplugged : (pages : PageMap) (numbers : List ℕ) (page : ℕ) → IsPages pages numbers → is_pluggable page ≡ true → page < page_count
-    → IsPages (without_images pages page) (with_page numbers page (replicate page_size nothing))
-pages_unplugged pages numbers page is held below =
+pub pages_unplugged : (pages : PageMap) (numbers : List ℕ) (page : ℕ) → IsPages pages numbers → page < page_count
+    → IsPages (without_images pages page) (without_page numbers page)
+pages_unplugged pages numbers page is below =
     let empty = page_changed pages page no_banks is.map below refl (none_held page) in
     record {
-      map = choice_changed (record pages { images = slice_set pages.images page no_banks }) page empty below;
-      size = count_with_page numbers (replicate page_size nothing) page is.size (length-replicate page_size nothing) below;
-      space = space_unplugged pages numbers page is held;
+      map = choice_changed (record pages { images = slice_set pages.images page no_banks }) page First empty;
+      size = count_without_page numbers page is.size below;
+      space = λ bank address in_space.
+          unplugged_at pages numbers page bank address is below in_space (cases_eq (page_of address) page);
     }
 
-pub pages_chosen : (pages : PageMap) (numbers : List ℕ) (page : ℕ) (bank : Bank) → IsPages pages numbers → page < page_count
-    → is_some (image_at pages page bank) ≡ true → IsPages (record pages { chosen = slice_set pages.chosen page bank }) numbers
-pages_chosen pages numbers page bank is below with_page_image =
-    let first = plugged_is_first pages page bank is.map with_page_image in
-    let map =
-    subst (λ b. IsPageMap (record pages { chosen = slice_set pages.chosen page b })) (sym first) (choice_changed pages page is.map below) in
-    record {
-      map = map;
-      size = is.size;
-      space = space_chosen pages (record pages { chosen = slice_set pages.chosen page bank }) numbers is map refl;
-    }
+-- what is chosen changes no word
+pub pages_chosen : (pages : PageMap) (numbers : List ℕ) (page : ℕ) (bank : Bank) → IsPages pages numbers
+    → IsPages (record pages { chosen = slice_set pages.chosen page bank }) numbers
+pages_chosen pages numbers page bank is =
+    record { map = choice_changed pages page bank is.map; size = is.size; space = is.space }
 
 pub pages_with_first_banks : (pages : PageMap) (numbers : List ℕ) → IsPages pages numbers → IsPages (with_first_banks pages) numbers
-pages_with_first_banks pages numbers is =
-    let map = choices_cleared pages is.map in
-    record { map = map; size = is.size; space = space_chosen pages (with_first_banks pages) numbers is map refl }
+pages_with_first_banks pages numbers is = record { map = choices_cleared pages is.map; size = is.size; space = is.space }
 
 pub pages_written : (pages : PageMap) (numbers : List ℕ) (address word : ℕ) → IsPages pages numbers → address < address_count
-    → word < word_count → write_refusal pages address ≡ None → IsPages (written pages address word) (slice_set numbers address word)
-pages_written pages numbers address word is below small none = record {
-  map = word_changed pages address word is.map (omega (arith, below)) small;
-  size = length-set numbers address word ∙ is.size;
-  space = space_written pages numbers address word is none;
-}
+    → word < word_count → write_refusal pages address ≡ None
+    → IsPages (written pages address word) (slice_set numbers (word_place (chosen_at pages (page_of address)) address) word)
+pages_written pages numbers address word is below small none =
+    let place = word_place (chosen_at pages (page_of address)) address in
+    record {
+      map = word_changed pages address word is.map (omega (arith, below)) small;
+      size = length-set numbers place word ∙ is.size;
+      space = λ bank other in_space.
+          written_at pages numbers address word is below bank other none in_space (cases_eq (word_place bank other) place);
+    }
+
+-- what a fetch reads
+pub number_fetched : (pages : PageMap) (numbers : List ℕ) (address : ℕ) → IsPages pages numbers → address < address_count
+    → slice_index numbers (word_place (chosen_at pages (page_of address)) address) ≡ number_of (fetched pages address)
+unfolding fetched
+number_fetched pages numbers address is below = is.space (chosen_at pages (page_of address)) address below

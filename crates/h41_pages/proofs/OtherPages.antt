@@ -1,12 +1,16 @@
 -- A change at one page, seen at it and at others.
-use Rattle.std.proofs.Common.{◌≡◌, ◌≢◌, ℕ, ◌<◌, ◌≤◌, false, List, [], Option, None, Err, if◌then◌else◌, length, arith, refl, ap, ◌∙◌}
-use Rattle.std.proofs.Common.{get_or-set_other, get_or-set_same, slice_set, slice_index_or}
+use Rattle.std.proofs.Common.{◌≡◌, ◌≢◌, ◌⊎◌, ℕ, ◌+◌, ◌<◌, ◌≤◌, Bool, true, false, List, [], Option, None, Err, if◌then◌else◌, length, arith}
+use Rattle.std.proofs.Common.{refl, sym, ap, ◌∙◌, inl, inr, get_or-set_other, get_or-set_same, slice_set, slice_index_or, is_some}
+use Rattle.std.proofs.lemmas.Bool.{cases_eq, cases_lt}
+use Rattle.std.proofs.lemmas.List.{set_past}
 use Rattle.h41_words.specs.declared.rows.Bank.{Bank}
 use Rattle.h41_words.specs.declared.rows.Bank.TheVariants.{First, Second, Third, Fourth}
 use Rattle.h41_pages.specs.Addresses.{page_of, is_system}
-use Rattle.h41_pages.specs.Addresses.{page_size, offset_of, first_page}
-use Rattle.h41_pages.specs.PageLaws.{address_in}
-use Rattle.h41_pages.specs.PageMap.{PageMap, PageImage, banks_at, chosen_at, chosen_image, bank_place, fetched, word_in}
+use Rattle.h41_pages.specs.Addresses.{page_count, page_size, offset_of, first_page}
+use Rattle.h41_pages.specs.PageLaws.{address_in, PluggingKeepsOtherBanks, WritingKeepsOtherBanks, UnpluggingKeepsOtherBanks}
+use Rattle.h41_pages.specs.PageLaws.{ChoosingKeepsBanks}
+use Rattle.h41_pages.specs.PageMap.{PageMap, PageImage, IsPageMap, banks_at, chosen_at, chosen_image, bank_place, bank_numbered, fetched}
+use Rattle.h41_pages.specs.PageMap.{word_in, image_at, with_image, no_banks, written}
 use Rattle.h41_pages.specs.declared.refusal.FetchRefusal.TheVariants.{SystemRom}
 
 -- a fetch looks at nothing but the banks of its page and the one that is chosen
@@ -56,3 +60,83 @@ fetch_at pages page offset image first below here =
 
 pub offset_in : (page offset : ℕ) → offset < page_size → offset_of (address_in page offset) ≡ offset
 offset_in page offset below = omega arith
+
+-- a bank is known by its place
+same_bank : (bank other : Bank) → bank_place bank ≡ bank_place other → bank ≡ other
+same_bank bank other same = sym (numbered bank) ∙ ap (λ place. bank_numbered (place + 1)) same ∙ numbered other
+  where
+    numbered : (bank : Bank) → bank_numbered (bank_place bank + 1) ≡ bank
+    numbered First = refl
+    numbered Second = refl
+    numbered Third = refl
+    numbered Fourth = refl
+
+-- among pages of which one has another image at a bank: that image, and each other one
+pub own_changed : (pages : PageMap) (page : ℕ) (bank other : Bank) (image : Option PageImage) → IsPageMap pages → page < page_count
+    → bank_place other ≡ bank_place bank → image_at (with_image pages page bank image) page other ≡ image
+own_changed pages page bank other image is below same =
+    let place = bank_place bank in
+    let size : length (banks_at pages page) ≡ 4 = is.banks page below in
+    ap (λ banks. slice_index_or banks (bank_place other) None)
+    (own_banks pages.images (slice_set (banks_at pages page) place image) page (omega (arith, is.images, below)))
+    ∙ ap (λ at. slice_index_or (slice_set (banks_at pages page) place image) at None) same
+    ∙ own_image (banks_at pages page) image place (omega (arith, size, bank_below bank))
+
+other_place : (pages : PageMap) (page : ℕ) (bank other : Bank) (image : Option PageImage) → bank_place other ≢ bank_place bank
+    → (page < length pages.images) ⊎ (length pages.images ≤ page)
+    → image_at (with_image pages page bank image) page other ≡ image_at pages page other
+other_place pages page bank other image apart (inl below) =
+    ap (λ banks. slice_index_or banks (bank_place other) None)
+    (own_banks pages.images (slice_set (banks_at pages page) (bank_place bank) image) page below)
+    ∙ other_image (banks_at pages page) image (bank_place bank) (bank_place other) apart
+  where
+    other_image : (banks : List (Option PageImage)) (image : Option PageImage) (place other : ℕ) → other ≢ place
+        → slice_index_or (slice_set banks place image) other None ≡ slice_index_or banks other None
+    other_image banks image place other different = rw get_or-set_other refl
+other_place pages page bank other image apart (inr above) =
+    ap (λ images. slice_index_or (slice_index_or images page []) (bank_place other) None)
+    (set_past pages.images page (slice_set (banks_at pages page) (bank_place bank) image) above)
+
+in_page : (pages : PageMap) (page other : ℕ) (bank at : Bank) (image : Option PageImage)
+    → (other ≢ page) ⊎ (bank_place at ≢ bank_place bank) → (other ≡ page) ⊎ (other ≢ page)
+    → image_at (with_image pages page bank image) other at ≡ image_at pages other at
+in_page pages page other bank at image apart (inr different) =
+    ap (λ banks. slice_index_or banks (bank_place at) None) (other_banks pages.images _ page other different)
+in_page pages page other bank at image (inl different) (inl same) = absurd (different same)
+in_page pages page other bank at image (inr different) (inl same) =
+    ap (λ k. image_at (with_image pages page bank image) k at) same
+    ∙ other_place pages page bank at image different (cases_lt page (length pages.images))
+    ∙ ap (λ k. image_at pages k at) (sym same)
+
+pub others_changed : (pages : PageMap) (page other : ℕ) (bank at : Bank) (image : Option PageImage)
+    → (other ≢ page) ⊎ (bank_place at ≢ bank_place bank)
+    → image_at (with_image pages page bank image) other at ≡ image_at pages other at
+others_changed pages page other bank at image apart = in_page pages page other bank at image apart (cases_eq other page)
+
+by_bank : (page other : ℕ) (bank at : Bank) → (other ≢ page) ⊎ (at ≢ bank) → (other ≢ page) ⊎ (bank_place at ≢ bank_place bank)
+by_bank page other bank at (inl different) = inl different
+by_bank page other bank at (inr different) = inr (λ same. different (same_bank at bank same))
+
+-- so each call keeps the banks that it does not name
+pub plugging_keeps : PluggingKeepsOtherBanks
+plugging_keeps pages page number writable words other bank apart =
+    others_changed pages page other (bank_numbered number) bank _ (by_bank page other (bank_numbered number) bank apart)
+
+pub writing_keeps : WritingKeepsOtherBanks
+unfolding written
+writing_keeps pages address word other bank apart =
+    others_changed pages (page_of address) other (chosen_at pages (page_of address)) bank _
+    (by_bank (page_of address) other (chosen_at pages (page_of address)) bank apart)
+
+pub unplugging_keeps : UnpluggingKeepsOtherBanks
+unplugging_keeps pages page other bank different =
+    ap (λ banks. slice_index_or banks (bank_place bank) None) (other_banks pages.images no_banks page other different)
+
+chosen_by : (plugged : Bool) (pages : PageMap) (page : ℕ) (chosen : Bank) (other : ℕ) (bank : Bank)
+    → image_at (if plugged then record pages { chosen = slice_set pages.chosen page chosen } else pages) other bank
+    ≡ image_at pages other bank
+chosen_by true pages page chosen other bank = refl
+chosen_by false pages page chosen other bank = refl
+
+pub choosing_keeps : ChoosingKeepsBanks
+choosing_keeps pages page chosen other bank = chosen_by (is_some (image_at pages page chosen)) pages page chosen other bank

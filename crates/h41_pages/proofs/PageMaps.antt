@@ -1,22 +1,23 @@
 -- Each change leaves pages as pages are.
 use Rattle.std.proofs.Common.{◌≡◌, ◌≢◌, ◌⊎◌, ℕ, zero, suc, ◌+◌, ◌<◌, ◌≤◌, Bool, true, false, List, [], ◌∷◌, Option, Some, None, length}
-use Rattle.std.proofs.Common.{replicate, arith, refl, sym, ap, subst, ◌∙◌, inl, inr, get_or-set_other, get_or-set_same, length-set}
+use Rattle.std.proofs.Common.{replicate, arith, refl, sym, ap, subst, ◌∙◌, inl, inr, get_or-set_other, length-set}
 use Rattle.std.proofs.Common.{slice_set, slice_index_or}
-use Rattle.std.specs.Prelude.{IfSome, ◌==◌, is_some, not, option_map}
+use Rattle.std.specs.Prelude.{IfSome, ◌==◌, is_some, nat_le, not, option_map}
 use Rattle.std.specs.Bool.{then_some}
 use Rattle.std.specs.Option.{option_or}
 use Rattle.std.specs.List.{list_all}
-use Rattle.std.proofs.lemmas.Bool.{and_parts, cases_eq, cases_lt, eqb-true}
+use Rattle.std.proofs.lemmas.Bool.{and_parts, cases_eq, cases_lt}
+use Rattle.std.proofs.lemmas.Bool.Decides.{nat_tests}
 use Rattle.std.proofs.lemmas.List.{get_or-replicate, get_or_default}
 use Rattle.std.proofs.Math.ListN.{get_or-eq_default}
 use Rattle.h41_words.specs.declared.rows.Bank.{Bank}
-use Rattle.h41_words.specs.declared.rows.Bank.TheVariants.{First, Second, Third, Fourth}
+use Rattle.h41_words.specs.declared.rows.Bank.TheVariants.{First}
 use Rattle.h41_pages.specs.Addresses.{page_size, page_of, offset_of, is_pluggable}
 use Rattle.h41_pages.specs.PageMap.{PageMap, PageImage, IsHeldImage, IsPageMap, no_banks, no_pages, banks_at, image_at, bank_place}
-use Rattle.h41_pages.specs.PageMap.{bank_numbered, chosen_at, chosen_image, is_held, is_image, is_writable, plug_refusal, with_page_image}
-use Rattle.h41_pages.specs.PageMap.{with_word, write_refusal, written}
+use Rattle.h41_pages.specs.PageMap.{bank_numbered, chosen_at, chosen_image, is_bank, is_held, is_image, is_writable, plug_refusal}
+use Rattle.h41_pages.specs.PageMap.{with_page_image, with_word, write_refusal, written}
 use Rattle.h41_pages.specs.declared.refusal.PlugRefusal.TheVariants as plugs
-use Rattle.h41_pages.proofs.OtherPages.{other_banks, own_banks, other_chosen, own_image, bank_below}
+use Rattle.h41_pages.proofs.OtherPages.{other_banks, own_banks, own_image, bank_below}
 
 -- each image among the banks of a page is one that is held there
 abbrev pub HoldsImages : ℕ → List (Option PageImage) → Type 0
@@ -65,7 +66,6 @@ page_changed pages page banks is below size each = record {
   banks = λ other inside. banks_sized pages banks page other is below size inside (cases_eq other page);
   chosen = is.chosen;
   each = λ other. banks_held pages banks page other is below each (cases_eq other page);
-  first = is.first;
 }
 
 -- pages with another image at a page's bank
@@ -89,38 +89,18 @@ none_plugged (suc (suc (suc (suc place)))) = refl
 pub none_held : (page : ℕ) → HoldsImages page no_banks
 none_held page place = subst (λ i. IfSome i (IsHeldImage page place)) (sym (none_plugged place)) tt
 
--- pages with the first bank chosen at one of them, and at all
-chosen_first : (chosen : List Bank) (page other : ℕ) → page < length chosen → ((k : ℕ) → slice_index_or chosen k First ≡ First)
-    → (other ≡ page) ⊎ (other ≢ page) → slice_index_or (slice_set chosen page First) other First ≡ First
-chosen_first chosen page other below each (inl same) =
-    ap (λ k. slice_index_or (slice_set chosen page First) k First) same ∙ own_chosen chosen page below
-  where
-    own_chosen : (chosen : List Bank) (page : ℕ) → page < length chosen → slice_index_or (slice_set chosen page First) page First ≡ First
-    own_chosen chosen page below = rw get_or-set_same refl
-chosen_first chosen page other below each (inr apart) = other_chosen chosen First page other apart ∙ each other
-
-pub choice_changed : (pages : PageMap) (page : ℕ) → IsPageMap pages → page < 16
-    → IsPageMap (record pages { chosen = slice_set pages.chosen page First })
-choice_changed pages page is below = record {
+-- pages with a bank chosen at one of them, and with the first at all
+pub choice_changed : (pages : PageMap) (page : ℕ) (bank : Bank) → IsPageMap pages
+    → IsPageMap (record pages { chosen = slice_set pages.chosen page bank })
+choice_changed pages page bank is = record {
   images = is.images;
   banks = is.banks;
-  chosen = length-set pages.chosen page First ∙ is.chosen;
+  chosen = length-set pages.chosen page bank ∙ is.chosen;
   each = is.each;
-  first = λ other. chosen_first pages.chosen page other (omega (arith, is.chosen, below)) is.first (cases_eq other page);
 }
-
-first_of_all : (page : ℕ) → (page < 16) ⊎ (16 ≤ page) → slice_index_or (replicate 16 First) page First ≡ First
-first_of_all page (inl below) = get_or-replicate 16 page First First below
-first_of_all page (inr above) = get_or-eq_default (replicate 16 First) First above
 
 pub choices_cleared : (pages : PageMap) → IsPageMap pages → IsPageMap (record pages { chosen = replicate 16 First })
-choices_cleared pages is = record {
-  images = is.images;
-  banks = is.banks;
-  chosen = refl;
-  each = is.each;
-  first = λ page. first_of_all page (cases_lt page 16);
-}
+choices_cleared pages is = record { images = is.images; banks = is.banks; chosen = refl; each = is.each }
 
 -- a page with nothing plugged, as at the start
 empty_banks : (page : ℕ) → (page < 16) ⊎ (16 ≤ page) → HoldsImages page (slice_index_or (replicate 16 no_banks) page [])
@@ -133,27 +113,7 @@ none_is_page_map = record {
   banks = λ page below. ap length (get_or-replicate 16 page no_banks [] below);
   chosen = refl;
   each = λ page. empty_banks page (cases_lt page 16);
-  first = λ page. first_of_all page (cases_lt page 16);
 }
-
--- a bank that is plugged is the first
-pub held_place : (page place : ℕ) → is_held page (place + 1) ≡ true → place ≡ 0
-held_place page place held = let one = eqb-true (place + 1) 1 (and_parts (is_pluggable page) (place + 1 == 1) held).1 in omega (arith, one)
-
-pub first_bank : (bank : Bank) → bank_place bank ≡ 0 → bank ≡ First
-first_bank First e = refl
-first_bank Second e = absurd (omega (arith, e))
-first_bank Third e = absurd (omega (arith, e))
-first_bank Fourth e = absurd (omega (arith, e))
-
-place_of_some : (page place : ℕ) (image : Option PageImage) → IfSome image (IsHeldImage page place) → is_some image ≡ true → place ≡ 0
-place_of_some page place None held some = let no : false ≡ true = some in absurd (cc)
-place_of_some page place (Some image) held some = held_place page place held.held
-
-pub plugged_is_first : (pages : PageMap) (page : ℕ) (bank : Bank) → IsPageMap pages → is_some (image_at pages page bank) ≡ true
-    → bank ≡ First
-plugged_is_first pages page bank is some =
-    first_bank bank (place_of_some page (bank_place bank) (image_at pages page bank) (is.each page (bank_place bank)) some)
 
 -- words of which one is changed are still those of an image
 fits_set : (fits : ℕ → Bool) (words : List ℕ) (offset word : ℕ) → list_all fits words ≡ true → fits word ≡ true
@@ -179,11 +139,24 @@ unless : {A : Type 0} (test : Bool) (value : A) → then_some (not test) value �
 unless true value none = refl
 unless false value none = cc
 
+numbered_place : (number : ℕ) → 1 ≤ number → number ≤ 4 → bank_place (bank_numbered number) + 1 ≡ number
+numbered_place zero least most = absurd (omega (arith, least))
+numbered_place (suc zero) least most = refl
+numbered_place (suc (suc zero)) least most = refl
+numbered_place (suc (suc (suc zero))) least most = refl
+numbered_place (suc (suc (suc (suc zero)))) least most = refl
+numbered_place (suc (suc (suc (suc (suc number))))) least most = absurd (omega (arith, most))
+
 one_held : (page number : ℕ) → is_held page number ≡ true → is_held page (bank_place (bank_numbered number) + 1) ≡ true
 one_held page number held =
-    let one : number ≡ 1 = eqb-true number 1 (and_parts (is_pluggable page) (number == 1) held).1 in
-    let P : ℕ → Type 0 = λ n. is_held page (bank_place (bank_numbered n) + 1) ≡ true in
-    subst P (sym one) (subst (λ n. is_held page n ≡ true) one held)
+    let bank = and_parts (nat_le 1 number) (nat_le number 4) (and_parts (is_pluggable page) (is_bank number) held).1 in
+    ap (is_held page) (numbered_place number (least number bank.0) (most number bank.1)) ∙ held
+  where
+    least : (number : ℕ) → nat_le 1 number ≡ true → 1 ≤ number
+    least number test = grind (arith, nat_tests)
+
+    most : (number : ℕ) → nat_le number 4 ≡ true → number ≤ 4
+    most number test = grind (arith, nat_tests)
 
 pub plugged_held : (pages : PageMap) (page number : ℕ) (writable : Bool) (words : List ℕ) → plug_refusal pages page number words ≡ None
     → IsHeldImage page (bank_place (bank_numbered number)) (record { words = words; writable = writable })

@@ -1,11 +1,12 @@
 -- What is fetched after a page was plugged or unplugged.
-use Rattle.std.proofs.Common.{◌≡◌, ◌<◌, Some, None, Ok, length, arith, ap, refl, ◌∙◌, slice_set, slice_index_or, slice_index}
+use Rattle.std.proofs.Common.{◌≡◌, ℕ, ◌<◌, List, Option, Some, None, Ok, length, arith, ap, refl, ◌∙◌, slice_set, slice_index_or}
+use Rattle.std.proofs.Common.{slice_index, if◌then◌else◌, is_some, get_or-set_same}
 use Rattle.h41_words.specs.declared.rows.Bank.{Bank}
 use Rattle.h41_words.specs.declared.rows.Bank.TheVariants.{First, Second, Third, Fourth}
 use Rattle.h41_pages.specs.Addresses.{page_of}
-use Rattle.h41_pages.specs.PageLaws.{PluggedIsFetched, PluggingKeepsOthers, UnpluggedIsEmpty, UnpluggingKeepsOthers}
-use Rattle.h41_pages.specs.PageMap.{PageImage, banks_at, image_at, chosen_at, bank_numbered, bank_place, no_banks, with_page_image}
-use Rattle.h41_pages.specs.PageMap.{without_images}
+use Rattle.h41_pages.specs.PageLaws.{ChosenIsFetched, PluggedIsFetched, PluggingKeepsOthers, UnpluggedIsEmpty, UnpluggingKeepsOthers}
+use Rattle.h41_pages.specs.PageMap.{PageMap, PageImage, IsPageMap, banks_at, image_at, chosen_at, chosen_image, bank_numbered, bank_place}
+use Rattle.h41_pages.specs.PageMap.{no_banks, with_page_image, without_images, with_chosen}
 use Rattle.h41_pages.proofs.OtherPages.{own_banks, own_image, bank_below, fetch_at, offset_in, same_fetch, other_banks, other_chosen}
 
 pub word_plugged : PluggedIsFetched
@@ -26,6 +27,28 @@ pub others_plugged : PluggingKeepsOthers
 others_plugged pages page number writable words address different =
     same_fetch (with_page_image pages page number writable words) pages address
     (other_banks pages.images _ page (page_of address) different) refl
+
+-- what is plugged at a bank that is chosen
+chosen_now : (pages : PageMap) (page : ℕ) (bank : Bank) (image : PageImage) (plugged : Option PageImage) → IsPageMap pages → page < 16
+    → image_at pages page bank ≡ plugged → plugged ≡ Some image → chosen_image (with_chosen pages page bank) page ≡ Some image
+chosen_now pages page bank image plugged whole below here some =
+    let own : slice_index_or (slice_set pages.chosen page bank) page First ≡ bank = own_choice pages.chosen page bank below_all in
+    ap (λ test. chosen_image (if test then record pages { chosen = slice_set pages.chosen page bank } else pages) page)
+    (ap is_some (here ∙ some))
+    ∙ ap (image_at pages page) own ∙ here ∙ some
+  where
+    below_all : page < length pages.chosen
+    below_all = omega (arith, whole.chosen, below)
+
+    own_choice : (chosen : List Bank) (page : ℕ) (bank : Bank) → page < length chosen
+        → slice_index_or (slice_set chosen page bank) page First ≡ bank
+    own_choice chosen page bank below = rw get_or-set_same refl
+
+pub word_chosen : ChosenIsFetched
+word_chosen pages page offset bank image whole first last below here =
+    fetch_at (with_chosen pages page bank) page offset (Some image) first below
+    (chosen_now pages page bank image (Some image) whole (omega (arith, last)) here refl)
+    ∙ ap (λ at. Ok (slice_index image.words at)) (offset_in page offset below)
 
 none_of : (bank : Bank) → slice_index_or no_banks (bank_place bank) None ≡ None
 none_of First = refl

@@ -10,8 +10,8 @@ use Rattle.std.proofs.lemmas.Bool.Decides.{nat_tests}
 use Rattle.std.proofs.lemmas.List.{set_past}
 use Rattle.h41_pages.specs.Addresses.{page_of, offset_of, page_size, is_pluggable, is_system}
 use Rattle.h41_pages.specs.PageLaws.{WrittenIsFetched, WritingKeepsOthers}
-use Rattle.h41_pages.specs.PageMap.{PageMap, PageImage, IsHeldImage, IsPageMap, banks_at, chosen_at, chosen_image, bank_place, is_held}
-use Rattle.h41_pages.specs.PageMap.{is_image, is_writable, fetched, word_in, with_word, written}
+use Rattle.h41_pages.specs.PageMap.{PageMap, PageImage, IsHeldImage, IsPageMap, banks_at, chosen_at, chosen_image, bank_place, is_bank}
+use Rattle.h41_pages.specs.PageMap.{is_held, is_image, is_writable, fetched, word_in, with_word, written}
 use Rattle.h41_pages.specs.declared.refusal.FetchRefusal.TheVariants.{SystemRom}
 use Rattle.h41_pages.specs.declared.refusal.ReadOnly.{ReadOnly}
 use Rattle.h41_pages.proofs.OtherPages.{same_fetch, other_banks, own_banks, own_image, bank_below}
@@ -24,7 +24,7 @@ chosen_held pages page image is here =
 
 pub pluggable : (page place : ℕ) → is_held page (place + 1) ≡ true → (4 ≤ page) × (page ≤ 15)
 pluggable page place held =
-    let both = and_parts (nat_le 4 page) (nat_le page 15) (and_parts (is_pluggable page) (place + 1 == 1) held).0 in
+    let both = and_parts (nat_le 4 page) (nat_le page 15) (and_parts (is_pluggable page) (is_bank (place + 1)) held).0 in
     (low page both.0, high page both.1)
   where
     low : (page : ℕ) → nat_le 4 page ≡ true → 4 ≤ page
@@ -58,7 +58,7 @@ fetched_in pages address image held here =
     ap (λ system. if system then Err (SystemRom address) else word_in address (chosen_image pages (page_of address))) held
     ∙ ap (word_in address) here
 
-outside_system : (address : ℕ) → 4 ≤ page_of address → is_system address ≡ false
+pub outside_system : (address : ℕ) → 4 ≤ page_of address → is_system address ≡ false
 outside_system address above = let high : 0x4000 ≤ address = omega (arith, above) in grind (arith, nat_tests)
 
 accepted_writable : (writable : Bool) (reason : ReadOnly) → then_some (not writable) reason ≡ None → writable ≡ true
@@ -85,7 +85,7 @@ word_fetched pages address word is accepted =
     (accepted_writable (is_writable (chosen_image pages (page_of address))) (record { address = address }) accepted)
 
 -- another word of an image of which one was written
-other_word : (address offset word : ℕ) (image : Option PageImage) → offset_of address ≢ offset
+pub other_word : (address offset word : ℕ) (image : Option PageImage) → offset_of address ≢ offset
     → word_in address (option_map (with_word offset word) image) ≡ word_in address image
 other_word address offset word None apart = refl
 other_word address offset word (Some image) apart = ap Ok (same_word image.words (offset_of address) offset word apart)

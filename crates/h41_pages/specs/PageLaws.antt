@@ -1,9 +1,10 @@
 -- What follows from the definitions of pages and images alone.
-use Rattle.std.specs.Prelude.{◌≡◌, ◌≢◌, ℕ, ◌+◌, ◌*◌, ◌<◌, ◌≤◌, Bool, true, List, slice_index}
-use Rattle.std.specs.Prelude.{IfSome, None, Ok, Err}
+use Rattle.std.specs.Prelude.{◌≡◌, ◌≢◌, ◌⊎◌, ℕ, ◌+◌, ◌*◌, ◌<◌, ◌≤◌, Bool, true, List, slice_index}
+use Rattle.std.specs.Prelude.{IfSome, Some, None, Ok, Err}
 use Rattle.h41_words.specs.declared.rows.Bank.{Bank}
 use Rattle.h41_pages.specs.Addresses.{page_size, first_page, last_page, page_of}
-use Rattle.h41_pages.specs.PageMap.{PageMap, IsPageMap, image_at, chosen_at, bank_numbered}
+use Rattle.h41_pages.specs.PageMap.{PageMap, PageImage, IsPageMap, image_at, chosen_at}
+use Rattle.h41_pages.specs.PageMap.{bank_numbered}
 use Rattle.h41_pages.specs.PageMap.{is_image, with_page_image, without_images, with_chosen, fetched}
 use Rattle.h41_pages.specs.PageMap.{write_refusal, written}
 use Rattle.h41_pages.specs.Images.{image_bytes, words_in, read_refusal, IsImageAt}
@@ -38,6 +39,15 @@ PluggedIsFetched =
     → chosen_at pages page ≡ bank_numbered number
     → fetched (with_page_image pages page number writable words) (address_in page offset)
     ≡ Ok (slice_index words offset)
+
+-- what is plugged at a bank is fetched once that is chosen
+abbrev pub ChosenIsFetched : Type 0
+ChosenIsFetched =
+    (pages : PageMap) (page offset : ℕ) (bank : Bank) (image : PageImage) → IsPageMap pages
+    → first_page ≤ page → page ≤ last_page → offset < page_size
+    → image_at pages page bank ≡ Some image
+    → fetched (with_chosen pages page bank) (address_in page offset)
+    ≡ Ok (slice_index image.words offset)
 
 -- a page that is unplugged is empty
 abbrev pub UnpluggedIsEmpty : Type 0
@@ -76,3 +86,30 @@ WritingKeepsOthers =
     (pages : PageMap) (written_address word address : ℕ) → IsPageMap pages
     → address ≢ written_address
     → fetched (written pages written_address word) address ≡ fetched pages address
+
+-- what is plugged at a bank stays when another is plugged, in the same page too
+abbrev pub PluggingKeepsOtherBanks : Type 0
+PluggingKeepsOtherBanks =
+    (pages : PageMap) (page number : ℕ) (writable : Bool) (words : List ℕ) (other : ℕ) (bank : Bank)
+    → (other ≢ page) ⊎ (bank ≢ bank_numbered number)
+    → image_at (with_page_image pages page number writable words) other bank
+    ≡ image_at pages other bank
+
+-- and when a word of another is written, which is that of the chosen bank
+abbrev pub WritingKeepsOtherBanks : Type 0
+WritingKeepsOtherBanks =
+    (pages : PageMap) (address word other : ℕ) (bank : Bank)
+    → (other ≢ page_of address) ⊎ (bank ≢ chosen_at pages (page_of address))
+    → image_at (written pages address word) other bank ≡ image_at pages other bank
+
+-- and when another page is unplugged
+abbrev pub UnpluggingKeepsOtherBanks : Type 0
+UnpluggingKeepsOtherBanks =
+    (pages : PageMap) (page other : ℕ) (bank : Bank) → other ≢ page
+    → image_at (without_images pages page) other bank ≡ image_at pages other bank
+
+-- and whatever is chosen
+abbrev pub ChoosingKeepsBanks : Type 0
+ChoosingKeepsBanks =
+    (pages : PageMap) (page : ℕ) (chosen : Bank) (other : ℕ) (bank : Bank)
+    → image_at (with_chosen pages page chosen) other bank ≡ image_at pages other bank

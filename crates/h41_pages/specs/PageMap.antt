@@ -55,9 +55,12 @@ bank_place Second = 1
 bank_place Third = 2
 bank_place Fourth = 3
 
--- whether pages and banks of these numbers are held: pages 4 to F, and of the banks the first alone
+-- whether pages and banks of these numbers are held: pages 4 to F, banks 1 to 4
+abbrev pub is_bank : ℕ → Bool
+is_bank number = nat_le 1 number && nat_le number 4
+
 abbrev pub is_held : ℕ → ℕ → Bool
-is_held page number = is_pluggable page && number == 1
+is_held page number = is_pluggable page && is_bank number
 
 -- the banks of a page, the image at one of them, and the one that is chosen
 abbrev pub banks_at : PageMap → ℕ → List (Option PageImage)
@@ -92,15 +95,13 @@ pub record IsHeldImage (page place : ℕ) (image : PageImage) : Type 0 where
   pub words : is_image image.words ≡ true
 
 -- What pages are, at any time: sixteen, each with four banks, of which one is chosen. What is
--- plugged is an image, at a page and a bank that are held; and so the first bank is chosen
--- everywhere.
+-- plugged is an image, at a page and a bank that are held.
 pub record IsPageMap (pages : PageMap) : Type 0 where
   pub images : length pages.images ≡ page_count
   pub banks : (page : ℕ) → page < page_count → length (banks_at pages page) ≡ 4
   pub chosen : length pages.chosen ≡ page_count
   pub each : (page place : ℕ)
       → IfSome (slice_index_or (banks_at pages page) place None) (IsHeldImage page place)
-  pub first : (page : ℕ) → chosen_at pages page ≡ First
 
 -- why words are not plugged: 1 where the page or the bank is not held, 2 where it is plugged, 4
 -- where they are no image

@@ -1,23 +1,26 @@
-//! The address space as one list, so that a word is fetched by one index.
+//! The words of all banks as one list, bank behind bank, so that a word is fetched by one index and a bank is chosen by one write.
 
-ghost use Rattle.std.specs.Prelude.{◌≡◌, ◌<◌, ◌↔◌, IsSome, IfSome, IfOk, length, replicate};
+ghost use Rattle.std.specs.Prelude.{◌≡◌, ◌<◌, ◌↔◌, IsSome, IfSome, IfOk, length};
 ghost use Rattle.std.specs.Prelude.{slice_index, slice_set};
 ghost use Rattle.h41_words.specs.Counts.{word_count};
 ghost use Rattle.h41_pages.specs.Addresses.{page_count, page_size};
 ghost use Rattle.h41_pages.specs.private.AddressSpace as spec;
 
 use crate::addresses::{PAGE_WORDS, PAGES};
-use h41_words::Word;
+use crate::banks::{BANKS, bank_place};
+use h41_words::{Bank, Word};
 use std::alloc::{AllocError, Global};
 use std::marker::Model;
 
-/// How many addresses there are.
+/// How many addresses there are, and how many words in all banks.
 const ADDRESSES: usize = PAGES * PAGE_WORDS;
+
+const WORDS: usize = BANKS * ADDRESSES;
 
 /// The number where no word is: the first above all words.
 const NOTHING: u16 = 0x400;
 
-/// The word at each address, where there is one.
+/// The word at each address of each bank, where there is one.
 #[derive(Drop)]
 pub struct AddressSpace {
     numbers: Vec<u16>,
@@ -25,13 +28,13 @@ pub struct AddressSpace {
 
 impl Model for AddressSpace {
     ghost use Rattle.std.specs.Prelude.{◌≡◌, ℕ, List, vec_len};
-    ghost use Rattle.h41_pages.specs.private.AddressSpace.{address_count};
+    ghost use Rattle.h41_pages.specs.private.AddressSpace.{space_size};
 
     ghost Value = { List ℕ };
 
     ghost view = { λ space. space.numbers.items };
 
-    ghost invariant = { λ space. vec_len space.numbers ≡ address_count };
+    ghost invariant = { λ space. vec_len space.numbers ≡ space_size };
 }
 
 impl AddressSpace {
@@ -40,41 +43,63 @@ impl AddressSpace {
         ensures { IfOk result (λ space. space ≡ spec.empty_space) }
     {
         let mut numbers = Vec::new(alloc);
-        numbers.resize(ADDRESSES, NOTHING)?;
+        numbers.resize(WORDS, NOTHING)?;
         Ok(AddressSpace { numbers })
     }
 
-    /// The word at an address, where there is one.
+    /// The word at an address of a bank, where there is one.
     #[inline(always)]
-    pub fn word(&self, address: u16) -> Option<Word>
-        ensures fits { IsSome result ↔ (slice_index self.now address < word_count) }
-        ensures value { IfSome result (λ word. word ≡ slice_index self.now address) }
+    pub fn word(&self, bank: Bank, address: u16) -> Option<Word>
+        ensures fits { IsSome result
+            ↔ (slice_index self.now (spec.word_place bank address) < word_count) }
+        ensures value { IfSome result
+            (λ word. word ≡ slice_index self.now (spec.word_place bank address)) }
     {
-        Word::new(self.numbers[usize::from(address)])
+        Word::new(self.numbers[word_place(bank, address)])
     }
 
-    /// Puts a word at an address.
-    pub fn set(&mut self, address: u16, word: Word)
-        ensures { self.new ≡ slice_set self.old address word }
+    /// Puts a word at an address of a bank.
+    pub fn set(&mut self, bank: Bank, address: u16, word: Word)
+        ensures { self.new ≡ slice_set self.old (spec.word_place bank address) word }
     {
-        self.numbers[usize::from(address)] = word.number();
+        self.numbers[word_place(bank, address)] = word.number();
     }
 
-    /// Puts words at the addresses of a page.
-    pub fn put(&mut self, page: usize, words: &[u16])
+    /// Puts words at the addresses of a page's bank.
+    pub fn put(&mut self, bank: Bank, page: usize, words: &[u16])
         requires page { page < page_count }
         requires size { length words.now ≡ page_size }
-        ensures { self.new ≡ spec.with_page self.old page words.now }
+        ensures { self.new ≡ spec.with_page self.old (spec.page_place bank page) words.now }
     {
-        let start = page * PAGE_WORDS;
+        let start = (bank_place(bank) * PAGES + page) * PAGE_WORDS;
         self.numbers[start..start + PAGE_WORDS].copy_from_slice(words);
     }
 
-    /// Takes the words of a page away.
+    /// Takes the words of all banks of a page away.
     pub fn clear(&mut self, page: usize)
         requires { page < page_count }
-        ensures { self.new ≡ spec.with_page self.old page (replicate page_size spec.nothing) }
+        ensures { self.new ≡ spec.without_page self.old page }
     {
-        self.put(page, &[NOTHING; PAGE_WORDS]);
+        self.clear_bank(Bank::First, page);
+        self.clear_bank(Bank::Second, page);
+        self.clear_bank(Bank::Third, page);
+        self.clear_bank(Bank::Fourth, page);
     }
+
+    /// Takes the words of a page's bank away.
+    fn clear_bank(&mut self, bank: Bank, page: usize)
+        requires { page < page_count }
+        ensures { self.new ≡ spec.without_bank self.old bank page }
+    {
+        self.put(bank, page, &[NOTHING; PAGE_WORDS]);
+    }
+}
+
+/// Where the word at an address of a bank stands.
+#[inline(always)]
+fn word_place(bank: Bank, address: u16) -> usize
+    ensures place { result ≡ spec.word_place bank address }
+    ensures bound { result < spec.space_size }
+{
+    bank_place(bank) * ADDRESSES + usize::from(address)
 }

@@ -26,6 +26,7 @@ pub fn is_pluggable(page: u8) -> bool
 }
 
 /// The page of an address.
+#[inline(always)]
 pub fn page_of(address: u16) -> usize
     ensures page { result ≡ spec.page_of address }
     ensures bound { result < 16 }

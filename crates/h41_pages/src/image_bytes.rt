@@ -7,8 +7,9 @@ ghost use Rattle.h41_pages.specs.Addresses.{page_size};
 ghost use Rattle.h41_pages.specs.Images as spec;
 
 use crate::addresses::PAGE_WORDS;
+use crate::banks::{bank_numbered, is_held};
 use crate::image::Image;
-use crate::pages::{Pages, bank_numbered, is_held};
+use crate::pages::Pages;
 use crate::refusal::{ImageRefusal, ReadRefusal};
 use byteorder::{BigEndian, ByteOrder};
 use h41_words::Word;
@@ -73,7 +74,7 @@ fn word_from(bytes: &[u8], place: usize) -> u16
 
 impl Pages {
     /// The bytes of the image at a page and bank. Refused, in this order: 1 where the page is not 4 to F or the bank is not 1
-    /// (this project's choice), 3 where it is not plugged, 21 where memory is refused.
+    /// to 4 (this project's choice), 3 where it is not plugged, 21 where memory is refused.
     pub fn image_write(&self, alloc: Global, page: u8, bank: u8) -> Result<Vec<u8>, ImageRefusal>
         ensures accepted { OnOk result (spec.image_refusal self.now page bank ≡ None) }
         ensures bytes { IfOk result (λ bytes. spec.IsImageAt self.now page bank bytes.items) }

@@ -5,6 +5,9 @@ ghost use Rattle.h41_pages.specs.PageLaws.{ImageRoundTrip, ImageIsRead, PluggedI
 ghost use Rattle.h41_pages.specs.PageLaws.{PluggedIsFetched, UnpluggedIsEmpty, PluggingKeepsOthers};
 ghost use Rattle.h41_pages.specs.PageLaws.{UnpluggingKeepsOthers, ChoosingKeepsOthers};
 ghost use Rattle.h41_pages.specs.PageLaws.{WrittenIsFetched, WritingKeepsOthers};
+ghost use Rattle.h41_pages.specs.PageLaws.{ChosenIsFetched, PluggingKeepsOtherBanks};
+ghost use Rattle.h41_pages.specs.PageLaws.{WritingKeepsOtherBanks, UnpluggingKeepsOtherBanks};
+ghost use Rattle.h41_pages.specs.PageLaws.{ChoosingKeepsBanks};
 
 use crate::pages::Pages;
 
@@ -28,6 +31,11 @@ pub fn plugged_is_fetched()
     ensures { PluggedIsFetched }
 {}
 
+/// What is plugged at a bank is fetched once that is chosen.
+pub fn chosen_is_fetched()
+    ensures { ChosenIsFetched }
+{}
+
 /// A page that is unplugged is empty.
 pub fn unplugged_is_empty()
     ensures { UnpluggedIsEmpty }
@@ -44,4 +52,12 @@ pub fn other_pages_stay()
     ensures plug { PluggingKeepsOthers }
     ensures unplug { UnpluggingKeepsOthers }
     ensures choose { ChoosingKeepsOthers }
+{}
+
+/// What is plugged at a bank that a call does not name stays, in the same page too.
+pub fn other_banks_stay()
+    ensures plug { PluggingKeepsOtherBanks }
+    ensures write { WritingKeepsOtherBanks }
+    ensures unplug { UnpluggingKeepsOtherBanks }
+    ensures choose { ChoosingKeepsBanks }
 {}

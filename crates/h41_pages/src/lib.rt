@@ -4,6 +4,7 @@
 
 mod address_space;
 mod addresses;
+mod banks;
 mod functions;
 mod image;
 mod image_bytes;

@@ -11,21 +11,20 @@ ghost use Rattle.h41_pages.specs.PageMap.{with_page_image};
 
 use crate::address_space::AddressSpace;
 use crate::addresses::{FIRST_ADDRESS, PAGES, is_pluggable, offset_of, page_of};
+use crate::banks::{BANKS, bank_numbered, bank_place, is_held};
 use crate::image::{Image, is_image};
 use crate::refusal::{FetchRefusal, PlugRefusal, ReadOnly, UnplugRefusal};
 use h41_words::{Bank, Word};
 use std::alloc::{AllocError, Global};
 use std::marker::Model;
 
-/// How many banks a page has.
-const BANKS: usize = 4;
-
-/// The pages of the address space: sixteen of 4,096 words, each with four banks. Pages 4 to F may be plugged, at bank 1.
+/// The pages of the address space: sixteen of 4,096 words, each with four banks, of which one is chosen. Pages 4 to F may be
+/// plugged, at banks 1 to 4.
 #[derive(Drop)]
 pub struct Pages {
     images: Vec<[Option<Image>; BANKS]>,
     chosen: [Bank; PAGES],
-    /// What is fetched at each address.
+    /// What is fetched at each address of each bank.
     space: AddressSpace,
 }
 
@@ -58,7 +57,7 @@ impl Pages {
     }
 
     /// Plugs 4,096 words at a page and bank. Refused, in this order: 1 where the page is not 4 to F or the bank is not 1
-    /// (this project's choice), 2 where it is plugged, 4 where there are not 4,096 words or one is above 3FF, 21 where
+    /// to 4 (this project's choice), 2 where it is plugged, 4 where there are not 4,096 words or one is above 3FF, 21 where
     /// memory is refused.
     pub fn plug(
         &mut self,
@@ -78,8 +77,9 @@ impl Pages {
             return Err(refusal);
         }
         let image = Image::new(alloc, writable, words)?;
-        self.images[usize::from(page)][bank_place(bank_numbered(bank))] = Some(image);
-        self.space.put(usize::from(page), words);
+        let bank = bank_numbered(bank);
+        self.images[usize::from(page)][bank_place(bank)] = Some(image);
+        self.space.put(bank, usize::from(page), words);
         Ok(())
     }
 
@@ -147,8 +147,7 @@ impl Pages {
         ensures word { result ≡ spec.fetched self.now address }
         ensures held { OnOk result (first_address ≤ address) }
     {
-        self.known();
-        match self.space.word(address) {
+        match self.space.word(self.chosen[page_of(address)], address) {
             Some(word) => Ok(word),
             None if address < FIRST_ADDRESS => Err(FetchRefusal::SystemRom(address)),
             None => Err(FetchRefusal::EmptyPage(address)),
@@ -175,11 +174,11 @@ impl Pages {
         ensures unchanged { OnErr result (self.new ≡ self.old) }
     {
         let page = page_of(address);
-        let bank = bank_place(self.chosen[page]);
-        match &mut self.images[page][bank] {
+        let bank = self.chosen[page];
+        match &mut self.images[page][bank_place(bank)] {
             Some(image) if image.is_writable() => {
                 image.write(offset_of(address), word);
-                self.space.set(address, word);
+                self.space.set(bank, address, word);
                 Ok(())
             }
             _ => Err(ReadOnly { address }),
@@ -212,14 +211,13 @@ impl Pages {
         self.images[page][bank_place(bank)].as_ref()
     }
 
-    /// The image at the chosen bank of a page: bank 1, since no other can be plugged.
+    /// The image at the chosen bank of a page.
     #[inline(always)]
     fn chosen_image(&self, page: usize) -> Option<&Image>
         requires { page < 16 }
         ensures { option_copied result ≡ spec.chosen_image self.now page }
     {
-        self.known();
-        self.image(page, Bank::First)
+        self.image(page, self.chosen[page])
     }
 }
 
@@ -228,36 +226,4 @@ fn is_any_plugged(images: &[Option<Image>]) -> bool
     ensures { result ≡ list_any (λ image. is_some image) images.now }
 {
     images.iter().any(|image| image.is_some())
-}
-
-/// Whether a page and a bank are held: pages 4 to F, and of the banks the first alone (this project's choice).
-pub(crate) fn is_held(page: u8, bank: u8) -> bool
-    ensures { result ≡ spec.is_held page bank }
-{
-    is_pluggable(page) && bank == 1
-}
-
-/// The bank with a number, 1 to 4.
-pub(crate) fn bank_numbered(number: u8) -> Bank
-    ensures { result ≡ spec.bank_numbered number }
-{
-    match number {
-        1 => Bank::First,
-        2 => Bank::Second,
-        3 => Bank::Third,
-        _ => Bank::Fourth,
-    }
-}
-
-/// The place of a bank among those of its page.
-fn bank_place(bank: Bank) -> usize
-    ensures place { result ≡ spec.bank_place bank }
-    ensures bound { result < 4 }
-{
-    match bank {
-        Bank::First => 0,
-        Bank::Second => 1,
-        Bank::Third => 2,
-        Bank::Fourth => 3,
-    }
 }

@@ -490,8 +490,8 @@ impl Calculator {
         Ok(())
     }
 
-    /// Plugs the words of a page at a bank. Refused, in this order, as 1 where the page is not 4 to F or the bank is not 1,
-    /// as 2 where it is plugged, as 4 where these are not 4,096 words up to 3FF, as 21 where memory is refused. Nothing is
+    /// Plugs the words of a page at a bank. Refused, in this order, as 1 where the page is not 4 to F or the bank is not 1
+    /// to 4, as 2 where it is plugged, as 4 where these are not 4,096 words up to 3FF, as 21 where memory is refused. Nothing is
     /// changed then.
     pub fn plug(
         &mut self,

@@ -8,7 +8,8 @@ ghost use Rattle.h41_commands.specs.Commands.{unplug_command, is_opening, openin
 ghost use Rattle.h41_commands.specs.Commands.{command_of};
 ghost use Rattle.h41_commands.specs.Commands.{plain_command, counted_command, plug_at};
 ghost use Rattle.h41_commands.specs.Commands.{plug_command, show_command, step_command, view_named};
-ghost use Rattle.h41_commands.specs.Commands.{view_of, list_command};
+ghost use Rattle.h41_commands.specs.Commands.{view_of, list_command, plug_at_bank, plug_with};
+ghost use Rattle.h41_commands.specs.Commands.{bank_number, image_view, image_view_at, is_bank_word};
 ghost use Rattle.h41_lines.specs.Words.{words_of};
 ghost use Rattle.h41_commands.specs.DeckLines.{longest_line, most_keys};
 ghost use Rattle.h41_commands.specs.Numbers as spec;
@@ -34,6 +35,9 @@ const MOST_REGISTERS: u32 = 9_999;
 
 /// The most words of one listing.
 const MOST_WORDS: u32 = 4_096;
+
+/// The bank that is meant where none is named.
+const FIRST_BANK: u8 = 1;
 
 /// The command of a line: 50 BadCommand where its words are no command's, and else 51 BadNumber where a number is
 /// wrong. The line is not too long.
@@ -103,27 +107,76 @@ fn plain(kind: PlainKind, operands: LineWords<'_>) -> Result<Command, LineRefusa
     }
 }
 
-/// `words P [rw]`, `image P [rw]` and `asm P [rw]`: a block that fills a page.
+/// `words P [bN] [rw]`, `image P [bN] [rw]` and `asm P [bN] [rw]`: a block that fills a bank of a page.
 fn plug(kind: PageKind, mut operands: LineWords<'_>) -> Result<Command, LineRefusal>
     ensures { result ≡ plug_command kind (words_of operands.entry.rest.now) }
 {
-    match (operands.next(), operands.next(), operands.next()) {
-        (Some(page), None, _) => plug_at(kind, page, false),
-        (Some(page), Some(b"rw"), None) => plug_at(kind, page, true),
+    match operands.next() {
+        Some(page) => plug_with(kind, page, operands),
+        None => Err(LineRefusal::BadCommand),
+    }
+}
+
+/// The same, by the word that names the page and those behind it.
+fn plug_with(
+    kind: PageKind,
+    page: &[u8],
+    mut options: LineWords<'_>,
+) -> Result<Command, LineRefusal>
+    ensures { result ≡ plug_with kind page.now (words_of options.entry.rest.now) }
+{
+    match (options.next(), options.next(), options.next()) {
+        (None, _, _) => plug_at(kind, page, FIRST_BANK, false),
+        (Some(b"rw"), None, _) => plug_at(kind, page, FIRST_BANK, true),
+        (Some(bank), None, _) => plug_at_bank(kind, page, bank, false),
+        (Some(bank), Some(b"rw"), None) => plug_at_bank(kind, page, bank, true),
         _ => Err(LineRefusal::BadCommand),
     }
 }
 
-/// The same, by the word that names the page.
-fn plug_at(kind: PageKind, page: &[u8], writable: bool) -> Result<Command, LineRefusal>
-    ensures { result ≡ plug_at kind page.now writable }
+/// The same, by the words that name the page and its bank.
+fn plug_at_bank(
+    kind: PageKind,
+    page: &[u8],
+    bank: &[u8],
+    writable: bool,
+) -> Result<Command, LineRefusal>
+    ensures { result ≡ plug_at_bank kind page.now bank.now writable }
+{
+    if !is_bank_word(bank) {
+        return Err(LineRefusal::BadCommand);
+    }
+    plug_at(kind, page, bank_number(bank)?, writable)
+}
+
+/// The same, by the word that names the page and the bank's number.
+fn plug_at(kind: PageKind, page: &[u8], bank: u8, writable: bool) -> Result<Command, LineRefusal>
+    ensures { result ≡ plug_at kind page.now bank writable }
 {
     let page = page_number(page)?;
     Ok(Command::Plug {
         kind,
         page,
+        bank,
         writable,
     })
+}
+
+/// Whether a word names a bank: it begins with `b`.
+fn is_bank_word(word: &[u8]) -> bool
+    ensures { result ≡ is_bank_word word.now }
+{
+    matches!(word, [b'b', ..])
+}
+
+/// The number of the bank that a word names: `bN`, where N is one decimal digit.
+fn bank_number(word: &[u8]) -> Result<u8, LineRefusal>
+    ensures { result ≡ bank_number word.now }
+{
+    if word.len() != 2 {
+        return Err(LineRefusal::BadNumber);
+    }
+    Ok(number_up_to(9, 10, &word[1..])? as u8)
 }
 
 /// `load` and `program`: a block that is a program.
@@ -269,7 +322,7 @@ fn list(mut operands: LineWords<'_>) -> Result<Command, LineRefusal>
     }
 }
 
-/// `show WHAT`.
+/// `show WHAT`, `show ram hhh` and `show image P [bN]`.
 fn show(operands: LineWords<'_>) -> Result<Command, LineRefusal>
     ensures { result ≡ show_command (words_of operands.entry.rest.now) }
 {
@@ -301,9 +354,29 @@ fn view(mut operands: LineWords<'_>) -> Result<View, LineRefusal>
     match (operands.next(), operands.next(), operands.next()) {
         (Some(what), None, _) => view_named(what),
         (Some(b"ram"), Some(address), None) => Ok(View::Register(hexadecimal(3, 3, address)?)),
-        (Some(b"image"), Some(page), None) => Ok(View::Image(page_number(page)?)),
+        (Some(b"image"), Some(page), None) => image_view(page, FIRST_BANK),
+        (Some(b"image"), Some(page), Some(bank)) if operands.next().is_none() => {
+            image_view_at(page, bank)
+        }
         _ => Err(LineRefusal::BadCommand),
     }
+}
+
+/// `image P bN`: the image of a page's bank, by the words that name them.
+fn image_view_at(page: &[u8], bank: &[u8]) -> Result<View, LineRefusal>
+    ensures { result ≡ image_view_at page.now bank.now }
+{
+    if !is_bank_word(bank) {
+        return Err(LineRefusal::BadCommand);
+    }
+    image_view(page, bank_number(bank)?)
+}
+
+/// The same, by the word that names the page and the bank's number.
+fn image_view(page: &[u8], bank: u8) -> Result<View, LineRefusal>
+    ensures { result ≡ image_view page.now bank }
+{
+    Ok(View::Image(page_number(page)?, bank))
 }
 
 /// The view that one word names.

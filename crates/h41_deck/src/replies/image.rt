@@ -1,4 +1,4 @@
-//! A page's image, as `show image` prints it.
+//! The image of a page's bank, as `show image` prints it.
 
 ghost use Rattle.std.specs.Prelude.{◌≡◌, ◌<◌, ◌≤◌, ◌+◌, ◌*◌, ◌++◌, IfOk, OnOk, length, take, drop};
 ghost use Rattle.h41_pages.specs.Images.{image_size};
@@ -6,7 +6,6 @@ ghost use Rattle.h41_deck.specs.PageViews as spec;
 ghost use Rattle.h41_deck.specs.Writing.{IsImageShown};
 
 use crate::refusal::Refusal;
-use crate::replies::BANK;
 use crate::replies::digits::push_hexadecimal;
 use h41_pages::{ImageRefusal, Pages};
 use std::alloc::{AllocError, Global};
@@ -16,15 +15,16 @@ const LINES: usize = 256;
 
 const LINE_BYTES: usize = 32;
 
-/// The lines of a page's image, or why it is not shown: 1 or 3. 21 where memory is refused.
+/// The lines of the image at a page's bank, or why it is not shown: 1 or 3. 21 where memory is refused.
 pub fn image_shown(
     alloc: Global,
     pages: &Pages,
     page: u8,
+    bank: u8,
 ) -> Result<Result<Vec<u8>, Refusal>, AllocError>
-    ensures { IfOk result (IsImageShown pages.now page) }
+    ensures { IfOk result (IsImageShown pages.now page bank) }
 {
-    match pages.image_write(alloc, page, BANK) {
+    match pages.image_write(alloc, page, bank) {
         Ok(bytes) => Ok(Ok(image_text(alloc, &bytes)?)),
         Err(refusal) => match refusal {
             ImageRefusal::OutOfMemory => Err(AllocError),

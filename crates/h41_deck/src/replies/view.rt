@@ -41,7 +41,7 @@ pub fn shown(
         View::Display => line_of(alloc, calculator.display().as_str())?,
         View::Position => line_of(alloc, bench.position().as_str())?,
         View::Lines => program_lines(alloc, ram)?,
-        View::Image(page) => return image_shown(alloc, calculator.pages(), page),
+        View::Image(page, bank) => return image_shown(alloc, calculator.pages(), page, bank),
         View::Functions => functions_text(alloc, calculator.pages())?,
     };
     Ok(Ok(text))

@@ -7,7 +7,7 @@ pub returns-in-Ok-clause-plugs : goal.returns-in-Ok-clause-plugs
 returns-in-Ok-clause-plugs c =
     let words : c.deref.result.now ≡ page_of_words c.args.words.items =
     c.deref.ensures.value ∙ resized c.args.words.items _ _ c.args.words.ok.0 c.requires c.in_ok-resize.ensures.items in
-    plugs_done c.args.bench.now c.args.page c.args.writable c.args.words.items c.deref.result.now
+    plugs_done c.args.bench.now c.args.page c.args.bank c.args.writable c.args.words.items c.deref.result.now
     c.calculator_mut.result.now c.plug.new.self c.calculator_mut.ensures.value words
     c.in-Ok.ensures.accepted c.in-Ok.ensures.change
 
@@ -17,7 +17,7 @@ returns c =
     c.deref.ensures.value ∙ resized c.args.words.items _ _ c.args.words.ok.0 c.requires c.in_ok-resize.ensures.items in
     record {
       plugs =
-          rw c.from.ensures (plugs_refused c.args.bench.now c.args.page c.args.writable
+          rw c.from.ensures (plugs_refused c.args.bench.now c.args.page c.args.bank c.args.writable
           c.args.words.items c.deref.result.now c.calculator_mut.result.now c.plug.new.self
           c.calculator_mut.ensures.value words c.in-Err.refusal c.in-Err.ensures.refusal
           c.in_default.not-OutOfMemory c.in-Err.ensures.unchanged);

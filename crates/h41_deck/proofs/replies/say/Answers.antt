@@ -8,7 +8,7 @@ returns-in-Some-clause-text g c =
 
 pub returns-in_ok-plug-in-Plug-clause-text : goal.returns-in_ok-plug-in-Plug-clause-text
 returns-in_ok-plug-in-Plug-clause-text g c =
-    plug_text c.args.block c.args.command c.in-Plug.kind c.in-Plug.page c.in-Plug.writable
+    plug_text c.args.block c.args.command c.in-Plug.kind c.in-Plug.page c.in-Plug.bank c.in-Plug.writable
     c.args.bench.now _ _ _ c.in-Plug.is c.requires.block c.in_ok-plug-in-Plug.ensures.plugs
 
 pub returns-in_ok-load-in-Load-clause-text : goal.returns-in_ok-load-in-Load-clause-text

@@ -7,4 +7,4 @@ pub invariant_of-self : goal.invariant_of-self
 invariant_of-self c =
     subst (IsPages _) (sym c.clear.ensures)
     (pages_unplugged (record { images = c.self.inside.images.items; chosen = c.self.inside.chosen }) c.self.inside.space c.from-page.result
-    c.self.invariant (search rules) (search rules))
+    c.self.invariant (search rules))

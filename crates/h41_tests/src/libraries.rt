@@ -4,6 +4,7 @@ mod arithmetic;
 mod decimals;
 mod display;
 mod fields;
+mod kept_labels;
 mod lister;
 mod memory;
 mod pages;

@@ -1,0 +1,253 @@
+//! h41_focal and h41_labels: labels that are kept, and found as if none were.
+
+ghost use Rattle.std.specs.Prelude.{◌<◌};
+
+use crate::judge::wants;
+use h41_codes::{Function, Line, Parameter, decode};
+use h41_digits::Reg;
+use h41_focal::laws::kept_answers_stay_right;
+use h41_focal::{Focal, Machine};
+use h41_labels::LabelCache;
+use h41_program::{Position, load};
+use h41_ram::{Ram, StatusRegister};
+use std::marker::Model;
+use std::test::Fail;
+
+/// The machine of a calculator: each label that it keeps is where its search finds it, or its mark is set.
+#[derive(Drop)]
+struct Kept {
+    machine: Machine<320>,
+}
+
+impl Model for Kept {
+    ghost use Rattle.h41_focal.specs.LabelledMachine.{AreRight, LabelledMachine};
+
+    ghost Value = { LabelledMachine };
+
+    ghost view = { λ kept. kept.machine };
+
+    ghost invariant = { λ kept. AreRight kept.machine };
+}
+
+/// What is done to a machine.
+enum Act {
+    /// The line at the position.
+    Step,
+    /// The line that bytes begin with is typed.
+    Type(&'static [u8]),
+    /// A function in microcode has written a register, and its line is passed.
+    Write(u16, u64),
+}
+
+impl Kept {
+    /// The start, with programs that are loaded.
+    fn with(bytes: &[u8]) -> Option<Self> {
+        let mut ram = Ram::<320>::new();
+        if !ram.is_sound() || load(&mut ram, bytes).is_err() {
+            return None;
+        }
+        let focal = Focal::new();
+        let machine = Machine { ram, focal };
+        Some(Kept { machine })
+    }
+
+    /// Does something.
+    fn does(&mut self, act: &Act) -> bool {
+        match act {
+            Act::Step => self.machine.step().is_ok(),
+            Act::Type(bytes) => self.machine.key(&line(bytes)).is_ok(),
+            Act::Write(address, digits) => match Reg::from_u64(*digits) {
+                Some(register) => {
+                    self.writes(*address, register);
+                    self.passes()
+                }
+                None => false,
+            },
+        }
+    }
+
+    /// A register is written.
+    fn writes(&mut self, address: u16, register: Reg) {
+        kept_answers_stay_right();
+        self.machine.ram.write(address, register);
+    }
+
+    /// A register is written with what it holds.
+    fn writes_again(&mut self, address: u16) {
+        let register = self.machine.ram.read(address);
+        self.writes(address, register);
+    }
+
+    /// The line at the position is passed.
+    fn passes(&mut self) -> bool {
+        kept_answers_stay_right();
+        self.machine.pass().is_ok()
+    }
+
+    /// Where the next line stands.
+    fn position(&self) -> u16 {
+        byte_of(self.machine.focal.position)
+    }
+
+    /// The kept answer for a local label from a byte on.
+    fn kept(&self, at: u16, label: u8) -> Option<Option<u16>>
+        requires { label < 128 }
+    {
+        self.machine
+            .focal
+            .cache()
+            .kept_local(at, Parameter::new(label))
+    }
+}
+
+/// The line that bytes begin with; STOP where they begin with none.
+fn line(bytes: &[u8]) -> Line {
+    match decode(bytes) {
+        Ok((line, _)) => line,
+        Err(_) => Line::Plain(Function::Stop),
+    }
+}
+
+/// The byte of a position.
+fn byte_of(position: Position) -> u16 {
+    match position {
+        Position::Memory(byte) => byte,
+    }
+}
+
+/// Whether two machines agree, in all but what they keep.
+fn agree(kept: &Kept, other: &Kept) -> bool {
+    let (one, two) = (&kept.machine, &other.machine);
+    for address in 0..0x200 {
+        if one.ram.read(address) != two.ram.read(address) {
+            return false;
+        }
+    }
+    one.focal.position == two.focal.position
+        && one.focal.is_at_line_00 == two.focal.is_at_line_00
+        && one.focal.returns.as_slice() == two.focal.returns.as_slice()
+        && one.focal.lift == two.focal.lift
+}
+
+/// Rows of programs by their bytes, and what is done to them, each with the position behind it.
+static ROWS: [(&str, &[u8], &[(Act, u16)]); 3] = [
+    (
+        "a loop",
+        // 1.003, STO 01, LBL 01, ISG 01, GTO 01, RCL 01
+        &[
+            0x11, 0x1A, 0x10, 0x10, 0x13, 0x31, 0x02, 0x96, 0x01, 0xB2, 0x00, 0x21,
+        ],
+        &[
+            (Act::Step, 5),
+            (Act::Step, 6),
+            (Act::Step, 7),
+            (Act::Step, 9),
+            (Act::Step, 6),
+            (Act::Step, 7),
+            (Act::Step, 9),
+            (Act::Step, 6),
+            (Act::Step, 7),
+            (Act::Step, 11),
+            (Act::Step, 18),
+        ],
+    ),
+    (
+        "a label that is written over",
+        // LBL "T", XROM 05,01, GTO 01, LBL 01
+        &[0xC0, 0x00, 0xF2, 0x00, 0x54, 0xA1, 0x41, 0xB2, 0x00, 0x02],
+        &[
+            (Act::Type(&[0xD0, 0x00, 0x01]), 9),
+            (Act::Type(&[0x1D, 0xF1, 0x54]), 0),
+            (Act::Step, 5),
+            (Act::Write(0x19A, 0xB2_0000_00C0_0020), 7),
+            (Act::Step, 7),
+            (Act::Type(&[0xD0, 0x00, 0x01]), 7),
+            (Act::Type(&[0x1D, 0xF1, 0x54]), 0),
+            (Act::Type(&[0xD0, 0x00, 0x01]), 0),
+        ],
+    ),
+    (
+        "two programs",
+        // LBL "T", GTO 01, LBL 01, END, LBL 01, LBL "T", GTO 01
+        &[
+            0xC0, 0x00, 0xF2, 0x00, 0x54, 0xB2, 0x00, 0x02, 0xC0, 0x00, 0x0D, 0x02, 0xC0, 0x00,
+            0xF2, 0x00, 0x54, 0xB2, 0x00,
+        ],
+        &[
+            (Act::Step, 5),
+            (Act::Step, 7),
+            (Act::Type(&[0x1E, 0xF1, 0x54]), 12),
+            (Act::Step, 17),
+            (Act::Step, 11),
+            (Act::Step, 12),
+            (Act::Step, 17),
+            (Act::Step, 11),
+        ],
+    ),
+];
+
+#[test]
+fn forgotten_before_each_step(rt: HostRuntime) -> Result<(), Fail> {
+    for (name, bytes, acts) in &ROWS {
+        let mut kept = Kept::with(bytes).ok_or("the row's program")?;
+        let mut other = Kept::with(bytes).ok_or("the row's program")?;
+        for (act, position) in *acts {
+            // Register c sets the mark, so that the next line forgets.
+            other.writes_again(StatusRegister::C.address());
+            let is_done = kept.does(act);
+            assert!(rt; is_done == other.does(act), "{name}");
+            wants(&rt, name, kept.position() == *position);
+            wants(&rt, name, agree(&kept, &other));
+        }
+    }
+    Ok(())
+}
+
+#[test]
+fn what_has_a_search_forgotten(rt: HostRuntime) -> Result<(), Fail> {
+    // LBL 02, STO 00, GTO 02
+    let mut kept = Kept::with(&[0x03, 0x30, 0xB3, 0x00]).ok_or("a program")?;
+    let steps = [(1, None), (2, None), (0, Some(Some(0))), (1, Some(Some(0)))];
+    for (position, answer) in steps {
+        wants(&rt, "a step", kept.does(&Act::Step));
+        wants(&rt, "its position", kept.position() == position);
+        wants(&rt, "what is kept", kept.kept(4, 2) == answer);
+    }
+    // STO 00 stores zero in R00.
+    wants(&rt, "a store", kept.does(&Act::Step));
+    wants(&rt, "the label behind it", kept.kept(4, 2) == Some(Some(0)));
+    wants(&rt, "a jump", kept.does(&Act::Step));
+    wants(&rt, "to the same label", kept.position() == 0);
+    // A register of the program is written.
+    kept.writes_again(0x19B);
+    wants(&rt, "a line", kept.does(&Act::Step));
+    wants(&rt, "none is kept", kept.kept(4, 2) == None);
+    Ok(())
+}
+
+#[test]
+fn the_oldest_of_64_drops_out(rt: HostRuntime) {
+    let ram = Ram::<320>::new();
+    let mut cache = LabelCache::new();
+    wants(&rt, "memory is sound", ram.is_sound());
+    for label in 0..64 {
+        cache.local(&ram, 0, Parameter::new(label));
+    }
+    let first = Parameter::new(0);
+    let second = Parameter::new(1);
+    wants(
+        &rt,
+        "all are kept",
+        cache.kept_local(0, first) == Some(None),
+    );
+    cache.local(&ram, 0, first);
+    cache.local(&ram, 0, Parameter::new(64));
+    wants(&rt, "the oldest", cache.kept_local(0, first) == None);
+    wants(&rt, "the next", cache.kept_local(0, second) == Some(None));
+    wants(&rt, "another position", cache.kept_local(1, second) == None);
+    wants(
+        &rt,
+        "the newest",
+        cache.kept_local(0, Parameter::new(64)) == Some(None),
+    );
+}

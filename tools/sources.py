@@ -402,20 +402,24 @@ class Labels:
         """Takes the labels of a block that the bench has accepted, or forgets those of a page that is plugged or taken out
         otherwise."""
         words = words_of(lines[0])
-        if words[0] == b"asm":
-            source = Source(b"".join(lines[1:-1]))
-            self.pages[words[1].upper()] = sorted((place, name) for name, place in source.labels.items())
-        elif words[0] in (b"words", b"image", b"unplug"):
-            self.pages[words[1].upper()] = []
+        if words[0] not in (b"asm", b"words", b"image", b"unplug"):
+            return
+        banks = self.pages.setdefault(words[1].upper(), {})
+        bank = next((word for word in words[2:] if word.startswith(b"b")), b"b1")
+        if words[0] == b"unplug":
+            banks.clear()
+        elif words[0] == b"asm":
+            banks[bank] = sorted((place, name) for name, place in Source(b"".join(lines[1:-1])).labels.items())
+        else:
+            banks.pop(bank, None)
 
     def of(self, address):
-        """The label at an address or before it in the page, and how many words lie between; empty where there is none."""
-        labels, place = self.pages.get(address[:1].encode(), []), int(address[1:], 16)
-        at = bisect(labels, (place, "~"))
-        if not at:
-            return ""
-        before, name = labels[at - 1]
-        return name + (f"+{place - before:X}" if place > before else "")
+        """The label at an address or before it in the page, and how many words lie between; empty where there is none. Where
+        several banks of the page have sources, that of each, since any of them may be read there."""
+        banks, place = self.pages.get(address[:1].encode(), {}), int(address[1:], 16)
+        found = (labels[:bisect(labels, (place, "~"))][-1:] for _, labels in sorted(banks.items()))
+        return "/".join(dict.fromkeys(name + (f"+{place - before:X}" if place > before else "")
+                                      for last in found for before, name in last))
 
     def behind(self, line):
         """What is told behind a line that ends in an address: its label."""

@@ -418,7 +418,8 @@ class Labels:
         several banks of the page have sources, that of each, since any of them may be read there."""
         banks, place = self.pages.get(address[:1].encode(), {}), int(address[1:], 16)
         found = (labels[:bisect(labels, (place, "~"))][-1:] for _, labels in sorted(banks.items()))
-        return "/".join(name + (f"+{place - before:X}" if place > before else "") for last in found for before, name in last)
+        return "/".join(dict.fromkeys(name + (f"+{place - before:X}" if place > before else "")
+                                      for last in found for before, name in last))
 
     def behind(self, line):
         """What is told behind a line that ends in an address: its label."""

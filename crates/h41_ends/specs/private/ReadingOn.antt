@@ -1,0 +1,48 @@
+-- What private functions promise one another of the lines of an input. A reader of the promises can
+-- leave it out.
+use Rattle.std.specs.Prelude.{◌≡◌, ◌==◌, ℕ, ◌+◌, ◌-◌, ◌≤◌, Bool, List, [], length, min, nat_lt}
+use Rattle.std.specs.Prelude.{take, drop, if◌then◌else◌}
+use Rattle.std.specs.Str.Lines.{strip_carriage_return}
+use Rattle.h41_ends.specs.declared.input_lines.InputLines.{InputLines}
+use Rattle.h41_ends.specs.Ends.{most_bytes}
+use Rattle.h41_ends.specs.InputLines.{held_in, line_in, told_part}
+
+-- nothing was read
+pub record IsSameReading (old new : InputLines) : Type 0 where
+  pub count : new.count ≡ old.count
+  pub over : new.is_over ≡ old.is_over
+  pub at_end : new.at_end ≡ old.at_end
+
+-- the line up to this place is told, and what stands behind its end is held
+pub record TellsEnded (old : InputLines) (end : ℕ) (new : InputLines) : Type 0 where
+  pub line : line_in new ≡ told_part (strip_carriage_return (take end (held_in old)))
+  pub held : held_in new ≡ drop (end + 1) (held_in old)
+  pub same : IsSameReading old new
+
+-- what was held is told, and nothing is held
+pub record TellsLast (old : InputLines) (told : Bool) (new : InputLines) : Type 0 where
+  pub line : line_in new ≡ told_part (held_in old)
+  pub held : held_in new ≡ []
+  pub said : told ≡ nat_lt 0 (length (held_in old))
+  pub same : IsSameReading old new
+
+-- what is held is shortened to what counts of a line, and stands in front
+pub record Shortens (old new : InputLines) : Type 0 where
+  pub start : new.start ≡ 0
+  pub room : new.end ≤ 202
+  pub held : held_in new ≡ take 202 (held_in old)
+  pub same : IsSameReading old new
+
+-- so many bytes were read, and those within the bound are held
+pub record TakesRead (old : InputLines) (count : ℕ) (new : InputLines) : Type 0 where
+  pub held : held_in new
+      ≡ drop old.start (take (old.end + min count (most_bytes - old.count)) old.buffer)
+  pub total : new.count ≡ old.count + min count (most_bytes - old.count)
+  pub over : new.is_over ≡ nat_lt (most_bytes - old.count) count
+  pub at_end : new.at_end ≡ (count == 0)
+
+-- a bound of the reads that are left
+abbrev pub reads_left : InputLines → ℕ
+reads_left input =
+    (most_bytes - input.count) + (if input.is_over then 0 else 1)
+    + (if input.at_end then 0 else 1)

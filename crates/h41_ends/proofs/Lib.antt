@@ -1,2 +1,5 @@
+pub mod InputBuffers
+pub mod InputReading
 pub mod Reading
+pub mod ToldLines
 pub mod Writing

@@ -1,6 +1,7 @@
 -- What was read of an input and told of its lines, over the calls of one line.
 use Rattle.std.proofs.Common.{◌≡◌, ◌⊎◌, inl, inr, ℕ, ◌+◌, ◌-◌, ◌<◌, ◌≤◌, Bool, true, false, nat_lt, List, [], ◌∷◌, ◌++◌, length, take}
-use Rattle.std.proofs.Common.{drop, min, ◌==◌, Option, Some, None, IfSome, Ok, refl, sym, subst, ap, ◌∙◌, arith, append_assoc, append-nil, length-append}
+use Rattle.std.proofs.Common.{drop, min, ◌==◌, Option, Some, None, IfSome, Ok, refl, sym, subst, ap, ◌∙◌, arith, append_assoc, append-nil}
+use Rattle.std.proofs.Common.{length-append}
 use Rattle.std.proofs.Common.{length-take}
 use Rattle.std.specs.List.{position}
 use Rattle.std.specs.Io.KnownBytes.{Consumes, IsAtEnd, Keeps}
@@ -10,8 +11,9 @@ use Rattle.std.proofs.lemmas.List.{take-append-le, take_all}
 use Rattle.std.proofs.Math.Seq.{take-append-add}
 use Rattle.h41_ends.specs.declared.input_lines.InputLines.{InputLines}
 use Rattle.h41_ends.specs.Ends.{most_bytes}
-use Rattle.h41_ends.specs.InputLines.{HasRead, IsStopped, IsTold, IsUnended, MayFollow, ReadsMore, bytes_within, held_in, line_if, line_in, told_lines, told_part}
-use Rattle.h41_ends.specs.private.ReadingOn.{IsSameReading, TakesRead, TellsEnded, TellsLast}
+use Rattle.h41_ends.specs.InputLines.{HasRead, IsStopped, IsUnended, MayFollow, ReadsMore, bytes_within, held_in, line_if, line_in}
+use Rattle.h41_ends.specs.InputLines.{told_lines, told_part}
+use Rattle.h41_ends.specs.private.ReadingOn.{IsSameReading, ReachesEnd, TellsEnded, TellsLast}
 use Rattle.h41_ends.proofs.ToldLines.{take_within, told_ended, told_last, told_shortened, unended_front}
 
 -- no byte was read
@@ -20,16 +22,19 @@ consumes-none None new kept = tt
 consumes-none (Some xs) None kept = absurd kept
 consumes-none (Some xs) (Some ys) kept = sym kept
 
+pub keeps-known : (known : Option (List ℕ)) → Keeps known known
+keeps-known None = tt
+keeps-known (Some xs) = refl
+
+pub consumes-nothing : (known : Option (List ℕ)) → Consumes known known []
+consumes-nothing known = consumes-none known known (keeps-known known)
+
 pub consumes-both : (first second third : Option (List ℕ)) (xs ys : List ℕ) → Consumes first second xs → Consumes second third ys
     → Consumes first third (xs ++ ys)
 consumes-both None second third xs ys p q = tt
 consumes-both (Some us) None third xs ys p q = absurd p
 consumes-both (Some us) (Some bs) None xs ys p q = absurd q
 consumes-both (Some us) (Some bs) (Some cs) xs ys p q = p ∙ ap (λ (rest : List ℕ). xs ++ rest) q ∙ sym (append_assoc xs ys cs)
-
-pub keeps-known : (known : Option (List ℕ)) → Keeps known known
-keeps-known None = tt
-keeps-known (Some xs) = refl
 
 pub keeps-both : (first second third : Option (List ℕ)) → Keeps first second → Keeps second third → Keeps first third
 keeps-both None second third p q = tt
@@ -50,7 +55,8 @@ reads_line known old new n at tells = record {
         ap (λ (bytes : List ℕ). told_lines (bytes_within bytes ++ more)) (append-nil first)
         ∙ read.others more (subst (λ (ended : Bool). MayFollow ended more) tells.same.at_end may)
         ∙ ap (λ (rest : List (List ℕ)). lines ++ rest) (told_ended (held_in old) more n at)
-        ∙ sym (append_assoc lines (told_part (strip_carriage_return (take n (held_in old))) ∷ []) (told_lines (drop (n + 1) (held_in old) ++ more)))
+        ∙ sym (append_assoc lines (told_part (strip_carriage_return (take n (held_in old))) ∷ []) (told_lines (drop (n + 1) (held_in old)
+            ++ more)))
         ∙ (λ i. (lines ++ sym tells.line i ∷ []) ++ told_lines (sym tells.held i ++ more));
   };
   ended = λ end. inl (sym tells.same.at_end ∙ end);
@@ -78,7 +84,8 @@ last_told old new said more none tells end =
     let before : told_lines (held_in old ++ more) ≡ told_lines (held_in old) =
     ap (λ (rest : List ℕ). told_lines (held_in old ++ rest)) end ∙ ap told_lines (append-nil (held_in old)) in
     let behind : told_lines (held_in new ++ more) ≡ [] = λ i. told_lines (tells.held i ++ end i) in
-    elim said as (λ (it : Bool). it ≡ nat_lt 0 (length (held_in old)) → told_lines (held_in old ++ more) ≡ line_if it new ++ told_lines (held_in new ++ more)) [
+    elim said as (λ (it : Bool). it ≡ nat_lt 0 (length (held_in old)) → told_lines (held_in old ++ more) ≡ line_if it new ++ told_lines
+        (held_in new ++ more)) [
       | true ↦ λ is.
           before ∙ told_last (held_in old) none (ltb-true 0 (length (held_in old)) (sym is))
           ∙ (λ i. sym tells.line i ∷ sym behind i)
@@ -87,28 +94,24 @@ last_told old new said more none tells end =
           before ∙ ap told_lines empty ∙ sym behind
     ] tells.said
 
-pub reads_last : (known : Option (List ℕ)) (old new : InputLines) (said : Bool) → old.at_end ≡ true → IsUnended (held_in old)
+pub reads_last : (known : Option (List ℕ)) (old new : InputLines) (said : Bool) → old.at_end ≡ false → ReachesEnd known old
     → TellsLast old said new → ReadsMore known known old new (line_if said new)
-reads_last known old new said end none tells = record {
+reads_last known old new said goes end tells = record {
   bytes = [];
   consumed = consumes-none known known (keeps-known known);
   read = λ first lines read. record {
-    count = tells.same.count ∙ read.count ∙ ap (λ (bytes : List ℕ). length (bytes_within bytes)) (sym (append-nil first));
-    over = tells.same.over ∙ read.over ∙ ap (λ (bytes : List ℕ). nat_lt most_bytes (length bytes)) (sym (append-nil first));
+    count = tells.count ∙ read.count ∙ ap (λ (bytes : List ℕ). length (bytes_within bytes)) (sym (append-nil first));
+    over = tells.over ∙ read.over ∙ ap (λ (bytes : List ℕ). nat_lt most_bytes (length bytes)) (sym (append-nil first));
     others = λ more may.
-        let no_more : more ≡ [] = subst (λ (ended : Bool). MayFollow ended more) (tells.same.at_end ∙ end) may in
+        let no_more : more ≡ [] = subst (λ (ended : Bool). MayFollow ended more) tells.at_end may in
         ap (λ (bytes : List ℕ). told_lines (bytes_within bytes ++ more)) (append-nil first)
-        ∙ read.others more (subst (λ (ended : Bool). MayFollow ended more) tells.same.at_end may)
-        ∙ ap (λ (rest : List (List ℕ)). lines ++ rest) (last_told old new said more none tells no_more)
+        ∙ read.others more (subst (λ (ended : Bool). MayFollow ended more) (sym goes) tt)
+        ∙ ap (λ (rest : List (List ℕ)). lines ++ rest) (last_told old new said more end.unended tells no_more)
         ∙ sym (append_assoc lines (line_if said new) (told_lines (held_in new ++ more)));
   };
-  ended = λ at. inl end;
-  stays = λ at. (tells.same.at_end ∙ end, refl);
+  ended = λ at. inr end.known_end;
+  stays = λ at. let never : true ≡ false = sym at ∙ goes in cc;
 }
-
--- nothing is held
-pub told_nothing : (old new : InputLines) (said : Bool) → TellsLast old said new → old.at_end ≡ true → IsTold new
-told_nothing old new said tells end = record { at_end = tells.same.at_end ∙ end; nothing = tells.held }
 
 -- nothing was read
 pub reads_nothing : (known : Option (List ℕ)) (input : InputLines) → ReadsMore known known input input []
@@ -149,7 +152,7 @@ stopped_short old new none goes held same = record {
 }
 
 -- both calls read
-end_stays : (known middle after : Option (List ℕ)) (xs ys : List ℕ) → Consumes known middle xs → IfSome known (λ all. IsAtEnd middle)
+pub end_stays : (known middle after : Option (List ℕ)) (xs ys : List ℕ) → Consumes known middle xs → IfSome known (λ all. IsAtEnd middle)
     → Consumes middle after ys → ys ≡ [] → IfSome known (λ all. IsAtEnd after)
 end_stays None middle after xs ys first end second none = tt
 end_stays (Some all) None after xs ys first end second none = absurd first
@@ -157,7 +160,7 @@ end_stays (Some all) (Some bs) None xs ys first end second none = absurd second
 end_stays (Some all) (Some bs) (Some cs) xs ys first end second none =
     sym (ap (λ (front : List ℕ). front ++ cs) none) ∙ sym second ∙ end
 
-end_comes : (known middle after : Option (List ℕ)) (xs : List ℕ) → Consumes known middle xs → IfSome middle (λ all. IsAtEnd after)
+pub end_comes : (known middle after : Option (List ℕ)) (xs : List ℕ) → Consumes known middle xs → IfSome middle (λ all. IsAtEnd after)
     → IfSome known (λ all. IsAtEnd after)
 end_comes None middle after xs first end = tt
 end_comes (Some all) None after xs first end = absurd first
@@ -197,9 +200,8 @@ front_of a b xs within = elim (cases_lt b a) [
 pub reads_some : (known after : Option (List ℕ)) (old new : InputLines) (count : ℕ) (tail : List ℕ) → IsUnended (held_in old)
     → old.at_end ≡ false → old.is_over ≡ false → held_in new ≡ take 202 (held_in old) ++ take (min count (most_bytes - old.count)) tail
     → new.count ≡ old.count + min count (most_bytes - old.count) → new.is_over ≡ nat_lt (most_bytes - old.count) count
-    → new.at_end ≡ (count == 0) → Consumes known after (take count tail) → (count ≡ 0 → 0 < length tail → IsAtEnd after)
-    → 0 < length tail → count ≤ length tail → ReadsMore known after old new []
-reads_some known after old new count tail none goes clear held total over end consumed at some fits = record {
+    → new.at_end ≡ false → Consumes known after (take count tail) → count ≤ length tail → ReadsMore known after old new []
+reads_some known after old new count tail none goes clear held total over on consumed fits = record {
   bytes = take count tail;
   consumed = consumed;
   read = λ first lines read.
@@ -228,6 +230,25 @@ reads_some known after old new count tail none goes clear held total over end co
             (told_shortened (held_in old) (next ++ more) none ∙ ap told_lines (sym (append_assoc (take 202 (held_in old)) next more)))
             ∙ (λ i. sym (append-nil lines) i ++ told_lines (sym held i ++ more));
       };
-  ended = λ ends. inr (known_end known after (at (eqb-true count 0 (sym end ∙ ends)) some));
+  ended = λ ends. let never : true ≡ false = sym ends ∙ on in cc;
   stays = λ ends. let never : true ≡ false = sym ends ∙ goes in cc;
 }
+
+-- nothing was read, which is the end
+pub reaches_end : (known : Option (List ℕ)) (old new : InputLines) (count : ℕ) (tail : List ℕ) → IsUnended (held_in old)
+    → held_in new ≡ take 202 (held_in old) ++ take (min count (most_bytes - old.count)) tail
+    → new.is_over ≡ nat_lt (most_bytes - old.count) count → count ≡ 0 → IsAtEnd known → ReachesEnd known new
+reaches_end known old new count tail none held over zero end = record {
+  known_end = known_end known known end;
+  unended =
+      ap (position (λ byte. byte == 10))
+      (held ∙ ap (λ (k : ℕ). take 202 (held_in old) ++ take (min k (most_bytes - old.count)) tail) zero ∙ nothing)
+      ∙ unended_front 202 (held_in old) none;
+  clear = over ∙ le-ltb (most_bytes - old.count) count (omega (arith, zero));
+}
+  where
+    nothing : take 202 (held_in old) ++ take (min 0 (most_bytes - old.count)) tail ≡ take 202 (held_in old)
+    nothing = ap (λ (k : ℕ). take 202 (held_in old) ++ take k tail) none_taken ∙ append-nil (take 202 (held_in old))
+      where
+        none_taken : min 0 (most_bytes - old.count) ≡ 0
+        none_taken = omega arith

@@ -1,3 +1,4 @@
+pub mod EndedLines
 pub mod InputBuffers
 pub mod InputReading
 pub mod Reading

@@ -13,7 +13,7 @@ use Rattle.h41_lines.proofs.FirstLine.{lines_at, lines_last}
 use Rattle.h41_lines.proofs.Positions.{position_some, position_none}
 use Rattle.h41_ends.specs.InputLines.{IsUnended, told_lines, told_part}
 
-abbrev is_end : ℕ → Bool
+abbrev pub is_end : ℕ → Bool
 is_end byte = byte == 10
 
 pub take_within : (n m : ℕ) (xs : List ℕ) → n ≤ m → m ≤ length xs → take n (take m xs) ≡ take n xs
@@ -107,14 +107,16 @@ behind_ended held more m none e =
     ap (map told_part) (lines_at (held ++ more) (length held + m) (place_behind held more m none e))
     ∙ (λ i. told_part (strip_carriage_return (front i)) ∷ told_lines (back i))
 
-behind_last : (held more : List ℕ) → IsUnended held → IsUnended more → 0 < length held → told_lines (held ++ more) ≡ told_part (held ++ more) ∷ []
+behind_last : (held more : List ℕ) → IsUnended held → IsUnended more → 0 < length held
+    → told_lines (held ++ more) ≡ told_part (held ++ more) ∷ []
 behind_last held more none others some =
     told_last (held ++ more) (no_place held more none others) (omega (arith, some, length-append held more))
 
 shorter : (held more : List ℕ) → IsUnended held → 202 ≤ length held → told_lines (held ++ more) ≡ told_lines (take 202 held ++ more)
 shorter held more none long =
     let kept : IsUnended (take 202 held) = unended_front 202 held none in
-    elim (position is_end more) as (λ place. position is_end more ≡ place → told_lines (held ++ more) ≡ told_lines (take 202 held ++ more)) [
+    elim (position is_end more) as (λ place. position is_end more ≡ place
+        → told_lines (held ++ more) ≡ told_lines (take 202 held ++ more)) [
       | Some m ↦ λ at.
           behind_ended held more m none (sym at)
           ∙ ap (λ (first : List ℕ). first ∷ told_lines (drop (m + 1) more)) (sym (line_same held (take m more) long))

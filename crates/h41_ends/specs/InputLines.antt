@@ -1,6 +1,7 @@
 -- The lines of an input that is read in pieces of any size.
-use Rattle.std.specs.Prelude.{◌≡◌, ◌⊎◌, ◌==◌, ℕ, Bool, true, false, List, [], ◌∷◌, ◌++◌, length, map}
-use Rattle.std.specs.Prelude.{nat_lt, take, drop, position, Option, None, IfSome, Result, Ok, Err}
+use Rattle.std.specs.Prelude.{◌≡◌, ◌⊎◌, ◌==◌, ℕ, ◌+◌, ◌-◌, Bool, true, false, List, [], ◌∷◌}
+use Rattle.std.specs.Prelude.{◌++◌, length, map, nat_lt, take, drop, position, Option, None, IfSome}
+use Rattle.std.specs.Prelude.{Result, Ok, Err}
 use Rattle.std.specs.Io.KnownBytes.{Consumes, IsAtEnd}
 use Rattle.h41_lines.specs.Lines.{lines}
 use Rattle.h41_ends.specs.declared.input_lines.InputLines.{InputLines}
@@ -34,10 +35,14 @@ line_in input = drop input.line_start (take input.line_end input.buffer)
 abbrev pub held_in : InputLines → List ℕ
 held_in input = drop input.start (take input.end input.buffer)
 
--- more bytes that may follow: none behind the end
-abbrev pub MayFollow : Bool → List ℕ → Type 0
+-- more that may follow, bytes or lines: nothing behind the end
+abbrev pub MayFollow : {A : Type 0} → Bool → List A → Type 0
 MayFollow true more = more ≡ []
 MayFollow false more = Unit {0}
+
+-- the most bytes that are left
+abbrev pub most_left : InputLines → ℕ
+most_left input = (most_bytes - input.count) + length (held_in input)
 
 -- these bytes were read so far and these lines told: whatever follows, the other lines are those of
 -- what is held and of that

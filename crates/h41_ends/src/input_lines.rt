@@ -42,6 +42,7 @@ pub struct InputLines {
     ghost told_end: { line_end ≤ 4096 },
     ghost bound: { count ≤ most_bytes },
     ghost within: { at_end ≡ true → is_over ≡ false },
+    ghost nothing: { at_end ≡ true → start ≡ end },
 }
 
 impl InputLines {
@@ -49,9 +50,9 @@ impl InputLines {
     ghost use Rattle.std.specs.Prelude.{Err, Ok, OnErr, OnOk, position};
     ghost use Rattle.std.specs.Io.KnownBytes.{Keeps};
     ghost use Rattle.h41_ends.specs.InputLines.{HasRead, IsStopped, IsTold, IsUnended, ReadsMore};
-    ghost use Rattle.h41_ends.specs.InputLines.{held_in, line_in, lines_told};
+    ghost use Rattle.h41_ends.specs.InputLines.{held_in, line_in, lines_told, most_left};
     ghost use Rattle.h41_ends.specs.private.ReadingOn.{Shortens, TakesRead, TellsEnded, TellsLast};
-    ghost use Rattle.h41_ends.specs.private.ReadingOn.{reads_left};
+    ghost use Rattle.h41_ends.specs.private.ReadingOn.{ReachesEnd, reads_left};
 
     /// Of an input of which nothing was read.
     pub fn new() -> Self
@@ -95,6 +96,8 @@ impl InputLines {
         ensures lines { ReadsMore (R.remaining reader.old) (R.remaining reader.new)
             self.old self.new (lines_told result self.new) }
         ensures end { result ≡ Ok false → IsTold self.new }
+        ensures bound { OnOk result (most_left self.new ≤ most_left self.old) }
+        ensures fewer { result ≡ Ok true → most_left self.new < most_left self.old }
 
         // A read fault comes for its cause, behind a flush.
         ensures stopped { result ≡ Err LineFault.ReadFault → IsStopped self.new }
@@ -113,9 +116,11 @@ impl InputLines {
                 return Ok(true);
             }
             if self.at_end {
+                return Ok(false);
+            }
+            if !self.read_more(reader, writer)? {
                 return Ok(self.tell_last());
             }
-            self.read_more(reader, writer)?;
         }
     }
 
@@ -139,32 +144,35 @@ impl InputLines {
         self.start += end + 1;
     }
 
-    /// Tells what is held as the last line, if there is something, and says so.
+    /// Tells what is held as the last line, if there is something, and says so. The end was reached.
     fn tell_last(&mut self) -> bool
-        requires end { self.old.at_end ≡ true }
-        requires unended { IsUnended (held_in self.old) }
+        requires { self.old.is_over ≡ false }
         ensures { TellsLast self.old result self.new }
     {
         let count = self.end - self.start;
         self.line_start = self.start;
         self.line_end = self.start + count.min(MOST_TOLD);
         self.start = self.end;
+        self.at_end = true;
         count > 0
     }
 
-    /// Reads some bytes behind what is held, which is shortened to what counts of a line.
+    /// Reads some bytes behind what is held, which is shortened to what counts of a line. Says whether there were any.
     fn read_more<R: Source, W: Sink>(
         &mut self,
         reader: &mut R,
         writer: &mut W,
-    ) -> Result<(), LineFault>
+    ) -> Result<bool, LineFault>
         requires unended { IsUnended (held_in self.old) }
         requires goes_on { self.old.at_end ≡ false }
         requires reader_clear { R.failed reader.old ≡ false }
         requires writer_clear { W.failed writer.old ≡ false }
         ensures lines { ReadsMore (R.remaining reader.old) (R.remaining reader.new)
             self.old self.new [] }
-        ensures less { OnOk result (reads_left self.new < reads_left self.old) }
+        ensures goes_on { self.new.at_end ≡ false }
+        ensures less { result ≡ Ok true → reads_left self.new < reads_left self.old }
+        ensures end { result ≡ Ok false → ReachesEnd (R.remaining reader.new) self.new }
+        ensures bound { OnOk result (most_left self.new ≤ most_left self.old) }
         ensures stopped { OnErr result (IsStopped self.new) }
         ensures cause { result ≡ Err LineFault.ReadFault
             → (R.failed reader.new ≡ true) ⊎ (self.new.is_over ≡ true) }
@@ -182,10 +190,12 @@ impl InputLines {
         }
         self.shorten();
         match reader.read(&mut self.buffer[self.end..]) {
-            Ok(count) => self.take_read(count),
-            Err(_) => return Err(LineFault::ReadFault),
+            Ok(count) => {
+                self.take_read(count);
+                Ok(count > 0)
+            }
+            Err(_) => Err(LineFault::ReadFault),
         }
-        Ok(())
     }
 
     /// Moves what is held to the front, without what stands behind the bytes that count of a line.
@@ -200,10 +210,11 @@ impl InputLines {
         self.line_end = 0;
     }
 
-    /// Holds the bytes that were read behind those that are held, as far as they are within the bound; none are the end.
+    /// Holds the bytes that were read behind those that are held, as far as they are within the bound.
     fn take_read(&mut self, count: usize)
         requires room { self.old.end + count ≤ 4096 }
         requires clear { self.old.is_over ≡ false }
+        requires goes_on { self.old.at_end ≡ false }
         ensures { TakesRead self.old count self.new }
     {
         let room = MOST_BYTES - self.count;
@@ -211,6 +222,5 @@ impl InputLines {
         self.end += taken;
         self.count += taken;
         self.is_over = count > room;
-        self.at_end = count == 0;
     }
 }

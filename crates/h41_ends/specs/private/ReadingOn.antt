@@ -1,11 +1,12 @@
 -- What private functions promise one another of the lines of an input. A reader of the promises can
 -- leave it out.
-use Rattle.std.specs.Prelude.{◌≡◌, ◌==◌, ℕ, ◌+◌, ◌-◌, ◌≤◌, Bool, List, [], length, min, nat_lt}
-use Rattle.std.specs.Prelude.{take, drop, if◌then◌else◌}
+use Rattle.std.specs.Prelude.{◌≡◌, ℕ, ◌+◌, ◌-◌, ◌≤◌, Bool, true, false, List, [], length, min}
+use Rattle.std.specs.Prelude.{nat_lt, take, drop, if◌then◌else◌, Option, IfSome}
+use Rattle.std.specs.Io.KnownBytes.{IsAtEnd}
 use Rattle.std.specs.Str.Lines.{strip_carriage_return}
 use Rattle.h41_ends.specs.declared.input_lines.InputLines.{InputLines}
 use Rattle.h41_ends.specs.Ends.{most_bytes}
-use Rattle.h41_ends.specs.InputLines.{held_in, line_in, told_part}
+use Rattle.h41_ends.specs.InputLines.{IsUnended, held_in, line_in, told_part}
 
 -- nothing was read
 pub record IsSameReading (old new : InputLines) : Type 0 where
@@ -24,7 +25,9 @@ pub record TellsLast (old : InputLines) (told : Bool) (new : InputLines) : Type 
   pub line : line_in new ≡ told_part (held_in old)
   pub held : held_in new ≡ []
   pub said : told ≡ nat_lt 0 (length (held_in old))
-  pub same : IsSameReading old new
+  pub count : new.count ≡ old.count
+  pub over : new.is_over ≡ old.is_over
+  pub at_end : new.at_end ≡ true
 
 -- what is held is shortened to what counts of a line, and stands in front
 pub record Shortens (old new : InputLines) : Type 0 where
@@ -39,10 +42,15 @@ pub record TakesRead (old : InputLines) (count : ℕ) (new : InputLines) : Type 
       ≡ drop old.start (take (old.end + min count (most_bytes - old.count)) old.buffer)
   pub total : new.count ≡ old.count + min count (most_bytes - old.count)
   pub over : new.is_over ≡ nat_lt (most_bytes - old.count) count
-  pub at_end : new.at_end ≡ (count == 0)
+  pub at_end : new.at_end ≡ false
 
 -- a bound of the reads that are left
 abbrev pub reads_left : InputLines → ℕ
 reads_left input =
     (most_bytes - input.count) + (if input.is_over then 0 else 1)
-    + (if input.at_end then 0 else 1)
+
+-- no more bytes are to be read, and what is held is the last line
+pub record ReachesEnd (known : Option (List ℕ)) (input : InputLines) : Type 0 where
+  pub known_end : IfSome known (λ all. IsAtEnd known)
+  pub unended : IsUnended (held_in input)
+  pub clear : input.is_over ≡ false

@@ -20,3 +20,10 @@ returns c =
       held = held_behind input.buffer input.start input.end c.args.end;
       same = record { count = refl; over = refl; at_end = refl };
     }
+
+pub invariant_of-self-clause-nothing : goal.invariant_of-self-clause-nothing
+invariant_of-self-clause-nothing c = λ end.
+    let input = c.args.self.now in
+    let at = position_some _ (held_in input) c.args.end c.requires in
+    let size = between_long input.buffer input.start input.end input.held (omega (arith, input.held_end)) in
+    absurd (omega (arith, at.1, size, input.nothing end))

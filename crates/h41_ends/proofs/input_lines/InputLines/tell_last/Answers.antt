@@ -8,8 +8,11 @@ returns c =
     let order = input.held in
     let within = input.held_end in
     record {
-      line = ap (λ (k : ℕ). drop input.start (take (input.start + k) input.buffer)) c.min.ensures ∙ last_line input.buffer input.start input.end 201 order (omega (arith, within));
+      line = ap (λ (k : ℕ). drop input.start (take (input.start + k) input.buffer)) c.min.ensures
+          ∙ last_line input.buffer input.start input.end 201 order (omega (arith, within));
       held = nothing_behind input.buffer input.end;
       said = ap (nat_lt 0) (sym (between_long input.buffer input.start input.end order (omega (arith, within))));
-      same = record { count = refl; over = refl; at_end = refl };
+      count = refl;
+      over = refl;
+      at_end = refl;
     }

@@ -25,7 +25,7 @@ end_after (other ∷ inside) rest line none e =
     let more : position_or_len is_end (inside ++ line ∷ rest) ≡ length inside = end_after inside rest line parts.1 e in
     ap (λ (b : Bool). cond (not b) (1 + position_or_len is_end (inside ++ line ∷ rest)) 0) parts.0 ∙ omega arith
 
-no_end : (lines : List (List ℕ)) → list_any is_end lines ≡ false → position_or_len is_end lines ≡ length lines
+pub no_end : (lines : List (List ℕ)) → list_any is_end lines ≡ false → position_or_len is_end lines ≡ length lines
 no_end [] none = refl
 no_end (line ∷ lines) none =
     let parts = or_parts (is_end line) (list_any is_end lines) none in

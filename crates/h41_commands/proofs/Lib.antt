@@ -3,7 +3,10 @@ pub mod BlocksDetermined
 pub mod ClosedBlocks
 pub mod DeckItems
 pub mod Filling
+pub mod ItemLines
 pub mod KeyWords
 pub mod KeysInCells
+pub mod ParsedCommands
 pub mod ProgramTextLines
+pub mod ToldCommands
 pub mod WordValues

@@ -1,11 +1,11 @@
 //! The items of a deck, one at a time.
 
 ghost use Rattle.std.specs.List.{after_first, before_first, list_any};
-ghost use Rattle.std.specs.Prelude.{◌≡◌, ◌≤◌, [], length, is_some, IfOk, OnOk};
+ghost use Rattle.std.specs.Prelude.{◌≡◌, ◌≤◌, [], false, length, is_some, IfOk, OnOk};
 ghost use Rattle.h41_commands.specs.Blocks.{HasTaken};
 ghost use Rattle.h41_commands.specs.Entries.{IfTaken, NextOf, TakesSome, what_is_spelled};
 ghost use Rattle.h41_commands.specs.Entries.{lines_left};
-ghost use Rattle.h41_commands.specs.Items.{opened_block, spelled_by};
+ghost use Rattle.h41_commands.specs.Items.{is_open, opened_block, spelled_by};
 ghost use Rattle.h41_commands.specs.DeckLines.{is_end, longest_line};
 
 use crate::blocks::Block;
@@ -41,9 +41,10 @@ pub fn next_item(alloc: Global, rest: &mut Lines<'_>) -> Result<Option<Item>, Al
 }
 
 /// The command of one line.
-fn line_item(alloc: Global, line: &[u8]) -> Item
+pub(crate) fn line_item(alloc: Global, line: &[u8]) -> Item
     requires { length line.now ≤ longest_line }
-    ensures { what_is_spelled result ≡ spelled_by line.now [] }
+    ensures item { what_is_spelled result ≡ spelled_by line.now [] }
+    ensures shut { is_open (what_is_spelled result) ≡ false }
 {
     match parse(line) {
         Ok(command) => {

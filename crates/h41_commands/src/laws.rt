@@ -1,6 +1,7 @@
-//! Laws of blocks: each is the contract of a function with nothing to do but to call the laws it rests on.
+//! Laws of lines and of blocks: each is the contract of a function with nothing to do but to call the laws it rests on.
 
 ghost use Rattle.h41_commands.specs.BlockLaws.{FillingIsDetermined, MeaningIsDetermined};
+ghost use Rattle.h41_commands.specs.LineLaws.{LongLinesAreAlike};
 
 use h41_asm::laws::{words_are_determined, words_or_fault};
 use h41_text::laws::line_text_round_trip;
@@ -14,3 +15,8 @@ pub fn blocks_are_determined()
     words_are_determined();
     line_text_round_trip();
 }
+
+/// What lines spell depends on no more than the first 201 bytes of each.
+pub fn long_lines_are_alike()
+    ensures { LongLinesAreAlike }
+{}

@@ -3,10 +3,12 @@
 
 mod blocks;
 mod commands;
+mod fault;
 mod item;
 mod items;
 pub mod laws;
 mod line;
+mod reading;
 mod refusal;
 
 pub use blocks::Block;
@@ -14,6 +16,8 @@ pub use blocks::page_words::PAGE_WORDS;
 pub use commands::keys::PressedKeys;
 pub use commands::parse::parse;
 pub use commands::{BlockKind, Command, PageKind, ProgramKind, View};
+pub use fault::ItemFault;
 pub use item::{GivenCommand, Item};
 pub use items::next_item;
+pub use reading::read_item;
 pub use refusal::LineRefusal;

@@ -2,7 +2,6 @@
 use Rattle.std.proofs.Common.{◌≡◌, ℕ, Bool, Result, Option, Some, Ok, Err, List, [], ◌∷◌, ◌++◌, if◌then◌else◌, flat_map, refl, sym, ap}
 use Rattle.std.proofs.Common.{subst, ◌∙◌}
 use Rattle.std.specs.Prelude.{option_map}
-use Rattle.std.proofs.lemmas.Bool.{le-leb}
 use Rattle.std.proofs.lemmas.Grind.{flat_map-append}
 use Rattle.h41_commands.specs.BlockLaws.{FillingIsDetermined, MeaningIsDetermined}
 use Rattle.h41_commands.specs.declared.commands.Command.{Command}
@@ -11,8 +10,6 @@ use Rattle.h41_commands.specs.declared.commands.View.{View}
 use Rattle.h41_commands.specs.declared.commands.View.TheVariants as views
 use Rattle.h41_commands.specs.declared.refusal.LineRefusal.{LineRefusal}
 use Rattle.h41_commands.specs.Items.{Spelled}
-use Rattle.h41_commands.specs.Items as items
-use Rattle.h41_lines.specs.Lines.{lines}
 use Rattle.h41_debug.specs.Bench.{BenchState, start, with_calculator}
 use Rattle.h41_debug.specs.BenchLaws.{PressesAreDetermined, RunsAreDetermined, StepsAreDetermined, TracesAreDetermined}
 use Rattle.h41_debug.specs.declared.run.Stop.{Stop}
@@ -24,8 +21,8 @@ use Rattle.h41_xrom.specs.Programs.{Becomes, Loads, size_makes}
 use Rattle.h41_deck.specs.declared.refusal.Refusal.{Refusal}
 use Rattle.h41_deck.specs.declared.refusal.Refusal.TheVariants.{Calculator}
 use Rattle.h41_deck.specs.Answers.{Answer, ends_by, printed_text, says_and_ends, says_or_ends}
-use Rattle.h41_deck.specs.Deck.{AnswersInTurn, DeckDeterminesOutcome, DeckDeterminesText, FirstTextIsFront, LongDeckDeterminesText}
-use Rattle.h41_deck.specs.Deck.{commands_of, commands_within, outcome_of}
+use Rattle.h41_deck.specs.Deck.{AnswersInTurn, DeckDeterminesOutcome, DeckDeterminesText, EndedTextIsDetermined, FirstTextIsFront}
+use Rattle.h41_deck.specs.Deck.{outcome_of}
 use Rattle.h41_deck.specs.ProgramListing.{listed_line}
 use Rattle.h41_deck.specs.Replies.{Calls, ItemReply, LoadsBytes, PlugsWords, Reply}
 use Rattle.h41_deck.specs.Runs.{run_answer}
@@ -133,9 +130,9 @@ module _ (same_steps : StepsAreDetermined) (same_load : LoadIsDetermined) (same_
   same_text bytes text other p q =
       p.2 ∙ ap (λ answers. flat_map printed_text answers) (same_answers _ start p.0 q.0 p.1.answered q.1.answered) ∙ sym q.2
 
-  pub same_long : LongDeckDeterminesText
-  same_long bytes text other p q =
-      p.2 ∙ ap (λ answers. flat_map printed_text answers) (same_answers _ start p.0 q.0 p.1.answered q.1.answered) ∙ sym q.2
+  pub same_ended : EndedTextIsDetermined
+  same_ended bytes text other p q =
+      p.2 ∙ ap (λ answers. flat_map printed_text answers) (same_answers _ start p.0 q.0 p.1 q.1) ∙ sym q.2
 
   pub same_outcome : DeckDeterminesOutcome
   same_outcome bytes outcome other p q = p.2 ∙ ap outcome_of (same_answers _ start p.0 q.0 p.1.answered q.1.answered) ∙ sym q.2
@@ -153,9 +150,7 @@ module _ (same_steps : StepsAreDetermined) (same_load : LoadIsDetermined) (same_
 
   pub first_is_front : FirstTextIsFront
   first_is_front deck first text p q =
-      let whole : commands_of deck ≡ items.commands (lines deck) =
-      ap (λ (short : Bool). if short then items.commands (lines deck) else commands_within deck) (le-leb _ _ q.1.bound) in
-      let given = subst (λ (of : List Spelled). AnswersInTurn of start q.0) (sym whole ∙ p.begins) q.1.answered in
+      let given = subst (λ (of : List Spelled). AnswersInTurn of start q.0) p.begins q.1.answered in
       let more = same_first p.first p.rest start p.answers q.0 p.answered given in (
         flat_map printed_text more.0,
         q.2 ∙ ap (λ answers. flat_map printed_text answers) more.1 ∙ flat_map-append printed_text p.answers more.0

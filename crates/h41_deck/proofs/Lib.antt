@@ -1,5 +1,7 @@
 pub mod AnswersInTurn
 pub mod Commanded
+pub mod DeckFaults
+pub mod DeckReading
 pub mod Determined
 pub mod FlagTexts
 pub mod ImageLines
@@ -7,4 +9,3 @@ pub mod Plugging
 pub mod ProgramWalks
 pub mod Ranges
 pub mod Running
-pub mod WholeDecks

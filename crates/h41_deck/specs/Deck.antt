@@ -1,9 +1,9 @@
 -- A deck: the replies to its commands in turn, and the text that it prints.
-use Rattle.std.specs.Prelude.{◌≡◌, ◌⊎◌, ℕ, ◌<◌, ◌≤◌, Bool, true, false, List, [], ◌∷◌, ◌++◌}
-use Rattle.std.specs.Prelude.{flat_map, length, take, is_some, nat_le, if◌then◌else◌, Option}
-use Rattle.std.specs.Prelude.{IfSome, Result, Err, IfErr, IfOk, OnOk}
+use Rattle.std.specs.Prelude.{◌≡◌, ◌≢◌, ◌⊎◌, ℕ, ◌<◌, ◌≤◌, Bool, true, List, [], ◌∷◌, ◌++◌}
+use Rattle.std.specs.Prelude.{flat_map, length, take, is_some, if◌then◌else◌, Option}
+use Rattle.std.specs.Prelude.{IfSome, Result, IfErr, OnOk}
 use Rattle.std.specs.List.{list_any}
-use Rattle.std.specs.Io.KnownBytes.{Appends, Keeps}
+use Rattle.std.specs.Io.KnownBytes.{Appends, Consumes}
 use Rattle.h41_deck.specs.declared.replies.Outcome.{Outcome}
 use Rattle.h41_deck.specs.declared.replies.Outcome.TheVariants.{Accepted, Refused}
 use Rattle.h41_ends.specs.declared.source.Source as sources
@@ -14,6 +14,7 @@ use Rattle.h41_commands.specs.Items.{Spelled, without_open_block, commands}
 use Rattle.h41_lines.specs.Lines.{ended_lines, lines}
 use Rattle.h41_debug.specs.Bench.{BenchState, start}
 use Rattle.h41_ends.specs.Ends.{most_bytes}
+use Rattle.h41_ends.specs.InputLines.{bytes_within}
 use Rattle.h41_deck.specs.Answers.{Answer, printed_text}
 use Rattle.h41_deck.specs.Replies.{ItemReply}
 
@@ -25,14 +26,9 @@ AnswersInTurn (item ∷ items) s [] = ⊥
 AnswersInTurn (item ∷ items) s (answer ∷ answers) =
     (t : BenchState) × ItemReply item s t answer × AnswersInTurn items t answers
 
--- the commands of a deck that is too long: those whose last line end is within the bound
-abbrev pub commands_within : List ℕ → List Spelled
-commands_within deck = without_open_block (commands (lines (ended_lines (take most_bytes deck))))
-
--- the commands of a deck that are carried out
-abbrev pub commands_of : List ℕ → List Spelled
-commands_of deck =
-    if nat_le (length deck) most_bytes then commands (lines deck) else commands_within deck
+-- the commands whose last line end is in the bytes that were read
+abbrev pub commands_ended : List ℕ → List Spelled
+commands_ended bytes = without_open_block (commands (lines (ended_lines bytes)))
 
 -- the answers to a deck, from the start on; one that is too long has none
 pub record AnswersDeck (deck : List ℕ) (answers : List Answer) : Type 0 where
@@ -44,15 +40,12 @@ abbrev pub Deck : List ℕ → List ℕ → Type 0
 Deck deck text =
     (answers : List Answer) × AnswersDeck deck answers × (text ≡ flat_map printed_text answers)
 
--- the answers to a deck that is too long
-pub record AnswersLongDeck (deck : List ℕ) (answers : List Answer) : Type 0 where
-  pub too_long : most_bytes < length deck
-  pub answered : AnswersInTurn (commands_within deck) start answers
-
--- the text that such a deck prints, before its fault is told
-abbrev pub LongDeck : List ℕ → List ℕ → Type 0
-LongDeck deck text =
-    (answers : List Answer) × AnswersLongDeck deck answers × (text ≡ flat_map printed_text answers)
+-- the text of the replies to the commands whose last line end is in these bytes
+abbrev pub EndedText : List ℕ → List ℕ → Type 0
+EndedText bytes text =
+    (answers : List Answer)
+    × AnswersInTurn (commands_ended bytes) start answers
+    × (text ≡ flat_map printed_text answers)
 
 -- whether one of the answers is a refusal
 abbrev pub outcome_of : List Answer → Outcome
@@ -90,56 +83,44 @@ pub record FirstReplies (items : List Spelled) (text : List ℕ) : Type 0 where
 
 -- the text of the replies to some first commands of a deck
 abbrev pub FirstText : List ℕ → List ℕ → Type 0
-FirstText deck = FirstReplies (commands_of deck)
+FirstText deck = FirstReplies (commands (lines deck))
 
--- what a fault leaves of a text that was to be written: a front of it where writing failed, and
--- else all of it
+-- what a fault leaves written of the bytes that were read: the replies to some first commands, to
+-- all that have their end in these bytes where reading failed, and a front where writing did
 abbrev pub LeavesOf : Fault → Option (List ℕ) → Option (List ℕ) → List ℕ → Type 0
-LeavesOf OutOfMemory old new text = Appends old new text
-LeavesOf ReadFault old new text = Appends old new text
-LeavesOf WriteFault old new text = (count : ℕ) × Appends old new (take count text)
+LeavesOf OutOfMemory old new bytes = WritesText FirstText old new bytes
+LeavesOf ReadFault old new bytes =
+    (text : List ℕ) × FirstText bytes text × EndedText bytes text × Appends old new text
+LeavesOf WriteFault old new bytes =
+    (text : List ℕ) × FirstText bytes text × (count : ℕ) × Appends old new (take count text)
 
--- it leaves that of the text of some first commands
-abbrev pub LeavesFirst : List Spelled → Option (List ℕ) → Option (List ℕ) → Fault → Type 0
-LeavesFirst items old new fault =
-    (text : List ℕ) × FirstReplies items text × LeavesOf fault old new text
-
--- where a deck ends with a fault, and is known, that is left of it
-abbrev pub LeavesDeck : {A W : Type 0} → Result A Fault → Option (List ℕ) → (W → Option (List ℕ))
-    → W → W → Type 0
-LeavesDeck result known contents old new =
-    IfErr result (λ fault.
-    IfSome known (λ deck. LeavesFirst (commands_of deck) (contents old) (contents new) fault))
-
--- a read failed, and nothing is written
-pub record ReadingFailed {R W : Type 0} (source : sources.Ghosts R)
-    (sink : sinks.Ghosts W) (after : R) (old new : W) : Type 0 where
-  pub failed : source.failed after ≡ true
-  pub nothing : Keeps (sink.contents old) (sink.contents new)
-
--- no read failed, but the deck is too long, and its text within the bound is written and passed on
-pub record IsTooLong {R W : Type 0} (source : sources.Ghosts R)
+-- what a fault leaves: the bytes that were read of the deck, what is written of those within the
+-- bound, and why a fault of reading came
+pub record FaultLeaves {R W : Type 0} (fault : Fault) (source : sources.Ghosts R)
     (sink : sinks.Ghosts W) (before after : R) (old new : W) : Type 0 where
-  pub clear : source.failed after ≡ false
-  pub text : IfSome (source.remaining before)
-      (WritesText LongDeck (sink.contents old) (sink.contents new))
-  pub flushed : sink.flushed new ≡ true
+  pub bytes : List ℕ
+  pub read : Consumes (source.remaining before) (source.remaining after) bytes
+  pub leaves : LeavesOf fault (sink.contents old) (sink.contents new) (bytes_within bytes)
+  pub cause : fault ≡ ReadFault → (source.failed after ≡ true) ⊎ (most_bytes < length bytes)
 
--- where a deck ends with a fault of reading, this is why
-abbrev pub EndsUnread : {A R W : Type 0} → Result A Fault → sources.Ghosts R → sinks.Ghosts W → R
+-- where a deck ends with a fault, that is left of it
+abbrev pub LeavesDeck : {A R W : Type 0} → Result A Fault → sources.Ghosts R → sinks.Ghosts W → R
     → R → W → W → Type 0
-EndsUnread result source sink before after old new =
-    result ≡ Err ReadFault
-    → ReadingFailed source sink after old new ⊎ IsTooLong source sink before after old new
+LeavesDeck result source sink before after old new =
+    IfErr result (λ fault. FaultLeaves fault source sink before after old new)
 
--- The laws of decks: a deck determines its text, whether a refusal is printed, and where it is too
--- long the text that is printed all the same.
+-- and but for a fault of writing all that is written is passed on
+abbrev pub PassedOn : {A : Type 0} → Result A Fault → Bool → Type 0
+PassedOn result flushed = IfErr result (λ fault. fault ≢ WriteFault → flushed ≡ true)
+
+-- The laws of decks: a deck determines its text, whether a refusal is printed, and the text of the
+-- commands that have their end in what was read.
 abbrev pub DeckDeterminesText : Type 0
 DeckDeterminesText = (deck text other : List ℕ) → Deck deck text → Deck deck other → text ≡ other
 
-abbrev pub LongDeckDeterminesText : Type 0
-LongDeckDeterminesText =
-    (deck text other : List ℕ) → LongDeck deck text → LongDeck deck other → text ≡ other
+abbrev pub EndedTextIsDetermined : Type 0
+EndedTextIsDetermined =
+    (bytes text other : List ℕ) → EndedText bytes text → EndedText bytes other → text ≡ other
 
 abbrev pub DeckDeterminesOutcome : Type 0
 DeckDeterminesOutcome =

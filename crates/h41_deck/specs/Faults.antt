@@ -1,6 +1,8 @@
 -- The faults of a part, as those of the deck.
 use Rattle.h41_ends.specs.declared.fault.InputFault.{InputFault}
 use Rattle.h41_ends.specs.declared.fault.InputFault.TheVariants as input
+use Rattle.h41_commands.specs.declared.fault.ItemFault.{ItemFault}
+use Rattle.h41_commands.specs.declared.fault.ItemFault.TheVariants as item
 use Rattle.h41_deck.specs.declared.fault.CommandFault.{CommandFault}
 use Rattle.h41_deck.specs.declared.fault.CommandFault.TheVariants as command
 use Rattle.h41_deck.specs.declared.fault.Fault.{Fault}
@@ -9,6 +11,11 @@ use Rattle.h41_deck.specs.declared.fault.Fault.TheVariants.{OutOfMemory, ReadFau
 abbrev pub of_input : InputFault → Fault
 of_input input.OutOfMemory = OutOfMemory
 of_input input.ReadFault = ReadFault
+
+abbrev pub of_item : ItemFault → Fault
+of_item item.OutOfMemory = OutOfMemory
+of_item item.ReadFault = ReadFault
+of_item item.WriteFault = WriteFault
 
 abbrev pub of_command : CommandFault → Fault
 of_command command.OutOfMemory = OutOfMemory

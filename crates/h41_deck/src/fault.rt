@@ -6,6 +6,7 @@ ghost use Rattle.h41_deck.specs.declared.fault.CommandFault.TheVariants as comma
 ghost use Rattle.h41_deck.specs.declared.fault.Fault.TheVariants as deck;
 
 use crate::refusal::Refusal;
+use h41_commands::ItemFault;
 use h41_ends::{InputFault, WriteFault};
 use std::alloc::AllocError;
 use std::error::Error;
@@ -99,6 +100,21 @@ impl From<InputFault> for Fault {
         match fault {
             InputFault::OutOfMemory => Fault::OutOfMemory,
             InputFault::ReadFault => Fault::ReadFault,
+        }
+    }
+}
+
+impl From<ItemFault> for Fault {
+    ghost use Rattle.std.specs.Prelude.{◌≡◌};
+    ghost use Rattle.h41_deck.specs.Faults.{of_item};
+
+    ghost from_gives = { λ fault own. own ≡ of_item fault };
+
+    fn from(fault: ItemFault) -> Self {
+        match fault {
+            ItemFault::OutOfMemory => Fault::OutOfMemory,
+            ItemFault::ReadFault => Fault::ReadFault,
+            ItemFault::WriteFault => Fault::WriteFault,
         }
     }
 }

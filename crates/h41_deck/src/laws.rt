@@ -1,7 +1,7 @@
 //! Laws of decks: each is the contract of a function with nothing to do but to call the laws it rests on.
 
 ghost use Rattle.h41_deck.specs.Deck.{DeckDeterminesOutcome, DeckDeterminesText, FirstTextIsFront};
-ghost use Rattle.h41_deck.specs.Deck.{LongDeckDeterminesText};
+ghost use Rattle.h41_deck.specs.Deck.{EndedTextIsDetermined};
 
 use h41_commands::laws::blocks_are_determined;
 use h41_debug::laws::{
@@ -10,11 +10,11 @@ use h41_debug::laws::{
 use h41_program::laws::lists_are_determined;
 use h41_xrom::laws::{display_is_determined, load_is_determined};
 
-/// A deck determines its text, whether a refusal is printed, and where it is too long the text that is printed all the same. The
+/// A deck determines its text, whether a refusal is printed, and the text of the commands that have their end in what was read. The
 /// replies to some first commands are a front of its text.
 pub fn deck_is_determined()
     ensures text { DeckDeterminesText }
-    ensures long { LongDeckDeterminesText }
+    ensures ended { EndedTextIsDetermined }
     ensures outcome { DeckDeterminesOutcome }
     ensures front { FirstTextIsFront }
 {

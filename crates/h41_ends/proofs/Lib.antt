@@ -1,2 +1,6 @@
+pub mod EndedLines
+pub mod InputBuffers
+pub mod InputReading
 pub mod Reading
+pub mod ToldLines
 pub mod Writing

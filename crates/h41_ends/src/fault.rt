@@ -2,6 +2,7 @@
 
 ghost use Rattle.std.specs.Prelude.{◌≡◌};
 ghost use Rattle.h41_ends.specs.declared.fault.InputFault.TheVariants as input;
+ghost use Rattle.h41_ends.specs.declared.fault.LineFault.TheVariants as lines;
 
 use std::alloc::{AllocError, AllocFailed};
 
@@ -31,5 +32,22 @@ impl<T: Drop> From<AllocFailed<T>> for InputFault {
 
     fn from(_error: AllocFailed<T>) -> Self {
         InputFault::OutOfMemory
+    }
+}
+
+/// Why the next line of an input was not read to its end.
+#[derive(Clone, Copy, Debug, PartialEq, Eq)]
+pub enum LineFault {
+    /// 22: the input cannot be read, or is too long.
+    ReadFault,
+    /// 23: the output cannot be passed on.
+    WriteFault,
+}
+
+impl From<WriteFault> for LineFault {
+    ghost from_gives = { λ _ fault. fault ≡ lines.WriteFault };
+
+    fn from(_fault: WriteFault) -> Self {
+        LineFault::WriteFault
     }
 }

@@ -3,12 +3,14 @@
 
 mod fault;
 mod input;
+mod input_lines;
 mod output;
 mod sink;
 mod source;
 
-pub use fault::{InputFault, WriteFault};
+pub use fault::{InputFault, LineFault, WriteFault};
 pub use input::{MOST_BYTES, ReadInput, read_whole};
+pub use input_lines::{InputLines, MOST_TOLD};
 pub use output::{flush, write_whole};
 pub use sink::{Sink, ToWrite};
 pub use source::{FromRead, Source};

@@ -55,10 +55,10 @@ nothing_long (Some input) (Some before) long = ([], record { too_long = long; no
 
 -- why an input was not read whole, with nothing written
 pub why_unread : {F : Type 0} (known old : Option (List ℕ)) → F ⊎ IfSome known (λ input. most_bytes < length input)
-    → F ⊎ (IfSome known (WritesTextOf IsTooLong old old) × Unit {0})
+    → F ⊎ IfSome known (WritesTextOf IsTooLong old old)
 why_unread known old unread = elim unread [
   | inl failed ↦ inl failed
-  | inr long ↦ inr (nothing_long known old long, tt)
+  | inr long ↦ inr (nothing_long known old long)
 ]
 
 -- a text that was written, and then kept, is a front of itself

@@ -1,5 +1,6 @@
 pub mod CommandLemmas
 pub mod CommandWalks
+pub mod DeckLemmas
 pub mod InputLemmas
 pub mod WordLemmas
 pub mod WordTurns

@@ -4,7 +4,7 @@ use Rattle.std.specs.Global.{Global}
 use Rattle.std.specs.Prelude.{◌≡◌, ◌≢◌, ◌⊎◌, ℕ, ◌<◌, ◌≤◌, true, false, Vec, List, [], ◌++◌, length}
 use Rattle.std.specs.Prelude.{take, codes, Option, Some, IfSome, Result, Ok, Err, IfErr, IfOk, OnOk}
 use Rattle.std.specs.Fmt.{decimal}
-use Rattle.std.specs.Io.KnownBytes.{Appends, Keeps}
+use Rattle.std.specs.Io.KnownBytes.{Appends, Consumes, Keeps}
 use Rattle.h41_ends.specs.declared.sink.Sink as sinks
 use Rattle.h41_ends.specs.declared.source.Source as sources
 use Rattle.h41_deck.specs.declared.fault.Fault.{Fault}
@@ -15,6 +15,7 @@ use Rattle.h41_deck.specs.declared.replies.Outcome.{Outcome}
 use Rattle.h41_deck.specs.declared.replies.Outcome.TheVariants as outcomes
 use Rattle.h41_deck.specs.Deck as decks
 use Rattle.h41_ends.specs.Ends.{Appended, most_bytes}
+use Rattle.h41_ends.specs.InputLines.{bytes_within}
 use Rattle.h41_commands.specs.PageBlocks.{SourceMakes}
 use Rattle.h41_deck.specs.Refusals.{refusal_line}
 use Rattle.h41_dis.specs.Spelling.{spell}
@@ -156,27 +157,37 @@ pub record IsTooLong (input text : List ℕ) : Type 0 where
   pub too_long : most_bytes < length input
   pub nothing : text ≡ []
 
--- the text that is printed of an input that is too long
-abbrev pub LongText : Task → List ℕ → List ℕ → Type 0
-LongText tasks.Run = decks.LongDeck
-LongText (tasks.Assemble origin) = IsTooLong
-LongText (tasks.List origin) = IsTooLong
+-- of what was read of a deck within the bound, when a fault ended it, such a text is written
+pub record WritesOfRead {R W : Type 0} (text_of : List ℕ → List ℕ → Type 0)
+    (source : sources.Ghosts R) (sink : sinks.Ghosts W) (before after : R) (old new : W)
+    : Type 0 where
+  pub bytes : List ℕ
+  pub read : Consumes (source.remaining before) (source.remaining after) bytes
+  pub written : WritesTextOf text_of (sink.contents old) (sink.contents new) (bytes_within bytes)
 
--- the text of a deck that is too long is passed on; of others there is none
-abbrev pub PassesOn : {W : Type 0} → Task → sinks.Ghosts W → W → Type 0
-PassesOn tasks.Run sink new = sink.flushed new ≡ true
-PassesOn (tasks.Assemble origin) sink new = Unit {0}
-PassesOn (tasks.List origin) sink new = Unit {0}
+-- more of it was read than the bound
+pub record ReadsTooMuch {R : Type 0} (source : sources.Ghosts R) (before after : R) : Type 0 where
+  pub bytes : List ℕ
+  pub read : Consumes (source.remaining before) (source.remaining after) bytes
+  pub too_long : most_bytes < length bytes
 
--- why reading ends with a fault: a read failed, or the input is too long, and its text within the
--- bound is written
+-- why reading is said to have failed where no read did: a deck is too long, or another input, of
+-- which nothing is printed
+abbrev pub TooLong : {R W : Type 0} → Task → sources.Ghosts R → sinks.Ghosts W → R → R → W → W
+    → Type 0
+TooLong tasks.Run source sink before after old new = ReadsTooMuch source before after
+TooLong (tasks.Assemble origin) source sink before after old new =
+    IfSome (source.remaining before)
+    (WritesTextOf IsTooLong (sink.contents old) (sink.contents new))
+TooLong (tasks.List origin) source sink before after old new =
+    IfSome (source.remaining before)
+    (WritesTextOf IsTooLong (sink.contents old) (sink.contents new))
+
+-- why reading ends with a fault: a read failed, or the input is too long
 abbrev pub FailedOrTooLong : {R W : Type 0} → Task → sources.Ghosts R → sinks.Ghosts W → R → R → W
     → W → Type 0
 FailedOrTooLong task source sink before after old new =
-    (source.failed after ≡ true)
-    ⊎ (IfSome (source.remaining before)
-    (WritesTextOf (LongText task) (sink.contents old) (sink.contents new))
-    × PassesOn task sink new)
+    (source.failed after ≡ true) ⊎ TooLong task source sink before after old new
 
 -- where a task ends without a fault, it ends so over the input, where that is known
 abbrev pub Ends : {E : Type 0} → Result Ended E → Task → Option (List ℕ) → Type 0
@@ -189,54 +200,81 @@ NotRead result task source sink before after old new =
     result ≡ Err ReadFault → FailedOrTooLong task source sink before after old new
 
 -- what a task leaves written where its input or memory failed: of a deck the replies to some first
--- commands, of a source and of a list of words nothing
-abbrev pub LeavesBegun : {W : Type 0} → Task → Option (List ℕ) → sinks.Ghosts W → W → W → Type 0
-LeavesBegun tasks.Run known sink old new =
-    IfSome known (WritesTextOf decks.FirstText (sink.contents old) (sink.contents new))
-LeavesBegun (tasks.Assemble origin) known sink old new =
+-- commands of what was read, of a source and of a list of words nothing
+abbrev pub LeavesBegun : {R W : Type 0} → Task → sources.Ghosts R → sinks.Ghosts W → R → R → W → W
+    → Type 0
+LeavesBegun tasks.Run source sink before after old new =
+    WritesOfRead decks.FirstText source sink before after old new
+LeavesBegun (tasks.Assemble origin) source sink before after old new =
     Keeps (sink.contents old) (sink.contents new)
-LeavesBegun (tasks.List origin) known sink old new = Keeps (sink.contents old) (sink.contents new)
+LeavesBegun (tasks.List origin) source sink before after old new =
+    Keeps (sink.contents old) (sink.contents new)
 
--- and where reading failed: nothing
-abbrev pub LeavesUnread : {W : Type 0} → sinks.Ghosts W → W → W → Type 0
-LeavesUnread sink old new = Keeps (sink.contents old) (sink.contents new)
+-- and where reading failed: of a deck the replies to the commands that have their end in what was
+-- read
+abbrev pub LeavesUnread : {R W : Type 0} → Task → sources.Ghosts R → sinks.Ghosts W → R → R → W → W
+    → Type 0
+LeavesUnread tasks.Run source sink before after old new =
+    WritesOfRead decks.EndedText source sink before after old new
+LeavesUnread (tasks.Assemble origin) source sink before after old new =
+    Keeps (sink.contents old) (sink.contents new)
+LeavesUnread (tasks.List origin) source sink before after old new =
+    Keeps (sink.contents old) (sink.contents new)
+
+-- of what was read of a deck a front of the replies to some first commands is written
+pub record WritesFrontOfRead {R W : Type 0} (source : sources.Ghosts R) (sink : sinks.Ghosts W)
+    (before after : R) (old new : W) : Type 0 where
+  pub bytes : List ℕ
+  pub read : Consumes (source.remaining before) (source.remaining after) bytes
+  pub written :
+      WritesFrontOf decks.FirstText (sink.contents old) (sink.contents new) (bytes_within bytes)
 
 -- and where the output failed: a front of these replies, or of their text
-abbrev pub LeavesFront : {W : Type 0} → Task → Option (List ℕ) → sinks.Ghosts W → W → W → Type 0
-LeavesFront tasks.Run known sink old new =
-    IfSome known (WritesFrontOf decks.FirstText (sink.contents old) (sink.contents new))
-LeavesFront (tasks.Assemble origin) known sink old new =
-    IfSome known (WritesFrontOf (AssemblyText origin) (sink.contents old) (sink.contents new))
-LeavesFront (tasks.List origin) known sink old new =
-    IfSome known (WritesFrontOf ListingText (sink.contents old) (sink.contents new))
+abbrev pub LeavesFront : {R W : Type 0} → Task → sources.Ghosts R → sinks.Ghosts W → R → R → W → W
+    → Type 0
+LeavesFront tasks.Run source sink before after old new =
+    WritesFrontOfRead source sink before after old new
+LeavesFront (tasks.Assemble origin) source sink before after old new =
+    IfSome (source.remaining before)
+    (WritesFrontOf (AssemblyText origin) (sink.contents old) (sink.contents new))
+LeavesFront (tasks.List origin) source sink before after old new =
+    IfSome (source.remaining before)
+    (WritesFrontOf ListingText (sink.contents old) (sink.contents new))
 
--- where a task ends with a fault of another end than the output, and of the output
+-- where a task ends with a fault of another end than the output, of the input, and of the output
 abbrev pub ErrLeavesBegun : {A R W : Type 0} → Result A Fault → Task → sources.Ghosts R
-    → sinks.Ghosts W → R → W → W → Type 0
-ErrLeavesBegun result task source sink before old new =
+    → sinks.Ghosts W → R → R → W → W → Type 0
+ErrLeavesBegun result task source sink before after old new =
     IfErr result
-    (λ fault. fault ≢ WriteFault → LeavesBegun task (source.remaining before) sink old new)
+    (λ fault. fault ≢ WriteFault → LeavesBegun task source sink before after old new)
+
+abbrev pub ErrLeavesUnread : {A R W : Type 0} → Result A Fault → Task → sources.Ghosts R
+    → sinks.Ghosts W → R → R → W → W → Type 0
+ErrLeavesUnread result task source sink before after old new =
+    result ≡ Err ReadFault → LeavesUnread task source sink before after old new
 
 abbrev pub ErrLeavesFront : {A R W : Type 0} → Result A Fault → Task → sources.Ghosts R
-    → sinks.Ghosts W → R → W → W → Type 0
-ErrLeavesFront result task source sink before old new =
-    result ≡ Err WriteFault → LeavesFront task (source.remaining before) sink old new
+    → sinks.Ghosts W → R → R → W → W → Type 0
+ErrLeavesFront result task source sink before after old new =
+    result ≡ Err WriteFault → LeavesFront task source sink before after old new
 
--- where a job has the status of a fault, and the output did not fail, or did
-abbrev pub JobBegun : {R W : Type 0} → ℕ → Job → sources.Ghosts R → sinks.Ghosts W → R → W → W
+-- where a job has the status of a fault, and the output did not fail, or did, or a read failed
+abbrev pub JobBegun : {R W : Type 0} → ℕ → Job → sources.Ghosts R → sinks.Ghosts W → R → R → W → W
     → Type 0
-JobBegun status job source sink before old new =
+JobBegun status job source sink before after old new =
     status ≡ 3 → sink.failed new ≡ false
-    → LeavesBegun job.task (source.remaining before) sink old new
+    → LeavesBegun job.task source sink before after old new
 
-abbrev pub JobLeavesUnread : {R W : Type 0} → sources.Ghosts R → sinks.Ghosts W → R → W → W → Type 0
-JobLeavesUnread source sink after old new = source.failed after ≡ true → LeavesUnread sink old new
+abbrev pub JobLeavesUnread : {R W : Type 0} → Job → sources.Ghosts R → sinks.Ghosts W → R → R → W
+    → W → Type 0
+JobLeavesUnread job source sink before after old new =
+    source.failed after ≡ true → LeavesUnread job.task source sink before after old new
 
-abbrev pub JobLeavesFront : {R W : Type 0} → ℕ → Job → sources.Ghosts R → sinks.Ghosts W → R → W → W
-    → Type 0
-JobLeavesFront status job source sink before old new =
+abbrev pub JobLeavesFront : {R W : Type 0} → ℕ → Job → sources.Ghosts R → sinks.Ghosts W → R → R → W
+    → W → Type 0
+JobLeavesFront status job source sink before after old new =
     status ≡ 3 → sink.failed new ≡ true
-    → LeavesFront job.task (source.remaining before) sink old new
+    → LeavesFront job.task source sink before after old new
 
 -- the text that tells a wrong word by its number
 abbrev pub mistake_line : ℕ → List ℕ

@@ -4,9 +4,9 @@ ghost use Rattle.std.specs.Prelude.{◌≡◌, ◌≢◌, ◌≤◌, true, false
 ghost use Rattle.std.specs.Io.KnownBytes.{Keeps};
 ghost use Rattle.h41_ends.specs.Ends.{Appended};
 ghost use Rattle.h41_jobs.specs.Statuses.{EndsJob, IsTaskStatus, TellsFault, TellsMark, fault_line};
-ghost use Rattle.h41_jobs.specs.Tasks.{Ends, ErrLeavesBegun, ErrLeavesFront, JobBegun};
-ghost use Rattle.h41_jobs.specs.Tasks.{JobLeavesFront, JobLeavesUnread, JobWritesText};
-ghost use Rattle.h41_jobs.specs.Tasks.{LeavesUnread, MayEnd, OkWritesText, Tells, TellsWord};
+ghost use Rattle.h41_jobs.specs.Tasks.{Ends, ErrLeavesBegun, ErrLeavesFront, ErrLeavesUnread};
+ghost use Rattle.h41_jobs.specs.Tasks.{JobBegun, JobLeavesFront, JobLeavesUnread, JobWritesText};
+ghost use Rattle.h41_jobs.specs.Tasks.{MayEnd, OkWritesText, Tells, TellsWord};
 ghost use Rattle.h41_jobs.specs.Tasks.{NotRead, mistake_line};
 
 use crate::arguments::{Job, Task};
@@ -61,9 +61,12 @@ pub fn serve<R: Source, W: Sink, E: Sink>(
 
     // Where something failed, the replies to some first commands of a deck are written, and nothing of a source or of a list; or
     // where writing failed a front of these replies or of its text. The fault came for its cause, and its line is told, if it can be.
-    ensures begun { JobBegun result job.entry R.Source W.Sink reader.old writer.old writer.new }
-    ensures unread { JobLeavesUnread R.Source W.Sink reader.new writer.old writer.new }
-    ensures cut { JobLeavesFront result job.entry R.Source W.Sink reader.old writer.old writer.new }
+    ensures begun { JobBegun result job.entry R.Source W.Sink
+        reader.old reader.new writer.old writer.new }
+    ensures unread { JobLeavesUnread job.entry R.Source W.Sink
+        reader.old reader.new writer.old writer.new }
+    ensures cut { JobLeavesFront result job.entry R.Source W.Sink
+        reader.old reader.new writer.old writer.new }
     ensures fault { TellsFault result job.entry.task R.Source W.Sink E.Sink
         reader.old reader.new writer.old writer.new faults.old faults.new }
 {
@@ -89,9 +92,12 @@ fn do_task<R: Source, W: Sink>(
     ensures kind { IfOk result (MayEnd task) }
     ensures flushed { OnOk result (W.flushed writer.new ≡ true) }
     ensures read { NotRead result task R.Source W.Sink reader.old reader.new writer.old writer.new }
-    ensures begun { ErrLeavesBegun result task R.Source W.Sink reader.old writer.old writer.new }
-    ensures unread { R.failed reader.new ≡ true → LeavesUnread W.Sink writer.old writer.new }
-    ensures cut { ErrLeavesFront result task R.Source W.Sink reader.old writer.old writer.new }
+    ensures begun { ErrLeavesBegun result task R.Source W.Sink
+        reader.old reader.new writer.old writer.new }
+    ensures unread { ErrLeavesUnread result task R.Source W.Sink
+        reader.old reader.new writer.old writer.new }
+    ensures cut { ErrLeavesFront result task R.Source W.Sink
+        reader.old reader.new writer.old writer.new }
     ensures write_fault { result ≡ Err Fault.WriteFault → W.failed writer.new ≡ true }
     ensures reader { result ≢ Err Fault.ReadFault → R.failed reader.new ≡ false }
     ensures writer { result ≢ Err Fault.WriteFault → W.failed writer.new ≡ false }

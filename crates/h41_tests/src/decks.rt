@@ -32,6 +32,26 @@ fn runs_in_pieces(rt: HostRuntime) -> Result<(), Fail> {
     Ok(())
 }
 
+/// Where commands of `DECK` end, and how much of `TEXT` is theirs and that of those before them.
+const ENDS: [(usize, usize); 5] = [
+    (48, 10),
+    (56, 50),
+    (62, 62),
+    (71, TEXT.len() - 16),
+    (75, TEXT.len()),
+];
+
+/// How much of `TEXT` is that of the commands whose last line end is in so many bytes of `DECK`.
+fn text_within(read: usize) -> usize {
+    let mut count = 0;
+    for (end, text) in &ENDS {
+        if *end <= read {
+            count = *text;
+        }
+    }
+    count
+}
+
 #[test]
 fn stops_at_a_failed_read(rt: HostRuntime) {
     for calls in 0..=DECK.len().div_ceil(7) {
@@ -39,7 +59,9 @@ fn stops_at_a_failed_read(rt: HostRuntime) {
         let mut writer = writer(rt.alloc(), 100, 1000);
         let result = run_deck(rt.alloc(), &mut reader, &mut writer);
         let is_told = result == Err(Fault::ReadFault) && reader.failed() && !writer.failed();
-        assert!(rt; is_told && writer.taken.is_empty(), "at call {calls}");
+        let is_front = TEXT.as_bytes().starts_with(&writer.taken);
+        let is_all = writer.taken.len() == text_within(7 * calls);
+        assert!(rt; is_told && is_front && is_all && writer.is_flushed(), "at call {calls}");
     }
 }
 

@@ -20,6 +20,6 @@ returns-in-Some-clause-item c =
       | else-is_opening w ↦
           rw (w.item-is, w.rest-is)
           (commands-line line rest (sym c.if-is_long.ensures) (sym c.if-is_skipped.ensures) (sym w.if-is_opening.ensures)
-          ∙ ap (λ i. i ∷ deck.commands rest) (sym w.line_item-item.ensures))
+          ∙ ap (λ i. i ∷ deck.commands rest) (sym w.line_item-item.ensures.item))
     ] in
     c.loop-line.invariant.same ∙ ap deck.commands (c.in-Some.ensures).steps ∙ first

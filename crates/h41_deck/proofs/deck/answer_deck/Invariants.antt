@@ -1,17 +1,19 @@
-use Rattle.std.proofs.Common.{◌≡◌, false, length}
-use Rattle.h41_deck.specs.AnsweredItems.{answered_items}
-use Rattle.h41_commands.specs.Items as deck
-use Rattle.h41_lines.specs.Lines.{lines}
+use Rattle.std.proofs.Common.{◌≡◌, false, List}
+use Rattle.h41_commands.specs.Items.{Spelled}
+use Rattle.h41_ends.specs.InputLines.{most_left}
 use Rattle.h41_deck.proofs.AnswersInTurn.{Told}
+use Rattle.h41_deck.proofs.DeckReading.{ReadSoFar}
 use Rattle.h41_deck.proofs.deck.answer_deck.Given as goal
 
--- what is written is what the items so far print, and the answers go on with those to the lines that are left
+-- the items that were read so far are done: what is written is what they print
 abbrev pub invariant-loop-bench : goal.invariant-loop-bench
 invariant-loop-bench g l = record {
-  told : Told (g.W.Sink.contents l.fn.writer) (g.W.Sink.contents l.writer) (answered_items l.is_whole (deck.commands (lines l.deck)))
-      (answered_items l.is_whole (deck.commands (lines l.rest.rest.now))) l.bench l.outcome;
-  clear : g.W.Sink.failed l.writer ≡ false;
+  done : (items : List Spelled)
+      × ReadSoFar (g.R.Source.remaining l.fn.reader) (g.R.Source.remaining l.reader) l.input items
+      × Told (g.W.Sink.contents l.fn.writer) (g.W.Sink.contents l.writer) items l.bench l.outcome;
+  reader : g.R.Source.failed l.reader ≡ false;
+  writer : g.W.Sink.failed l.writer ≡ false;
 }
 
 abbrev pub decreases-loop-bench : goal.decreases-loop-bench
-decreases-loop-bench g l = length (lines l.rest.rest.now)
+decreases-loop-bench g l = most_left l.input

@@ -1,4 +1,4 @@
-use Rattle.h41_deck.proofs.Determined.{same_text, same_long, same_outcome, first_is_front}
+use Rattle.h41_deck.proofs.Determined.{same_text, same_ended, same_outcome, first_is_front}
 use Rattle.h41_deck.proofs.laws.deck_is_determined.Goals as goal
 
 pub returns-clause-text : goal.returns-clause-text
@@ -8,9 +8,9 @@ returns-clause-text c =
     c.lists_are_determined.ensures.lines c.presses_are_determined.ensures c.display_is_determined.ensures
     c.runs_are_determined.ensures c.traces_are_determined.ensures
 
-pub returns-clause-long : goal.returns-clause-long
-returns-clause-long c =
-    same_long c.steps_are_determined.ensures c.load_is_determined.ensures
+pub returns-clause-ended : goal.returns-clause-ended
+returns-clause-ended c =
+    same_ended c.steps_are_determined.ensures c.load_is_determined.ensures
     c.blocks_are_determined.ensures.filling c.blocks_are_determined.ensures.meaning
     c.lists_are_determined.ensures.lines c.presses_are_determined.ensures c.display_is_determined.ensures
     c.runs_are_determined.ensures c.traces_are_determined.ensures

@@ -1,8 +1,12 @@
-use Rattle.std.proofs.Common.{◌≡◌, Err, rules}
-use Rattle.h41_deck.specs.declared.fault.Fault.TheVariants.{ReadFault}
+use Rattle.std.proofs.Common.{◌≡◌, Err, refl, rules, subst, sym, ◌∙◌}
+use Rattle.std.proofs.lemmas.Result.{err_from_is_err_and}
+use Rattle.h41_deck.specs.Deck.{FaultLeaves}
+use Rattle.h41_deck.specs.declared.fault.Fault.{Fault}
+use Rattle.h41_deck.specs.declared.fault.Fault.TheVariants.{ReadFault, WriteFault}
 use Rattle.h41_jobs.specs.declared.arguments.Task.TheVariants as tasks
 use Rattle.h41_jobs.specs.Inputs.{IsUnread}
 use Rattle.h41_jobs.specs.Tasks.{HasText}
+use Rattle.h41_jobs.proofs.DeckLemmas.{leaves_begun, leaves_front, leaves_unread, why_deck}
 use Rattle.h41_jobs.proofs.InputLemmas.{whole_front, whole_text, why_unread}
 use Rattle.h41_jobs.proofs.serving.do_task.Goals as goal
 
@@ -31,3 +35,34 @@ returns-in_ok-write_answer-in-List-clause-text g c =
     let has = rw c.deref-in-List.ensures.value at c.in_ok-answer-in-List.ensures.text in
     rw c.in-List.is (whole_text (HasText (tasks.List c.in-List.origin)) _ _ _ c.in_ok-words-in-List.words.items
     c.in_ok-answer-in-List.answer.text.items c.in_ok-words-in-List.ensures.bytes has c.in_ok-write_answer-in-List.ensures.text)
+
+pub returns-in_err-run_deck-in-Run-clause-begun : goal.returns-in_err-run_deck-in-Run-clause-begun
+returns-in_err-run_deck-in-Run-clause-begun g c =
+    let failed = err_from_is_err_and c.from_residual.result c.from_residual.ensures.1 in
+    rw (failed.1, failed.2, c.in-Run.is)
+    (leaves_begun g.R.Source g.W.Sink c.args.reader.now c.run_deck.new.reader c.args.writer.now c.run_deck.new.writer
+    c.in_err-run_deck-in-Run.field-0.0 c.in_err-run_deck-in-Run.ensures.left)
+
+pub returns-in_err-run_deck-in-Run-clause-unread : goal.returns-in_err-run_deck-in-Run-clause-unread
+returns-in_err-run_deck-in-Run-clause-unread g c = λ is.
+    let failed = err_from_is_err_and c.from_residual.result c.from_residual.ensures.1 in
+    let same : c.in_err-run_deck-in-Run.field-0.0 ≡ ReadFault = let both = sym failed.1 ∙ is in cc in
+    rw c.in-Run.is
+    (leaves_unread g.R.Source g.W.Sink c.args.reader.now c.run_deck.new.reader c.args.writer.now c.run_deck.new.writer
+    (rw same at c.in_err-run_deck-in-Run.ensures.left))
+
+pub returns-in_err-run_deck-in-Run-clause-cut : goal.returns-in_err-run_deck-in-Run-clause-cut
+returns-in_err-run_deck-in-Run-clause-cut g c = λ is.
+    let failed = err_from_is_err_and c.from_residual.result c.from_residual.ensures.1 in
+    let same : c.in_err-run_deck-in-Run.field-0.0 ≡ WriteFault = let both = sym failed.1 ∙ is in cc in
+    rw c.in-Run.is
+    (leaves_front g.R.Source g.W.Sink c.args.reader.now c.run_deck.new.reader c.args.writer.now c.run_deck.new.writer
+    (rw same at c.in_err-run_deck-in-Run.ensures.left))
+
+pub returns-in_err-run_deck-in-Run-clause-read : goal.returns-in_err-run_deck-in-Run-clause-read
+returns-in_err-run_deck-in-Run-clause-read g c = λ is.
+    let failed = err_from_is_err_and c.from_residual.result c.from_residual.ensures.1 in
+    let same : c.in_err-run_deck-in-Run.field-0.0 ≡ ReadFault = let both = sym failed.1 ∙ is in cc in
+    rw c.in-Run.is
+    (why_deck g.R.Source g.W.Sink c.args.reader.now c.run_deck.new.reader c.args.writer.now c.run_deck.new.writer
+    (rw same at c.in_err-run_deck-in-Run.ensures.left))

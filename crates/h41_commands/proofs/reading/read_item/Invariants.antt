@@ -1,0 +1,19 @@
+use Rattle.std.proofs.Common.{◌≡◌, ◌≤◌, ℕ, false, List}
+use Rattle.std.specs.Io.KnownBytes.{Keeps}
+use Rattle.h41_ends.specs.InputLines.{ReadsMore, most_left}
+use Rattle.h41_commands.proofs.ItemLines.{SpellNothing}
+use Rattle.h41_commands.proofs.reading.read_item.Given as goal
+
+-- the lines so far say nothing
+abbrev pub invariant-loop-input : goal.invariant-loop-input
+invariant-loop-input g l = record {
+  lines : (skipped : List (List ℕ)) × SpellNothing skipped
+      × ReadsMore (g.R.Source.remaining l.fn.reader) (g.R.Source.remaining l.reader) l.fn.input l.input skipped;
+  bound : most_left l.input ≤ most_left l.fn.input;
+  kept : Keeps (g.W.Sink.contents l.fn.writer) (g.W.Sink.contents l.writer);
+  reader : g.R.Source.failed l.reader ≡ false;
+  writer : g.W.Sink.failed l.writer ≡ false;
+}
+
+abbrev pub decreases-loop-input : goal.decreases-loop-input
+decreases-loop-input g l = most_left l.input

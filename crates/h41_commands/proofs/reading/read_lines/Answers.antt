@@ -1,0 +1,80 @@
+use Rattle.std.proofs.Common.{◌≡◌, ◌∷◌, ◌++◌, [], ap, sym, refl, ◌∙◌, arith, rules}
+use Rattle.std.proofs.lemmas.Result.{err_from_is_err_and}
+use Rattle.h41_ends.specs.InputLines.{line_in}
+use Rattle.h41_ends.proofs.InputReading.{keeps-both, reads_both}
+use Rattle.h41_commands.specs.DeckLines.{is_end}
+use Rattle.h41_commands.proofs.ItemLines.{endless_more, endless_still, takes_more}
+use Rattle.h41_commands.proofs.reading.read_lines.Goals as goal
+
+pub returns-in_err-next_line-clause-block : goal.returns-in_err-next_line-clause-block
+returns-in_err-next_line-clause-block g c =
+    let so_far = c.loop-block.invariant.lines in
+    let failed = err_from_is_err_and c.from_residual.result c.from_residual.ensures.1 in
+    rw failed.1
+    (record {
+      lines = so_far.0 ++ [];
+      reads = reads_both _ _ _ c.args.input.now c.loop-block.input c.next_line.new.self _ _ so_far.3 c.in_err-next_line.ensures.lines;
+      taken = endless_still so_far.0 so_far.1;
+    })
+
+pub returns-then-is_end-clause-block : goal.returns-then-is_end-clause-block
+returns-then-is_end-clause-block g c =
+    let so_far = c.loop-block.invariant.lines in
+    let next = rw c.if-branch.true at c.in_ok-next_line.ensures.lines in
+    let line = line_in c.next_line.new.self in
+    record {
+      lines = so_far.0 ++ line ∷ [];
+      reads = reads_both _ _ _ c.args.input.now c.loop-block.input c.next_line.new.self _ _ so_far.3 next;
+      taken = record {
+        inside = so_far.0;
+        last = line;
+        parts = refl;
+        endless = so_far.1;
+        ended = ap is_end (sym c.line-line.ensures) ∙ sym c.if-is_end.ensures;
+        taken = so_far.2;
+      };
+    }
+
+pub loop-block-preserved : goal.loop-block-preserved
+loop-block-preserved g c =
+    let so_far = c.loop-block.invariant.lines in
+    let next = rw c.if-branch.true at c.in_ok-next_line.ensures.lines in
+    let line = line_in c.next_line.new.self in
+    record {
+      lines = (
+        so_far.0 ++ line ∷ [],
+        endless_more so_far.0 line so_far.1 (ap is_end (sym c.line-line.ensures) ∙ sym c.if-is_end.ensures),
+        takes_more _ so_far.0 line c.loop-block.block c.line.new.self so_far.2 (rw c.line-line.ensures at c.in_ok-line.ensures),
+        reads_both _ _ _ c.args.input.now c.loop-block.input c.next_line.new.self _ _ so_far.3 next,
+      );
+      bound = omega (arith, c.loop-block.invariant.bound, c.in_ok-next_line.ensures.bound);
+      kept = keeps-both _ _ _ c.loop-block.invariant.kept c.in_ok-next_line.ensures.kept;
+      reader = search rules;
+      writer = search rules;
+    }
+
+pub returns-in_err-line-clause-block : goal.returns-in_err-line-clause-block
+returns-in_err-line-clause-block g c =
+    let so_far = c.loop-block.invariant.lines in
+    let next = rw c.if-branch.true at c.in_ok-next_line.ensures.lines in
+    let line = line_in c.next_line.new.self in
+    let failed = err_from_is_err_and c.from_residual-in_err-line.result c.from_residual-in_err-line.ensures.1 in
+    rw failed.1
+    (record {
+      lines = so_far.0 ++ line ∷ [];
+      reads = reads_both _ _ _ c.args.input.now c.loop-block.input c.next_line.new.self _ _ so_far.3 next;
+      taken = endless_more so_far.0 line so_far.1 (ap is_end (sym c.line-line.ensures) ∙ sym c.if-is_end.ensures);
+    })
+
+pub returns-clause-block : goal.returns-clause-block
+returns-clause-block g c =
+    let so_far = c.loop-block.invariant.lines in
+    let next = rw c.if-branch.false at c.in_ok-next_line.ensures.lines in
+    record {
+      lines = so_far.0 ++ [];
+      reads = reads_both _ _ _ c.args.input.now c.loop-block.input c.next_line.new.self _ _ so_far.3 next;
+      taken = endless_still so_far.0 so_far.1;
+    }
+
+pub returns-clause-bound : goal.returns-clause-bound
+returns-clause-bound g c = omega (arith, c.loop-block.invariant.bound, c.in_ok-next_line.ensures.bound)

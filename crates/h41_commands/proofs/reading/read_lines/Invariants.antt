@@ -1,0 +1,21 @@
+use Rattle.std.proofs.Common.{◌≡◌, ◌≤◌, ℕ, false, List}
+use Rattle.std.specs.List.{list_any}
+use Rattle.std.specs.Io.KnownBytes.{Keeps}
+use Rattle.h41_ends.specs.InputLines.{ReadsMore, most_left}
+use Rattle.h41_commands.specs.DeckLines.{is_end}
+use Rattle.h41_commands.specs.Entries.{IsTaken}
+use Rattle.h41_commands.proofs.reading.read_lines.Given as goal
+
+-- the block has taken the lines so far, of which none is an end
+abbrev pub invariant-loop-block : goal.invariant-loop-block
+invariant-loop-block g l = record {
+  lines : (inside : List (List ℕ)) × (list_any is_end inside ≡ false) × IsTaken l.fn.block.kind inside l.block
+      × ReadsMore (g.R.Source.remaining l.fn.reader) (g.R.Source.remaining l.reader) l.fn.input l.input inside;
+  bound : most_left l.input ≤ most_left l.fn.input;
+  kept : Keeps (g.W.Sink.contents l.fn.writer) (g.W.Sink.contents l.writer);
+  reader : g.R.Source.failed l.reader ≡ false;
+  writer : g.W.Sink.failed l.writer ≡ false;
+}
+
+abbrev pub decreases-loop-block : goal.decreases-loop-block
+decreases-loop-block g l = most_left l.input

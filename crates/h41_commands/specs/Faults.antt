@@ -1,0 +1,9 @@
+-- The faults of a line, as those of an item.
+use Rattle.h41_ends.specs.declared.fault.LineFault.{LineFault}
+use Rattle.h41_ends.specs.declared.fault.LineFault.TheVariants as line
+use Rattle.h41_commands.specs.declared.fault.ItemFault.{ItemFault}
+use Rattle.h41_commands.specs.declared.fault.ItemFault.TheVariants.{ReadFault, WriteFault}
+
+abbrev pub of_line : LineFault → ItemFault
+of_line line.ReadFault = ReadFault
+of_line line.WriteFault = WriteFault

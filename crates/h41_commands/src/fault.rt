@@ -1,0 +1,40 @@
+//! Why the next item of a deck was not read to its end.
+
+ghost use Rattle.std.specs.Prelude.{◌≡◌};
+ghost use Rattle.h41_commands.specs.declared.fault.ItemFault.TheVariants as item;
+
+use h41_ends::LineFault;
+use std::alloc::AllocError;
+
+/// Why the next item of a deck was not read to its end.
+#[derive(Clone, Copy, Debug, PartialEq, Eq)]
+pub enum ItemFault {
+    /// 21: no memory is left.
+    OutOfMemory,
+    /// 22: the input cannot be read, or is too long.
+    ReadFault,
+    /// 23: the output cannot be passed on.
+    WriteFault,
+}
+
+impl From<AllocError> for ItemFault {
+    ghost from_gives = { λ _ fault. fault ≡ item.OutOfMemory };
+
+    fn from(_error: AllocError) -> Self {
+        ItemFault::OutOfMemory
+    }
+}
+
+impl From<LineFault> for ItemFault {
+    ghost use Rattle.std.specs.Prelude.{◌≡◌};
+    ghost use Rattle.h41_commands.specs.Faults.{of_line};
+
+    ghost from_gives = { λ fault own. own ≡ of_line fault };
+
+    fn from(fault: LineFault) -> Self {
+        match fault {
+            LineFault::ReadFault => ItemFault::ReadFault,
+            LineFault::WriteFault => ItemFault::WriteFault,
+        }
+    }
+}

@@ -1,0 +1,139 @@
+//! The items of a deck, one at a time, over lines that are read as they come.
+
+ghost use Rattle.std.specs.Prelude.{◌≡◌, ◌≢◌, ◌⊎◌, ◌≤◌, [], IfOk, OnOk, Err, Ok, true, false, None};
+ghost use Rattle.std.specs.Io.KnownBytes.{Keeps};
+ghost use Rattle.h41_ends.specs.InputLines.{IsStopped, IsTold, most_left};
+ghost use Rattle.h41_commands.specs.BlockReading.{ReadsBlock, ReadsTaken};
+ghost use Rattle.h41_commands.specs.Blocks.{HasTaken};
+ghost use Rattle.h41_commands.specs.Entries.{what_is_spelled};
+ghost use Rattle.h41_commands.specs.ItemReading.{LeavesFewer, OpenAtEnd, ReadsNext, is_unended};
+ghost use Rattle.h41_commands.specs.Items.{is_open};
+
+use crate::blocks::Block;
+use crate::commands::Command;
+use crate::commands::parse::{is_opening, parse};
+use crate::fault::ItemFault;
+use crate::item::{GivenCommand, Item};
+use crate::items::line_item;
+use crate::line::{is_end, is_long, is_skipped};
+use crate::refusal::LineRefusal;
+use h41_ends::{InputLines, Sink, Source};
+use std::alloc::Global;
+
+/// The next item of a deck, by the lines that are left of it; nothing where they have none. Reads up to the end of its last line.
+/// The writer is flushed before each read, unless it is.
+///
+/// # Errors
+///
+/// `OutOfMemory` (21); `ReadFault` (22) where a read fails, or the deck has more than 67,108,864 bytes; `WriteFault` (23) where the
+/// writer cannot be flushed.
+pub fn read_item<R: Source, W: Sink>(
+    alloc: Global,
+    input: &mut InputLines,
+    reader: &mut R,
+    writer: &mut W,
+) -> Result<Option<Item>, ItemFault>
+    requires reader_clear { R.failed reader.old ≡ false }
+    requires writer_clear { W.failed writer.old ≡ false }
+    ensures item { ReadsNext result (R.remaining reader.old) (R.remaining reader.new)
+        input.old input.new }
+    ensures shorter { IfOk result (LeavesFewer input.old input.new) }
+    ensures open { IfOk result (OpenAtEnd input.new) }
+    ensures end { result ≡ Ok None → IsTold input.new }
+
+    // A read fault comes for its cause, behind a flush.
+    ensures stopped { result ≡ Err ItemFault.ReadFault → IsStopped input.new }
+    ensures cause { result ≡ Err ItemFault.ReadFault
+        → (R.failed reader.new ≡ true) ⊎ (input.new.is_over ≡ true) }
+    ensures flushed { result ≡ Err ItemFault.ReadFault → W.flushed writer.new ≡ true }
+
+    ensures kept { Keeps (W.contents writer.old) (W.contents writer.new) }
+    ensures reader { result ≢ Err ItemFault.ReadFault → R.failed reader.new ≡ false }
+    ensures writer { result ≢ Err ItemFault.WriteFault → W.failed writer.new ≡ false }
+    ensures write_fault { result ≡ Err ItemFault.WriteFault → W.failed writer.new ≡ true }
+{
+    while input.next_line(reader, writer)? {
+        let line = input.line();
+        if is_long(line) {
+            return Ok(Some(Item::Refused(LineRefusal::LineTooLong)));
+        }
+        if is_skipped(line) {
+            continue;
+        }
+        if is_opening(line) {
+            let command = parse(line);
+            return Ok(Some(read_block(alloc, command, input, reader, writer)?));
+        }
+        return Ok(Some(line_item(alloc, line)));
+    }
+    Ok(None)
+}
+
+/// The item of a block by what its first line spells; reads the block's other lines.
+fn read_block<R: Source, W: Sink>(
+    alloc: Global,
+    command: Result<Command, LineRefusal>,
+    input: &mut InputLines,
+    reader: &mut R,
+    writer: &mut W,
+) -> Result<Item, ItemFault>
+    requires reader_clear { R.failed reader.old ≡ false }
+    requires writer_clear { W.failed writer.old ≡ false }
+    requires shut { is_unended command ≡ false }
+    ensures item { ReadsBlock result command (R.remaining reader.old) (R.remaining reader.new)
+        input.old input.new }
+    ensures bound { OnOk result (most_left input.new ≤ most_left input.old) }
+    ensures open { IfOk result (λ item. is_open (what_is_spelled item) ≡ true
+        → input.new.at_end ≡ true) }
+    ensures stopped { result ≡ Err ItemFault.ReadFault → IsStopped input.new }
+    ensures cause { result ≡ Err ItemFault.ReadFault
+        → (R.failed reader.new ≡ true) ⊎ (input.new.is_over ≡ true) }
+    ensures flushed { result ≡ Err ItemFault.ReadFault → W.flushed writer.new ≡ true }
+    ensures kept { Keeps (W.contents writer.old) (W.contents writer.new) }
+    ensures reader { result ≢ Err ItemFault.ReadFault → R.failed reader.new ≡ false }
+    ensures writer { result ≢ Err ItemFault.WriteFault → W.failed writer.new ≡ false }
+    ensures write_fault { result ≡ Err ItemFault.WriteFault → W.failed writer.new ≡ true }
+{
+    let block = Block::of_kind(alloc, command.ok().and_then(Command::block_kind));
+    let Some(block) = read_lines(block, input, reader, writer)? else {
+        return Ok(Item::Refused(LineRefusal::NoEnd));
+    };
+    Ok(match command {
+        Ok(command) => Item::Given(GivenCommand { command, block }),
+        Err(refusal) => Item::Refused(refusal),
+    })
+}
+
+/// Reads the lines of a block up to its end; nothing where it has none.
+fn read_lines<R: Source, W: Sink>(
+    block: Block,
+    input: &mut InputLines,
+    reader: &mut R,
+    writer: &mut W,
+) -> Result<Option<Block>, ItemFault>
+    requires empty { HasTaken block [] }
+    requires reader_clear { R.failed reader.old ≡ false }
+    requires writer_clear { W.failed writer.old ≡ false }
+    ensures block { ReadsTaken result block.kind (R.remaining reader.old) (R.remaining reader.new)
+        input.old input.new }
+    ensures bound { OnOk result (most_left input.new ≤ most_left input.old) }
+    ensures end { result ≡ Ok None → input.new.at_end ≡ true }
+    ensures stopped { result ≡ Err ItemFault.ReadFault → IsStopped input.new }
+    ensures cause { result ≡ Err ItemFault.ReadFault
+        → (R.failed reader.new ≡ true) ⊎ (input.new.is_over ≡ true) }
+    ensures flushed { result ≡ Err ItemFault.ReadFault → W.flushed writer.new ≡ true }
+    ensures kept { Keeps (W.contents writer.old) (W.contents writer.new) }
+    ensures reader { result ≢ Err ItemFault.ReadFault → R.failed reader.new ≡ false }
+    ensures writer { result ≢ Err ItemFault.WriteFault → W.failed writer.new ≡ false }
+    ensures write_fault { result ≡ Err ItemFault.WriteFault → W.failed writer.new ≡ true }
+{
+    let mut block = block;
+    while input.next_line(reader, writer)? {
+        let line = input.line();
+        if is_end(line) {
+            return Ok(Some(block));
+        }
+        block.line(line)?;
+    }
+    Ok(None)
+}

@@ -1,0 +1,83 @@
+use Rattle.std.proofs.Common.{◌≡◌, ◌≤◌, nat_lt, false, ◌+◌, ◌-◌, drop, take, min, length, length-append, length-take, ap, sym, ◌∙◌, arith}
+use Rattle.std.proofs.Common.{refl}
+use Rattle.std.proofs.lemmas.Bool.{ltb-false}
+use Rattle.h41_ends.specs.Ends.{most_bytes}
+use Rattle.h41_ends.specs.InputLines.{held_in}
+use Rattle.h41_ends.proofs.InputBuffers.{held_kept, held_more}
+use Rattle.h41_ends.proofs.InputReading.{reaches_end, reads_failed, reads_some, stopped_short}
+use Rattle.h41_ends.proofs.input_lines.InputLines.read_more.Goals as goal
+
+pub returns-in-Err-clause-lines : goal.returns-in-Err-clause-lines
+returns-in-Err-clause-lines g c =
+    let front = c.shorten.new.self in
+    let same = c.shorten.ensures.same in
+    reads_failed _ _ c.args.self.now _ c.requires.unended c.requires.goes_on
+    (held_kept front.buffer c.read.new.buffer (take 202 (held_in c.args.self.now)) front.start front.end (4096 - front.end) (omega (arith,
+        front.held_end)) c.shorten.ensures.held)
+    (record { count = same.count; over = same.over; at_end = same.at_end }) c.in-Err.ensures.bytes
+
+pub returns-in-Err-clause-stopped : goal.returns-in-Err-clause-stopped
+returns-in-Err-clause-stopped g c =
+    let front = c.shorten.new.self in
+    stopped_short c.args.self.now _ c.requires.unended c.requires.goes_on
+    (held_kept front.buffer c.read.new.buffer (take 202 (held_in c.args.self.now)) front.start front.end (4096 - front.end) (omega (arith,
+        front.held_end)) c.shorten.ensures.held)
+    c.shorten.ensures.same.at_end
+
+pub returns-in-Ok-clause-lines : goal.returns-in-Ok-clause-lines
+returns-in-Ok-clause-lines g c =
+    let old = c.args.self.now in
+    let front = c.shorten.new.self in
+    let same = c.shorten.ensures.same in
+    let tail = c.read.new.buffer in
+    let count = c.in-Ok.count in
+    let fits : count ≤ length tail = c.in-Ok.ensures.bound.0 in
+    let held =
+    held_more front.buffer tail (take 202 (held_in old)) front.start front.end (4096 - front.end) (min count (most_bytes - front.count))
+    c.shorten.ensures.start (omega (arith, front.held_end)) (omega (arith, fits)) c.shorten.ensures.held in
+    let read = c.take_read.ensures in
+    reads_some _ _ old c.take_read.new.self count tail c.requires.unended c.requires.goes_on c.if-self.false
+    (rw same.count at (read.held ∙ held)) (rw same.count at read.total) (rw same.count at read.over) read.at_end
+    c.in-Ok.ensures.bytes.0 fits
+
+pub returns-in-Ok-clause-end : goal.returns-in-Ok-clause-end
+returns-in-Ok-clause-end g c = λ is.
+    let old = c.args.self.now in
+    let front = c.shorten.new.self in
+    let same = c.shorten.ensures.same in
+    let tail = c.read.new.buffer in
+    let count = c.in-Ok.count in
+    let fits : count ≤ length tail = c.in-Ok.ensures.bound.0 in
+    let held =
+    held_more front.buffer tail (take 202 (held_in old)) front.start front.end (4096 - front.end) (min count (most_bytes - front.count))
+    c.shorten.ensures.start (omega (arith, front.held_end)) (omega (arith, fits)) c.shorten.ensures.held in
+    let read = c.take_read.ensures in
+    let none : nat_lt 0 count ≡ false = cc in
+    let zero : count ≡ 0 = omega (arith, ltb-false 0 count none) in
+    reaches_end _ old c.take_read.new.self count tail c.requires.unended (rw same.count at (read.held ∙ held))
+    (rw same.count at read.over) zero
+    (c.in-Ok.ensures.bytes.1 zero (omega (arith, c.read.auto.buffer, c.shorten.ensures.room)))
+
+pub returns-in-Ok-clause-bound : goal.returns-in-Ok-clause-bound
+returns-in-Ok-clause-bound g c =
+    let old = c.args.self.now in
+    let front = c.shorten.new.self in
+    let same = c.shorten.ensures.same in
+    let tail = c.read.new.buffer in
+    let count = c.in-Ok.count in
+    let fits : count ≤ length tail = c.in-Ok.ensures.bound.0 in
+    let held =
+    held_more front.buffer tail (take 202 (held_in old)) front.start front.end (4096 - front.end) (min count (most_bytes - front.count))
+    c.shorten.ensures.start (omega (arith, front.held_end)) (omega (arith, fits)) c.shorten.ensures.held in
+    let read = c.take_read.ensures in
+    omega (
+      arith,
+      ap length (read.held ∙ held),
+      read.total,
+      same.count,
+      old.bound,
+      length-take 202 (held_in old),
+      fits,
+      length-take (min count (most_bytes - front.count)) tail,
+      length-append (take 202 (held_in old)) (take (min count (most_bytes - front.count)) tail),
+    )

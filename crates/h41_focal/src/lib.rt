@@ -23,6 +23,7 @@ mod questions;
 mod refusal;
 mod register_lines;
 mod register_uses;
+mod short_lines;
 mod stack_lines;
 mod uses;
 mod works;

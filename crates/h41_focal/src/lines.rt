@@ -137,7 +137,8 @@ fn named<const REGS: usize>(
 }
 
 /// RCL and STO of the registers 00 to 15.
-fn short<const REGS: usize>(
+#[inline(always)]
+pub fn short<const REGS: usize>(
     machine: &mut Machine<REGS>,
     origin: Origin,
     function: RegisterFunction,
@@ -160,7 +161,7 @@ fn short<const REGS: usize>(
 }
 
 /// GTO IND and XEQ IND; 13 for a register that is left out.
-fn indirect<const REGS: usize>(
+pub fn indirect<const REGS: usize>(
     machine: &mut Machine<REGS>,
     origin: Origin,
     branch: Branch,

@@ -20,6 +20,7 @@ use crate::lines::{carry_briefly, carry_out, standing};
 use crate::origin::Origin;
 use crate::outcome::{BriefOutcome, LineOutcome};
 use crate::refusal::FocalRefusal;
+use crate::short_lines::{carry_short, short_standing};
 use h41_codes::{Function, Line};
 use h41_ram::Ram;
 use h41_rows::LineFault;
@@ -102,6 +103,9 @@ impl<const REGS: usize> Machine<REGS> {
     {
         kept_answers_stay_right();
         self.begin();
+        if let Some((line, next)) = short_standing(self) {
+            return carry_short(self, Origin::Program(next), line);
+        }
         let (line, next) = standing(self)?;
         carry_briefly(self, Origin::Program(next), &line)
     }

@@ -1,5 +1,6 @@
 use Rattle.std.proofs.Common.{◌≡◌, ap, subst, Err, None, Ok, refl}
 use Rattle.std.proofs.lemmas.Result.{err_from_is_err_and}
+use Rattle.h41_codes.specs.ShortLines.{line_of}
 use Rattle.h41_focal.specs.BriefOutcomes.{StepsBriefly}
 use Rattle.h41_focal.specs.LabelledMachine.{machine_of}
 use Rattle.h41_focal.specs.LineStep.{Machine, StepsLine}
@@ -8,6 +9,25 @@ use Rattle.h41_focal.proofs.LinesTaken.{step_refused, step_taken}
 use Rattle.h41_focal.proofs.machine.Machine.step_briefly.Goals as goal
 use Rattle.h41_focal.specs.private.Carrying.{called_by, nowhere}
 use Rattle.h41_focal.specs.declared.origin.Origin.TheVariants.{Program}
+
+pub returns-in-Some-clause-line : goal.returns-in-Some-clause-line
+returns-in-Some-clause-line g c =
+    subst (λ (machine : Machine). StepsBriefly machine (machine_of c.carry_short.new.machine) c.carry_short.result)
+    (ap machine_of c.begin.ensures.begun)
+    ( called_by c.begin.new.self.ram.registers (line_of c.in-Some.line),
+      calls_elsewhere c.begin.new.self.ram.registers (line_of c.in-Some.line),
+      step_taken None _ (line_of c.in-Some.line) c.in-Some.next _ c.in-Some.ensures c.carry_short.ensures.taken )
+
+pub returns-in-Some-clause-elsewhere : goal.returns-in-Some-clause-elsewhere
+returns-in-Some-clause-elsewhere g c = λ elsewhere.
+    subst (λ (machine : Machine). machine_of c.carry_short.new.machine ≡ machine) (ap machine_of c.begin.ensures.begun)
+    (call_changes_nothing (Program c.in-Some.next) (line_of c.in-Some.line) (machine_of c.begin.new.self)
+    (machine_of c.carry_short.new.machine) c.carry_short.result c.carry_short.ensures.taken elsewhere)
+
+pub returns-in-Some-clause-right : goal.returns-in-Some-clause-right
+returns-in-Some-clause-right g c =
+    c.kept_answers_stay_right.ensures.searching c.begin.new.self c.carry_short.new.machine _ c.begin.ensures.right
+    c.carry_short.ensures.kept c.carry_short.ensures.mark
 
 pub returns-in_err-line-clause-line : goal.returns-in_err-line-clause-line
 returns-in_err-line-clause-line g c =

@@ -1,0 +1,86 @@
+//! Short lines are carried out without room for a text.
+
+ghost use Rattle.std.specs.Prelude.{◌≡◌, IfSome, Ok, OnErr};
+ghost use Rattle.h41_codes.specs.ShortLines.{line_of};
+ghost use Rattle.h41_focal.specs.LabelledMachine.{machine_of};
+ghost use Rattle.h41_focal.specs.private.Carrying.{IsReady, Stands, StandsAt, TakesBriefly};
+ghost use Rattle.h41_focal.specs.private.Searching.{AsksOf};
+ghost use Rattle.h41_labels.specs.KeptAnswers.{IsRight};
+ghost use Rattle.h41_ram.specs.RamState.{KeepsMark};
+
+use crate::functions::plain;
+use crate::labels::to_label;
+use crate::lines::{indirect, short};
+use crate::machine::Machine;
+use crate::operand_lines::with_operand;
+use crate::origin::Origin;
+use crate::outcome::BriefOutcome;
+use crate::refusal::FocalRefusal;
+use crate::stack_lines::be_silent;
+use h41_codes::{Branch, Parameter, ShortLine};
+use h41_program::{Position, short_line};
+use h41_ram::Ram;
+
+/// The short line that stands at the position itself, and the position of the next, as `standing` answers them; `None` also where
+/// `standing` has to tell more.
+#[inline(always)]
+pub fn short_standing<const REGS: usize>(machine: &Machine<REGS>) -> Option<(ShortLine, Position)>
+    ensures { IfSome result
+        (λ found. Stands (machine_of machine.now) (Ok (line_of found.0, found.1))) }
+{
+    short_standing_at(&machine.ram, machine.focal.position)
+}
+
+/// The same at a position.
+#[inline(always)]
+fn short_standing_at<const REGS: usize>(
+    ram: &Ram<REGS>,
+    at: Position,
+) -> Option<(ShortLine, Position)>
+    ensures { IfSome result
+        (λ found. StandsAt ram.now.registers at (Ok (line_of found.0, found.1))) }
+{
+    if !ram.is_sound() {
+        return None;
+    }
+    match short_line(ram, at) {
+        Some((line, next)) => Some((line, next)),
+        None => None,
+    }
+}
+
+/// A short line is carried out, but for the texts of the outcome; 13 where it is left out.
+#[inline(always)]
+pub fn carry_short<const REGS: usize>(
+    machine: &mut Machine<REGS>,
+    origin: Origin,
+    line: ShortLine,
+) -> Result<BriefOutcome, FocalRefusal>
+    requires ready { IsReady origin (machine_of machine.old) }
+    requires right { IsRight machine.old.focal.labels machine.old.ram.registers }
+    ensures taken { TakesBriefly origin (line_of line) (machine_of machine.old)
+        (machine_of machine.new) result }
+    ensures unchanged { OnErr result (machine.new ≡ machine.old) }
+    ensures kept { AsksOf origin (line_of line) machine.old machine.new }
+    ensures mark { KeepsMark machine.old.ram machine.new.ram }
+{
+    match line {
+        ShortLine::LocalLabel(_) => Ok(be_silent(machine, origin)),
+        ShortLine::Register(function, register) => short(machine, origin, function, register),
+        ShortLine::Plain(function) => plain(machine, origin, function),
+        ShortLine::WithOperand(function, operand) => {
+            with_operand(machine, origin, function, &operand)
+        }
+        ShortLine::Module(_, _) => Ok(BriefOutcome::Elsewhere),
+        ShortLine::BranchIndirect(branch, register) => indirect(machine, origin, branch, register),
+        ShortLine::ShortGoTo(label, _) => {
+            Ok(to_label(
+                machine,
+                origin,
+                Branch::GoTo,
+                Parameter::new(label.number()),
+            ))
+        }
+        ShortLine::BranchTo(branch, _, _, label) => Ok(to_label(machine, origin, branch, label)),
+    }
+}

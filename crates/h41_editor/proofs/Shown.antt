@@ -1,5 +1,5 @@
 -- A line is shown, by the answers of program memory.
-use Rattle.std.proofs.Common.{◌≡◌, ℕ, true, false, refl, sym, Some, Result, Ok, Err, IfOk}
+use Rattle.std.proofs.Common.{◌≡◌, true, false, refl, sym, Some, Result, Ok, Err, IfOk}
 use Rattle.h41_editor.specs.Changes.{InsertsAt}
 use Rattle.h41_editor.specs.Moves.{ShowsBefore, ShowsEnd, ShowsNext, is_last}
 use Rattle.h41_editor.specs.NumberedLines.{HasNumbered}

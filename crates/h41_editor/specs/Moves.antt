@@ -1,7 +1,7 @@
 -- What SST, BST and GTO . . do to the position. A position shows the line that it stands for, or
 -- line 00 of its program. That they keep the positions to return to, and what they refuse, is this
 -- project's choice.
-use Rattle.std.specs.Prelude.{◌≡◌, ℕ, Bool, true, ◌||◌, List, [], MatchBool, Option, Some, None}
+use Rattle.std.specs.Prelude.{◌≡◌, Bool, true, ◌||◌, List, [], MatchBool, Option, Some, None}
 use Rattle.std.specs.Prelude.{Result, Ok, Err}
 use Rattle.h41_editor.specs.NumberedLines.{HasNumbered}
 use Rattle.h41_editor.specs.declared.numbered.NumberedLine.{NumberedLine}

@@ -61,7 +61,10 @@ fn stops_at_a_failed_read(rt: HostRuntime) {
         let is_told = result == Err(Fault::ReadFault) && reader.failed() && !writer.failed();
         let is_front = TEXT.as_bytes().starts_with(&writer.taken);
         let is_all = writer.taken.len() == text_within(7 * calls);
-        assert!(rt; is_told && is_front && is_all && writer.is_flushed(), "at call {calls}");
+        assert!(rt;
+            is_told && is_front && is_all && writer.is_flushed(),
+            "at call {calls}"
+        );
     }
 }
 

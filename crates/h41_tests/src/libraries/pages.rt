@@ -1,8 +1,8 @@
-//! h41_pages: the functions of a module, and images that come and go.
+//! h41_pages: the functions of a module, images that come and go, and banks.
 
 use crate::judge::wants;
 use h41_pages::{Entry, FetchRefusal, Pages, PlugRefusal, UnplugRefusal, image_read};
-use h41_words::Word;
+use h41_words::{Bank, Word};
 use std::test::Fail;
 
 /// The first words of a module with the functions KIT and KILL.
@@ -74,5 +74,67 @@ fn images_come_and_go(rt: HostRuntime) -> Result<(), Fail> {
         "fetched",
         fetched == Err(FetchRefusal::EmptyPage(0x8010)),
     );
+    Ok(())
+}
+
+/// The words of a page whose words are all the same.
+fn filled(word: u16) -> [u16; 4096] {
+    [word; 4096]
+}
+
+#[test]
+fn banks_keep_their_own_words(rt: HostRuntime) -> Result<(), Fail> {
+    let mut pages = Pages::new(rt.alloc())?;
+    for bank in 1..5 {
+        pages.plug(rt.alloc(), 8, bank, bank == 2, &filled(u16::from(bank)))?;
+    }
+    for bank in [0, 5, 255] {
+        let plugged = pages.plug(rt.alloc(), 9, bank, true, &filled(0));
+        wants(&rt, "no such bank", plugged == Err(PlugRefusal::NoSuchPage));
+    }
+    for (bank, word) in [
+        (Bank::Third, 3),
+        (Bank::Fourth, 4),
+        (Bank::First, 1),
+        (Bank::Second, 2),
+    ] {
+        pages.choose(8, bank);
+        wants(&rt, "of the bank", pages.fetch(0x8FFF)?.number() == word);
+    }
+    pages.write(0x8FFF, Word::new(0x3FF).ok_or("a word")?)?;
+    for (bank, last) in [(1, 1), (2, 0xFF), (3, 3), (4, 4)] {
+        let bytes = pages.image_write(rt.alloc(), 8, bank)?;
+        wants(&rt, "its last word", bytes[8191] == last);
+    }
+    pages.choose(8, Bank::First);
+    let written = pages.write(0x8000, Word::new(0).ok_or("a word")?);
+    wants(&rt, "bank 1 is read alone", written.is_err());
+    Ok(())
+}
+
+#[test]
+fn banks_come_and_go(rt: HostRuntime) -> Result<(), Fail> {
+    let mut pages = Pages::new(rt.alloc())?;
+    pages.plug(rt.alloc(), 8, 2, false, &module())?;
+    wants(&rt, "no function of bank 2", pages.find(b"KIT").is_none());
+    wants(&rt, "bank 1 is chosen", pages.fetch(0x8000).is_err());
+    pages.choose(8, Bank::Second);
+    wants(&rt, "bank 2 is read", pages.fetch(0x8000)?.number() == 5);
+    pages.plug(rt.alloc(), 8, 1, false, &module())?;
+    pages.choose(8, Bank::Fourth);
+    wants(&rt, "bank 2 stays", pages.fetch(0x8000)?.number() == 5);
+    wants(&rt, "bank 1 is found", pages.find(b"KIT") == Some((5, 0)));
+    pages.unplug(8)?;
+    wants(
+        &rt,
+        "all are out",
+        pages.image_write(rt.alloc(), 8, 1).is_err(),
+    );
+    wants(&rt, "and not read", pages.fetch(0x8000).is_err());
+    pages.plug(rt.alloc(), 8, 2, false, &module())?;
+    wants(&rt, "bank 1 again", pages.fetch(0x8000).is_err());
+    pages.choose(8, Bank::Second);
+    pages.choose_first_banks();
+    wants(&rt, "bank 1 of each", pages.fetch(0x8000).is_err());
     Ok(())
 }

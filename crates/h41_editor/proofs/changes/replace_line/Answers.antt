@@ -2,7 +2,7 @@ use Rattle.std.proofs.Common.{subst, ap, ◌∙◌}
 use Rattle.std.proofs.lemmas.Result.{err_from_is_err_and}
 use Rattle.h41_focal.specs.LabelledMachine.{Keeps, LabelledMachine, labelled_with, machine_of}
 use Rattle.h41_editor.proofs.Edited.{line_replaced, replace_refused}
-use Rattle.h41_editor.proofs.MemoryBytes.{byte_is, byte_of}
+use Rattle.h41_editor.proofs.MemoryBytes.{byte_is}
 use Rattle.h41_editor.proofs.Opened.{read_of}
 use Rattle.h41_editor.proofs.changes.replace_line.Goals as goal
 

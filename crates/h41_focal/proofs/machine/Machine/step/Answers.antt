@@ -1,4 +1,4 @@
-use Rattle.std.proofs.Common.{◌≡◌, ap, subst, Err, None}
+use Rattle.std.proofs.Common.{ap, subst, Err, None}
 use Rattle.std.proofs.lemmas.Result.{err_from_is_err_and}
 use Rattle.h41_focal.specs.LabelledMachine.{machine_of}
 use Rattle.h41_focal.specs.LineStep.{Machine, StepsLine}

@@ -1,4 +1,4 @@
-use Rattle.std.proofs.Common.{◌≡◌, ap, subst, Err, None, Ok, refl}
+use Rattle.std.proofs.Common.{◌≡◌, ap, subst, Err, None, refl}
 use Rattle.std.proofs.lemmas.Result.{err_from_is_err_and}
 use Rattle.h41_codes.specs.ShortLines.{line_of}
 use Rattle.h41_focal.specs.BriefOutcomes.{StepsBriefly}

@@ -1,0 +1,43 @@
+"""One process of `bench run -`, asked a command at a time: the bench writes each reply before it reads the next command."""
+import subprocess
+
+from decks import BENCH, Failure, MARK, MARK_ANSWER, NO_ANSWER, OPENERS
+
+
+def is_whole(command):
+    """Whether the lines of a command are all there: a block goes up to its `end`, and any other command is one line."""
+    first, *others = command.split(b"\n")
+    if first.split()[:1] and first.split()[0] in OPENERS:
+        return [line.split() for line in others].count([b"end"]) == 1 and others[-1].split() == [b"end"]
+    return not others
+
+
+class Session:
+    """A bench that goes on until it is closed. It begins empty, and keeps what its commands leave."""
+
+    def __init__(self):
+        self.bench = subprocess.Popen([BENCH, "run", "-"], stdin=subprocess.PIPE, stdout=subprocess.PIPE)
+
+    def ask(self, command):
+        """The lines that a command prints, a block from its first line up to its `end` among them."""
+        command = command.rstrip(b"\n")
+        if not is_whole(command):
+            raise Failure("a command is one line, or a block up to its end", 2)
+        lines = []
+        try:
+            self.bench.stdin.write(command + b"\n" + MARK)
+            self.bench.stdin.flush()
+            while lines[-2:] != MARK_ANSWER:
+                line = self.bench.stdout.readline()
+                if not line:
+                    raise Failure("the bench has ended", NO_ANSWER)
+                lines.append(line[:-1])
+        except OSError as error:
+            raise Failure(f"the bench cannot be asked: {error.strerror}", NO_ANSWER) from error
+        return lines[:-2]
+
+    def close(self):
+        """Ends the bench, and answers its status."""
+        self.bench.stdin.close()
+        self.bench.stdout.close()
+        return self.bench.wait()

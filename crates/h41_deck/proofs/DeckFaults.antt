@@ -77,7 +77,7 @@ module _ {R W : Type 0} (source : sources.Ghosts R) (sink : sinks.Ghosts W) wher
       → FaultLeaves (of_item fault) source sink first after old new
   leaves_item first mid after old before new input next done s outcome item.OutOfMemory so_far told more kept stopped cause =
       let begins = more_begins (source.remaining first) (source.remaining mid) (source.remaining after) input next done so_far
-          item.OutOfMemory more in
+      item.OutOfMemory more in
       record {
         bytes = so_far.bytes ++ more.reads.bytes;
         read = consumes-both _ _ _ so_far.bytes more.reads.bytes so_far.consumed more.reads.consumed;
@@ -87,7 +87,7 @@ module _ {R W : Type 0} (source : sources.Ghosts R) (sink : sinks.Ghosts W) wher
       }
   leaves_item first mid after old before new input next done s outcome item.ReadFault so_far told more kept stopped cause =
       let begins = more_begins (source.remaining first) (source.remaining mid) (source.remaining after) input next done so_far
-          item.ReadFault more in
+      item.ReadFault more in
       let read = more.reads.read so_far.bytes so_far.told so_far.read in
       record {
         bytes = so_far.bytes ++ more.reads.bytes;
@@ -102,7 +102,7 @@ module _ {R W : Type 0} (source : sources.Ghosts R) (sink : sinks.Ghosts W) wher
       }
   leaves_item first mid after old before new input next done s outcome item.WriteFault so_far told more kept stopped cause =
       let begins = more_begins (source.remaining first) (source.remaining mid) (source.remaining after) input next done so_far
-          item.WriteFault more in
+      item.WriteFault more in
       record {
         bytes = so_far.bytes ++ more.reads.bytes;
         read = consumes-both _ _ _ so_far.bytes more.reads.bytes so_far.consumed more.reads.consumed;

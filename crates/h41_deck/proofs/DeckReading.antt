@@ -139,7 +139,7 @@ begins_more before mid after old new done so_far bytes told read stays =
       | false ↦ λ goes.
           let held = told_lines (held_in new ++ []) in
           let all = same_commands (bytes_within (so_far.bytes ++ bytes)) _ (whole_lines (so_far.bytes ++ bytes) (so_far.told ++ told) new
-              read) in
+          read) in
           record {
             rest = commands (told ++ held);
             begins =

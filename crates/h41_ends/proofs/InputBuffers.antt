@@ -80,8 +80,13 @@ pub moved_front : (buffer : List ℕ) (start stop most kept : ℕ) → start ≤
 moved_front buffer start stop most kept order within is =
     let moved : take (0 + ((start + kept) - start)) (copy_within buffer start (start + kept) 0)
     ≡ take 0 buffer ++ take ((start + kept) - start) (drop start buffer) =
-    take-paste buffer 0 (drop start buffer) ((start + kept) - start) (omega arith) (omega (arith, length-drop start buffer, within, order,
-        is)) in
+    take-paste buffer 0 (drop start buffer) ((start + kept) - start) (omega arith) (omega (
+      arith,
+      length-drop start buffer,
+      within,
+      order,
+      is,
+    )) in
     let size : kept ≡ 0 + ((start + kept) - start) = omega arith in
     let front : (start + kept) - start ≡ min (stop - start) most = omega (arith, is) in
     ap (λ (k : ℕ). take k (copy_within buffer start (start + kept) 0)) size ∙ moved
@@ -94,12 +99,17 @@ pub read_behind : (buffer tail : List ℕ) (end more taken : ℕ) → end ≤ le
     → take (end + taken) (put_mid end more buffer tail) ≡ take end buffer ++ take taken tail
 read_behind buffer tail end more taken within fits =
     let all : take (end + length tail) (put_mid end more buffer tail) ≡ take end buffer ++ tail = take-put_mid end more buffer tail _ refl
-        within in
+    within in
     let front : take (end + taken) (take (end + length tail) (put_mid end more buffer tail)) ≡ take (end + taken) (put_mid end more buffer
-        tail) =
-    take_within (end + taken) (end + length tail) (put_mid end more buffer tail) (omega (arith, fits)) (omega (arith, ap length all,
-        length-append (take end buffer) tail, length-take end buffer, length-take (end + length tail) (put_mid end more buffer tail),
-        within)) in
+    tail) =
+    take_within (end + taken) (end + length tail) (put_mid end more buffer tail) (omega (arith, fits)) (omega (
+      arith,
+      ap length all,
+      length-append (take end buffer) tail,
+      length-take end buffer,
+      length-take (end + length tail) (put_mid end more buffer tail),
+      within,
+    )) in
     let place : end + taken ≡ length (take end buffer) + taken = omega (arith, length-take end buffer, within) in
     sym front ∙ ap (take (end + taken)) all
     ∙ ap (λ (k : ℕ). take k (take end buffer ++ tail)) place

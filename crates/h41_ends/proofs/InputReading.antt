@@ -56,7 +56,7 @@ reads_line known old new n at tells = record {
         ∙ read.others more (subst (λ (ended : Bool). MayFollow ended more) tells.same.at_end may)
         ∙ ap (λ (rest : List (List ℕ)). lines ++ rest) (told_ended (held_in old) more n at)
         ∙ sym (append_assoc lines (told_part (strip_carriage_return (take n (held_in old))) ∷ []) (told_lines (drop (n + 1) (held_in old)
-            ++ more)))
+        ++ more)))
         ∙ (λ i. (lines ++ sym tells.line i ∷ []) ++ told_lines (sym tells.held i ++ more));
   };
   ended = λ end. inl (sym tells.same.at_end ∙ end);
@@ -85,7 +85,7 @@ last_told old new said more none tells end =
     ap (λ (rest : List ℕ). told_lines (held_in old ++ rest)) end ∙ ap told_lines (append-nil (held_in old)) in
     let behind : told_lines (held_in new ++ more) ≡ [] = λ i. told_lines (tells.held i ++ end i) in
     elim said as (λ (it : Bool). it ≡ nat_lt 0 (length (held_in old)) → told_lines (held_in old ++ more) ≡ line_if it new ++ told_lines
-        (held_in new ++ more)) [
+    (held_in new ++ more)) [
       | true ↦ λ is.
           before ∙ told_last (held_in old) none (ltb-true 0 (length (held_in old)) (sym is))
           ∙ (λ i. sym tells.line i ∷ sym behind i)

@@ -116,7 +116,7 @@ shorter : (held more : List ℕ) → IsUnended held → 202 ≤ length held → 
 shorter held more none long =
     let kept : IsUnended (take 202 held) = unended_front 202 held none in
     elim (position is_end more) as (λ place. position is_end more ≡ place
-        → told_lines (held ++ more) ≡ told_lines (take 202 held ++ more)) [
+    → told_lines (held ++ more) ≡ told_lines (take 202 held ++ more)) [
       | Some m ↦ λ at.
           behind_ended held more m none (sym at)
           ∙ ap (λ (first : List ℕ). first ∷ told_lines (drop (m + 1) more)) (sym (line_same held (take m more) long))

@@ -31,4 +31,4 @@ pub returns-in_err-read_more-clause-lines : goal.returns-in_err-read_more-clause
 returns-in_err-read_more-clause-lines g c =
     let failed = err_from_is_err_and c.from_residual.result c.from_residual.ensures.1 in
     rw failed.1 (reads_both _ _ _ c.args.self.now c.loop-end.self c.read_more.new.self _ _ c.loop-end.invariant.reads
-        c.in_err-read_more.ensures.lines)
+    c.in_err-read_more.ensures.lines)

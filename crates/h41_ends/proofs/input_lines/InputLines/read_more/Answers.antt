@@ -12,16 +12,20 @@ returns-in-Err-clause-lines g c =
     let front = c.shorten.new.self in
     let same = c.shorten.ensures.same in
     reads_failed _ _ c.args.self.now _ c.requires.unended c.requires.goes_on
-    (held_kept front.buffer c.read.new.buffer (take 202 (held_in c.args.self.now)) front.start front.end (4096 - front.end) (omega (arith,
-        front.held_end)) c.shorten.ensures.held)
+    (held_kept front.buffer c.read.new.buffer (take 202 (held_in c.args.self.now)) front.start front.end (4096 - front.end) (omega (
+      arith,
+      front.held_end,
+    )) c.shorten.ensures.held)
     (record { count = same.count; over = same.over; at_end = same.at_end }) c.in-Err.ensures.bytes
 
 pub returns-in-Err-clause-stopped : goal.returns-in-Err-clause-stopped
 returns-in-Err-clause-stopped g c =
     let front = c.shorten.new.self in
     stopped_short c.args.self.now _ c.requires.unended c.requires.goes_on
-    (held_kept front.buffer c.read.new.buffer (take 202 (held_in c.args.self.now)) front.start front.end (4096 - front.end) (omega (arith,
-        front.held_end)) c.shorten.ensures.held)
+    (held_kept front.buffer c.read.new.buffer (take 202 (held_in c.args.self.now)) front.start front.end (4096 - front.end) (omega (
+      arith,
+      front.held_end,
+    )) c.shorten.ensures.held)
     c.shorten.ensures.same.at_end
 
 pub returns-in-Ok-clause-lines : goal.returns-in-Ok-clause-lines

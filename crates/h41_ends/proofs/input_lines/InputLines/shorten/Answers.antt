@@ -10,6 +10,6 @@ returns c =
       held =
           ap (take c.min-kept.result) c.copy_within.ensures.after
           ∙ moved_front input.buffer input.start input.end 202 c.min-kept.result input.held (omega (arith, input.held_end))
-              c.min-kept.ensures;
+          c.min-kept.ensures;
       same = record { count = refl; over = refl; at_end = refl };
     }

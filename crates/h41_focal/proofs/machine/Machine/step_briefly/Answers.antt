@@ -13,10 +13,11 @@ use Rattle.h41_focal.specs.declared.origin.Origin.TheVariants.{Program}
 pub returns-in-Some-clause-line : goal.returns-in-Some-clause-line
 returns-in-Some-clause-line g c =
     subst (λ (machine : Machine). StepsBriefly machine (machine_of c.carry_short.new.machine) c.carry_short.result)
-    (ap machine_of c.begin.ensures.begun)
-    ( called_by c.begin.new.self.ram.registers (line_of c.in-Some.line),
+    (ap machine_of c.begin.ensures.begun) (
+      called_by c.begin.new.self.ram.registers (line_of c.in-Some.line),
       calls_elsewhere c.begin.new.self.ram.registers (line_of c.in-Some.line),
-      step_taken None _ (line_of c.in-Some.line) c.in-Some.next _ c.in-Some.ensures c.carry_short.ensures.taken )
+      step_taken None _ (line_of c.in-Some.line) c.in-Some.next _ c.in-Some.ensures c.carry_short.ensures.taken,
+    )
 
 pub returns-in-Some-clause-elsewhere : goal.returns-in-Some-clause-elsewhere
 returns-in-Some-clause-elsewhere g c = λ elsewhere.

@@ -8,6 +8,9 @@ use Rattle.h41_breakpoints.specs.declared.location.Location.TheVariants.{Line, W
 use Rattle.h41_program.specs.declared.position.Position.TheVariants.{Memory}
 use Rattle.h41_keys.specs.Keyboard.{key_named}
 use Rattle.h41_commands.specs.Commands
+use Rattle.std.proofs.Common.{drop, length}
+use Rattle.std.specs.Prelude.{◌==◌}
+use Rattle.h41_commands.specs.Commands.{bank_number, first_bank, is_bank_word, plug_at_bank}
 use Rattle.h41_commands.specs.Commands.{and_then, break_location, command_by, command_of, counted_command, key_of, keys_of, kind_of_word}
 use Rattle.h41_commands.specs.Commands.{list_command, listing_of, load_command, location_by, named_in, opening_command, plain_command}
 use Rattle.h41_commands.specs.Commands.{plain_of_word, plug_at, plug_command, read_plain, view_named, view_of, views_by_name}
@@ -48,14 +51,27 @@ shut_named : {A : Type 0} (found : Option A) → is_unended (option_map_or (λ v
 shut_named None = refl
 shut_named (Some value) = refl
 
-shut_plug_at : (kind : PageKind) (page : List ℕ) (writable : Bool) → is_unended (plug_at kind page writable) ≡ false
-shut_plug_at kind page writable = shut_then (hexadecimal 1 page) _ (shut_number _ _) (λ given. refl)
+shut_bank : (bank : List ℕ) → is_unended (bank_number bank) ≡ false
+shut_bank bank = shut_either (length bank == 2) (number_up_to 9 10 (drop 1 bank)) (Err BadNumber) (shut_number _ _) refl
+
+shut_plug_at : (kind : PageKind) (page : List ℕ) (bank : ℕ) (writable : Bool) → is_unended (plug_at kind page bank writable) ≡ false
+shut_plug_at kind page bank writable = shut_then (hexadecimal 1 page) _ (shut_number _ _) (λ given. refl)
+
+shut_plug_at_bank : (kind : PageKind) (page bank : List ℕ) (writable : Bool)
+    → is_unended (plug_at_bank kind page bank writable) ≡ false
+shut_plug_at_bank kind page bank writable =
+    shut_choice (is_bank_word bank) _
+    (shut_then (bank_number bank) _ (shut_bank bank) (λ given. shut_plug_at kind page given writable))
 
 shut_plug : (kind : PageKind) (operands : List (List ℕ)) → is_unended (plug_command kind operands) ≡ false
 shut_plug kind [] = refl
-shut_plug kind (page ∷ []) = shut_plug_at kind page false
-shut_plug kind (page ∷ option ∷ []) = shut_choice (bytes_eq option (codes "rw")) (plug_at kind page true) (shut_plug_at kind page true)
-shut_plug kind (page ∷ option ∷ other ∷ others) = refl
+shut_plug kind (page ∷ []) = shut_plug_at kind page first_bank false
+shut_plug kind (page ∷ option ∷ []) =
+    shut_either (bytes_eq option (codes "rw")) _ _ (shut_plug_at kind page first_bank true)
+    (shut_plug_at_bank kind page option false)
+shut_plug kind (page ∷ bank ∷ option ∷ []) =
+    shut_choice (bytes_eq option (codes "rw")) _ (shut_plug_at_bank kind page bank true)
+shut_plug kind (page ∷ bank ∷ option ∷ other ∷ others) = refl
 
 shut_load : (kind : ProgramKind) (operands : List (List ℕ)) → is_unended (load_command kind operands) ≡ false
 shut_load kind [] = refl
@@ -108,7 +124,12 @@ shut_view (what ∷ []) = shut_view_named what
 shut_view (what ∷ address ∷ []) =
     shut_either (bytes_eq what (codes "ram")) _ _ (shut_then (hexadecimal 3 address) _ (shut_number _ _) (λ given. refl))
     (shut_choice (bytes_eq what (codes "image")) _ (shut_then (hexadecimal 1 address) _ (shut_number _ _) (λ given. refl)))
-shut_view (what ∷ address ∷ other ∷ others) = refl
+shut_view (what ∷ page ∷ bank ∷ []) =
+    shut_choice (bytes_eq what (codes "image")) _
+    (shut_choice (is_bank_word bank) _
+    (shut_then (bank_number bank) _ (shut_bank bank)
+    (λ given. shut_then (hexadecimal 1 page) _ (shut_number _ _) (λ number. refl))))
+shut_view (what ∷ page ∷ bank ∷ other ∷ others) = refl
 
 shut_show : (operands : List (List ℕ)) → is_unended (Commands.show_command operands) ≡ false
 shut_show operands = shut_then (view_of operands) _ (shut_view operands) (λ given. refl)

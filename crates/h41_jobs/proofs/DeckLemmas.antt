@@ -5,7 +5,7 @@ use Rattle.h41_deck.specs.declared.fault.Fault.{Fault}
 use Rattle.h41_deck.specs.declared.fault.Fault.TheVariants.{OutOfMemory, ReadFault, WriteFault}
 use Rattle.h41_ends.specs.declared.sink.Sink as sinks
 use Rattle.h41_ends.specs.declared.source.Source as sources
-use Rattle.h41_jobs.specs.Tasks.{ReadsTooMuch, WritesFrontOfRead, WritesOfRead}
+use Rattle.h41_jobs.specs.Tasks.{LeavesTooLong, WritesFrontOfRead, WritesOfRead}
 
 module _ {R W : Type 0} (source : sources.Ghosts R) (sink : sinks.Ghosts W) (before after : R) (old new : W) where
   pub leaves_begun : (fault : Fault) → decks.FaultLeaves fault source sink before after old new → fault ≢ WriteFault
@@ -22,9 +22,15 @@ module _ {R W : Type 0} (source : sources.Ghosts R) (sink : sinks.Ghosts W) (bef
   pub leaves_front : decks.FaultLeaves WriteFault source sink before after old new → WritesFrontOfRead source sink before after old new
   leaves_front left = record { bytes = left.bytes; read = left.read; written = left.leaves }
 
-  pub why_deck : decks.FaultLeaves ReadFault source sink before after old new
-      → (source.failed after ≡ true) ⊎ ReadsTooMuch source before after
-  why_deck left = elim (left.cause refl) [
+  pub why_deck : decks.FaultLeaves ReadFault source sink before after old new → sink.flushed new ≡ true
+      → (source.failed after ≡ true) ⊎ LeavesTooLong source sink before after old new
+  why_deck left passed = elim (left.cause refl) [
     | inl failed ↦ inl failed
-    | inr long ↦ inr (record { bytes = left.bytes; read = left.read; too_long = long })
+    | inr long ↦ inr (record {
+      bytes = left.bytes;
+      read = left.read;
+      too_long = long;
+      written = (left.leaves.0, left.leaves.2, left.leaves.3);
+      flushed = passed;
+    })
   ]

@@ -165,17 +165,23 @@ pub record WritesOfRead {R W : Type 0} (text_of : List ℕ → List ℕ → Type
   pub read : Consumes (source.remaining before) (source.remaining after) bytes
   pub written : WritesTextOf text_of (sink.contents old) (sink.contents new) (bytes_within bytes)
 
--- more of it was read than the bound
-pub record ReadsTooMuch {R : Type 0} (source : sources.Ghosts R) (before after : R) : Type 0 where
+-- more of a deck was read than the bound, and the replies to the commands that have their end
+-- within it are written and passed on
+pub record LeavesTooLong {R W : Type 0} (source : sources.Ghosts R) (sink : sinks.Ghosts W)
+    (before after : R) (old new : W) : Type 0 where
   pub bytes : List ℕ
   pub read : Consumes (source.remaining before) (source.remaining after) bytes
   pub too_long : most_bytes < length bytes
+  pub written :
+      WritesTextOf decks.EndedText (sink.contents old) (sink.contents new) (bytes_within bytes)
+  pub flushed : sink.flushed new ≡ true
 
 -- why reading is said to have failed where no read did: a deck is too long, or another input, of
 -- which nothing is printed
 abbrev pub TooLong : {R W : Type 0} → Task → sources.Ghosts R → sinks.Ghosts W → R → R → W → W
     → Type 0
-TooLong tasks.Run source sink before after old new = ReadsTooMuch source before after
+TooLong tasks.Run source sink before after old new =
+    LeavesTooLong source sink before after old new
 TooLong (tasks.Assemble origin) source sink before after old new =
     IfSome (source.remaining before)
     (WritesTextOf IsTooLong (sink.contents old) (sink.contents new))

@@ -63,6 +63,7 @@ pub returns-in_err-run_deck-in-Run-clause-read : goal.returns-in_err-run_deck-in
 returns-in_err-run_deck-in-Run-clause-read g c = λ is.
     let failed = err_from_is_err_and c.from_residual.result c.from_residual.ensures.1 in
     let same : c.in_err-run_deck-in-Run.field-0.0 ≡ ReadFault = let both = sym failed.1 ∙ is in cc in
+    let passed = rw same at c.in_err-run_deck-in-Run.ensures.passed in
     rw c.in-Run.is
     (why_deck g.R.Source g.W.Sink c.args.reader.now c.run_deck.new.reader c.args.writer.now c.run_deck.new.writer
-    (rw same at c.in_err-run_deck-in-Run.ensures.left))
+    (rw same at c.in_err-run_deck-in-Run.ensures.left) (passed (λ other. cc)))

@@ -1,14 +1,25 @@
 """One process of `bench run -`, asked a command at a time: the bench writes each reply before it reads the next command."""
+import re
 import subprocess
 
-from decks import BENCH, Failure, MARK, MARK_ANSWER, NO_ANSWER, OPENERS
+from decks import BENCH, Failure, LONGEST_LINE, MARK, MARK_ANSWER, NO_ANSWER, OPENERS
+
+
+def words_of(line):
+    """The words of a line, as the bench parts them."""
+    return [word for word in re.split(rb"[ \t]+", line.removesuffix(b"\r")) if word]
+
+
+def is_end(line):
+    """Whether a line ends a block."""
+    return len(line.removesuffix(b"\r")) <= LONGEST_LINE and words_of(line) == [b"end"]
 
 
 def is_whole(command):
     """Whether the lines of a command are all there: a block goes up to its `end`, and any other command is one line."""
     first, *others = command.split(b"\n")
-    if first.split()[:1] and first.split()[0] in OPENERS:
-        return [line.split() for line in others].count([b"end"]) == 1 and others[-1].split() == [b"end"]
+    if len(first) <= LONGEST_LINE and words_of(first)[:1] and words_of(first)[0] in OPENERS:
+        return [is_end(line) for line in others].count(True) == 1 and is_end(others[-1])
     return not others
 
 

@@ -48,7 +48,7 @@ class Session:
         return lines[:-2]
 
     def close(self):
-        """Ends the bench, and answers its status."""
+        """Ends the bench, and answers its status, which is 1, since the marks are refused."""
         self.bench.stdin.close()
         self.bench.stdout.close()
         return self.bench.wait()

@@ -1,0 +1,386 @@
+"""A desk with the bench on it: one process of `bench run -`, the commands that it was given with their replies, and what its
+`show` commands print. Nothing of the calculator is computed here but by the bench; its replies are cut into parts.
+
+Runs, steps and traces are carried out in pieces, so that whoever looks on can stop them."""
+import re
+import subprocess
+import tempfile
+import threading
+import time
+
+from decks import BENCH, MARK, MARK_ANSWER, NO_ANSWER, Failure, items_of, lines_of, with_keys, words_of
+from keyboard import KEYS
+from session import Session, is_whole
+from sources import Labels
+from values import text_of
+
+# The seconds that the bench may take for an answer, and that a piece of a run should take.
+PATIENCE, PIECE = 30, 0.02
+MOST_STEPS = 9_999_999
+
+# The last steps of a long trace are looked at one by one. Of a long reply its first lines are told, and its last.
+LAST_STEPS, MOST_LINES, FIRST_LINES = 200, 5000, 100
+
+# Commands that are carried out in pieces.
+IN_PIECES = re.compile(r"(run|step|trace)(?: 0*([0-9]{1,7}))?")
+RAN = re.compile(r"ran ([0-9]+) ([A-Z][a-z]+)")
+
+# A prompt as the display has it, in which SHIFT puts IND; not so while a name is open.
+PROMPT = re.compile(r"(?:RCL|STO|ISG|VIEW|ASTO|ARCL|ST[-+*/]|SF|CF|FS\?|FIX|SCI|ENG|GTO|XEQ|LBL)(?: IND)?(?: ST)? [.0-9]?_{1,2}")
+
+# A name that is being typed, in which keys are letters, as they are with flag 48 set outside a prompt.
+NAME = re.compile(r'^(?:GTO|XEQ|LBL) "[^"]*_$')
+
+PAGES = "456789ABCDEF"
+BOTTOM_OF_MEMORY, MOST_REGISTERS = 0x0C0, 320
+VIEWS = ("cpu", "stack", "flags", "alpha", "display", "pos", "lines", "functions")
+WORDS_BEFORE, WORDS_BEHIND = 16, 32
+
+# What a block without its end is refused as, where the input ends behind it.
+NO_END = "! 52 NoEnd"
+
+
+def read(lines):
+    """Lines that the bench has printed."""
+    return [line.decode("latin-1") for line in lines]
+
+
+def refusal_of(reply):
+    """The refusal that a reply ends in."""
+    return reply[-1] if reply and reply[-1].startswith("! ") else None
+
+
+class Bench(Session):
+    """A bench that is asked several commands at a time, and is ended where it gives no answer."""
+
+    def __init__(self, words):
+        self.told = tempfile.TemporaryFile()
+        self.bench = subprocess.Popen([BENCH, "run", *words, "-"], stdin=subprocess.PIPE, stdout=subprocess.PIPE, stderr=self.told)
+
+    def ask_all(self, commands):
+        """The lines that each of these whole commands prints."""
+        timer = threading.Timer(PATIENCE, self.bench.kill)
+        timer.daemon = True
+        timer.start()
+        try:
+            self.bench.stdin.write(b"".join(command + b"\n" + MARK for command in commands))
+            self.bench.stdin.flush()
+            return [self.answer() for _ in commands]
+        except (OSError, ValueError) as error:
+            raise Failure("the bench has ended", NO_ANSWER) from error
+        finally:
+            timer.cancel()
+
+    def answer(self):
+        """The lines up to the next mark."""
+        lines = []
+        while lines[-2:] != MARK_ANSWER:
+            line = self.bench.stdout.readline()
+            if not line:
+                raise Failure("the bench has ended", NO_ANSWER)
+            lines.append(line[:-1])
+        return read(lines[:-2])
+
+    def why(self):
+        """How the bench has ended; nothing while it goes on."""
+        status = self.bench.poll()
+        if status is None:
+            return None
+        self.told.seek(0)
+        told = self.told.read(1000).decode(errors="replace").partition("\n")[0]
+        how = f"by signal {-status}" if status < 0 else f"with status {status}"
+        return f"The bench has ended {how}{': ' + told if told else '.'}"
+
+    def close_input(self):
+        """Has a bench that has ended be known as such."""
+        try:
+            self.bench.stdin.close()
+            self.bench.wait(2)
+        except (OSError, subprocess.TimeoutExpired):
+            self.bench.kill()
+            self.bench.wait()
+
+    def close(self):
+        """Ends the bench, also one that does not answer."""
+        self.close_input()
+        self.bench.stdout.close()
+
+
+class Lights:
+    """SHIFT and program mode, which no command shows: what the accepted keys have made of them, as docs/KEYBOARD.md says."""
+
+    def __init__(self):
+        self.shift = self.program = False
+
+    def press(self, name, is_idle, display):
+        """A key was accepted, and the display shows this behind it."""
+        if not is_idle:
+            return
+        if name != "SHIFT":
+            self.shift = False
+            self.program ^= name == "PRGM"
+        elif not PROMPT.fullmatch(display):
+            self.shift = not self.shift
+
+
+class Part:
+    """A command, a block, or the comments and blank lines between two of them, as the bytes of a deck have it."""
+
+    def __init__(self, text, is_command):
+        self.text, self.is_command = text, is_command
+        self.words = [word.decode("latin-1") for word in words_of(lines_of(text)[0])] if is_command else []
+        found = IN_PIECES.fullmatch(" ".join(self.words))
+        count = int(found[2] or 1) if found else 0
+        self.kind = found[1] if found and count <= MOST_STEPS and (found[2] or found[1] == "step") else None
+        # How many steps are left, and how many were asked for, of a command in pieces.
+        self.left, self.asked, self.ran = count if self.kind else 0, 0, 0
+        # The entry of the session that it is, and whether it is a block in which the deck ends.
+        self.entry, self.is_open = None, False
+
+    def shown(self):
+        return self.text.decode("utf-8", "replace").replace("\r\n", "\n")
+
+    def paragraphs(self):
+        """Comments as paragraphs. A line that is set in is one of its own."""
+        found, is_open = [], False
+        for line in [] if self.is_command else self.shown().split("\n"):
+            words = re.sub("^# ?", "", line)
+            is_set_in = words[:1].isspace()
+            if words.strip() and is_open and not is_set_in:
+                found.append(f"{found.pop()} {words}")
+            elif words.strip():
+                found.append(words)
+            is_open = bool(words.strip()) and not is_set_in
+        return found
+
+
+def parts_of(deck, may_be_open=False):
+    """The parts of a deck, whose texts together are the deck. It may end in a block without its end where that is told."""
+    if deck.endswith(b"\r"):
+        raise Failure("the deck ends in a CR, which would be part of its last line: no LF is behind it")
+    lines = lines_of(with_keys(deck))
+    parts, at = [], 0
+    for first, last in items_of(lines):
+        if first > at:
+            parts.append(Part(b"".join(lines[at:first]), False))
+        parts.append(Part(b"".join(lines[first:last + 1]), True))
+        at = last + 1
+    if lines[at:]:
+        parts.append(Part(b"".join(lines[at:]), False))
+    if parts and parts[-1].is_command and not is_whole(parts[-1].text.rstrip(b"\n")):
+        parts[-1].is_open = True
+        if not may_be_open:
+            raise Failure(f"{NO_END}: no line is `end` alone behind {parts[-1].shown().splitlines()[0]}")
+    return parts
+
+
+class Entry:
+    """A part of the session: its text, its reply, and the key of several that was refused."""
+
+    def __init__(self, text):
+        self.text, self.reply, self.key = text, [], None
+
+    def told(self):
+        reply = self.reply
+        if len(reply) > MOST_LINES:
+            reply = [*reply[:FIRST_LINES], f"… {len(reply) - 2 * FIRST_LINES} lines", *reply[-FIRST_LINES:]]
+        return [self.text.decode("utf-8", "replace").removesuffix("\n"), reply]
+
+
+class Desk:
+    """The bench, what it was given, what waits to be given to it, and how it stands."""
+
+    def __init__(self, memory=None):
+        """`memory` is how many registers of main memory the bench is told to have; its own count where none is given."""
+        self.words = [] if memory is None else ["--memory", memory]
+        self.top = BOTTOM_OF_MEMORY + (int(memory) if memory and memory.isdigit() else MOST_REGISTERS)
+        self.number, self.bench = 0, None
+        self.begin()
+
+    def begin(self):
+        """An empty bench."""
+        if self.bench:
+            self.bench.close()
+        self.bench = Bench(self.words)
+        self.number += 1
+        self.log, self.queue, self.lesson = [], [], None
+        self.breaks, self.lights, self.labels = set(), Lights(), Labels()
+        # The steps of a piece, those that were made, and those of them that the last look has seen.
+        self.size, self.made, self.seen = 256, 0, 0
+        try:
+            self.look()
+        except Failure as failure:
+            self.bench.close_input()
+            raise Failure(self.bench.why() or str(failure), NO_ANSWER) from failure
+
+    # What is given.
+
+    def deck(self):
+        """The session as a deck."""
+        return b"".join(entry.text if entry.text.endswith(b"\n") else entry.text + b"\n" for entry in self.log)
+
+    def give(self, deck, is_first=False):
+        """Puts a deck's parts behind those that wait, or in front of all, where what goes on is parted."""
+        parts = parts_of(deck)
+        if is_first:
+            self.part_here()
+            self.queue = parts + self.queue
+        else:
+            self.queue += parts
+
+    def part_here(self):
+        """Has the entry of a command in pieces say how far it went. What is left of it is a command of its own."""
+        part = self.queue[0] if self.queue else None
+        if part and part.kind and part.entry:
+            part.entry.text = b"%s %d\n" % (part.kind.encode(), part.asked)
+            self.queue[0] = Part(b"%s %d\n" % (part.kind.encode(), part.left), True)
+
+    def stop(self):
+        """Drops what waits."""
+        self.part_here()
+        self.queue = []
+
+    # What is carried out.
+
+    def go(self, seconds, steps=None, parts=None):
+        """Carries out what waits, for about so long, at most so many steps and parts of it. The states behind each traced step."""
+        until, states = time.monotonic() + seconds, []
+        while self.queue and time.monotonic() < until and (steps is None or steps > 0) and (parts is None or parts > 0):
+            part = self.queue[0]
+            before = part.asked
+            self.carry_out(part, steps)
+            if part.kind:
+                steps = None if steps is None else steps - (part.asked - before)
+            if part.kind == "trace":
+                states.append(self.look())
+            if part.left == 0:
+                self.queue.pop(0)
+                parts = None if parts is None else parts - 1
+        return states
+
+    def carry_out(self, part, most):
+        """Carries out a part, or the next piece of it."""
+        self.is_seen = False
+        if part.entry is None:
+            if self.log and self.log[-1].reply == [NO_END]:
+                self.log.pop()
+            part.entry = Entry(part.text)
+            self.log.append(part.entry)
+        if part.is_open:
+            # The bench would wait for its end. It prints this where the input ends.
+            part.entry.reply = [NO_END]
+        elif part.kind:
+            self.carry_piece(part, most if part.kind != "trace" else 1 if part.left <= LAST_STEPS else part.left - LAST_STEPS)
+        elif part.words[:1] == ["key"] and part.words[1:] and all(name in KEYS for name in part.words[1:]):
+            self.press(part.entry, part.words[1:])
+        elif part.is_command:
+            part.entry.reply = self.bench.ask_all([part.text.rstrip(b"\n")])[0]
+            self.keep_up(part)
+
+    def carry_piece(self, part, most):
+        """The next piece of a run, a step of several, or a trace. Pieces become longer while they are quick."""
+        count = min(part.left, self.size, most or self.size)
+        begun = time.monotonic()
+        reply = self.bench.ask_all([b"%s %d" % (part.kind.encode(), count)])[0]
+        took = time.monotonic() - begun
+        if count == self.size:
+            self.size = min(2 * count, 1_000_000) if took < PIECE else max(count // 2, 16) if took > 4 * PIECE else count
+        part.left, part.asked = part.left - count, part.asked + count
+        entry = part.entry
+        if part.kind == "run":
+            ran, reason = RAN.fullmatch(reply[0]).groups()
+            part.ran, self.made = part.ran + int(ran), self.made + int(ran)
+            entry.reply = [f"ran {part.ran} {reason}", *reply[1:]]
+            part.left = part.left if reason == "Limit" else 0
+        else:
+            is_refused = refusal_of(reply) is not None
+            self.made += count - is_refused
+            entry.reply = entry.reply + reply
+            part.left = 0 if is_refused else part.left
+
+    def press(self, entry, names):
+        """Keys in turn, up to the first that is refused."""
+        for name in names:
+            pos = self.views["pos"][0]
+            reply, display, after = self.bench.ask_all([b"key " + name.encode(), b"show display", b"show pos"])
+            if reply:
+                entry.reply, entry.key = reply, name
+                return
+            self.lights.press(name, pos.startswith("Idle"), display[0])
+            self.views["pos"] = after
+
+    def keep_up(self, part):
+        """What an accepted command changes that no command shows."""
+        if refusal_of(part.entry.reply) or not part.words:
+            return
+        word, words = part.words[0], part.words
+        if word == "reset":
+            self.lights = Lights()
+        elif word in ("break", "unbreak"):
+            place = (words[1], words[2].upper() if words[1] == "w" else f"{int(words[2]):04d}")
+            (self.breaks.add if word == "break" else self.breaks.discard)(place)
+        elif word in ("asm", "words", "image", "unplug"):
+            self.labels.follow(lines_of(part.text))
+
+    # How the bench stands.
+
+    def look(self):
+        """What the bench shows."""
+        asked = [*(f"show {view}" for view in VIEWS), "show ram 00d", *(f"list {page}000 1" for page in PAGES)]
+        replies = self.bench.ask_all([command.encode() for command in asked])
+        views = dict(zip(VIEWS, replies))
+        mode, place = views["pos"][0].split()
+        curtain = int(replies[len(VIEWS)][0][12:15], 16)
+        sizes = range(curtain, self.top) if BOTTOM_OF_MEMORY < curtain <= self.top else ()
+        lists = self.lists_at(int(place, 16)) if mode == "Micro" else []
+        more = self.bench.ask_all([b"show ram %03x" % at for at in sizes] + lists)
+        views["registers"] = [digits[0][4:] for digits in more[:len(sizes)]]
+        views["values"] = [text_of(digits) for digits in views["registers"]]
+        views["numbers"] = [text_of(line[2:]) for line in views["stack"]]
+        views["pages"] = [page for page, listed in zip(PAGES, replies[len(VIEWS) + 1:]) if refusal_of(listed) is None]
+        views["listing"] = self.listing(more[len(sizes):], place) if mode == "Micro" else []
+        views["made"], self.seen, self.is_seen = self.made - self.seen, self.made, True
+        self.views = views
+        return self.state()
+
+    def lists_at(self, at):
+        """The commands that list the words around an address: those before it from several beginnings on."""
+        start, end = at & 0xF000, (at | 0x0FFF) + 1
+        begins = sorted({max(start, at - WORDS_BEFORE + skip) for skip in range(4)} - {at})
+        return [b"list %04X %d" % (begin, at - begin) for begin in begins] + \
+            [b"list %04X %d" % (at, min(WORDS_BEHIND, end - at))]
+
+    def listing(self, lists, place):
+        """The lines around an address, by those of these lists: the first that have an instruction end there."""
+        def ends(lines):
+            last = lines[-1]
+            return int(last[:4], 16) + len(last[6:13].split()) == int(place, 16)
+
+        *before, behind = [[] if refusal_of(lines) else lines for lines in lists]
+        lines = next((some for some in before if some and ends(some)), []) + behind
+        return [[line[:4], self.labels.of(line[:4]), line[6:]] for line in lines]
+
+    def state(self):
+        """How all stands, for the page."""
+        display = self.views["display"][0]
+        spells = NAME.search(display) is not None or "48" in self.views["flags"][0].split() and not PROMPT.fullmatch(display)
+        return {**self.views, "shift": self.lights.shift, "program": self.lights.program, "breaks": sorted(map(list, self.breaks)),
+                "spells": spells,
+                "label": self.labels.of(self.views["pos"][0].split()[1]) if self.views["listing"] else "",
+                "last": self.log[-1].told() if self.log else ["", []], "entries": len(self.log)}
+
+    # What goes out.
+
+    def leaves(self, kind, page):
+        """A deck of what the bench holds, for tools/export: a page's image, or the bytes of the programs."""
+        if kind in ("rom", "source"):
+            image, = self.bench.ask_all([b"show image %s" % page.encode()])
+            if refusal_of(image):
+                raise Failure(f"page {page}: {image[-1]}")
+            return "\n".join([f"image {page}", *image, "end", ""]).encode()
+        found = self.bench.ask_all([b"show ram %03x" % at for at in (0x00D, *range(self.top - 1, BOTTOM_OF_MEMORY - 1, -1))])
+        digits = [lines[0] for lines in found]
+        curtain, end = int(digits[0][12:15], 16), int(digits[0][15:18], 16)
+        data = "".join(line[4:] for line in digits[1:] if end <= int(line[:3], 16) < curtain)[:-6]
+        lines = [data[at:at + 64] for at in range(0, len(data), 64)]
+        return "\n".join(["size 0", "load", *lines, "end", ""]).encode()

@@ -1,0 +1,799 @@
+"use strict";
+// The page of the calculator. It asks the server, which asks the bench, and shows what the bench has replied: nothing of the
+// calculator is computed here. A state is what the bench showed at one time; `past` has the last of them.
+
+const by = (id) => document.getElementById(id);
+const MOST_STEPS = 9999999;
+const MOST_STATES = 500;
+const MOST_ENTRIES = 200;
+
+let session = null;         // the number of the session that the page has
+let entries = [];           // its commands with their replies, as the server has told them
+let past = [];              // states, the oldest first
+let shown = null;           // which of them is shown; null is the last
+let lesson = null;          // the lesson, its parts and their replies
+let waits = 0;              // how many parts of decks wait to be carried out
+let isDriving = false;      // whether this page has them carried out
+let isGone = false;         // whether the bench or the server has ended
+let told = -1;              // the version of the session that the page has
+let lastRefusal = -1;       // the entry whose refusal is shown
+
+// ---- Elements
+
+function make(tag, attributes = {}, ...children) {
+  const element = document.createElement(tag);
+  for (const [name, value] of Object.entries(attributes)) {
+    if (value !== false && value !== null && value !== undefined) element.setAttribute(name, value === true ? "" : value);
+  }
+  element.append(...children);
+  return element;
+}
+
+function drawn(tag, attributes) {
+  const element = document.createElementNS("http://www.w3.org/2000/svg", tag);
+  for (const [name, value] of Object.entries(attributes)) element.setAttribute(name, value);
+  return element;
+}
+
+/** Draws what a box has anew; a control in it that has the focus gives it to the one of its name. */
+function fill(id, ...children) {
+  const name = by(id).contains(document.activeElement) && document.activeElement.dataset.at;
+  by(id).replaceChildren(...children);
+  if (name) by(id).querySelector(`[data-at="${name}"]`)?.focus();
+}
+
+/** Scrolls a box, and not the page, so that this part of it is seen. */
+function reveal(box, part) {
+  if (!part) return;
+  const place = part.getBoundingClientRect().top - box.getBoundingClientRect().top + box.scrollTop;
+  if (place < box.scrollTop || place > box.scrollTop + box.clientHeight - 40) box.scrollTop = place - box.clientHeight / 3;
+}
+
+// ---- The server
+
+let line = Promise.resolve();   // requests go one behind the other
+let asking = 0;                 // how many are not answered yet
+
+/** Whether nothing is asked and nothing is carried out. */
+const isQuiet = () => asking === 0 && !isDriving;
+
+async function fetched(path, body) {
+  const request = body && { method: "POST", headers: { "Content-Type": "application/json" }, body: JSON.stringify(body) };
+  const reply = await fetch(path, request).catch((error) => {
+    gone("tools/calculator has ended. The session can be saved as this page has it.", true);
+    throw error;
+  });
+  if (!reply.ok) throw new Error((await reply.text()).trim());
+  return reply;
+}
+
+/** Asks behind all that was asked before, or only how all stands. The answer is taken in; why there is none is told. */
+function ask(body, path = "do") {
+  asking += 1;
+  const turn = line.then(async () => {
+    const known = { session, since: entries.length };
+    const reply = await (body ? fetched(path, { ...body, ...known }) : fetched(`state?${new URLSearchParams(known)}`));
+    const answer = await reply.json();
+    if (answer.state) take(answer);
+    return answer;
+  });
+  line = turn.catch((error) => tell(error.message)).finally(() => asking--);
+  return turn;
+}
+
+/** Takes in how all stands. */
+function take(answer) {
+  if (answer.session !== session) [session, entries, past, lesson, lastRefusal] = [answer.session, [], [], null, -1];
+  if (answer.keys) drawKeys(answer.keys);
+  if (answer.lessons) listLessons(answer.lessons);
+  if (answer.lesson) lesson = { ...(lesson || { replies: {} }), ...answer.lesson };
+  for (const [number, text, reply] of answer.entries) entries[number] = { text, reply };
+  for (const state of [...answer.states, answer.state]) remember(state);
+  [waits, told, shown] = [answer.waits, answer.version, null];
+  gone(answer.ended, false);
+  show();
+  tellRefusal();
+}
+
+/** Keeps a state, where it is not the one before. */
+function remember(state) {
+  const text = JSON.stringify(state);
+  if (past.at(-1)?.text !== text) past.push({ state, text });
+  if (past.length > MOST_STATES) past.shift();
+}
+
+/** Tells that the bench or the server has ended, and why; nothing where it has not. */
+function gone(why, isServer) {
+  isGone = why !== null;
+  isDriving &&= !isGone;
+  by("ended").hidden = !isGone;
+  document.body.classList.toggle("gone", isGone);
+  by("ended").querySelector("p").textContent = why;
+  by("again").hidden = isServer;
+  const deck = entries.map((entry) => `${entry.text}\n`).join("");
+  by("ended-save").href = isServer ? `data:text/plain;charset=utf-8,${encodeURIComponent(deck)}` : "deck";
+}
+
+function listen(isAgain) {
+  const events = new EventSource("events");
+  events.onmessage = (event) => {
+    const { version, ended } = JSON.parse(event.data);
+    if (version !== told || (ended !== null) !== isGone) ask(null);
+  };
+  events.onerror = () => {
+    if (events.readyState !== EventSource.CLOSED) return fetched("state").catch(() => {});
+    if (!isAgain) tell("Other pages of this calculator are open: this one gets no news.");
+    return setTimeout(listen, 2000, true);
+  };
+}
+
+/** Tells a text below the display; an empty one takes it away. */
+function tell(text) {
+  by("refusal").hidden = !text;
+  by("refusal").textContent = text;
+}
+
+/** Tells the refusal of the last command, with its usual causes. */
+async function tellRefusal() {
+  const number = entries.length - 1;
+  const entry = entries[number];
+  const last = entry?.reply.at(-1);
+  if (!last?.startsWith("! ") || /^show (alpha|display)$/.test(entry.text)) {
+    if (number !== lastRefusal) tell("");
+    return;
+  }
+  if (number === lastRefusal && by("refusal").textContent.startsWith(last)) return;
+  lastRefusal = number;
+  tell(`${last}  ${entry.text.split("\n")[0]}`);
+  if (isGone) return;
+  const { line: place, causes } = await ask({ do: "causes", entry: number });
+  if (lastRefusal !== number || !causes) return;
+  const list = make("dl");
+  for (const [head, why] of causes.slice(0, 6)) list.append(make("dt", {}, head), make("dd", {}, why));
+  by("refusal").append(...(place ? [make("p", {}, place)] : []), list);
+}
+
+// ---- The display
+
+const SEGMENTS = {
+  A: [5, 3, 29, 3], D: [5, 63, 29, 63], F: [3, 6, 3, 30], E: [3, 36, 3, 60], B: [31, 6, 31, 30], C: [31, 36, 31, 60],
+  G: [6, 33, 15, 33], H: [19, 33, 28, 33], J: [17, 7, 17, 29], M: [17, 37, 17, 59],
+  I: [7, 8, 14, 28], K: [27, 8, 20, 28], L: [14, 38, 7, 58], N: [20, 38, 27, 58],
+};
+const EVERY = Object.keys(SEGMENTS).join("");
+
+// The segments of characters; those that are not here have all.
+const SHAPES = {
+  " ": "", 0: "ABCDEFKL", 1: "BC", 2: "ABDEGH", 3: "ABCDGH", 4: "BCFGH", 5: "ACDFGH", 6: "ACDEFGH", 7: "ABC", 8: "ABCDEFGH",
+  9: "ABCDFGH", A: "ABCEFGH", B: "ABCDHJM", C: "ADEF", D: "ABCDJM", E: "ADEFG", F: "AEFG", G: "ACDEFH", H: "BCEFGH", I: "ADJM",
+  J: "BCDE", K: "EFGKN", L: "DEF", M: "BCEFIK", N: "BCEFIN", O: "ABCDEF", P: "ABEFGH", Q: "ABCDEFN", R: "ABEFGHN", S: "ACDHI",
+  T: "AJM", U: "BCDEF", V: "EFKL", W: "BCEFLN", X: "IKLN", Y: "IKM", Z: "ADKL", a: "DEGM", b: "DEFGN", c: "DEGH", d: "BCDHM",
+  e: "DEGL", "!": "BC", '"': "BJ", "#": "BCDGHJM", $: "ACDFGHJM", "%": "CFGHJKLM", "&": "ADEGIJN", "'": "J", "(": "KN", ")": "IL",
+  "*": "GHIJKLMN", "+": "GHJM", "-": "GH", "/": "KL", "<": "KN", "=": "DGH", ">": "IL", "?": "ABHM", "@": "ABDEFHJ", "[": "ADEF",
+  "\\5C": "IN", "]": "ABCD", "^": "LN", _: "D", "`": "I", "|": "JM", "~": "ADIL", "\\7F": "EFG", "\\00": "A", "\\0D": "DL",
+  "\\1D": "DGHKL",
+};
+const [CELLS, CELL_WIDTH] = [12, 49];
+
+let [scrolling, displayed] = [null, null];
+
+function drawDisplay() {
+  for (let at = 0; at < CELLS; at++) {
+    const cell = drawn("g", { class: "cell", transform: `translate(${22 + at * CELL_WIDTH} 16) skewX(-5)` });
+    for (const [name, [x1, y1, x2, y2]] of Object.entries(SEGMENTS)) {
+      cell.append(drawn("line", { "data-segment": name, x1, y1, x2, y2 }));
+    }
+    cell.append(drawn("circle", { "data-segment": ".", cx: 39, cy: 63, r: 3 }),
+      drawn("line", { "data-segment": ",", x1: 39, y1: 65, x2: 36, y2: 73 }), drawn("circle", { "data-segment": ":", cx: 39, cy: 42, r: 3 }));
+    by("lcd").append(cell);
+  }
+}
+
+/** The characters of a text with the points behind them: a point has no place of its own, but behind another. */
+function cellsOf(text) {
+  const cells = [];
+  for (const character of text.match(/\\[0-9A-F]{2}|./g) || []) {
+    const last = cells.at(-1);
+    if (!".,:".includes(character)) cells.push([character, ""]);
+    else if (last && !last[1]) last[1] = character;
+    else cells.push([" ", character]);
+  }
+  return cells;
+}
+
+function light(cells) {
+  [...by("lcd").children].forEach((cell, at) => {
+    const [character, point] = cells[at] || [" ", ""];
+    const shape = SHAPES[character] ?? EVERY;
+    for (const segment of cell.children) {
+      const name = segment.dataset.segment;
+      const isOn = name === "." ? point !== "" : name === "," || name === ":" ? point === name : shape.includes(name);
+      segment.classList.toggle("on", isOn);
+    }
+  });
+}
+
+/** Shows a text: what is longer than the display scrolls once, from its first character to its last. */
+function showDisplay(text, isAgain = false) {
+  if (text === displayed && !isAgain) return;
+  displayed = text;
+  clearInterval(scrolling);
+  const cells = cellsOf(text);
+  const over = cells.length - CELLS;
+  by("lcd").dataset.text = text;
+  by("display").title = over > 0 ? text : "";
+  const isTyped = text.endsWith("_") || matchMedia("(prefers-reduced-motion: reduce)").matches;
+  let at = over > 0 && isTyped ? over : 0;
+  light(cells.slice(at));
+  if (over > at) {
+    at -= 3;
+    scrolling = setInterval(() => {
+      at += 1;
+      if (at > 0) light(cells.slice(at));
+      if (at >= over) clearInterval(scrolling);
+    }, 220);
+  }
+}
+
+/** Annunciators: those that flags tell, and SHIFT and PRGM. */
+function lightsOf(state) {
+  const flags = state.flags[0].split(" ");
+  const lit = (number) => flags.includes(number);
+  return [
+    ["USER", lit("27")], ["GRAD", lit("42")], ["RAD", lit("43")], ["SHIFT", state.shift],
+    ...["0", "1", "2", "3", "4"].map((number) => [number, lit(`0${number}`)]),
+    ["PRGM", state.program || state.pos[0].startsWith("Run")], ["ALPHA", lit("48")],
+  ];
+}
+
+// ---- The keyboard
+
+const FACES = {
+  "SIGMA+": "Σ+", "S-": "Σ−", "1/X": "1/x", "Y^X": "yˣ", SQRT: "√x", "X^2": "x²", "10^X": "10ˣ", "E^X": "eˣ", "X<>Y": "x≷y",
+  CLS: "CLΣ", RDN: "R↓", ASIN: "SIN⁻¹", ACOS: "COS⁻¹", ATAN: "TAN⁻¹", BACK: "←", ENTER: "ENTER ↑", CLX: "CLx", "X=Y?": "x=y?",
+  "X<=Y?": "x≤y?", "X>Y?": "x>y?", "X=0?": "x=0?", "P-R": "P→R", "R-P": "R→P", PI: "π", LASTX: "LASTx", "*": "×", "/": "÷",
+  "-": "−",
+};
+let letters = {};           // the key of each letter
+
+function drawKeys(rows) {
+  letters = {};
+  const lines = rows.map((row) => make("div", { class: `keys keys-${row.length}` }, ...row.map(([name, shifted, letter]) => {
+    if (letter) letters[letter] = name;
+    const means = [name, shifted && `shifted ${shifted}`, letter && `letter ${letter === " " ? "blank" : letter}`];
+    const button = make("button", { type: "button", class: "key", "data-key": name, tabindex: -1, title: name,
+      "aria-label": means.filter(Boolean).join(", ") },
+    make("span", { class: "shifted" }, FACES[shifted] ?? shifted ?? ""), make("span", { class: "face" }, FACES[name] ?? name),
+    make("span", { class: "letter" }, letter === " " ? "␣" : letter ?? ""));
+    button.addEventListener("click", () => press([name]));
+    return button;
+  })));
+  fill("keys", ...lines);
+  by("keys").querySelector("[data-key='SIGMA+']").tabIndex = 0;
+}
+
+/** Moves the focus from key to key. */
+function walk(event) {
+  const steps = { ArrowLeft: [0, -1], ArrowRight: [0, 1], ArrowUp: [-1, 0], ArrowDown: [1, 0] }[event.key];
+  const key = event.target.closest(".key");
+  if (!steps || !key) return;
+  const rows = [...by("keys").children].map((row) => [...row.children]);
+  const row = rows.findIndex((keys) => keys.includes(key));
+  const at = rows[row].indexOf(key);
+  const nextRow = rows[(row + steps[0] + rows.length) % rows.length];
+  const next = steps[0] ? nextRow[Math.round(at * (nextRow.length - 1) / (rows[row].length - 1))] :
+    nextRow[(at + steps[1] + nextRow.length) % nextRow.length];
+  key.tabIndex = -1;
+  next.tabIndex = 0;
+  next.focus();
+  event.preventDefault();
+}
+
+let pressing = Promise.resolve();
+
+/** Presses keys behind those that are pressed already. What stands for keys may depend on what these did: `names` may be a call. */
+function press(names) {
+  asking += 1;
+  pressing = pressing.then(() => pressNow(typeof names === "function" ? names() : names)).catch(() => {}).finally(() => asking--);
+  return pressing;
+}
+
+/** Each key is a command of its own. What it starts is run on, where that is wanted. */
+async function pressNow(names) {
+  for (const name of names) {
+    if (isGone) return;
+    if (name === "R/S" && isDriving && waits) await ask({ do: "stop" });
+    const before = present().pos[0];
+    const answer = await ask({ do: "give", deck: `key ${name}\n`, first: true });
+    flash(name, answer.state.last[0] === `key ${name}` && answer.state.last[1].length > 0);
+    const isStarted = before.startsWith("Idle") && !answer.state.pos[0].startsWith("Idle");
+    if (isStarted && by("auto").checked) give(`run ${MOST_STEPS}\n`);
+  }
+}
+
+function flash(name, isRefused) {
+  const key = [...document.querySelectorAll(".key")].find((one) => one.dataset.key === name);
+  key.classList.remove("pressed", "refused");
+  void key.offsetWidth;
+  key.classList.add(isRefused ? "refused" : "pressed");
+}
+
+const TYPED = {
+  Enter: "ENTER", Backspace: "BACK", ",": ".", e: "EEX", n: "CHS", s: "SHIFT", a: "ALPHA", p: "PRGM", r: "R/S", x: "XEQ", y: "X<>Y",
+};
+const OWN = "0123456789+-*/.";
+
+/** The keys that a key of the computer's stands for; none for others. */
+function keysFor(pressed) {
+  if (present().spells) {
+    if (pressed === "Enter") return ["ALPHA"];
+    if (pressed === "Backspace") return ["BACK"];
+    const letter = pressed.length === 1 ? pressed.toUpperCase() : "";
+    return OWN.includes(letter) && letter ? ["SHIFT", letter] : letters[letter] ? [letters[letter]] : [];
+  }
+  if (OWN.includes(pressed)) return [pressed];
+  const name = TYPED[pressed.length === 1 ? pressed.toLowerCase() : pressed];
+  return name ? [name] : [];
+}
+
+function typed(event) {
+  const commands = { F6: goBack, F7: goForth, F8: runOn, F9: step, Escape: stop };
+  if (event.ctrlKey || event.metaKey || event.altKey || event.isComposing || by("sure").open) return;
+  const isTyped = event.key.length === 1 || event.key === "Enter" || event.key === "Backspace";
+  if (!commands[event.key]) {
+    if (!isTyped || event.target.closest("textarea, input:not([type=checkbox]), select")) return;
+    const isLetter = event.key === " " && present().spells && event.target.closest(".key");
+    if (!isLetter && (event.key === "Enter" || event.key === " ") && event.target.closest("button, a, summary, label")) return;
+    if (event.key === " " && !present().spells) return;
+  }
+  event.preventDefault();
+  if (isTyped) press(() => keysFor(event.key));
+  else commands[event.key]();
+}
+
+// ---- What is carried out
+
+/** Has commands carried out. */
+async function give(deck) {
+  const answer = await ask({ do: "give", deck, ...pieces() });
+  drive();
+  return answer;
+}
+
+/** How much of a run is made at once. */
+function pieces() {
+  const pace = Number(by("pace").value);
+  return pace ? { steps: Math.max(1, Math.round(pace / 20)) } : { seconds: 0.06 };
+}
+
+/** Has what waits carried out, piece by piece, and shows each. */
+async function drive() {
+  if (isDriving) return;
+  isDriving = true;
+  try {
+    while (isDriving && waits && !isGone) {
+      const pace = Number(by("pace").value);
+      const [first, before] = [performance.now(), stepsMade()];
+      await ask({ do: "go", ...pieces() });
+      const rest = first + (pace ? Math.max(50, 1000 / pace) : 0) - performance.now();
+      if (rest > 0) await new Promise((done) => setTimeout(done, rest));
+      tellRate(stepsMade() - before, performance.now() - first);
+    }
+  } catch {
+    // What went wrong is told already.
+  }
+  isDriving = false;
+  show();
+}
+
+/** How many steps the last run has made. */
+function stepsMade() {
+  const found = /^ran ([0-9]+) /.exec(entries.at(-1)?.reply[0] ?? "");
+  return found ? Number(found[1]) : 0;
+}
+
+function tellRate(steps, milliseconds) {
+  if (steps <= 0) return;
+  const rate = steps * 1000 / milliseconds;
+  const digits = rate >= 100 ? Number(rate.toPrecision(2)).toLocaleString("en") : rate.toFixed(1);
+  by("rate").textContent = `${digits} ${present().pos[0].startsWith("Micro") ? "words" : "lines"} a second`;
+}
+
+async function runOn() {
+  if (isGone) return;
+  if (waits) return drive();
+  const { pos } = present();
+  // A run needs a program that runs; what is not started is started at its position.
+  if (pos[0].startsWith("Idle")) await ask({ do: "give", deck: "key R/S\n" });
+  if (!present().pos[0].startsWith("Idle")) give(`run ${MOST_STEPS}\n`);
+}
+
+function step() {
+  if (isGone) return;
+  isDriving = false;
+  by("trace-panel").open = true;
+  if (waits) ask({ do: "go", steps: 1 });
+  else ask({ do: "give", deck: "trace 1\n" });
+}
+
+async function stop() {
+  isDriving = false;
+  if (waits) await ask({ do: "stop" });
+}
+
+// ---- How all stands
+
+const present = () => past.at(-1).state;
+
+/** The state that is shown, and the one before it. */
+function looked() {
+  const at = shown ?? past.length - 1;
+  return [past[at].state, at > 0 ? past[at - 1].state : past[at].state];
+}
+
+function show() {
+  if (!past.length) return;
+  const [state, before] = looked();
+  showDisplay(state.display[0]);
+  const lights = lightsOf(state);
+  fill("lights", ...lights.map(([name, isLit]) => make("span", { class: isLit ? "lit" : "" }, name)));
+  const lit = lights.filter(([, isLit]) => isLit).map(([name]) => name);
+  const said = `${state.display[0] || "(off)"}${lit.length ? ` (${lit.join(" ")})` : ""}`;
+  if (!(isDriving && waits) && by("live").textContent !== said) by("live").textContent = said;
+  by("past").hidden = shown === null;
+  by("past").querySelector("span").textContent = `As it was ${past.length - 1 - (shown ?? 0)} steps ago.`;
+  by("stop").disabled = !waits;
+  by("run").textContent = waits && !isDriving ? "Go on" : "Run";
+  by("pos").textContent = state.pos[0];
+  document.body.classList.toggle("busy", isDriving && waits > 0);
+  showStack(state, before);
+  showProgram(state);
+  showProcessor(state, before);
+  showListing(state);
+  showTrace();
+  showRegisters(state, before);
+  showFlags(state, before);
+  by("alpha").textContent = state.alpha[0];
+  by("alpha").classList.toggle("changed", state.alpha[0] !== before.alpha[0]);
+  showSession();
+  showLesson();
+}
+
+/** The digits of a register, those marked that have changed, and those of a field. */
+function digitsOf(now, old, isInField = () => false) {
+  return [...now].map((digit, at) => make("span", {
+    class: `${digit !== old[at] ? "changed " : ""}${isInField(now.length - 1 - at) ? "field" : ""}`.trim(),
+  }, digit));
+}
+
+function showStack(state, before) {
+  fill("stack", ...state.stack.map((row, at) => make("tr", {},
+    make("th", { scope: "row" }, row[0] === "L" ? "LAST X" : row[0]),
+    make("td", { class: "number" }, make("span", { class: row !== before.stack[at] ? "changed" : "" }, state.numbers[at])),
+    make("td", { class: "digits" }, ...digitsOf(row.slice(2), before.stack[at].slice(2))))));
+}
+
+/** A line of a list with a breakpoint that is set or taken away by a click. */
+function stopping(place, kind, name, isNext, ...children) {
+  const isSet = present().breaks.some(([of, at]) => of === kind && at === place);
+  const button = make("button", {
+    type: "button", class: "break", "aria-pressed": String(isSet), "aria-label": `breakpoint at ${name} ${place}`, "data-at": place,
+  }, isSet ? "●" : "○");
+  const number = kind === "l" ? Number(place) : place;
+  button.addEventListener("click", () => ask({ do: "give", deck: `${isSet ? "unbreak" : "break"} ${kind} ${number}\n`, first: true }));
+  return make("div", { class: `line${isNext ? " next" : ""}`, "aria-current": isNext ? "step" : null }, button, ...children);
+}
+
+let programDrawn = "";
+
+function showProgram(state) {
+  const [mode, place] = state.pos[0].split(" ");
+  const next = mode === "Micro" ? null : place;
+  const drawing = JSON.stringify([state.lines, next, present().breaks]);
+  if (drawing === programDrawn) return;
+  programDrawn = drawing;
+  fill("program", ...state.lines.map((text) => stopping(text.slice(0, 4), "l", "line", text.slice(0, 4) === next,
+    make("span", { class: "place" }, text.slice(0, 4)), make("code", {}, text.slice(5)))));
+  reveal(by("program"), by("program").querySelector(".next"));
+}
+
+/** What `show cpu` tells, by its names. */
+function partsOf(cpu) {
+  const parts = {};
+  for (const text of cpu.slice(0, 4).join(" ").split(" ")) {
+    const [name, value] = text.split("=");
+    parts[name] = value;
+  }
+  parts.RTN = cpu[4].slice(4);
+  return parts;
+}
+
+/** Whether a place is in the field that the last instruction names, and whether the instruction names a register. */
+function fieldOf(state, before) {
+  const last = /^Micro [0-9A-F]{4} (\S+) (@R|S&X|R<|ALL|P-Q|XS|MS|M)$/.exec(lineMade(state, before) ?? "");
+  if (!last) return [() => false, () => false, ""];
+  const { P, Q, PT } = partsOf(before.cpu);
+  const [p, q, active] = [P, Q, PT === "P" ? P : Q].map((digit) => parseInt(digit, 16));
+  const [low, high] = { "@R": [active, active], "S&X": [0, 2], "R<": [0, active], ALL: [0, 13], "P-Q": [p, p > q ? 13 : q],
+    XS: [2, 2], M: [3, 12], MS: [13, 13] }[last[2]];
+  return [(place) => place >= low && place <= high, (name) => last[1].replace("SHF", "").includes(name), `${last[1]} ${last[2]}`];
+}
+
+function showProcessor(state, before) {
+  const [now, old] = [partsOf(state.cpu), partsOf(before.cpu)];
+  const [isInField, isNamed, text] = fieldOf(state, before);
+  const places = [..."DCBA9876543210"];
+  const rows = ["A", "B", "C", "M", "N"].map((name) => make("tr", {}, make("th", { scope: "row" }, name),
+    make("td", { class: "digits" }, ...digitsOf(now[name], old[name], (place) => isNamed(name) && isInField(place)))));
+  fill("processor", make("caption", {}, text || "the last instruction names no field"),
+    make("tr", { class: "places", "aria-hidden": "true" }, make("th"), make("td", { class: "digits" },
+      ...places.map((place) => make("span", {}, place)))), ...rows);
+  const others = ["PC", "CY", "MODE", "P", "Q", "PT", "G", "T", "ST", "RAM", "KY", "KF", "RTN"];
+  fill("cpu", ...others.map((name) => make("div", { class: now[name] !== old[name] ? "changed" : "" },
+    make("dt", {}, name), make("dd", {}, now[name]))));
+}
+
+function showListing(state) {
+  const place = state.pos[0].startsWith("Micro") ? state.pos[0].slice(6) : null;
+  const lines = state.listing.map(([at, label, text]) => stopping(at, "w", "word", at === place,
+    make("span", { class: "place" }, at), make("span", { class: "words" }, text.slice(0, 9).trim()), make("code", {}, text.slice(9)),
+    make("span", { class: "label" }, /\+/.test(label) && at !== place ? "" : label)));
+  fill("listing", ...(lines.length ? lines : [make("p", { class: "none" }, "No function runs.")]));
+  reveal(by("listing"), by("listing").querySelector(".next"));
+  const names = state.functions.map((text) => text.replace(/^XROM /, ""));
+  by("modules").textContent = state.pages.length ? `Pages ${state.pages.join(", ")}${names.length ? `: ${names.join(", ")}` : ""}` : "";
+}
+
+/** What a step has changed, as a short text. */
+function changesOf(state, before) {
+  const found = [];
+  const [now, old] = [partsOf(state.cpu), partsOf(before.cpu)];
+  const compare = (name, is, was) => is !== was && was !== undefined && found.push(`${name} ${was} → ${is}`);
+  for (const name of Object.keys(now)) if (name !== "PC") compare(name, now[name], old[name]);
+  state.stack.forEach((row, at) => row !== before.stack[at] && compare(row[0], state.numbers[at], before.numbers[at]));
+  state.values.forEach((value, at) => compare(registerName(at), value, before.values[at]));
+  compare("ALPHA", `"${state.alpha[0]}"`, `"${before.alpha[0]}"`);
+  compare("flags", state.flags[0], before.flags[0]);
+  return found;
+}
+
+/** The instruction or line that was carried out between two states, as the bench listed it; none where it was not one. */
+function lineMade(state, before) {
+  if (state.made !== 1) return null;
+  const [mode, place] = before.pos[0].split(" ");
+  const found = mode === "Micro" ? before.listing.find(([at]) => at === place) : before.lines.find((text) => text.startsWith(place));
+  return found ? `${mode} ${place} ${mode === "Micro" ? found[2].slice(9) : found.slice(5)}` : null;
+}
+
+/** What led to a state: a step, or a command and what it told. */
+function ledTo(state, before) {
+  const [text, reply] = state.last;
+  const head = text.trim().split("\n")[0];
+  return lineMade(state, before) ?? (reply.length === 1 && !head.startsWith("show") ? `${head}: ${reply[0]}` : head);
+}
+
+const MOST_TRACED = 60;
+
+function showTrace() {
+  const [end, at] = [past.length - 1, shown ?? past.length - 1];
+  const first = Math.max(1, Math.min(at - MOST_TRACED / 2, end - MOST_TRACED + 1));
+  const rows = past.slice(first, first + MOST_TRACED).map((one, offset) => {
+    const number = first + offset;
+    const button = make("button", { type: "button", class: "step", "aria-current": number === at ? "step" : null, "data-at": number },
+      make("code", {}, ledTo(one.state, past[number - 1].state)),
+      ...changesOf(one.state, past[number - 1].state).slice(0, 6).map((text) => make("span", { class: "change" }, text)));
+    button.addEventListener("click", () => goTo(number));
+    return make("li", { class: number === at ? "next" : "" }, button);
+  });
+  if (!by("trace-panel").open) return;
+  fill("trace", ...rows);
+  reveal(by("trace"), by("trace").querySelector(".next"));
+  by("back").disabled = at <= 0;
+  by("forth").disabled = shown === null;
+}
+
+function goTo(number) {
+  isDriving = false;
+  shown = number >= past.length - 1 ? null : Math.max(0, number);
+  show();
+}
+
+const goBack = () => goTo((shown ?? past.length - 1) - 1);
+const goForth = () => goTo((shown ?? past.length - 1) + 1);
+
+const registerName = (at) => `R${String(at).padStart(2, "0")}`;
+
+function showRegisters(state, before) {
+  if (!by("registers-panel").open) return;
+  const rows = state.registers.map((digits, at) => {
+    const isChanged = digits !== before.registers[at];
+    if (/^0*$/.test(digits) && !isChanged && !by("zeros").checked) return null;
+    return make("tr", { class: isChanged ? "changed" : "" }, make("th", { scope: "row" }, registerName(at)),
+      make("td", { class: "number" }, state.values[at]), make("td", { class: "digits" }, digits));
+  }).filter(Boolean);
+  const none = make("tr", {}, make("td", { class: "none" }, `${state.registers.length} registers, all zero`));
+  fill("registers", ...(rows.length ? rows : [none]));
+}
+
+function showFlags(state, before) {
+  fill("flags", ...Array.from({ length: 56 }, (_, at) => {
+    const number = String(at).padStart(2, "0");
+    const [isSet, wasSet] = [state, before].map(({ flags }) => flags[0].split(" ").includes(number));
+    return make("li", { class: `${isSet ? "set" : ""}${isSet !== wasSet ? " changed" : ""}`,
+      "aria-label": `flag ${number} ${isSet ? "set" : "clear"}` }, number);
+  }));
+}
+
+/** Lines in one text, of which some in the middle are left out where there are many. */
+function shortened(lines, first, last) {
+  const left = lines.length - first - last;
+  return (left > 1 ? [...lines.slice(0, first), `… ${left} lines`, ...lines.slice(-last)] : lines).join("\n");
+}
+
+function showSession() {
+  const first = Math.max(0, entries.length - MOST_ENTRIES);
+  const rows = entries.slice(first).map(({ text, reply }) => {
+    const kind = `reply${reply.at(-1)?.startsWith("! ") ? " refusal" : ""}`;
+    return make("li", { class: text.startsWith("#") || !text.trim() ? "comment" : "" }, make("pre", {}, shortened(text.trimEnd().split("\n"), 4, 2)),
+      ...(reply.length ? [make("pre", { class: kind }, shortened(reply, 36, 1))] : []));
+  });
+  if (first) rows.unshift(make("li", { class: "comment" }, `${first} before these are in the saved deck`));
+  fill("session", ...rows);
+  by("session").scrollTop = by("session").scrollHeight;
+}
+
+// ---- Lessons
+
+function listLessons(lessons) {
+  by("lessons").replaceChildren(make("option", { value: "" }, "Lessons"),
+    ...Object.entries(lessons).map(([name, title]) => make("option", { value: name }, title)));
+}
+
+async function openLesson(name) {
+  if (entries.length && !await isSure()) return;
+  await ask({ do: "lesson", name });
+  for (const id of ["trace-panel", "lesson"]) by(id).open = true;
+  by("lesson").scrollIntoView({ block: "nearest" });
+}
+
+async function next(how) {
+  await ask({ do: "next", how, ...pieces() });
+  if (present().pos[0].startsWith("Micro")) for (const id of ["processor-panel", "listing-panel"]) by(id).open = true;
+  if (how !== "step") drive();
+}
+
+function showLesson() {
+  by("lesson").hidden = !lesson;
+  if (!lesson) return;
+  by("lesson").querySelector("h2").textContent = lesson.title;
+  const begun = Math.max(0, lesson.at - waits);
+  const current = lesson.parts.findIndex(([, isCommand], at) => at >= begun && isCommand);
+  // The entries of the session that are the lesson's parts, in their order.
+  let at = 0;
+  fill("parts", ...lesson.parts.map(([text, isCommand, paragraphs], number) => {
+    const isIts = (entry, place) => place >= at && entry.text === text.replace(/\n$/, "");
+    const found = number < lesson.at ? entries.findIndex(isIts) : -1;
+    const reply = entries[found]?.reply ?? [];
+    if (found >= 0) at = found + 1;
+    const kinds = [!isCommand && "comment", number < begun && "done", number === current && "next"];
+    return make("li", { class: kinds.filter(Boolean).join(" "), "aria-current": number === current ? "step" : null },
+      ...(isCommand ? [make("pre", {}, text.replace(/\n+$/, ""))] : []),
+      ...paragraphs.map((words) => make("p", { class: /^\s/.test(words) ? "set-in" : "" }, words)),
+      ...(reply.length ? [make("pre", { class: "reply" }, reply.join("\n"))] : []));
+  }));
+  reveal(by("parts"), by("parts").querySelector(".next") || by("parts").lastElementChild);
+  for (const id of ["next-step", "next-command", "next-all"]) by(id).disabled = current < 0 || isGone;
+}
+
+// ---- Files
+
+async function base64Of(file) {
+  const bytes = new Uint8Array(await file.arrayBuffer());
+  let text = "";
+  for (let at = 0; at < bytes.length; at += 8192) text += String.fromCharCode(...bytes.subarray(at, at + 8192));
+  return btoa(text);
+}
+
+async function bringIn(files) {
+  try {
+    const decks = files.filter((file) => /\.deck$/i.test(file.name));
+    if (decks.length && files.length > 1) throw new Error("a deck is opened alone");
+    if (decks.length) return openDeck(decks[0]);
+    const given = await Promise.all(files.map(async (file) => ({ name: file.name, data: await base64Of(file) })));
+    if (!given.length) return;
+    by("files-panel").open = true;
+    tellOfFiles("…", true);
+    const answer = await ask({ files: given, page: by("page-in").value }, "import");
+    tellOfFiles(answer.told || "All came in.", answer.good);
+    await ask({ do: "go", ...pieces() });
+    drive();
+  } catch (error) {
+    tellOfFiles(error.message, false);
+  }
+}
+
+async function openDeck(file) {
+  if (entries.length && !await isSure()) return;
+  await ask({ do: "open", data: await base64Of(file) });
+  drive();
+}
+
+async function takeOut() {
+  const kind = by("kind").value;
+  const ends = { raw: "raw", text: "lines", rom: "rom", source: "asm" };
+  try {
+    const reply = await fetched("export", { kind, page: by("page-out").value, label: by("label").value });
+    const link = make("a", { href: URL.createObjectURL(await reply.blob()), download: `bench.${ends[kind]}` });
+    link.click();
+    setTimeout(() => URL.revokeObjectURL(link.href), 10000);
+    tellOfFiles(`bench.${ends[kind]} is written.`, true);
+  } catch (error) {
+    tellOfFiles(error.message, false);
+  }
+}
+
+function tellOfFiles(text, isGood) {
+  by("told").textContent = text;
+  by("told").classList.toggle("refusal", !isGood);
+}
+
+/** Whether the session may end for another. */
+function isSure() {
+  const dialog = by("sure");
+  return new Promise((done) => {
+    for (const id of ["yes", "no"]) by(id).onclick = () => dialog.close(id);
+    dialog.returnValue = "no";
+    dialog.onclose = () => done(dialog.returnValue === "yes");
+    dialog.showModal();
+  });
+}
+
+// ---- The page
+
+async function giveTyped() {
+  const text = by("commands").value.replace(/\n*$/, "\n");
+  if (!text.trim()) return;
+  if (await give(text).catch(() => null)) by("commands").value = "";
+}
+
+function begin() {
+  drawDisplay();
+  for (const panel of document.querySelectorAll("details")) panel.addEventListener("toggle", () => panel.open && show());
+  for (const id of ["page-in", "page-out"]) by(id).append(...[..."456789ABCDEF"].map((page) => make("option", { value: page }, page)));
+  const calls = {
+    run: runOn, step, stop, back: goBack, forth: goForth, now: () => goTo(past.length - 1), give: giveTyped,
+    display: () => showDisplay(displayed, true), export: takeOut, again: () => ask({ do: "again" }).then(drive),
+    "next-step": () => next("step"), "next-command": () => next("command"), "next-all": () => next("all"),
+    "open-lesson": () => by("lessons").value && openLesson(by("lessons").value), "lesson-again": () => openLesson(lesson.name), choose: () => by("files").click(), "open-deck": () => by("deck-file").click(),
+    begin: async () => (!entries.length || await isSure()) && ask({ do: "begin" }),
+  };
+  for (const [id, call] of Object.entries(calls)) by(id).addEventListener("click", call);
+  by("zeros").addEventListener("change", show);
+  by("commands").addEventListener("keydown", (event) => event.key === "Enter" && event.ctrlKey && giveTyped());
+  for (const [id, call] of [["files", bringIn], ["deck-file", ([file]) => file && openDeck(file)]]) {
+    by(id).addEventListener("change", () => {
+      call([...by(id).files]);
+      by(id).value = "";
+    });
+  }
+  by("keys").addEventListener("keydown", walk);
+  document.addEventListener("keydown", typed);
+  // What is clicked does not take the keys that are typed then.
+  document.addEventListener("mousedown", (event) => event.target.closest("button, input[type=checkbox]") && event.preventDefault());
+  for (const kind of ["dragover", "dragleave", "drop"]) {
+    document.addEventListener(kind, (event) => {
+      event.preventDefault();
+      by("drop").hidden = kind === "drop" || (kind === "dragleave" && !event.relatedTarget);
+      if (kind === "drop") bringIn([...event.dataTransfer.files]);
+    });
+  }
+  ask(null).then(() => {
+    listen();
+    const name = new URLSearchParams(location.search).get("lesson");
+    if (name && (!lesson || lesson.name !== name)) openLesson(name);
+    by("needs").hidden = true;
+    document.body.dataset.ready = "yes";
+  });
+}
+
+begin();

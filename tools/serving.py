@@ -1,0 +1,286 @@
+"""The page's server: it listens on 127.0.0.1 alone, and answers one browser, the first that opens its address with the token.
+
+Each request is answered, with a reason where it is refused. The bench is asked by one request at a time."""
+import hmac
+import json
+import os
+import secrets
+import select
+import socket
+import threading
+import time
+from http.server import BaseHTTPRequestHandler, ThreadingHTTPServer
+from urllib.parse import parse_qs
+
+from decks import NO_ANSWER, Failure
+
+FOLDER = os.path.join(os.path.dirname(os.path.realpath(__file__)), "page")
+
+# All that is served from the folder.
+FILES = {"": ("calculator.html", "text/html; charset=utf-8"), "calculator.css": ("calculator.css", "text/css; charset=utf-8"),
+         "calculator.js": ("calculator.js", "text/javascript; charset=utf-8")}
+
+LONGEST_BODY = 8_388_608
+MOST_CONNECTIONS = 48
+# A browser has six connections at once, and each page that is open holds one.
+MOST_PAGES = 4
+
+# Seconds: that a request may take to come, between two beats of the events, that a page may be away, as while it is loaded
+# again, and that the first may take to come.
+SLOWEST, BEAT, AWAY, FIRST = 20, 0.5, 4, 600
+# What is passed over of a request that is refused.
+MOMENT = 0.3
+
+HEADERS = {
+    "Content-Security-Policy": "default-src 'none'; script-src 'self'; style-src 'self'; img-src 'self' data:; connect-src 'self'; "
+                               "base-uri 'none'; form-action 'none'; frame-ancestors 'none'",
+    "X-Content-Type-Options": "nosniff",
+    "Referrer-Policy": "no-referrer",
+    "Cache-Control": "no-store",
+    "Cross-Origin-Resource-Policy": "same-origin",
+    "Cross-Origin-Opener-Policy": "same-origin",
+}
+
+
+class Refusal(Exception):
+    """Why a request is refused, and with which status."""
+
+    def __init__(self, status, why):
+        super().__init__(why)
+        self.status = status
+
+
+class Server(ThreadingHTTPServer):
+    """The server, its token and cookie, and the pages that are open."""
+    daemon_threads = True
+    request_queue_size = 64
+
+    def __init__(self, port, answers):
+        """`answers` are the answers to requests: their names, and calls that take what a request has."""
+        super().__init__(("127.0.0.1", port), Handler)
+        self.answers = answers
+        self.token, self.cookie = secrets.token_urlsafe(24), None
+        self.port = self.server_address[1]
+        self.room = threading.BoundedSemaphore(MOST_CONNECTIONS)
+        self.pages, self.left_at, self.first_until = 0, None, time.monotonic() + FIRST
+        self.lock, self.closing = threading.Lock(), False
+
+    def address(self):
+        return f"http://127.0.0.1:{self.port}/{self.token}/"
+
+    def process_request(self, request, client_address):
+        """A connection too many is closed at once."""
+        if self.room.acquire(blocking=False):
+            super().process_request(request, client_address)
+        else:
+            self.shutdown_request(request)
+
+    def process_request_thread(self, request, client_address):
+        try:
+            super().process_request_thread(request, client_address)
+        finally:
+            self.room.release()
+
+    def handle_error(self, request, client_address):
+        """A connection that breaks is no fault."""
+
+    def service_actions(self):
+        """Ends where no page is open any more."""
+        now = time.monotonic()
+        with self.lock:
+            is_over = not self.pages and (now > self.left_at + AWAY if self.left_at else now > self.first_until)
+        if is_over and not self.closing:
+            self.closing = True
+            threading.Thread(target=self.shutdown, daemon=True).start()
+
+    def open_page(self, count):
+        """Counts a page that opens, or one that closes."""
+        with self.lock:
+            if self.pages + count > MOST_PAGES:
+                raise Refusal(409, f"{MOST_PAGES} pages are open already")
+            self.pages += count
+            self.left_at = time.monotonic()
+
+    def stay(self):
+        """A page that asks is there, or comes back."""
+        with self.lock:
+            self.left_at = time.monotonic() if self.left_at else None
+
+    def take_cookie(self, given):
+        """The cookie of the browser that opens the page first; later ones have to give it."""
+        with self.lock:
+            if self.cookie is None:
+                self.cookie = secrets.token_urlsafe(24)
+                return self.cookie
+        if not hmac.compare_digest(given.encode(), self.cookie.encode()):
+            raise Refusal(403, "this calculator is open in another browser: tools/calculator opens one more")
+        return None
+
+
+class Handler(BaseHTTPRequestHandler):
+    """One connection."""
+    protocol_version = "HTTP/1.1"
+    server_version, sys_version = "bench", ""
+    timeout = SLOWEST
+
+    def log_message(self, *_):
+        """Nothing is logged."""
+
+    def do_GET(self):
+        self.answer(self.get)
+
+    def do_POST(self):
+        self.answer(self.post)
+
+    def answer(self, how):
+        """Answers, or tells why not."""
+        try:
+            how(*self.checked())
+        except Refusal as refusal:
+            self.reply(refusal.status, "text/plain; charset=utf-8", f"{refusal}\n".encode())
+            self.turn_away()
+        except Failure as failure:
+            self.reply(409, "text/plain; charset=utf-8", f"{failure}\n".encode())
+        except (TypeError, ValueError, LookupError, AttributeError, OverflowError, RecursionError):
+            self.reply(400, "text/plain; charset=utf-8", b"this request is none of the page's\n")
+        except Exception as fault:
+            self.reply(500, "text/plain; charset=utf-8", f"tools/calculator has a fault: {fault!r}\n".encode())
+
+    def turn_away(self):
+        """Ends a connection whose request may not have been read: what comes is passed over for a moment, so that the reply is
+        not lost."""
+        self.close_connection = True
+        try:
+            self.connection.shutdown(socket.SHUT_WR)
+            self.connection.settimeout(MOMENT)
+            left = 1 << 20
+            while left > 0 and (part := self.connection.recv(65536)):
+                left -= len(part)
+        except OSError:
+            pass
+
+    def checked(self):
+        """What a request that comes from the page itself names behind the token, and its query."""
+        host = f"127.0.0.1:{self.server.port}"
+        if self.headers.get_all("Host") not in ([host], [f"localhost:{self.server.port}"]):
+            raise Refusal(403, "the Host header is another one's")
+        if self.headers.get_all("Origin") not in (None, [f"http://{self.headers['Host']}"]):
+            raise Refusal(403, "the Origin header is another one's")
+        if len(self.path) > 2000:
+            raise Refusal(414, "the path is too long")
+        begin = f"/{self.server.token}/"
+        if not hmac.compare_digest(self.path[:len(begin)].encode(), begin.encode()):
+            raise Refusal(403, "the address has not the token that tools/calculator told")
+        name, _, query = self.path[len(begin):].partition("?")
+        # The page itself may be opened by a link of another one.
+        if name and self.headers.get("Sec-Fetch-Site", "none") not in ("none", "same-origin"):
+            raise Refusal(403, "another page asks")
+        self.server.stay()
+        return name, {key: values[-1] for key, values in parse_qs(query).items()}
+
+    def given_cookie(self):
+        """The cookie that the browser gives, by the name that is this server's."""
+        parts = (part.strip().partition("=") for part in self.headers.get("Cookie", "").split(";"))
+        return next((value for name, _, value in parts if name == f"bench-{self.server.port}"), "")
+
+    def get(self, name, asked):
+        more = {}
+        if name == "":
+            cookie = self.server.take_cookie(self.given_cookie())
+            if cookie:
+                more["Set-Cookie"] = f"bench-{self.server.port}={cookie}; HttpOnly; SameSite=Strict; Path=/{self.server.token}/"
+        else:
+            self.want_cookie()
+        if name in FILES:
+            file, kind = FILES[name]
+            with open(os.path.join(FOLDER, file), "rb") as opened:
+                self.reply(200, kind, opened.read(), more)
+        elif name == "events":
+            self.events()
+        elif name == "deck":
+            self.reply(200, "text/plain; charset=utf-8", self.server.answers["deck"](),
+                       {"Content-Disposition": 'attachment; filename="session.deck"'})
+        elif name == "state":
+            self.tell(self.server.answers["state"](asked))
+        else:
+            raise Refusal(404, "there is nothing")
+
+    def post(self, name, _):
+        self.want_cookie()
+        length = self.headers.get("Content-Length", "")
+        if self.headers.get("Transfer-Encoding") or not (length.isascii() and length.isdigit()):
+            raise Refusal(411, "a body has to tell its length")
+        if int(length) > LONGEST_BODY:
+            raise Refusal(413, f"a body has at most {LONGEST_BODY:,} bytes")
+        if self.headers.get_content_type() != "application/json":
+            raise Refusal(415, "a body is JSON")
+        body = self.rfile.read(int(length))
+        if len(body) < int(length):
+            raise Refusal(400, "the body is cut off")
+        if name not in ("do", "import", "export"):
+            raise Refusal(404, "there is nothing")
+        asked = json.loads(body)
+        if not isinstance(asked, dict):
+            raise Refusal(400, "this request is none of the page's")
+        answer = self.server.answers[name](asked)
+        if isinstance(answer, bytes):
+            self.reply(200, "application/octet-stream", answer)
+        else:
+            self.tell(answer)
+
+    def want_cookie(self):
+        """Refuses who has not opened the page."""
+        if self.server.cookie is None or not hmac.compare_digest(self.given_cookie().encode(), self.server.cookie.encode()):
+            raise Refusal(403, "this browser has not opened the calculator")
+
+    def tell(self, answer):
+        self.reply(200, "application/json", json.dumps(answer).encode())
+
+    def reply(self, status, kind, body, more=()):
+        """A whole reply. Who has gone away gets none."""
+        try:
+            self.send_response(status)
+            for name, value in {**HEADERS, "Content-Type": kind, "Content-Length": str(len(body)), **dict(more)}.items():
+                self.send_header(name, value)
+            self.end_headers()
+            self.wfile.write(body)
+        except OSError:
+            self.close_connection = True
+
+    def events(self):
+        """Tells a page the version of the session, whenever there is a new one, and at each beat that the server lives. The page
+        is open as long as this is read."""
+        self.server.open_page(1)
+        self.close_connection = True
+        self.send_response(200)
+        for name, value in {**HEADERS, "Content-Type": "text/event-stream", "Connection": "close"}.items():
+            self.send_header(name, value)
+        try:
+            self.end_headers()
+            while not self.server.closing:
+                self.wfile.write(f"data: {json.dumps(self.server.answers['version']())}\n\n".encode())
+                self.wfile.flush()
+                if select.select([self.connection], [], [], BEAT)[0] and not self.connection.recv(4096):
+                    return
+        except OSError:
+            pass
+        finally:
+            self.server.open_page(-1)
+
+
+def serve(server):
+    """Answers until no page is open any more, or Ctrl-C."""
+    try:
+        server.serve_forever(0.2)
+    except KeyboardInterrupt:
+        pass
+    finally:
+        server.server_close()
+
+
+def listen(port, answers):
+    """A server at a port, or at any where none is named."""
+    try:
+        return Server(port, answers)
+    except (OSError, OverflowError) as error:
+        raise Failure(f"port {port} of 127.0.0.1 cannot be had: {getattr(error, 'strerror', None) or error}", NO_ANSWER) from error

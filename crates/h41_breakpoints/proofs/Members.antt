@@ -2,50 +2,27 @@
 use Rattle.std.proofs.Common.{◌≡◌, ◌≤◌, ◌<◌, ℕ, suc, ◌+◌, Bool, true, false, cond, Some, None}
 use Rattle.std.proofs.Common.{List, [], ◌∷◌, ◌++◌, length, length-append, get_or, set}
 use Rattle.std.proofs.Common.{refl, sym, ap, subst, ◌∙◌, arith}
-use Rattle.std.specs.Prelude.{not, ◌&&◌, ◌||◌, nat_lt, position}
-use Rattle.std.specs.Cmp.{IsTotalOrder, Equal-is, unsigned_tied}
+use Rattle.std.specs.Prelude.{not, ◌&&◌, ◌||◌, ◌==◌, nat_lt, position}
+use Rattle.std.specs.Cmp.{IsTotalOrder, Equal-is, tied_then, unsigned_tied}
 use Rattle.std.specs.FinSet.{contains, contains-empty, contains-from_list, contains-insert, contains-remove, empty_of_len}
 use Rattle.std.specs.FinSet.{from_list_push, insert, len, len-empty, len-insert, nat_cmp-IsAntisymmetric, remove, same_set}
 use Rattle.std.specs.List.{list_any, prefix_len, swap_remove}
 use borrow.Author.Tests.{ltb-false}
-use Rattle.std.specs.Ordering.{eq_by_cmp}
-use Rattle.std.specs.declared.cmp.Ordering.TheVariants.{Equal, Less}
-use Rattle.std.proofs.lemmas.Cmp.{nat_cmp_total}
+use Rattle.std.specs.Ordering.{eq_by_cmp, nat_cmp}
+use Rattle.std.specs.declared.cmp.Ordering.TheVariants.{Equal}
+use Rattle.std.proofs.lemmas.Cmp.{nat_cmp_total, on_total, then_total}
 use Rattle.std.proofs.lemmas.List.Quantifiers.{position-Some}
 use Rattle.std.proofs.lemmas.List.Sorted.{IsPermutation-swap_remove, list_any-IsPermutation}
-use Rattle.std.specs.Ordering.{ordering_reverse}
-use Rattle.h41_breakpoints.specs.Breakpoints.{BreakpointSet, location_cmp, is_set, with_breakpoint, without_breakpoint}
+use Rattle.h41_breakpoints.specs.Breakpoints.{BreakpointSet, is_set, kind_of, location_cmp, number_of}
+use Rattle.h41_breakpoints.specs.Breakpoints.{with_breakpoint, without_breakpoint}
 use Rattle.h41_breakpoints.specs.private.Members.{IsEachOnce, is_same, set_of}
 use Rattle.h41_breakpoints.specs.declared.location.Location.{Location}
 use Rattle.h41_breakpoints.specs.declared.location.Location.TheVariants.{Line, Word}
 use Rattle.h41_program.specs.declared.position.Position.TheVariants.{Memory}
 
 -- the order of locations is total, and only the same one shares a place
-cmp_reversed : (x y : Location) → location_cmp x y ≡ ordering_reverse (location_cmp y x)
-cmp_reversed (Word a) (Word b) = nat_cmp_total.antisymm a b
-cmp_reversed (Word a) (Line (Memory b)) = refl
-cmp_reversed (Line (Memory a)) (Word b) = refl
-cmp_reversed (Line (Memory a)) (Line (Memory b)) = nat_cmp_total.antisymm a b
-
-cmp_below : (x y z : Location) → location_cmp x y ≡ Less → location_cmp y z ≡ Less → location_cmp x z ≡ Less
-cmp_below (Word a) (Word b) (Word c) p q = nat_cmp_total.trans a b c p q
-cmp_below (Word a) (Word b) (Line (Memory c)) p q = refl
-cmp_below (Word a) (Line (Memory b)) (Word c) p q = cc
-cmp_below (Word a) (Line (Memory b)) (Line (Memory c)) p q = refl
-cmp_below (Line (Memory a)) (Word b) z p q = cc
-cmp_below (Line (Memory a)) (Line (Memory b)) (Word c) p q = cc
-cmp_below (Line (Memory a)) (Line (Memory b)) (Line (Memory c)) p q = nat_cmp_total.trans a b c p q
-
-cmp_tied : (x y z : Location) → location_cmp x y ≡ Equal → location_cmp x z ≡ location_cmp y z
-cmp_tied (Word a) (Word b) (Word c) p = nat_cmp_total.congr a b c p
-cmp_tied (Word a) (Word b) (Line (Memory c)) p = refl
-cmp_tied (Word a) (Line (Memory b)) z p = cc
-cmp_tied (Line (Memory a)) (Word b) z p = cc
-cmp_tied (Line (Memory a)) (Line (Memory b)) (Word c) p = refl
-cmp_tied (Line (Memory a)) (Line (Memory b)) (Line (Memory c)) p = nat_cmp_total.congr a b c p
-
 pub cmp_total : IsTotalOrder location_cmp
-cmp_total = record { antisymm = cmp_reversed; trans = cmp_below; congr = cmp_tied }
+cmp_total = then_total (on_total kind_of nat_cmp_total) (on_total number_of nat_cmp_total)
 
 pub cmp_apart : (x y : Location) → location_cmp x y ≡ Equal → x ≡ y
 cmp_apart (Word a) (Word b) p = ap Word (nat_cmp-IsAntisymmetric a b p)
@@ -54,10 +31,10 @@ cmp_apart (Line (Memory a)) (Word b) p = cc
 cmp_apart (Line (Memory a)) (Line (Memory b)) p = ap (λ (n : ℕ). Line (Memory n)) (nat_cmp-IsAntisymmetric a b p)
 
 pub same_is : (x y : Location) → is_same x y ≡ eq_by_cmp location_cmp x y
-same_is (Word a) (Word b) = sym (unsigned_tied a b)
-same_is (Word a) (Line (Memory b)) = refl
-same_is (Line (Memory a)) (Word b) = refl
-same_is (Line (Memory a)) (Line (Memory b)) = sym (unsigned_tied a b)
+same_is x y =
+    ap (λ (same : Bool). same && (number_of x == number_of y)) (sym (unsigned_tied (kind_of x) (kind_of y)))
+    ∙ ap (λ (same : Bool). eq_by_cmp nat_cmp (kind_of x) (kind_of y) && same) (sym (unsigned_tied (number_of x) (number_of y)))
+    ∙ tied_then (nat_cmp (kind_of x) (kind_of y)) (nat_cmp (number_of x) (number_of y))
 
 pub equal_are : (x y : Location) → eq_by_cmp location_cmp x y ≡ true → x ≡ y
 equal_are x y p = cmp_apart x y ((Equal-is (location_cmp x y)).0 p)

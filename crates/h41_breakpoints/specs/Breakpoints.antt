@@ -1,21 +1,26 @@
 -- Breakpoints: a finite set of locations. How many there are at most, and the refusals, are this
 -- project's choice.
 use Rattle.std.specs.Prelude.{ℕ, Bool, not, ◌&&◌, nat_le}
-use Rattle.std.specs.Ordering.{nat_cmp}
+use Rattle.std.specs.Ordering.{nat_cmp, on, then_cmp}
 use Rattle.std.specs.FinSet.{FinSet, contains, empty, insert, len, remove}
 use Rattle.std.specs.declared.cmp.Ordering.{Ordering}
-use Rattle.std.specs.declared.cmp.Ordering.TheVariants.{Greater, Less}
 use Rattle.h41_breakpoints.specs.declared.location.Location.{Location}
 use Rattle.h41_breakpoints.specs.declared.location.Location.TheVariants.{Line, Word}
 use Rattle.h41_program.specs.declared.position.Position.TheVariants.{Memory}
 
--- the order of locations, which only the same one shares a place in: words before lines, and each
--- by their numbers
+-- words come before lines
+abbrev pub kind_of : Location → ℕ
+kind_of (Word address) = 0
+kind_of (Line (Memory byte)) = 1
+
+abbrev pub number_of : Location → ℕ
+number_of (Word address) = address
+number_of (Line (Memory byte)) = byte
+
+-- the order of locations, which only the same one shares a place in: by their kinds, and each kind
+-- by its numbers
 abbrev pub location_cmp : Location → Location → Ordering
-location_cmp (Word address) (Word other) = nat_cmp address other
-location_cmp (Word address) (Line position) = Less
-location_cmp (Line position) (Word address) = Greater
-location_cmp (Line (Memory byte)) (Line (Memory other)) = nat_cmp byte other
+location_cmp = then_cmp (on kind_of nat_cmp) (on number_of nat_cmp)
 
 abbrev pub BreakpointSet : Type 0
 BreakpointSet = FinSet location_cmp

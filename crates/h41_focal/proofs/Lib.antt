@@ -1,3 +1,4 @@
+mod Apart
 mod Briefly
 mod Elsewhere
 mod LabelsMet

@@ -7,6 +7,7 @@ ghost use Rattle.h41_focal.specs.private.Carrying.{DoesLine, DoesWork, IsBehind,
 ghost use Rattle.h41_focal.specs.private.Carrying.{PutsText};
 ghost use Rattle.h41_focal.specs.declared.works.FunctionWork.TheVariants.{Alpha};
 ghost use Rattle.h41_ram.specs.RamState.{KeepsMark};
+ghost use Rattle.h41_rows.specs.RowMarks.{LeavesMark};
 
 use crate::course::go_on_lifting;
 use crate::machine::Machine;
@@ -31,6 +32,7 @@ pub fn change_alpha<const REGS: usize>(
     ensures done { DoesWork origin (Alpha work) (machine_of machine.old)
         (machine_of machine.new) result }
     ensures keeps { Keeps machine.old machine.new }
+    ensures left { LeavesMark machine.old.ram machine.new.ram }
 {
     match work {
         AlphaWork::Clear => {
@@ -62,6 +64,7 @@ pub fn text_line<const REGS: usize>(
     ensures done { DoesLine origin (lines.Text text.now) (machine_of machine.old)
         (machine_of machine.new) result }
     ensures keeps { Keeps machine.old machine.new }
+    ensures left { LeavesMark machine.old.ram machine.new.ram }
 {
     put_text(&mut machine.ram, text.characters());
     go_on_lifting(&mut machine.focal, origin);
@@ -73,6 +76,7 @@ pub fn text_line<const REGS: usize>(
 fn put_text<const REGS: usize>(ram: &mut Ram<REGS>, text: &[u8])
     ensures change { PutsText text.now ram.old.registers ram.new.registers }
     ensures mark { KeepsMark ram.old ram.new }
+    ensures left { LeavesMark ram.old ram.new }
 {
     match text {
         [] => {}
@@ -85,6 +89,7 @@ fn put_characters<const REGS: usize>(ram: &mut Ram<REGS>, text: &[u8])
     requires { 1 ≤ length text.now }
     ensures change { PutsText text.now ram.old.registers ram.new.registers }
     ensures mark { KeepsMark ram.old ram.new }
+    ensures left { LeavesMark ram.old ram.new }
 {
     match appended(text) {
         Some(rest) => append_text(ram, rest),

@@ -5,6 +5,7 @@ ghost use Rattle.h41_focal.specs.LabelledMachine.{Keeps, machine_of};
 ghost use Rattle.h41_focal.specs.private.Carrying.{DoesWork, IsReady};
 ghost use Rattle.h41_focal.specs.declared.works.FunctionWork.TheVariants.{ChangeSign, OfX, OfYAndX};
 ghost use Rattle.h41_focal.specs.declared.works.FunctionWork.TheVariants.{Percent, Square};
+ghost use Rattle.h41_rows.specs.RowMarks.{LeavesMark};
 
 use crate::course::{fail, go_on_lifting};
 use crate::machine::Machine;
@@ -29,6 +30,7 @@ pub fn of_y_and_x<const REGS: usize>(
     ensures done { DoesWork origin (OfYAndX value) (machine_of machine.old)
         (machine_of machine.new) result }
     ensures keeps { Keeps machine.old machine.new }
+    ensures left { LeavesMark machine.old.ram machine.new.ram }
 {
     match compute_of_two(&machine.ram, value, Y, X) {
         Ok(register) => {
@@ -50,6 +52,7 @@ pub fn of_x<const REGS: usize>(
     ensures done { DoesWork origin (OfX value) (machine_of machine.old)
         (machine_of machine.new) result }
     ensures keeps { Keeps machine.old machine.new }
+    ensures left { LeavesMark machine.old.ram machine.new.ram }
 {
     match compute_of_one(&machine.ram, value, X) {
         Ok(register) => {
@@ -66,6 +69,7 @@ pub fn square<const REGS: usize>(machine: &mut Machine<REGS>, origin: Origin) ->
     requires { IsReady origin (machine_of machine.old) }
     ensures done { DoesWork origin Square (machine_of machine.old) (machine_of machine.new) result }
     ensures keeps { Keeps machine.old machine.new }
+    ensures left { LeavesMark machine.old.ram machine.new.ram }
 {
     match compute_of_two(&machine.ram, ValueOfTwo::Product, X, X) {
         Ok(register) => {
@@ -83,6 +87,7 @@ pub fn percent<const REGS: usize>(machine: &mut Machine<REGS>, origin: Origin) -
     ensures done { DoesWork origin Percent (machine_of machine.old)
         (machine_of machine.new) result }
     ensures keeps { Keeps machine.old machine.new }
+    ensures left { LeavesMark machine.old.ram machine.new.ram }
 {
     match compute_of_two(&machine.ram, ValueOfTwo::Percentage, Y, X) {
         Ok(register) => {
@@ -100,6 +105,7 @@ pub fn change_sign<const REGS: usize>(machine: &mut Machine<REGS>, origin: Origi
     ensures done { DoesWork origin ChangeSign (machine_of machine.old)
         (machine_of machine.new) result }
     ensures keeps { Keeps machine.old machine.new }
+    ensures left { LeavesMark machine.old.ram machine.new.ram }
 {
     match compute_of_one(&machine.ram, ValueOfOne::Negative, X) {
         Ok(register) => {

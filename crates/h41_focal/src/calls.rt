@@ -1,6 +1,6 @@
 //! The three calls of lines for who holds memory apart from what else lines work on.
 
-ghost use Rattle.std.specs.Prelude.{◌≡◌, None, Some, OnErr};
+ghost use Rattle.std.specs.Prelude.{◌≡◌, false, None, Some, OnErr};
 ghost use Rattle.h41_focal.specs.LabelSearches.{StepKeeps, TypingKeeps};
 ghost use Rattle.h41_focal.specs.LabelledMachine.{AreRight, begun_ram, labelled_with};
 ghost use Rattle.h41_focal.specs.LineStep.{machine_with};
@@ -32,6 +32,7 @@ pub fn step_line<const REGS: usize>(
     ensures kept { StepKeeps None (labelled_with ram.old focal.old)
         (labelled_with ram.new focal.new) }
     ensures mark { KeepsMark (begun_ram ram.old) ram.new }
+    ensures clear { ram.new.touched ≡ false }
     ensures right { AreRight (labelled_with ram.new focal.new) }
 {
     let mut machine = Machine {
@@ -57,6 +58,7 @@ pub fn step_as<const REGS: usize>(
     ensures kept { StepKeeps (Some function) (labelled_with ram.old focal.old)
         (labelled_with ram.new focal.new) }
     ensures mark { KeepsMark (begun_ram ram.old) ram.new }
+    ensures clear { ram.new.touched ≡ false }
     ensures right { AreRight (labelled_with ram.new focal.new) }
 {
     let mut machine = Machine {
@@ -85,6 +87,7 @@ pub fn key_line<const REGS: usize>(
     ensures kept { TypingKeeps line.now (labelled_with ram.old focal.old)
         (labelled_with ram.new focal.new) }
     ensures mark { KeepsMark (begun_ram ram.old) ram.new }
+    ensures clear { ram.new.touched ≡ false }
     ensures right { AreRight (labelled_with ram.new focal.new) }
 {
     let mut machine = Machine {

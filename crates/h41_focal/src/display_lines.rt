@@ -4,6 +4,7 @@ ghost use Rattle.std.specs.Prelude.{ℕ};
 ghost use Rattle.h41_focal.specs.LabelledMachine.{Keeps, machine_of};
 ghost use Rattle.h41_focal.specs.private.Carrying.{DoesWork, IsReady};
 ghost use Rattle.h41_focal.specs.declared.works.FunctionWork.TheVariants.{Display};
+ghost use Rattle.h41_rows.specs.RowMarks.{LeavesMark};
 
 use crate::course::{go_on, go_on_lifting};
 use crate::machine::Machine;
@@ -21,6 +22,7 @@ pub fn show<const REGS: usize>(
     ensures done { DoesWork origin (Display work) (machine_of machine.old)
         (machine_of machine.new) result }
     ensures keeps { Keeps machine.old machine.new }
+    ensures left { LeavesMark machine.old.ram machine.new.ram }
 {
     match work {
         DisplayWork::ViewAlpha => {

@@ -6,6 +6,7 @@ ghost use Rattle.h41_focal.specs.private.Carrying.{CarriesFlag, ClearsFlag, IsRe
 ghost use Rattle.h41_rows.specs.RowEffects.{agrees};
 ghost use Rattle.h41_focal.specs.declared.uses.FlagUse.TheVariants.{Ask, Change};
 ghost use Rattle.h41_ram.specs.RegisterMap.{flag_of};
+ghost use Rattle.h41_rows.specs.RowMarks.{LeavesMark};
 
 use crate::course::go_on_lifting;
 use crate::machine::Machine;
@@ -37,6 +38,7 @@ fn change_flag<const REGS: usize>(
     ensures done { LeavesFlag origin (Change on) flag (machine_of machine.old)
         (machine_of machine.new) result }
     ensures keeps { Keeps machine.old machine.new }
+    ensures left { LeavesMark machine.old.ram machine.new.ram }
 {
     machine.ram.set_flag(usize::from(flag), on);
     go_on_lifting(&mut machine.focal, origin);
@@ -58,6 +60,7 @@ fn ask_flag<const REGS: usize>(
         (machine_of machine.new) result }
     ensures unchanged { OnErr result (machine.new ≡ machine.old) }
     ensures keeps { Keeps machine.old machine.new }
+    ensures left { LeavesMark machine.old.ram machine.new.ram }
 {
     let holds = agrees_with(&machine.ram, flag, on);
     let lead = lead(&machine.ram, origin, holds)?;
@@ -78,6 +81,7 @@ fn ask_and_clear_flag<const REGS: usize>(
         (machine_of machine.new) result }
     ensures unchanged { OnErr result (machine.new ≡ machine.old) }
     ensures keeps { Keeps machine.old machine.new }
+    ensures left { LeavesMark machine.old.ram machine.new.ram }
 {
     let holds = agrees_with(&machine.ram, flag, on);
     let lead = lead(&machine.ram, origin, holds)?;
@@ -100,6 +104,7 @@ pub fn use_flag<const REGS: usize>(
         (machine_of machine.new) result }
     ensures unchanged { OnErr result (machine.new ≡ machine.old) }
     ensures keeps { Keeps machine.old machine.new }
+    ensures left { LeavesMark machine.old.ram machine.new.ram }
 {
     match taken {
         FlagUse::Change(on) => Ok(change_flag(machine, origin, flag, on)),

@@ -4,6 +4,7 @@ ghost use Rattle.std.specs.Prelude.{ℕ, ◌≡◌, OnErr};
 ghost use Rattle.h41_focal.specs.LabelledMachine.{Keeps, machine_of};
 ghost use Rattle.h41_focal.specs.private.Carrying.{CarriesWork, IsReady, TakesBriefly};
 ghost use Rattle.h41_codes.specs.declared.line.Line.TheVariants.{Plain};
+ghost use Rattle.h41_rows.specs.RowMarks.{LeavesMark};
 
 use crate::alpha_lines::change_alpha;
 use crate::arithmetic::{change_sign, of_x, of_y_and_x, percent, square};
@@ -30,6 +31,7 @@ pub fn plain<const REGS: usize>(
         (machine_of machine.new) result }
     ensures unchanged { OnErr result (machine.new ≡ machine.old) }
     ensures keeps { Keeps machine.old machine.new }
+    ensures left { LeavesMark machine.old.ram machine.new.ram }
 {
     match work_of(function) {
         Some(work) => perform(machine, origin, work),
@@ -48,6 +50,7 @@ fn perform<const REGS: usize>(
         (machine_of machine.new) result }
     ensures unchanged { OnErr result (machine.new ≡ machine.old) }
     ensures keeps { Keeps machine.old machine.new }
+    ensures left { LeavesMark machine.old.ram machine.new.ram }
 {
     match work {
         FunctionWork::OfYAndX(value) => Ok(of_y_and_x(machine, origin, value)),

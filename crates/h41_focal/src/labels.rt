@@ -12,6 +12,7 @@ ghost use Rattle.h41_labels.specs.KeptAnswers.{IsRight};
 ghost use Rattle.h41_labels.specs.declared.search.Search.TheVariants.{Global};
 ghost use Rattle.h41_ram.specs.RamState.{KeepsMark};
 ghost use Rattle.h41_ram.specs.RegisterMap.{is_sound};
+ghost use Rattle.h41_rows.specs.RowMarks.{LeavesMark};
 
 use crate::course::fail;
 use crate::focal::{Focal, RETURNS};
@@ -37,6 +38,7 @@ pub fn to_label<const REGS: usize>(
     ensures kept { AsksFrom origin (λ from. Some (local_search from label))
         machine.old machine.new }
     ensures mark { KeepsMark machine.old.ram machine.new.ram }
+    ensures left { LeavesMark machine.old.ram machine.new.ram }
 {
     let from = searched_from(&machine.focal, origin);
     match machine.focal.local(&machine.ram, from, label) {
@@ -68,6 +70,7 @@ pub fn to_name<const REGS: usize>(
         (machine_of machine.new) result }
     ensures kept { AsksFrom origin (λ from. Some (Global name)) machine.old machine.new }
     ensures mark { KeepsMark machine.old.ram machine.new.ram }
+    ensures left { LeavesMark machine.old.ram machine.new.ram }
 {
     match (machine.focal.global(&machine.ram, name), branch) {
         (Some(byte), _) => {
@@ -116,6 +119,7 @@ pub fn go_back<const REGS: usize>(machine: &mut Machine<REGS>, origin: Origin) -
     requires { IsReady origin (machine_of machine.old) }
     ensures done { DoesWork origin Return (machine_of machine.old) (machine_of machine.new) result }
     ensures keeps { Keeps machine.old machine.new }
+    ensures left { LeavesMark machine.old.ram machine.new.ram }
 {
     match origin {
         Origin::Program(_) => return_from(machine),
@@ -132,6 +136,7 @@ fn return_from<const REGS: usize>(machine: &mut Machine<REGS>) -> BriefOutcome
     requires { IsTrue (is_sound machine.old.ram.registers) }
     ensures done { ReturnsFrom (machine_of machine.old) (machine_of machine.new) result }
     ensures keeps { Keeps machine.old machine.new }
+    ensures left { LeavesMark machine.old.ram machine.new.ram }
 {
     match machine.focal.returns.pop() {
         Some(position) => {

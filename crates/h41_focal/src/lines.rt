@@ -11,6 +11,7 @@ ghost use Rattle.h41_focal.specs.private.Searching.{AsksFrom, AsksOf};
 ghost use Rattle.h41_labels.specs.KeptAnswers.{IsRight};
 ghost use Rattle.h41_ram.specs.RamState.{KeepsMark};
 ghost use Rattle.h41_rows.specs.Computing.{meant_by};
+ghost use Rattle.h41_rows.specs.RowMarks.{LeavesMark};
 
 use crate::alpha_lines::text_line;
 use crate::called::outcome_of;
@@ -69,6 +70,7 @@ pub fn carry_out<const REGS: usize>(
     ensures unchanged { OnErr result (machine.new ≡ machine.old) }
     ensures kept { AsksOf origin line.now machine.old machine.new }
     ensures mark { KeepsMark machine.old.ram machine.new.ram }
+    ensures left { LeavesMark machine.old.ram machine.new.ram }
 {
     let brief = carry_briefly(machine, origin, line)?;
     Ok(outcome_of(&machine.ram, line, brief))
@@ -87,6 +89,7 @@ pub fn carry_briefly<const REGS: usize>(
     ensures unchanged { OnErr result (machine.new ≡ machine.old) }
     ensures kept { AsksOf origin line.now machine.old machine.new }
     ensures mark { KeepsMark machine.old.ram machine.new.ram }
+    ensures left { LeavesMark machine.old.ram machine.new.ram }
 {
     match line {
         Line::Null => Ok(do_nothing(machine, origin)),
@@ -128,6 +131,7 @@ fn named<const REGS: usize>(
     ensures unchanged { OnErr result (machine.new ≡ machine.old) }
     ensures kept { AsksOf origin (Named function name) machine.old machine.new }
     ensures mark { KeepsMark machine.old.ram machine.new.ram }
+    ensures left { LeavesMark machine.old.ram machine.new.ram }
 {
     match function {
         NameFunction::GoToName => Ok(to_name(machine, origin, Branch::GoTo, name)),
@@ -149,6 +153,7 @@ pub fn short<const REGS: usize>(
         (machine_of machine.new) result }
     ensures unchanged { OnErr result (machine.new ≡ machine.old) }
     ensures keeps { Keeps machine.old machine.new }
+    ensures left { LeavesMark machine.old.ram machine.new.ram }
 {
     match (
         data_address(&machine.ram, u16::from(register.number())),
@@ -174,6 +179,7 @@ pub fn indirect<const REGS: usize>(
     ensures unchanged { OnErr result (machine.new ≡ machine.old) }
     ensures kept { AsksOf origin (BranchIndirect branch register) machine.old machine.new }
     ensures mark { KeepsMark machine.old.ram machine.new.ram }
+    ensures left { LeavesMark machine.old.ram machine.new.ram }
 {
     if is_parameter_out(register) {
         return Err(FocalRefusal::NotInProfile);
@@ -198,6 +204,7 @@ fn to_target<const REGS: usize>(
     ensures kept { AsksFrom origin (λ from. search_for from (Ok (meant_by target)))
         machine.old machine.new }
     ensures mark { KeepsMark machine.old.ram machine.new.ram }
+    ensures left { LeavesMark machine.old.ram machine.new.ram }
 {
     match target {
         BranchTarget::Label(label) => to_label(machine, origin, branch, label),

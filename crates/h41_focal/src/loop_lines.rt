@@ -4,6 +4,7 @@ ghost use Rattle.std.specs.Prelude.{IsTrue, ◌≡◌, OnErr};
 ghost use Rattle.h41_focal.specs.LabelledMachine.{Keeps, machine_of};
 ghost use Rattle.h41_focal.specs.private.Carrying.{DoesUse, IsReady};
 ghost use Rattle.h41_focal.specs.declared.uses.RegisterUse.TheVariants.{CountDown, CountUp};
+ghost use Rattle.h41_rows.specs.RowMarks.{IsApart, LeavesMark};
 
 use crate::course::{fail, go_on_lifting};
 use crate::machine::Machine;
@@ -11,7 +12,7 @@ use crate::origin::Origin;
 use crate::outcome::BriefOutcome;
 use crate::questions::lead;
 use crate::refusal::FocalRefusal;
-use h41_rows::{ValueOfOne, compute_of_one, goes_on_down, goes_on_up};
+use h41_rows::{loop_down, loop_up};
 
 /// `ISG`: the register at an address counts up, and the program goes on with the next line while the loop goes on, else
 /// with the one behind it. `BrokenProgram`, with nothing changed, where the line that would be passed over is none.
@@ -25,11 +26,13 @@ pub fn count_up<const REGS: usize>(
         (machine_of machine.new) result }
     ensures unchanged { OnErr result (machine.new ≡ machine.old) }
     ensures keeps { Keeps machine.old machine.new }
+    ensures left { IsApart machine.old.ram.registers address
+        → LeavesMark machine.old.ram machine.new.ram }
 {
-    match compute_of_one(&machine.ram, ValueOfOne::CountedUp, address) {
-        Ok(register) => {
-            let lead = lead(&machine.ram, origin, goes_on_up(&machine.ram, address))?;
-            machine.ram.write(address, register);
+    match loop_up(&machine.ram, address) {
+        Ok(counted) => {
+            let lead = lead(&machine.ram, origin, counted.goes_on)?;
+            machine.ram.write(address, counted.register);
             go_on_lifting(&mut machine.focal, lead);
             Ok(BriefOutcome::Done)
         }
@@ -49,11 +52,13 @@ pub fn count_down<const REGS: usize>(
         (machine_of machine.new) result }
     ensures unchanged { OnErr result (machine.new ≡ machine.old) }
     ensures keeps { Keeps machine.old machine.new }
+    ensures left { IsApart machine.old.ram.registers address
+        → LeavesMark machine.old.ram machine.new.ram }
 {
-    match compute_of_one(&machine.ram, ValueOfOne::CountedDown, address) {
-        Ok(register) => {
-            let lead = lead(&machine.ram, origin, goes_on_down(&machine.ram, address))?;
-            machine.ram.write(address, register);
+    match loop_down(&machine.ram, address) {
+        Ok(counted) => {
+            let lead = lead(&machine.ram, origin, counted.goes_on)?;
+            machine.ram.write(address, counted.register);
             go_on_lifting(&mut machine.focal, lead);
             Ok(BriefOutcome::Done)
         }

@@ -1,6 +1,6 @@
 //! Memory and what lines work on beside it, as one value: what lines, edits and keys change.
 
-ghost use Rattle.std.specs.Prelude.{◌≡◌, ◌≤◌, ℕ, None, Ok, Some, OnErr};
+ghost use Rattle.std.specs.Prelude.{◌≡◌, ◌≤◌, ℕ, false, true, [], None, Ok, Some, OnErr};
 ghost use Rattle.h41_focal.specs.BriefOutcomes.{StepsBriefly};
 ghost use Rattle.h41_focal.specs.declared.outcome.BriefOutcome.TheVariants.{Elsewhere};
 ghost use Rattle.h41_focal.specs.MachineCalls.{Fails, FailsTyped, KeepsElsewhere, Passes, Steps};
@@ -49,6 +49,8 @@ impl<const REGS: usize> Machine<REGS> {
         requires at_least { 64 ≤ REGS }
         requires at_most { REGS ≤ 320 }
         ensures machine { machine_of result ≡ machine_with (registers.start REGS) start }
+        ensures mark { result.ram.touched ≡ true }
+        ensures labels { result.focal.labels ≡ [] }
         ensures right { AreRight result }
     {
         Machine {
@@ -80,6 +82,7 @@ impl<const REGS: usize> Machine<REGS> {
         ensures elsewhere { KeepsElsewhere (machine_of self.old) (machine_of self.new) result }
         ensures kept { StepKeeps None self.old self.new }
         ensures mark { KeepsMark (begun_ram self.old.ram) self.new.ram }
+        ensures clear { self.new.ram.touched ≡ false }
         ensures right { AreRight self.new }
     {
         kept_answers_stay_right();
@@ -99,6 +102,7 @@ impl<const REGS: usize> Machine<REGS> {
             → machine_of self.new ≡ machine_of self.old }
         ensures kept { StepKeeps None self.old self.new }
         ensures mark { KeepsMark (begun_ram self.old.ram) self.new.ram }
+        ensures clear { self.new.ram.touched ≡ false }
         ensures right { AreRight self.new }
     {
         kept_answers_stay_right();
@@ -118,6 +122,7 @@ impl<const REGS: usize> Machine<REGS> {
         ensures unchanged { OnErr result (machine_of self.new ≡ machine_of self.old) }
         ensures kept { StepKeeps (Some function) self.old self.new }
         ensures mark { KeepsMark (begun_ram self.old.ram) self.new.ram }
+        ensures clear { self.new.ram.touched ≡ false }
         ensures right { AreRight self.new }
     {
         kept_answers_stay_right();
@@ -132,6 +137,7 @@ impl<const REGS: usize> Machine<REGS> {
         ensures line { Fails fault (machine_of self.old) (machine_of self.new) result }
         ensures unchanged { OnErr result (machine_of self.new ≡ machine_of self.old) }
         ensures keeps { Keeps self.old self.new }
+        ensures mark { self.new.ram.touched ≡ self.old.ram.touched }
     {
         let (_, next) = standing(self)?;
         Ok(fail(self, Origin::Program(next), fault).outcome(&self.ram))
@@ -142,6 +148,7 @@ impl<const REGS: usize> Machine<REGS> {
         ensures line { FailsTyped fault (machine_of self.old) (machine_of self.new) result }
         ensures unchanged { OnErr result (machine_of self.new ≡ machine_of self.old) }
         ensures keeps { Keeps self.old self.new }
+        ensures mark { self.new.ram.touched ≡ self.old.ram.touched }
     {
         if !self.ram.is_sound() {
             return Err(FocalRefusal::MemoryLost);
@@ -155,6 +162,7 @@ impl<const REGS: usize> Machine<REGS> {
         ensures line { Passes (machine_of self.old) (machine_of self.new) result }
         ensures unchanged { OnErr result (machine_of self.new ≡ machine_of self.old) }
         ensures keeps { Keeps self.old self.new }
+        ensures mark { self.new.ram.touched ≡ self.old.ram.touched }
     {
         let (line, next) = standing(self)?;
         match line {
@@ -172,6 +180,7 @@ impl<const REGS: usize> Machine<REGS> {
         ensures elsewhere { KeepsElsewhere (machine_of self.old) (machine_of self.new) result }
         ensures kept { TypingKeeps line.now self.old self.new }
         ensures mark { KeepsMark (begun_ram self.old.ram) self.new.ram }
+        ensures clear { self.new.ram.touched ≡ false }
         ensures right { AreRight self.new }
     {
         kept_answers_stay_right();

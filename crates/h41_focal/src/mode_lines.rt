@@ -4,6 +4,7 @@ ghost use Rattle.std.specs.Prelude.{◌<◌, ℕ};
 ghost use Rattle.h41_focal.specs.LabelledMachine.{Keeps, machine_of};
 ghost use Rattle.h41_focal.specs.private.Carrying.{DoesWork, IsReady, LeavesDigits};
 ghost use Rattle.h41_focal.specs.declared.works.FunctionWork.TheVariants.{Angles};
+ghost use Rattle.h41_rows.specs.RowMarks.{LeavesMark};
 
 use crate::course::go_on_lifting;
 use crate::machine::Machine;
@@ -23,6 +24,7 @@ pub fn set_angle_unit<const REGS: usize>(
     ensures done { DoesWork origin (Angles grads radians) (machine_of machine.old)
         (machine_of machine.new) result }
     ensures keeps { Keeps machine.old machine.new }
+    ensures left { LeavesMark machine.old.ram machine.new.ram }
 {
     set_angles(&mut machine.ram, grads, radians);
     go_on_lifting(&mut machine.focal, origin);
@@ -41,6 +43,7 @@ pub fn use_digits<const REGS: usize>(
     ensures done { LeavesDigits origin taken digits (machine_of machine.old)
         (machine_of machine.new) result }
     ensures keeps { Keeps machine.old machine.new }
+    ensures left { LeavesMark machine.old.ram machine.new.ram }
 {
     match taken {
         DigitsUse::Format(fixed, engineering) => {

@@ -6,6 +6,7 @@ ghost use Rattle.h41_focal.specs.private.Carrying.{IsReady, TakenBy, UsesDigits,
 ghost use Rattle.h41_focal.specs.private.Carrying.{UsesAddress};
 ghost use Rattle.h41_rows.specs.Profile.{is_operand_left_out, is_parameter_left_out};
 ghost use Rattle.h41_rows.specs.Profile.{is_use_left_out};
+ghost use Rattle.h41_rows.specs.RowMarks.{LeavesMark};
 
 use crate::course::fail;
 use crate::flag_lines::use_flag;
@@ -32,6 +33,7 @@ pub fn with_operand<const REGS: usize>(
         (machine_of machine.new) result }
     ensures unchanged { OnErr result (machine.new ≡ machine.old) }
     ensures keeps { Keeps machine.old machine.new }
+    ensures left { LeavesMark machine.old.ram machine.new.ram }
 {
     if is_left_out(function, operand) {
         return Err(FocalRefusal::NotInProfile);
@@ -86,6 +88,7 @@ fn with_register<const REGS: usize>(
         (machine_of machine.new) result }
     ensures unchanged { OnErr result (machine.new ≡ machine.old) }
     ensures keeps { Keeps machine.old machine.new }
+    ensures left { LeavesMark machine.old.ram machine.new.ram }
 {
     match register_of(&machine.ram, operand) {
         Ok(address) => use_register(machine, origin, taken, address),
@@ -106,6 +109,7 @@ fn with_digits<const REGS: usize>(
         (machine_of machine.new) result }
     ensures unchanged { OnErr result (machine.new ≡ machine.old) }
     ensures keeps { Keeps machine.old machine.new }
+    ensures left { LeavesMark machine.old.ram machine.new.ram }
 {
     match digit_of(&machine.ram, operand) {
         Ok(digits) => Ok(use_digits(machine, origin, taken, digits)),
@@ -126,6 +130,7 @@ fn with_flag<const REGS: usize>(
         (machine_of machine.new) result }
     ensures unchanged { OnErr result (machine.new ≡ machine.old) }
     ensures keeps { Keeps machine.old machine.new }
+    ensures left { LeavesMark machine.old.ram machine.new.ram }
 {
     match flag_of(&machine.ram, operand, taken.highest()) {
         Ok(flag) => use_flag(machine, origin, taken, flag),

@@ -5,6 +5,7 @@ ghost use Rattle.h41_focal.specs.private.Carrying.{IsReady, UsesAt};
 ghost use Rattle.h41_focal.specs.declared.uses.RegisterUse.TheVariants.{Combine, Exchange, Recall};
 ghost use Rattle.h41_focal.specs.declared.uses.RegisterUse.TheVariants.{RecallAlpha, Store};
 ghost use Rattle.h41_focal.specs.declared.uses.RegisterUse.TheVariants.{StoreAlpha, View};
+ghost use Rattle.h41_rows.specs.RowMarks.{IsApart, LeavesMark};
 
 use crate::course::{fail, go_on_lifting};
 use crate::machine::Machine;
@@ -27,6 +28,7 @@ pub fn recall<const REGS: usize>(
     ensures done { UsesAt origin Recall address (machine_of machine.old)
         (machine_of machine.new) result }
     ensures keeps { Keeps machine.old machine.new }
+    ensures left { LeavesMark machine.old.ram machine.new.ram }
 {
     bring_in_from(&mut machine.ram, address, machine.focal.lift);
     go_on_lifting(&mut machine.focal, origin);
@@ -43,6 +45,8 @@ pub fn store<const REGS: usize>(
     ensures done { UsesAt origin Store address (machine_of machine.old)
         (machine_of machine.new) result }
     ensures keeps { Keeps machine.old machine.new }
+    ensures left { IsApart machine.old.ram.registers address
+        → LeavesMark machine.old.ram machine.new.ram }
 {
     store_x(&mut machine.ram, address);
     go_on_lifting(&mut machine.focal, origin);
@@ -60,6 +64,8 @@ pub fn combine<const REGS: usize>(
     ensures done { UsesAt origin (Combine value) address (machine_of machine.old)
         (machine_of machine.new) result }
     ensures keeps { Keeps machine.old machine.new }
+    ensures left { IsApart machine.old.ram.registers address
+        → LeavesMark machine.old.ram machine.new.ram }
 {
     match compute_of_two(&machine.ram, value, address, X) {
         Ok(register) => {
@@ -81,6 +87,7 @@ pub fn view<const REGS: usize>(
     ensures done { UsesAt origin View address (machine_of machine.old)
         (machine_of machine.new) result }
     ensures keeps { Keeps machine.old machine.new }
+    ensures left { LeavesMark machine.old.ram machine.new.ram }
 {
     go_on_lifting(&mut machine.focal, origin);
     BriefOutcome::ViewedRegister(address)
@@ -96,6 +103,8 @@ pub fn store_alpha<const REGS: usize>(
     ensures done { UsesAt origin StoreAlpha address (machine_of machine.old)
         (machine_of machine.new) result }
     ensures keeps { Keeps machine.old machine.new }
+    ensures left { IsApart machine.old.ram.registers address
+        → LeavesMark machine.old.ram machine.new.ram }
 {
     let characters = first_six(&machine.ram);
     machine.ram.write(address, characters);
@@ -113,6 +122,7 @@ pub fn recall_alpha<const REGS: usize>(
     ensures done { UsesAt origin RecallAlpha address (machine_of machine.old)
         (machine_of machine.new) result }
     ensures keeps { Keeps machine.old machine.new }
+    ensures left { LeavesMark machine.old.ram machine.new.ram }
 {
     append_register(&mut machine.ram, address);
     go_on_lifting(&mut machine.focal, origin);
@@ -129,6 +139,8 @@ pub fn exchange_x<const REGS: usize>(
     ensures done { UsesAt origin Exchange address (machine_of machine.old)
         (machine_of machine.new) result }
     ensures keeps { Keeps machine.old machine.new }
+    ensures left { IsApart machine.old.ram.registers address
+        → LeavesMark machine.old.ram machine.new.ram }
 {
     exchange(&mut machine.ram, address);
     go_on_lifting(&mut machine.focal, origin);

@@ -3,6 +3,7 @@
 ghost use Rattle.std.specs.Prelude.{IsTrue, ◌≡◌, OnErr};
 ghost use Rattle.h41_focal.specs.LabelledMachine.{Keeps, machine_of};
 ghost use Rattle.h41_focal.specs.private.Carrying.{DoesUse, IsReady};
+ghost use Rattle.h41_rows.specs.RowMarks.{IsApart, LeavesMark};
 
 use crate::loop_lines::{count_down, count_up};
 use crate::machine::Machine;
@@ -24,6 +25,8 @@ pub fn use_register<const REGS: usize>(
         (machine_of machine.new) result }
     ensures unchanged { OnErr result (machine.new ≡ machine.old) }
     ensures keeps { Keeps machine.old machine.new }
+    ensures left { IsApart machine.old.ram.registers address
+        → LeavesMark machine.old.ram machine.new.ram }
 {
     match taken {
         RegisterUse::Recall => Ok(recall(machine, origin, address)),

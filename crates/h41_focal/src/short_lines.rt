@@ -7,6 +7,7 @@ ghost use Rattle.h41_focal.specs.private.Carrying.{IsReady, Stands, StandsAt, Ta
 ghost use Rattle.h41_focal.specs.private.Searching.{AsksOf};
 ghost use Rattle.h41_labels.specs.KeptAnswers.{IsRight};
 ghost use Rattle.h41_ram.specs.RamState.{KeepsMark};
+ghost use Rattle.h41_rows.specs.RowMarks.{LeavesMark};
 
 use crate::functions::plain;
 use crate::labels::to_label;
@@ -63,6 +64,7 @@ pub fn carry_short<const REGS: usize>(
     ensures unchanged { OnErr result (machine.new ≡ machine.old) }
     ensures kept { AsksOf origin (line_of line) machine.old machine.new }
     ensures mark { KeepsMark machine.old.ram machine.new.ram }
+    ensures left { LeavesMark machine.old.ram machine.new.ram }
 {
     match line {
         ShortLine::LocalLabel(_) => Ok(be_silent(machine, origin)),

@@ -10,6 +10,7 @@ ghost use Rattle.h41_focal.specs.private.StackMoves.{Moves};
 ghost use Rattle.h41_focal.specs.private.Works.{move_row};
 ghost use Rattle.h41_focal.specs.declared.works.FunctionWork.TheVariants.{ClearRegisters, Move};
 ghost use Rattle.h41_ram.specs.RamState.{KeepsMark};
+ghost use Rattle.h41_rows.specs.RowMarks.{LeavesMark};
 
 use crate::course::{go_on, go_on_lifting, go_on_replacing};
 use crate::focal::Focal;
@@ -40,6 +41,7 @@ pub fn move_stack<const REGS: usize>(
     ensures done { DoesWork origin (Move movement) (machine_of machine.old)
         (machine_of machine.new) result }
     ensures keeps { Keeps machine.old machine.new }
+    ensures left { LeavesMark machine.old.ram machine.new.ram }
 {
     move_registers(&mut machine.ram, movement, machine.focal.lift);
     go_on_behind(&mut machine.focal, origin, movement);
@@ -50,6 +52,7 @@ pub fn move_stack<const REGS: usize>(
 fn move_registers<const REGS: usize>(ram: &mut Ram<REGS>, movement: Movement, lift: bool)
     ensures change { Moves movement ram.old.registers ram.new.registers lift }
     ensures mark { KeepsMark ram.old ram.new }
+    ensures left { LeavesMark ram.old ram.new }
 {
     match movement {
         Movement::Exchange => exchange(ram, Y),
@@ -90,6 +93,7 @@ pub fn number_line<const REGS: usize>(
     ensures done { DoesLine origin (lines.Number number.now) (machine_of machine.old)
         (machine_of machine.new) result }
     ensures keeps { Keeps machine.old machine.new }
+    ensures left { LeavesMark machine.old.ram machine.new.ram }
 {
     bring_in(&mut machine.ram, written(number), machine.focal.lift);
     go_on_lifting(&mut machine.focal, origin);
@@ -105,6 +109,7 @@ pub fn clear_registers<const REGS: usize>(
     ensures done { DoesWork origin ClearRegisters (machine_of machine.old)
         (machine_of machine.new) result }
     ensures keeps { Keeps machine.old machine.new }
+    ensures left { LeavesMark machine.old.ram machine.new.ram }
 {
     clear_data(&mut machine.ram);
     go_on_lifting(&mut machine.focal, origin);
@@ -117,6 +122,7 @@ pub fn do_nothing<const REGS: usize>(machine: &mut Machine<REGS>, origin: Origin
     ensures done { LeavesRow origin lifting_row (machine_of machine.old)
         (machine_of machine.new) result }
     ensures keeps { Keeps machine.old machine.new }
+    ensures left { LeavesMark machine.old.ram machine.new.ram }
 {
     go_on_lifting(&mut machine.focal, origin);
     BriefOutcome::Done
@@ -128,6 +134,7 @@ pub fn be_silent<const REGS: usize>(machine: &mut Machine<REGS>, origin: Origin)
     ensures done { LeavesRow origin silent_row (machine_of machine.old)
         (machine_of machine.new) result }
     ensures keeps { Keeps machine.old machine.new }
+    ensures left { LeavesMark machine.old.ram machine.new.ram }
 {
     go_on(&mut machine.focal, origin);
     BriefOutcome::Done

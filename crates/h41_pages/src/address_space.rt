@@ -7,15 +7,13 @@ ghost use Rattle.h41_pages.specs.Addresses.{page_count, page_size};
 ghost use Rattle.h41_pages.specs.private.AddressSpace as spec;
 
 use crate::addresses::{PAGE_WORDS, PAGES};
-use crate::banks::{BANKS, bank_place};
+use crate::banks::{BANK_WORDS, BANKS, ChosenBank, bank_place};
 use h41_words::{Bank, Word};
 use std::alloc::{AllocError, Global};
 use std::marker::Model;
 
-/// How many addresses there are, and how many words in all banks.
-const ADDRESSES: usize = PAGES * PAGE_WORDS;
-
-const WORDS: usize = BANKS * ADDRESSES;
+/// How many words there are in all banks.
+const WORDS: usize = BANKS * BANK_WORDS;
 
 /// The number where no word is: the first above all words.
 const NOTHING: u16 = 0x400;
@@ -49,20 +47,20 @@ impl AddressSpace {
 
     /// The word at an address of a bank, where there is one.
     #[inline(always)]
-    pub fn word(&self, bank: Bank, address: u16) -> Option<Word>
+    pub fn word(&self, bank: ChosenBank, address: u16) -> Option<Word>
         ensures fits { IsSome result
             ↔ (slice_index self.now (spec.word_place bank address) < word_count) }
         ensures value { IfSome result
             (λ word. word ≡ slice_index self.now (spec.word_place bank address)) }
     {
-        Word::new(self.numbers[word_place(bank, address)])
+        Word::new(self.numbers[bank.word_place(address)])
     }
 
     /// Puts a word at an address of a bank.
     pub fn set(&mut self, bank: Bank, address: u16, word: Word)
         ensures { self.new ≡ slice_set self.old (spec.word_place bank address) word }
     {
-        self.numbers[word_place(bank, address)] = word.number();
+        self.numbers[ChosenBank::of(bank).word_place(address)] = word.number();
     }
 
     /// Puts words at the addresses of a page's bank.
@@ -93,13 +91,4 @@ impl AddressSpace {
     {
         self.put(bank, page, &[NOTHING; PAGE_WORDS]);
     }
-}
-
-/// Where the word at an address of a bank stands.
-#[inline(always)]
-fn word_place(bank: Bank, address: u16) -> usize
-    ensures place { result ≡ spec.word_place bank address }
-    ensures bound { result < spec.space_size }
-{
-    bank_place(bank) * ADDRESSES + usize::from(address)
 }

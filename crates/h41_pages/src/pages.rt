@@ -11,7 +11,7 @@ ghost use Rattle.h41_pages.specs.PageMap.{with_page_image};
 
 use crate::address_space::AddressSpace;
 use crate::addresses::{FIRST_ADDRESS, PAGES, is_pluggable, offset_of, page_of};
-use crate::banks::{BANKS, bank_numbered, bank_place, is_held};
+use crate::banks::{BANKS, ChosenBank, bank_numbered, bank_place, is_held};
 use crate::image::{Image, is_image};
 use crate::refusal::{FetchRefusal, PlugRefusal, ReadOnly, UnplugRefusal};
 use h41_words::{Bank, Word};
@@ -23,7 +23,7 @@ use std::marker::Model;
 #[derive(Drop)]
 pub struct Pages {
     images: Vec<[Option<Image>; BANKS]>,
-    chosen: [Bank; PAGES],
+    chosen: [ChosenBank; PAGES],
     /// What is fetched at each address of each bank.
     space: AddressSpace,
 }
@@ -51,7 +51,7 @@ impl Pages {
         }
         Ok(Pages {
             images,
-            chosen: [Bank::First; PAGES],
+            chosen: [ChosenBank::of(Bank::First); PAGES],
             space: AddressSpace::new(alloc)?,
         })
     }
@@ -116,19 +116,22 @@ impl Pages {
             return Err(UnplugRefusal::NotPlugged);
         }
         self.images[page] = [None, None, None, None];
-        self.chosen[page] = Bank::First;
+        self.chosen[page] = ChosenBank::of(Bank::First);
         self.space.clear(page);
         Ok(())
     }
 
-    /// Chooses a bank of a page, 0 to F, where it is plugged; else nothing changes (this project's choice).
+    /// Chooses a bank of a page, 0 to F, where it is plugged; else nothing changes (this project's choice). Its machine code
+    /// stands apart, so that words that choose none have the shorter way.
+    #[cold]
+    #[inline(never)]
     pub fn choose(&mut self, page: u8, bank: Bank)
         requires { page < 16 }
         ensures { self.new ≡ spec.with_chosen self.old page bank }
     {
         let page = usize::from(page);
         if self.image(page, bank).is_some() {
-            self.chosen[page] = bank;
+            self.chosen[page] = ChosenBank::of(bank);
         }
     }
 
@@ -136,7 +139,8 @@ impl Pages {
     pub fn choose_first_banks(&mut self)
         ensures { self.new ≡ spec.with_first_banks self.old }
     {
-        self.chosen = [Bank::First; PAGES];
+        let first = [ChosenBank::of(Bank::First); PAGES];
+        self.chosen = first;
     }
 
     /// The word at an address, in the chosen bank of its page. Refused as 8 in pages 0 to 3, as 9 where that bank is not
@@ -174,7 +178,7 @@ impl Pages {
         ensures unchanged { OnErr result (self.new ≡ self.old) }
     {
         let page = page_of(address);
-        let bank = self.chosen[page];
+        let bank = self.chosen[page].bank();
         match &mut self.images[page][bank_place(bank)] {
             Some(image) if image.is_writable() => {
                 image.write(offset_of(address), word);
@@ -217,7 +221,7 @@ impl Pages {
         requires { page < 16 }
         ensures { option_copied result ≡ spec.chosen_image self.now page }
     {
-        self.image(page, self.chosen[page])
+        self.image(page, self.chosen[page].bank())
     }
 }
 

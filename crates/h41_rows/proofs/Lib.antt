@@ -5,6 +5,7 @@ pub mod Counts
 pub mod Decimals
 pub mod Lifts
 pub mod Loops
+pub mod MarksLeft
 pub mod Moved
 pub mod Recalled
 pub mod Told

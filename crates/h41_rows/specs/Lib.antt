@@ -8,6 +8,7 @@ pub mod Profile
 pub mod Results
 pub mod RowEffects
 pub mod RowLaws
+pub mod RowMarks
 pub mod Rows
 pub mod Values
 pub mod private

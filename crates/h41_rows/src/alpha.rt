@@ -7,6 +7,7 @@ ghost use Rattle.h41_rows.specs.RowEffects.{last_24, six_characters, text_regist
 ghost use Rattle.h41_rows.specs.RowEffects.{with_alpha_change};
 ghost use Rattle.h41_rows.specs.Rows.{Appends, AppendsNamed, Becomes, LosesSix};
 ghost use Rattle.h41_ram.specs.RamState.{KeepsMark};
+ghost use Rattle.h41_rows.specs.RowMarks.{LeavesMark};
 
 use h41_digits::Reg;
 use h41_ram::{ALPHA_LENGTH, Ram};
@@ -17,6 +18,7 @@ use h41_show::{Format, register_text};
 pub fn replace_text<const REGS: usize>(ram: &mut Ram<REGS>, text: &[u8])
     ensures change { ChangesAlpha ram.old.registers ram.new.registers (Becomes text.now) }
     ensures mark { KeepsMark ram.old ram.new }
+    ensures left { LeavesMark ram.old ram.new }
 {
     ram.set_alpha(put_behind([0; ALPHA_LENGTH], text));
 }
@@ -25,6 +27,7 @@ pub fn replace_text<const REGS: usize>(ram: &mut Ram<REGS>, text: &[u8])
 pub fn append_text<const REGS: usize>(ram: &mut Ram<REGS>, text: &[u8])
     ensures change { ChangesAlpha ram.old.registers ram.new.registers (Appends text.now) }
     ensures mark { KeepsMark ram.old ram.new }
+    ensures left { LeavesMark ram.old ram.new }
 {
     ram.set_alpha(put_behind(ram.alpha(), text));
 }
@@ -35,6 +38,7 @@ pub fn append_register<const REGS: usize>(ram: &mut Ram<REGS>, address: u16)
     ensures change { ram.new.registers ≡ with_alpha_change ram.old.registers address
         (Some AppendsNamed) ram.old.registers }
     ensures mark { KeepsMark ram.old ram.new }
+    ensures left { LeavesMark ram.old ram.new }
 {
     let register = ram.read(address);
     if register.get(KIND_PLACE) == ALPHA_DATA {
@@ -49,6 +53,7 @@ pub fn append_register<const REGS: usize>(ram: &mut Ram<REGS>, address: u16)
 pub fn shift_six<const REGS: usize>(ram: &mut Ram<REGS>)
     ensures change { ChangesAlpha ram.old.registers ram.new.registers LosesSix }
     ensures mark { KeepsMark ram.old ram.new }
+    ensures left { LeavesMark ram.old ram.new }
 {
     let alpha = ram.alpha();
     let shown = after_nulls(&alpha);

@@ -5,7 +5,6 @@ ghost use Rattle.std.specs.Prelude.{if◌then◌else◌, int_le, int_lt, pos, un
 ghost use Rattle.h41_decimal.specs.NearestDecimal.{Nearest};
 ghost use Rattle.h41_decimal.specs.Signs.{with_sign};
 ghost use Rattle.h41_decimal.specs.Units.{one, size, units};
-ghost use Rattle.h41_rows.specs.Computing.{amount_at};
 ghost use Rattle.h41_rows.specs.Counters.{Down, Up, fraction_of, goes_on, number_after};
 ghost use Rattle.h41_rows.specs.private.Counting.{IsMovedSize, number_along, way_of};
 ghost use Rattle.h41_rows.specs.private.Readings.{IsCounted};
@@ -13,25 +12,10 @@ ghost use Rattle.h41_rows.specs.private.Wholes.{told_ones};
 
 use crate::answers::exact;
 use h41_decimal::{DecimalFault, Exponent, Magnitude, Mantissa, Sign, Ten};
-use h41_ram::Ram;
 
 /// The highest exponent, counted from -99, with which a size has fewer than ten digits in front of its radix mark once this is
 /// five places further right.
 const HIGHEST_SHIFTED: u8 = 103;
-
-/// Whether a loop goes on that counts up by the register at an address.
-pub fn goes_on_up<const REGS: usize>(ram: &Ram<REGS>, address: u16) -> bool
-    ensures { result ≡ goes_on Up (amount_at ram.now.registers address) }
-{
-    goes_on(ram, address, Sign::Plus)
-}
-
-/// Whether a loop goes on that counts down by the register at an address.
-pub fn goes_on_down<const REGS: usize>(ram: &Ram<REGS>, address: u16) -> bool
-    ensures { result ≡ goes_on Down (amount_at ram.now.registers address) }
-{
-    goes_on(ram, address, Sign::Minus)
-}
 
 /// A loop's counter, counted up.
 pub fn counted_up(number: Ten) -> Result<Ten, DecimalFault>
@@ -47,11 +31,10 @@ pub fn counted_down(number: Ten) -> Result<Ten, DecimalFault>
     counted(number, Sign::Minus)
 }
 
-/// Whether a loop goes on by the register at an address, counted up for plus and down for minus.
-fn goes_on<const REGS: usize>(ram: &Ram<REGS>, address: u16, direction: Sign) -> bool
-    ensures { result ≡ goes_on (way_of direction) (amount_at ram.now.registers address) }
+/// Whether a loop goes on by its counter, counted up for plus and down for minus.
+pub fn goes_on(counter: Ten, direction: Sign) -> bool
+    ensures { result ≡ goes_on (way_of direction) (units counter) }
 {
-    let counter = counter_at(ram, address);
     let decimals = five_decimals(counter);
     let ones = ones(counter);
     let count = increment(decimals);
@@ -59,16 +42,6 @@ fn goes_on<const REGS: usize>(ram: &Ram<REGS>, address: u16, direction: Sign) ->
     match direction {
         Sign::Plus => is_at_most(counter.sign(), ones, count, last),
         Sign::Minus => is_above(counter.sign(), ones, count, last),
-    }
-}
-
-/// The number in the register at an address; zero where it holds none.
-fn counter_at<const REGS: usize>(ram: &Ram<REGS>, address: u16) -> Ten
-    ensures { units result ≡ amount_at ram.now.registers address }
-{
-    match Ten::from_reg(ram.read(address)) {
-        Some(number) => number,
-        None => Ten::Zero,
     }
 }
 

@@ -5,6 +5,7 @@ ghost use Rattle.h41_ram.specs.NamedFlags as named;
 ghost use Rattle.h41_rows.specs.LineRows.{change, format};
 ghost use Rattle.h41_rows.specs.RowEffects.{with_flags};
 ghost use Rattle.h41_ram.specs.RamState.{KeepsMark};
+ghost use Rattle.h41_rows.specs.RowMarks.{LeavesMark};
 
 use h41_ram::{Ram, flags};
 
@@ -19,6 +20,7 @@ pub fn set_format<const REGS: usize>(
     ensures change { ram.new.registers ≡ with_flags (format digits fixed engineering).flags
         ram.old.registers }
     ensures mark { KeepsMark ram.old ram.new }
+    ensures left { LeavesMark ram.old ram.new }
 {
     ram.set_flag(flags::DIGITS_8, digits / 8 % 2 == 1);
     ram.set_flag(flags::DIGITS_4, digits / 4 % 2 == 1);
@@ -34,6 +36,7 @@ pub fn set_angles<const REGS: usize>(ram: &mut Ram<REGS>, grads: bool, radians: 
         ≡ with_flags (change named.grads grads ∷ change named.radians radians ∷ [])
         ram.old.registers }
     ensures mark { KeepsMark ram.old ram.new }
+    ensures left { LeavesMark ram.old ram.new }
 {
     ram.set_flag(flags::GRADS, grads);
     ram.set_flag(flags::RADIANS, radians);

@@ -7,6 +7,7 @@ ghost use Rattle.h41_rows.specs.Places.{LastX, T, X, Y, Z};
 ghost use Rattle.h41_rows.specs.RowEffects.{takes_of};
 ghost use Rattle.h41_rows.specs.Rows.{coming_in, compute, copy};
 ghost use Rattle.h41_ram.specs.RamState.{KeepsMark};
+ghost use Rattle.h41_rows.specs.RowMarks.{IsApart, LeavesMark};
 
 use h41_digits::Reg;
 use h41_ram::{Ram, StatusRegister};
@@ -16,6 +17,7 @@ pub fn bring_in<const REGS: usize>(ram: &mut Ram<REGS>, register: Reg, lift: boo
     ensures change { Took ram.old.registers ram.new.registers register
         (takes_of (coming_in (compute X)) lift) }
     ensures mark { KeepsMark ram.old ram.new }
+    ensures left { LeavesMark ram.old ram.new }
 {
     if lift {
         enter(ram);
@@ -27,6 +29,7 @@ pub fn bring_in<const REGS: usize>(ram: &mut Ram<REGS>, register: Reg, lift: boo
 pub fn bring_in_from<const REGS: usize>(ram: &mut Ram<REGS>, address: u16, lift: bool)
     ensures change { BringsIn ram.old.registers ram.new.registers address lift }
     ensures mark { KeepsMark ram.old ram.new }
+    ensures left { LeavesMark ram.old ram.new }
 {
     let register = ram.read(address);
     bring_in(ram, register, lift);
@@ -37,6 +40,7 @@ pub fn keep_last<const REGS: usize>(ram: &mut Ram<REGS>, register: Reg)
     ensures change { Took ram.old.registers ram.new.registers register
         (compute X ∷ copy LastX X ∷ []) }
     ensures mark { KeepsMark ram.old ram.new }
+    ensures left { LeavesMark ram.old ram.new }
 {
     let x = ram.status_register(StatusRegister::X);
     ram.set_status_register(StatusRegister::X, register);
@@ -47,6 +51,7 @@ pub fn keep_last<const REGS: usize>(ram: &mut Ram<REGS>, register: Reg)
 pub fn drop_into<const REGS: usize>(ram: &mut Ram<REGS>, register: Reg)
     ensures change { Took ram.old.registers ram.new.registers register drop_takes }
     ensures mark { KeepsMark ram.old ram.new }
+    ensures left { LeavesMark ram.old ram.new }
 {
     let t = ram.status_register(StatusRegister::T);
     let z = ram.status_register(StatusRegister::Z);
@@ -61,6 +66,7 @@ pub fn drop_into<const REGS: usize>(ram: &mut Ram<REGS>, register: Reg)
 pub fn exchange<const REGS: usize>(ram: &mut Ram<REGS>, address: u16)
     ensures change { Exchanges ram.old.registers ram.new.registers address }
     ensures mark { KeepsMark ram.old ram.new }
+    ensures left { IsApart ram.old.registers address → LeavesMark ram.old ram.new }
 {
     let x = ram.status_register(StatusRegister::X);
     let other = ram.read(address);
@@ -72,6 +78,7 @@ pub fn exchange<const REGS: usize>(ram: &mut Ram<REGS>, address: u16)
 pub fn store_x<const REGS: usize>(ram: &mut Ram<REGS>, address: u16)
     ensures change { Stores ram.old.registers ram.new.registers address }
     ensures mark { KeepsMark ram.old ram.new }
+    ensures left { IsApart ram.old.registers address → LeavesMark ram.old ram.new }
 {
     let x = ram.status_register(StatusRegister::X);
     ram.write(address, x);
@@ -82,6 +89,7 @@ pub fn roll_up<const REGS: usize>(ram: &mut Ram<REGS>)
     ensures change { Moved ram.old.registers ram.new.registers
         (copy X T ∷ copy Y X ∷ copy Z Y ∷ copy T Z ∷ []) }
     ensures mark { KeepsMark ram.old ram.new }
+    ensures left { LeavesMark ram.old ram.new }
 {
     let t = ram.status_register(StatusRegister::T);
     let z = ram.status_register(StatusRegister::Z);
@@ -98,6 +106,7 @@ pub fn roll_down<const REGS: usize>(ram: &mut Ram<REGS>)
     ensures change { Moved ram.old.registers ram.new.registers
         (copy X Y ∷ copy Y Z ∷ copy Z T ∷ copy T X ∷ []) }
     ensures mark { KeepsMark ram.old ram.new }
+    ensures left { LeavesMark ram.old ram.new }
 {
     let t = ram.status_register(StatusRegister::T);
     let z = ram.status_register(StatusRegister::Z);
@@ -114,6 +123,7 @@ pub fn enter<const REGS: usize>(ram: &mut Ram<REGS>)
     ensures change { Moved ram.old.registers ram.new.registers
         (copy T Z ∷ copy Z Y ∷ copy Y X ∷ []) }
     ensures mark { KeepsMark ram.old ram.new }
+    ensures left { LeavesMark ram.old ram.new }
 {
     let z = ram.status_register(StatusRegister::Z);
     let y = ram.status_register(StatusRegister::Y);
@@ -127,6 +137,7 @@ pub fn enter<const REGS: usize>(ram: &mut Ram<REGS>)
 pub fn clear_stack<const REGS: usize>(ram: &mut Ram<REGS>, register: Reg)
     ensures change { Took ram.old.registers ram.new.registers register whole_stack }
     ensures mark { KeepsMark ram.old ram.new }
+    ensures left { LeavesMark ram.old ram.new }
 {
     ram.set_status_register(StatusRegister::T, register);
     ram.set_status_register(StatusRegister::Z, register);

@@ -117,7 +117,7 @@ pub fn written(number: &Number) -> Reg
 }
 
 /// The register of a value of one number.
-fn kept_of_one<const REGS: usize>(
+pub(crate) fn kept_of_one<const REGS: usize>(
     ram: &Ram<REGS>,
     value: ValueOfOne,
     number: Ten,

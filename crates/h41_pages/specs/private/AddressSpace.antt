@@ -1,7 +1,7 @@
 -- The words of all banks as one list, bank behind bank, with what is fetched at each address of a
 -- bank where it is chosen. Pages keep it beside their images.
-use Rattle.std.specs.Prelude.{◌≡◌, ℕ, ◌+◌, ◌*◌, ◌<◌, List, ◌++◌, length, take, drop, replicate}
-use Rattle.std.specs.Prelude.{slice_index, if◌then◌else◌, Option, Result, Ok, Err}
+use Rattle.std.specs.Prelude.{◌≡◌, ℕ, ◌+◌, ◌*◌, ◌/◌, ◌<◌, ◌==◌, List, ◌++◌, length, take, drop}
+use Rattle.std.specs.Prelude.{replicate, slice_index, if◌then◌else◌, Option, Result, Ok, Err}
 use Rattle.h41_words.specs.Counts.{word_count}
 use Rattle.h41_words.specs.declared.rows.Bank.{Bank}
 use Rattle.h41_words.specs.declared.rows.Bank.TheVariants.{First, Second, Third, Fourth}
@@ -27,6 +27,18 @@ page_place bank page = bank_place bank * page_count + page
 
 abbrev pub word_place : Bank → ℕ → ℕ
 word_place bank address = bank_place bank * address_count + address
+
+-- where the words of a bank begin, and the bank whose words begin there
+abbrev pub bank_start : Bank → ℕ
+bank_start bank = bank_place bank * address_count
+
+abbrev pub bank_at : ℕ → Bank
+bank_at place =
+    if place == 0 then First
+    else if place == 1 then Second else if place == 2 then Third else Fourth
+
+abbrev pub bank_from : ℕ → Bank
+bank_from start = bank_at (start / address_count)
 
 -- no word anywhere
 abbrev pub empty_space : List ℕ

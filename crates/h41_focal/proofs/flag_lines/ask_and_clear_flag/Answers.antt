@@ -1,6 +1,6 @@
 use Rattle.std.proofs.Common.{ap, refl}
 use Rattle.std.proofs.lemmas.Result.{err_from_is_err_and}
-use Rattle.h41_focal.specs.LabelledMachine.{machine_of}
+use Rattle.h41_focal.specs.LabelledMachine.{LabelledMachine, machine_of}
 use Rattle.h41_focal.proofs.RowApplied.{opened_row}
 use Rattle.h41_focal.proofs.RowAsked.{test_leads, test_refused}
 use Rattle.h41_rows.specs.Rows.{Flag}
@@ -8,6 +8,7 @@ use Rattle.h41_focal.specs.private.Works.{flag_use_row}
 use Rattle.h41_focal.specs.declared.uses.FlagUse.TheVariants as flags
 use Rattle.h41_ram.specs.RegisterMap.{zeros}
 use Rattle.h41_ram.specs.RamState.{RamState}
+use Rattle.h41_focal.proofs.Apart.{left_flag}
 use Rattle.h41_focal.proofs.flag_lines.ask_and_clear_flag.Goals as goal
 
 pub returns-in_err-lead-clause-carried : goal.returns-in_err-lead-clause-carried
@@ -28,3 +29,8 @@ returns-clause-carried g c = λ named.
     (λ knows. test_leads _ c.in_ok-lead.lead (flag_use_row (flags.AskAndClear c.args.on) c.args.flag) (Flag c.args.flag c.args.on)
     c.agrees_with-holds.result named _ zeros c.answer.result knows refl refl refl refl c.agrees_with-holds.ensures c.in_ok-lead.ensures
     c.answer.ensures))
+
+pub returns-clause-left : goal.returns-clause-left
+returns-clause-left g c =
+    left_flag c.machine.inside.ram c.args.machine.now (ap (λ (machine : LabelledMachine). machine.ram) c.machine.view_is)
+    c.set_flag.new.self (ap (λ (ram : RamState). ram.touched) c.set_flag.ensures.written)

@@ -11,4 +11,5 @@ invariant_of-result c =
     let same : c.loop-page.images.items ≡ replicate 16 no_banks =
     c.loop-page.invariant ∙ ap (λ count. replicate count no_banks) last in
     subst (IsPages _) (sym c.in_ok-new.ensures)
-    (subst (λ images. IsPages (record { images = images; chosen = replicate 16 First }) empty_space) (sym same) pages_at_start)
+    (subst (λ bank. IsPages (record { images = c.loop-page.images.items; chosen = replicate 16 bank }) empty_space) (sym c.of.ensures)
+    (subst (λ images. IsPages (record { images = images; chosen = replicate 16 First }) empty_space) (sym same) pages_at_start))

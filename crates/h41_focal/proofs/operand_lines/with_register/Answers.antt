@@ -1,0 +1,18 @@
+use Rattle.std.proofs.Common.{◌≡◌, Ok, Result, subst}
+use Rattle.h41_focal.proofs.Apart.{register_found}
+use Rattle.h41_focal.specs.LabelledMachine.{LabelledMachine}
+use Rattle.h41_rows.specs.Operands.{Address, Meant, RegisterKind, meant_as}
+use Rattle.h41_rows.specs.declared.fault.LineFault.{LineFault}
+use Rattle.h41_focal.proofs.operand_lines.with_register.Goals as goal
+
+pub returns-in-Ok-clause-left : goal.returns-in-Ok-clause-left
+returns-in-Ok-clause-left g c = λ sound.
+    let meant = c.register_of.ensures in
+    c.use_register.ensures.left
+    (register_found c.args.machine.now.ram.registers sound c.args.operand.now c.in-Ok.address c.requires.held
+    (subst
+    (λ (machine : LabelledMachine).
+    ◌≡◌ {A = Result Meant LineFault} (Ok (Address c.in-Ok.address))
+    (meant_as RegisterKind machine.ram.registers c.args.operand.now))
+    c.machine.view_is (rw c.in-Ok.is at meant)))
+    sound

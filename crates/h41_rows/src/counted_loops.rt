@@ -1,0 +1,62 @@
+//! Loops: a counter is counted, and tells whether its loop goes on.
+
+ghost use Rattle.std.specs.Prelude.{◌≡◌, IfOk};
+ghost use Rattle.h41_rows.specs.Computing.{WorksOnOne, amount_at};
+ghost use Rattle.h41_rows.specs.Counters.{Down, Up, goes_on};
+ghost use Rattle.h41_rows.specs.Results.{result_map};
+ghost use Rattle.h41_rows.specs.declared.values.ValueOfOne.TheVariants.{CountedDown, CountedUp};
+
+use crate::answers::number_at;
+use crate::counters::goes_on;
+use crate::fault::LineFault;
+use crate::values::{ValueOfOne, kept_of_one};
+use h41_decimal::Sign;
+use h41_digits::Reg;
+use h41_ram::Ram;
+
+/// A loop's counter, counted.
+#[derive(Clone, Copy, Debug, PartialEq, Eq)]
+pub struct CountedLoop {
+    /// The register that it becomes.
+    pub register: Reg,
+    /// Whether the loop goes on.
+    pub goes_on: bool,
+}
+
+/// The counter in the register at an address, counted up. It is AlphaData where there is no number.
+pub fn loop_up<const REGS: usize>(ram: &Ram<REGS>, address: u16) -> Result<CountedLoop, LineFault>
+    ensures register { WorksOnOne CountedUp ram.now.registers address
+        (result_map (λ counted. counted.register) result) }
+    ensures course { IfOk result
+        (λ counted. counted.goes_on ≡ goes_on Up (amount_at ram.now.registers address)) }
+{
+    match number_at(ram, address) {
+        Ok(number) => match kept_of_one(ram, ValueOfOne::CountedUp, number) {
+            Ok(register) => {
+                let goes_on = goes_on(number, Sign::Plus);
+                Ok(CountedLoop { register, goes_on })
+            }
+            Err(fault) => Err(fault),
+        },
+        Err(fault) => Err(fault),
+    }
+}
+
+/// The same, counted down.
+pub fn loop_down<const REGS: usize>(ram: &Ram<REGS>, address: u16) -> Result<CountedLoop, LineFault>
+    ensures register { WorksOnOne CountedDown ram.now.registers address
+        (result_map (λ counted. counted.register) result) }
+    ensures course { IfOk result
+        (λ counted. counted.goes_on ≡ goes_on Down (amount_at ram.now.registers address)) }
+{
+    match number_at(ram, address) {
+        Ok(number) => match kept_of_one(ram, ValueOfOne::CountedDown, number) {
+            Ok(register) => {
+                let goes_on = goes_on(number, Sign::Minus);
+                Ok(CountedLoop { register, goes_on })
+            }
+            Err(fault) => Err(fault),
+        },
+        Err(fault) => Err(fault),
+    }
+}
